@@ -1,0 +1,92 @@
+-- How calls of a writer follow one another.
+use Rattle.std.proofs.Common.{◌≡◌, ℕ, ◌+◌, ◌≤◌, length, Bool, true, subst, List, [], ◌∷◌, ◌++◌, Option, None, Some, refl, sym, ap, ◌∙◌, arith, rules, count_by, append_assoc, append-nil}
+use Rattle.std.proofs.lemmas.Grind.{common_steps}
+use Rattle.std.proofs.lemmas.List.Sums.{sum_by-append, sum_by-cons}
+use Rattle.std.proofs.lemmas.Bool.Decides.{nat_tests}
+use Rattle.no_std_io2_base.specs.declared.error.ErrorKind.{ErrorKind}
+use Rattle.no_std_io2_base.specs.Errors.{is_interruption}
+use Rattle.no_std_io2_base.specs.Writes.{Told, IsFront, HasSpent, Moves, zero_write}
+
+pub IsFront-refl : (xs : List ℕ) → IsFront xs xs
+IsFront-refl xs = ([], sym (append-nil xs))
+
+pub IsFront-trans : (xs ys zs : List ℕ) → IsFront xs ys → IsFront ys zs → IsFront xs zs
+IsFront-trans xs ys zs f g = (f.0 ++ g.0, g.1 ∙ ap (λ l. l ++ g.0) f.1 ∙ append_assoc xs f.0 g.0)
+
+pub count_by-append : {X : Type 0} (p : X → Bool) (xs ys : List X) → count_by p (xs ++ ys) ≡ count_by p xs + count_by p ys
+count_by-append p xs ys = sum_by-append _ xs ys
+
+pub HasSpent-refl : (old : Option (List ErrorKind)) → HasSpent old [] old
+HasSpent-refl None = tt
+HasSpent-refl (Some old) = λ p. omega arith
+
+pub HasSpent-trans : (a : Option (List ErrorKind)) (k : List ErrorKind) (b : Option (List ErrorKind)) (l : List ErrorKind) (c : Option (List ErrorKind)) → HasSpent a k b → HasSpent b l c → HasSpent a (k ++ l) c
+HasSpent-trans None k b l c f g = tt
+HasSpent-trans (Some a) k None l c f g = absurd f
+HasSpent-trans (Some a) k (Some b) l None f g = absurd g
+HasSpent-trans (Some a) k (Some b) l (Some c) f g = λ p. omega (arith, f p, g p, count_by-append p k l)
+
+-- fewer mishaps than happened may be told
+pub HasSpent-forget : (a : Option (List ErrorKind)) (k l : List ErrorKind) (c : Option (List ErrorKind)) → HasSpent a (k ++ l) c → HasSpent a l c
+HasSpent-forget None k l c f = tt
+HasSpent-forget (Some a) k l None f = absurd f
+HasSpent-forget (Some a) k l (Some c) f = λ p. omega (arith, f p, count_by-append p k l)
+
+pub Moves-refl : (a : Told) → Moves a [] [] a
+Moves-refl a = record { front = IsFront-refl a.out; bytes = sym (append-nil (a.out ++ a.held)); mishaps = HasSpent-refl a.mishaps; turns = omega arith }
+
+-- one step after another
+pub Moves-trans : {a b c : Told} {x y : List ℕ} {k l : List ErrorKind} → Moves a x k b → Moves b y l c → Moves a (x ++ y) (k ++ l) c
+Moves-trans {a} {b} {c} {x} {y} {k} {l} f g = record {
+  front = IsFront-trans a.out b.out c.out f.front g.front;
+  bytes = g.bytes ∙ ap (λ s. s ++ y) f.bytes ∙ append_assoc (a.out ++ a.held) x y;
+  mishaps = HasSpent-trans a.mishaps k b.mishaps l c.mishaps f.mishaps g.mishaps;
+  turns = omega (arith, f.turns, g.turns, count_by-append is_interruption k l);
+}
+
+-- some mishaps need not be told
+pub Moves-forget : {a c : Told} {x : List ℕ} (k : List ErrorKind) {l : List ErrorKind} → Moves a x (k ++ l) c → Moves a x l c
+Moves-forget {a} {c} {x} k {l} f = record {
+  front = f.front;
+  bytes = f.bytes;
+  mishaps = HasSpent-forget a.mishaps k l c.mishaps f.mishaps;
+  turns = omega (arith, f.turns, count_by-append is_interruption k l);
+}
+
+-- the first step's mishaps are left out
+pub Moves-then : {a b c : Told} {x y : List ℕ} {k l : List ErrorKind} → Moves a x k b → Moves b y l c → Moves a (x ++ y) l c
+Moves-then {k} f g = Moves-forget k (Moves-trans f g)
+
+HasSpent-quiet : (a : Option (List ErrorKind)) (k : List ErrorKind) (c : Option (List ErrorKind)) → HasSpent a k c → HasSpent a [] c
+HasSpent-quiet None k c f = tt
+HasSpent-quiet (Some a) k None f = absurd f
+HasSpent-quiet (Some a) k (Some c) f = λ p. omega (arith, f p)
+
+-- no mishap need be told
+pub Moves-quiet : {a c : Told} {x : List ℕ} {k : List ErrorKind} → Moves a x k c → Moves a x [] c
+Moves-quiet {a} {c} {x} {k} f = record {
+  front = f.front;
+  bytes = f.bytes;
+  mishaps = HasSpent-quiet a.mishaps k c.mishaps f.mishaps;
+  turns = omega (arith, f.turns);
+}
+
+-- steps of a loop that passes over mishaps
+pub Moves-more : {a b c : Told} {x y : List ℕ} {k l : List ErrorKind} → Moves a x k b → Moves b y l c → Moves a (x ++ y) [] c
+Moves-more f g = Moves-quiet (Moves-trans f g)
+
+-- a step that accepts nothing after another
+pub Moves-ends : {a b c : Told} {x : List ℕ} {k l : List ErrorKind} → Moves a x k b → Moves b [] l c → Moves a x l c
+Moves-ends {a} {b} {c} {x} {k} {l} f g = subst (λ s. Moves a s l c) (append-nil x) (Moves-then f g)
+
+-- a writer with no mishap to come has none
+pub Moves-steady : {a c : Told} {x : List ℕ} {k : ErrorKind} {l : List ErrorKind} → a.mishaps ≡ Some [] → Moves a x (k ∷ l) c → ⊥
+Moves-steady {a} {c} {x} {k} {l} e f = spent c.mishaps (subst (λ m. HasSpent m (k ∷ l) c.mishaps) e f.mishaps)
+  where
+    spent : (m : Option (List ErrorKind)) → HasSpent (Some []) (k ∷ l) m → ⊥
+    spent None h = h
+    spent (Some new) h = omega (arith, h (λ _. true), sum_by-cons (λ _. 1) k l)
+
+-- a write that took the whole is no mishap
+pub zero_write-whole : (xs : List ℕ) → zero_write (length xs) xs ≡ []
+zero_write-whole xs = grind (arith, nat_tests)

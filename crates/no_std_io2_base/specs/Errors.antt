@@ -1,0 +1,88 @@
+-- What a clause reads of an error.
+use Rattle.std.specs.Prelude.{◌≡◌, ℕ, Bool, true, false, List, codes, Option, None, Some, Result, IfErr}
+use Rattle.std.specs.Option.{option_map}
+use Rattle.no_std_io2_base.specs.declared.error.Error.{Error}
+use Rattle.no_std_io2_base.specs.declared.error.ErrorKind.{ErrorKind}
+use Rattle.no_std_io2_base.specs.declared.error.ErrorKind.TheVariants.{NotFound, PermissionDenied, ConnectionRefused, ConnectionReset, ConnectionAborted, NotConnected, AddrInUse, AddrNotAvailable, BrokenPipe, AlreadyExists, WouldBlock, InvalidInput, InvalidData, TimedOut, WriteZero, Interrupted, Other, UnexpectedEof, Unsupported, OutOfMemory, Uncategorized}
+
+-- `e.kind()`
+abbrev pub error_kind : Error → ErrorKind
+error_kind e = e.kind
+
+-- the text, if there is one
+abbrev pub error_text : Error → Option (List ℕ)
+error_text e = option_map (λ s. s.now) e.text
+
+-- what a kind prints
+abbrev pub kind_text : ErrorKind → List ℕ
+kind_text NotFound = codes "entity not found"
+kind_text PermissionDenied = codes "permission denied"
+kind_text ConnectionRefused = codes "connection refused"
+kind_text ConnectionReset = codes "connection reset"
+kind_text ConnectionAborted = codes "connection aborted"
+kind_text NotConnected = codes "not connected"
+kind_text AddrInUse = codes "address in use"
+kind_text AddrNotAvailable = codes "address not available"
+kind_text BrokenPipe = codes "broken pipe"
+kind_text AlreadyExists = codes "entity already exists"
+kind_text WouldBlock = codes "operation would block"
+kind_text InvalidInput = codes "invalid input parameter"
+kind_text InvalidData = codes "invalid data"
+kind_text TimedOut = codes "timed out"
+kind_text WriteZero = codes "write zero"
+kind_text Interrupted = codes "operation interrupted"
+kind_text Other = codes "other os error"
+kind_text UnexpectedEof = codes "unexpected end of file"
+kind_text Unsupported = codes "unsupported I/O error"
+kind_text OutOfMemory = codes "out of memory"
+kind_text Uncategorized = codes "uncategorized"
+
+-- a kind's place in the order of declaration
+abbrev pub kind_number : ErrorKind → ℕ
+kind_number NotFound = 1
+kind_number PermissionDenied = 2
+kind_number ConnectionRefused = 3
+kind_number ConnectionReset = 4
+kind_number ConnectionAborted = 5
+kind_number NotConnected = 6
+kind_number AddrInUse = 7
+kind_number AddrNotAvailable = 8
+kind_number BrokenPipe = 9
+kind_number AlreadyExists = 10
+kind_number WouldBlock = 11
+kind_number InvalidInput = 12
+kind_number InvalidData = 13
+kind_number TimedOut = 14
+kind_number WriteZero = 15
+kind_number Interrupted = 16
+kind_number Other = 17
+kind_number UnexpectedEof = 18
+kind_number Unsupported = 19
+kind_number OutOfMemory = 20
+kind_number Uncategorized = 21
+
+-- the text, or else the kind's
+abbrev pub text_or_kind : ErrorKind → Option (List ℕ) → List ℕ
+text_or_kind kind (Some text) = text
+text_or_kind kind None = kind_text kind
+
+-- what an error prints
+abbrev pub error_display : Error → List ℕ
+error_display e = text_or_kind (error_kind e) (error_text e)
+
+-- errors of this kind are interruptions, all others are faults
+abbrev pub is_interruption : ErrorKind → Bool
+is_interruption Interrupted = true
+is_interruption _ = false
+
+-- the call did nothing, and may be made again
+abbrev pub IsInterruption : Error → Type 0
+IsInterruption e = is_interruption (error_kind e) ≡ true
+
+-- every other error
+abbrev pub IsFault : Error → Type 0
+IsFault e = is_interruption (error_kind e) ≡ false
+
+-- the answer is no interruption
+abbrev pub IsNoInterruption : {T : Type 0} → Result T Error → Type 0
+IsNoInterruption reply = IfErr reply IsFault

@@ -1,0 +1,67 @@
+-- What a writer tells, and what a call may do to it.
+use Rattle.std.specs.Prelude.{◌≡◌, ℕ, ◌+◌, ◌≤◌, ◌==◌, ◌&&◌, nat_lt, Bool, if◌then◌else◌, List, [], ◌∷◌, ◌++◌, length, take, ⊤, Option, None, Some, Result, Ok, Err, OnOk, count_by}
+use Rattle.no_std_io2_base.specs.declared.error.Error.{Error}
+use Rattle.no_std_io2_base.specs.declared.error.ErrorKind.{ErrorKind}
+use Rattle.no_std_io2_base.specs.declared.error.ErrorKind.TheVariants.{WriteZero}
+use Rattle.no_std_io2_base.specs.Errors.{error_kind, is_interruption}
+
+-- What a writer tells.
+pub record Told : Type 0 where
+  -- the bytes that it has handed on
+  pub out : List ℕ
+  -- the bytes that it has accepted and not yet handed on
+  pub held : List ℕ
+  -- the mishaps to come, in any order, where it tells them
+  pub mishaps : Option (List ErrorKind)
+  -- at least as many as interruptions to come
+  pub turns : ℕ
+
+-- whole begins with front
+abbrev pub IsFront : List ℕ → List ℕ → Type 0
+IsFront front whole = (rest : List ℕ) × (whole ≡ front ++ rest)
+
+-- Told mishaps stay told, and those that happened are gone: whichever kinds one counts,
+-- at least as many are gone as happened.
+abbrev pub HasSpent : Option (List ErrorKind) → List ErrorKind → Option (List ErrorKind) → Type 0
+HasSpent None happened new = ⊤
+HasSpent (Some old) happened None = ⊥
+HasSpent (Some old) happened (Some new) =
+    (counted : ErrorKind → Bool) → count_by counted new + count_by counted happened ≤ count_by counted old
+
+-- From old to new a writer accepted these bytes, and these mishaps happened.
+pub record Moves (old : Told) (accepted : List ℕ) (happened : List ErrorKind) (new : Told) : Type 0 where
+  -- what is out stays out
+  pub front : IsFront old.out new.out
+  -- no byte is lost, repeated or moved
+  pub bytes : new.out ++ new.held ≡ old.out ++ old.held ++ accepted
+  pub mishaps : HasSpent old.mishaps happened new.mishaps
+  -- an interruption spends a turn
+  pub turns : new.turns + count_by is_interruption happened ≤ old.turns
+
+-- the bytes of x that an answer of `write(x)` says were accepted
+abbrev pub taken : Result ℕ Error → List ℕ → List ℕ
+taken (Ok n) x = take n x
+taken (Err e) x = []
+
+-- the mishap that `Ok(n)` is of `write(x)`: that nothing was taken of some bytes
+abbrev pub zero_write : ℕ → List ℕ → List ErrorKind
+zero_write n x = if (n == 0) && nat_lt 0 (length x) then WriteZero ∷ [] else []
+
+-- the mishap that an answer of `write(x)` is, if it is one
+abbrev pub write_mishap : Result ℕ Error → List ℕ → List ErrorKind
+write_mishap (Ok n) x = zero_write n x
+write_mishap (Err e) x = error_kind e ∷ []
+
+-- the mishap that an answer of `write_all` or `flush` is, if it is one
+abbrev pub call_mishap : Result (Unit {0}) Error → List ErrorKind
+call_mishap (Ok u) = []
+call_mishap (Err e) = error_kind e ∷ []
+
+-- From old to new a writer accepted some front of x, all of it at `Ok`.
+abbrev pub MovesFront : Told → List ℕ → Result (Unit {0}) Error → Told → Type 0
+MovesFront old x reply new =
+    (accepted : List ℕ) × IsFront accepted x × OnOk reply (accepted ≡ x) × Moves old accepted (call_mishap reply) new
+
+-- what a writer tells whose bytes are out as soon as they are accepted, and that tells no mishaps
+abbrev pub told_out : List ℕ → Told
+told_out bytes = record { out = bytes; held = []; mishaps = None; turns = 0 }

@@ -1,0 +1,172 @@
+//! What a stream's call fails with: a kind, and perhaps a static text.
+ghost use Rattle.std.specs.Prelude.{◌≡◌, Some, None};
+ghost use Rattle.std.specs.Option.{option_map};
+ghost use Rattle.no_std_io2_base.specs.Errors.{kind_text, error_kind, error_text, error_display, is_interruption};
+
+use std::fmt;
+
+/// The kinds of errors, as in Rust's `std::io::ErrorKind`. They are ordered as they are declared.
+#[derive(Clone, Copy, Debug, PartialEq, Eq, PartialOrd, Ord, Hash)]
+pub enum ErrorKind {
+    /// An entity was not found.
+    NotFound,
+    /// The operation lacked the privileges that it needs.
+    PermissionDenied,
+    /// The remote side refused the connection.
+    ConnectionRefused,
+    /// The remote side reset the connection.
+    ConnectionReset,
+    /// The remote side ended the connection.
+    ConnectionAborted,
+    /// There is no connection yet.
+    NotConnected,
+    /// The address is in use elsewhere.
+    AddrInUse,
+    /// The address does not exist, or is not local.
+    AddrNotAvailable,
+    /// A pipe has no reader any more.
+    BrokenPipe,
+    /// An entity exists already.
+    AlreadyExists,
+    /// The operation would have to block, and is not to.
+    WouldBlock,
+    /// An argument is wrong.
+    InvalidInput,
+    /// The data is not of the form that the operation needs.
+    InvalidData,
+    /// The time, or the number of tries, is over.
+    TimedOut,
+    /// A write took no byte of some: nothing more can be written.
+    WriteZero,
+    /// The call was interrupted, did nothing, and may be made again.
+    Interrupted,
+    /// A fault that no other kind names.
+    Other,
+    /// The stream ended before all that was asked for had come.
+    UnexpectedEof,
+    /// The operation is not supported.
+    Unsupported,
+    /// Memory was refused.
+    OutOfMemory,
+    /// A fault of the system that has no kind.
+    Uncategorized,
+}
+
+impl ErrorKind {
+    // One text for each kind: Display, and so each error without a text of its own, stands on it.
+    fn text(self) -> &'static str
+        ensures { result.now ≡ kind_text self }
+    {
+        match self {
+            ErrorKind::NotFound => "entity not found",
+            ErrorKind::PermissionDenied => "permission denied",
+            ErrorKind::ConnectionRefused => "connection refused",
+            ErrorKind::ConnectionReset => "connection reset",
+            ErrorKind::ConnectionAborted => "connection aborted",
+            ErrorKind::NotConnected => "not connected",
+            ErrorKind::AddrInUse => "address in use",
+            ErrorKind::AddrNotAvailable => "address not available",
+            ErrorKind::BrokenPipe => "broken pipe",
+            ErrorKind::AlreadyExists => "entity already exists",
+            ErrorKind::WouldBlock => "operation would block",
+            ErrorKind::InvalidInput => "invalid input parameter",
+            ErrorKind::InvalidData => "invalid data",
+            ErrorKind::TimedOut => "timed out",
+            ErrorKind::WriteZero => "write zero",
+            ErrorKind::Interrupted => "operation interrupted",
+            ErrorKind::Other => "other os error",
+            ErrorKind::UnexpectedEof => "unexpected end of file",
+            ErrorKind::Unsupported => "unsupported I/O error",
+            ErrorKind::OutOfMemory => "out of memory",
+            ErrorKind::Uncategorized => "uncategorized",
+        }
+    }
+}
+
+/// The error of all calls on streams: a kind alone, or a kind with a static text. It owns no
+/// memory. Follows `std::io::Error`, without its boxed payload.
+///
+/// An error of kind [`ErrorKind::Interrupted`] is an interruption; every other error is a fault.
+#[derive(Debug, Drop)]
+pub struct Error {
+    kind: ErrorKind,
+    text: Option<&'static str>,
+}
+
+/// What calls on streams answer, as `std::io::Result`.
+pub type Result<T> = std::result::Result<T, Error>;
+
+impl Error {
+    /// An error of this kind, with this text. Follows `std::io::Error::new`.
+    pub fn new(kind: ErrorKind, text: &'static str) -> Error
+        ensures kind { error_kind result ≡ kind }
+        ensures text { error_text result ≡ Some text.entry.now }
+    {
+        Error {
+            kind,
+            text: Some(text),
+        }
+    }
+
+    /// An error of kind [`ErrorKind::Other`], with this text. Follows `std::io::Error::other`.
+    pub fn other(text: &'static str) -> Error
+        ensures kind { error_kind result ≡ ErrorKind.Other }
+        ensures text { error_text result ≡ Some text.entry.now }
+    {
+        Error::new(ErrorKind::Other, text)
+    }
+
+    /// The kind. Follows `std::io::Error::kind`.
+    pub fn kind(&self) -> ErrorKind
+        ensures { result ≡ error_kind self.now }
+    {
+        self.kind
+    }
+
+    /// The text, where there is one. Follows `std::io::Error::get_ref`.
+    pub fn get_ref(&self) -> Option<&&'static str>
+        ensures { option_map (λ s. s.now.now) result ≡ error_text self.now }
+    {
+        self.text.as_ref()
+    }
+
+    /// The text, where there is one. Follows `std::io::Error::into_inner`.
+    pub fn into_inner(self) -> Option<&'static str>
+        ensures { option_map (λ s. s.now) result ≡ error_text self }
+    {
+        self.text
+    }
+
+    // Whether the call did nothing and may be made again.
+    pub(crate) fn is_interruption(&self) -> bool
+        ensures { result ≡ is_interruption (error_kind self.now) }
+    {
+        matches!(self.kind, ErrorKind::Interrupted)
+    }
+}
+
+/// A kind alone, with no text.
+impl From<ErrorKind> for Error {
+    ghost from_gives = { λ kind e. (error_kind e ≡ kind) × (error_text e ≡ None) };
+
+    fn from(kind: ErrorKind) -> Error {
+        Error { kind, text: None }
+    }
+}
+
+/// Prints the text, or else the kind's text.
+impl fmt::Display for Error {
+    ghost output = { λ e. Some (error_display e) };
+
+    fn fmt<W: fmt::Write>(&self, f: &mut fmt::Formatter<W>) -> fmt::Result {
+        match self.text {
+            Some(text) => write!(f, "{text}"),
+            None => {
+                let text = self.kind.text();
+                write!(f, "{text}")
+            }
+        }
+    }
+}
+
+impl std::error::Error for Error {}

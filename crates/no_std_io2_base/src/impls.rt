@@ -1,0 +1,5 @@
+//! The traits at streams in memory, references, boxes and boxed objects.
+mod boxed;
+mod lent;
+mod objects;
+mod vectors;

@@ -1,0 +1,28 @@
+use crate::error::Result;
+use crate::traits::Write;
+use std::alloc::Allocator;
+
+/// A boxed object tells what is in the box tells, but for counts, and that it takes all.
+impl<A: Allocator> Write for Box<dyn Write + Drop, A> {
+    ghost told = { λ b. (Write-box b).told b.value };
+
+    ghost takes_all = { λ _. ⊥ };
+
+    ghost cost = { λ _. 0 };
+
+    ghost is_metered = { λ _. ⊥ };
+
+    fn write(&mut self, buf: &[u8]) -> Result<usize> {
+        (**self).write(buf)
+    }
+
+    fn flush(&mut self) -> Result<()> {
+        (**self).flush()
+    }
+
+    fn write_all(&mut self, buf: &[u8]) -> Result<()> {
+        (**self).write_all(buf)
+    }
+
+    ghost steady = { λ w h. absurd h };
+}

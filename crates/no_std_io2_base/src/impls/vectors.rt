@@ -1,0 +1,54 @@
+ghost use Rattle.std.specs.Prelude.{◌≡◌, ℕ, ◌+◌, ◌≤◌, [], Ok, IsOk, OnOk, IfOk, IfErr, length};
+ghost use Rattle.no_std_io2_base.specs.Errors.{error_kind};
+ghost use Rattle.no_std_io2_base.specs.Writes.{Moves, taken, write_mishap, call_mishap, told_out};
+
+use crate::error::{Error, ErrorKind, Result};
+use crate::traits::Write;
+use std::alloc::Allocator;
+
+/// A vector takes a buffer whole, at its end, or answers `OutOfMemory` and is as it was. Nothing is
+/// held. Follows `std::io::Write for Vec<u8>`.
+impl<A: Allocator> Write for Vec<u8, A> {
+    ghost told = { λ v. told_out v.items };
+
+    ghost takes_all = { λ _. ⊥ };
+
+    ghost cost = { λ _. 0 };
+
+    ghost is_metered = { λ _. ⊥ };
+
+    fn write(&mut self, buf: &[u8]) -> Result<usize>
+        // The trait's.
+        ensures bound { IfOk result (λ n. n ≤ length buf.now) }
+        ensures moves { Moves (told_out self.old.items) (taken result buf.now) (write_mishap result buf.now)
+            (told_out self.new.items) }
+        ensures all { ⊥ → ⊥ × (result ≡ Ok (length buf.now)) }
+        ensures cost { ⊥ → ⊥ → ⊥ × (0 ≡ 0 + 1) }
+
+        // All of the buffer or nothing, and memory alone refuses.
+        ensures whole { IfOk result (λ n. n ≡ length buf.now) }
+        ensures kind { IfErr result (λ e. error_kind e ≡ ErrorKind.OutOfMemory) }
+        ensures empty { length buf.now ≡ 0 → IsOk result }
+    {
+        match self.extend_from_slice(buf) {
+            Ok(()) => Ok(buf.len()),
+            Err(_) => Err(Error::from(ErrorKind::OutOfMemory)),
+        }
+    }
+
+    fn flush(&mut self) -> Result<()>
+        // The trait's.
+        ensures empty { OnOk result ((told_out self.new.items).held ≡ []) }
+        ensures moves { Moves (told_out self.old.items) [] (call_mishap result) (told_out self.new.items) }
+        ensures all { ⊥ → ⊥ }
+        ensures cost { ⊥ → ⊥ → ⊥ × (let n : ℕ = 0 in n ≡ n) }
+
+        // It does nothing.
+        ensures ok { IsOk result }
+        ensures same { self.new ≡ self.old }
+    {
+        Ok(())
+    }
+
+    ghost steady = { λ w h. absurd h };
+}

@@ -1,0 +1,7 @@
+//! The lower half of `no_std_io2`: errors, the stream traits with their laws, and the streams in
+//! memory. Users name `no_std_io2` alone, which shows all of it under `io`.
+#![tactic(auto)]
+
+pub mod error;
+pub mod impls;
+pub mod traits;

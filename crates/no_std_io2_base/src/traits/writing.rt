@@ -1,0 +1,98 @@
+ghost use Rattle.std.specs.Prelude.{◌≡◌, ℕ, ◌+◌, ◌≤◌, Bool, List, [], Some, Ok, OnOk, IfOk, length, nat_lt, if◌then◌else◌};
+ghost use Rattle.no_std_io2_base.specs.Errors.{IsNoInterruption};
+ghost use Rattle.no_std_io2_base.specs.Writes.{Told, Moves, MovesFront, taken, write_mishap, call_mishap};
+
+use crate::error::{Error, ErrorKind, Result};
+
+/// A sink of bytes. Follows Rust's `std::io::Write`.
+///
+/// A writer tells, to contracts alone, the bytes that are *out*, the bytes that are *held* (accepted
+/// and not yet out), the *mishaps* to come where it knows them, and a number of *turns*. A mishap is
+/// an `Err`, of its error's kind, or an `Ok(0)` to a `write` of some bytes, of kind `WriteZero`.
+///
+/// The law of each call: `out` then `held` becomes what it was, followed by exactly what the answer
+/// accepted; what is out stays out; told mishaps stay told and lose each one that happened; and an
+/// interruption spends a turn, so that a retry ends.
+pub trait Write {
+    // What it tells of itself.
+    ghost told: { Self → Told };
+
+    // It takes all that it is given from here on, and never fails.
+    ghost takes_all: { Self → Type 0 };
+
+    // How many calls were counted, and whether each one is.
+    ghost cost: { Self → ℕ };
+
+    ghost is_metered: { Self → Type 0 };
+
+    /// Writes some front of `buf`: `Ok(n)` accepted its first `n` bytes, `n` at most its length,
+    /// and `Err` accepted none. Follows `std::io::Write::write`.
+    ///
+    /// # Errors
+    /// The device's own. After an interruption the call may be made again.
+    fn write(&mut self, buf: &[u8]) -> Result<usize>
+        ensures bound { IfOk result (λ n. n ≤ length buf.now) }
+        ensures moves { Moves (told self.old) (taken result buf.now) (write_mishap result buf.now)
+            (told self.new) }
+        ensures all { takes_all self.old → takes_all self.new × (result ≡ Ok (length buf.now)) }
+        ensures cost { is_metered self.old → takes_all self.old
+            → is_metered self.new × (cost self.new ≡ cost self.old + 1) };
+
+    /// Hands on all that is held: after `Ok` nothing is held, and after `Err` the accepted bytes
+    /// are the same. Follows `std::io::Write::flush`.
+    ///
+    /// # Errors
+    /// The device's own, or `WriteZero` where a buffer's device took no byte of some. What was not
+    /// handed on is still held, and a later flush goes on there.
+    fn flush(&mut self) -> Result<()>
+        ensures empty { OnOk result ((told self.new).held ≡ []) }
+        ensures moves { Moves (told self.old) [] (call_mishap result) (told self.new) }
+        ensures all { takes_all self.old → takes_all self.new }
+        ensures cost { is_metered self.old → takes_all self.old
+            → is_metered self.new × (cost self.new ≡ cost self.old) };
+
+    /// Writes the whole of `buf`, passing over interruptions. An empty buffer makes no call. Follows
+    /// `std::io::Write::write_all`.
+    ///
+    /// # Errors
+    /// `WriteZero` where the device took no byte of some, else the device's first fault; never
+    /// `Interrupted`. Some front of `buf`, possibly empty or whole, was accepted then.
+    fn write_all(&mut self, buf: &[u8]) -> Result<()>
+        ensures fault { IsNoInterruption result }
+        ensures moves { MovesFront (told self.old) buf.now result (told self.new) }
+        ensures all { takes_all self.old → takes_all self.new }
+        ensures cost { is_metered self.old → takes_all self.old → is_metered self.new
+            × (cost self.new ≡ cost self.old + (if nat_lt 0 (length buf.now) then 1 else 0)) }
+    {
+        let mut rest = buf;
+        'writes: while !rest.is_empty() {
+            match self.write(rest) {
+                Ok(0) => {
+                    let text = "failed to write whole buffer";
+                    return Err(Error::new(ErrorKind::WriteZero, text));
+                }
+                Ok(n) => rest = &rest[n..],
+                Err(e) => {
+                    if !e.is_interruption() {
+                        return Err(e);
+                    }
+                }
+            }
+        }
+        Ok(())
+    }
+
+    /// The writer itself, lent: for an adaptor that would take it by value. Follows
+    /// `std::io::Write::by_ref`.
+    final fn by_ref(&mut self) -> &mut Self
+    where
+        Self: Sized,
+        ensures name { result.ghost_name ≡ self.entry.ghost_name }
+        ensures value { result.now ≡ self.old }
+    {
+        self
+    }
+
+    // A writer that takes all has no mishap to come.
+    ghost steady: { (w : Self) → takes_all w → (told w).mishaps ≡ Some [] };
+}
