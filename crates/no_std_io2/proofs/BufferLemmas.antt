@@ -1,0 +1,78 @@
+-- A buffer in front of a writer.
+use Rattle.std.proofs.Common.{◌≡◌, ℕ, ◌+◌, ◌-◌, ◌<◌, ◌≤◌, length-take, Result, Ok, List, [], ◌∷◌, refl, ◌++◌, length, take, drop, length-drop, sym, ap, ◌∙◌, arith, length-append, append_assoc, append-nil, take-append-drop}
+use Rattle.std.proofs.lemmas.Bool.Decides.{nat_tests}
+use Rattle.no_std_io2_base.specs.declared.error.ErrorKind.{ErrorKind}
+use Rattle.no_std_io2_base.specs.Writes.{Told, Moves}
+use Rattle.no_std_io2_base.proofs.MovesLemmas.{Moves-refl}
+use Rattle.no_std_io2.specs.declared.buffered.writing.BufWriter.{BufWriter}
+use Rattle.no_std_io2.specs.Buffered.{with_buffer, sending_calls, writer_buffer, IsEnd}
+
+-- nothing is left of nothing
+pub none_left : (xs ys zs : List ℕ) → xs ≡ ys ++ zs → xs ≡ [] → length zs ≡ 0
+none_left xs ys zs e h = omega (arith, ap length e, ap length h, length-append ys zs)
+
+-- n more bytes are gone
+pub gone_more : (xs ys zs : List ℕ) (n : ℕ) (next : List ℕ) → xs ≡ ys ++ zs → next ≡ drop n zs → xs ≡ (ys ++ take n zs) ++ next
+gone_more xs ys zs n next e h =
+    e ∙ ap (λ l. ys ++ l) (sym (take-append-drop n zs)) ∙ sym (append_assoc ys (take n zs) (drop n zs)) ∙ ap (λ l. (ys ++ take n zs) ++ l) (sym h)
+
+-- What the inner writer accepted, x, came from the front of the buffer and of what was given, y.
+pub Moves-buffered : {a b : Told} {x : List ℕ} {k : List ErrorKind} (old new y : List ℕ) → Moves a x k b → old ++ y ≡ x ++ new → Moves (with_buffer a old) y k (with_buffer b new)
+Moves-buffered {a} {b} {x} old new y f e = record {
+  front = f.front;
+  bytes = sym (append_assoc b.out b.held new) ∙ ap (λ l. l ++ new) f.bytes ∙ append_assoc (a.out ++ a.held) x new
+      ∙ ap (λ l. (a.out ++ a.held) ++ l) (sym e) ∙ sym (append_assoc (a.out ++ a.held) old y) ∙ ap (λ l. l ++ y) (append_assoc a.out a.held old);
+  mishaps = f.mishaps;
+  turns = f.turns;
+}
+
+pub sending_none : (xs : List ℕ) → length xs ≡ 0 → sending_calls xs ≡ 0
+sending_none xs h = grind (arith, nat_tests)
+
+pub sending_some : (xs : List ℕ) → 0 < length xs → sending_calls xs ≡ 1
+sending_some xs h = grind (arith, nat_tests)
+
+pub drop_whole : (xs next : List ℕ) (n : ℕ) → n ≡ length xs → next ≡ drop n xs → length next ≡ 0
+drop_whole xs next n e h = omega (arith, ap length h, length-drop n xs)
+
+pub ok_same : {A E : Type 0} {x y : A} → ◌≡◌ {A = Result A E} (Ok x) (Ok y) → x ≡ y
+ok_same e = cc
+
+-- after the whole buffer was sent
+pub Moves-sent : {a b : Told} {k : List ErrorKind} (old new : List ℕ) → new ≡ [] → Moves a old k b → Moves (with_buffer a old) [] k (with_buffer b new)
+Moves-sent old new e f = Moves-buffered old new [] f (ap (λ l. old ++ l) (sym e))
+
+-- after a part of the buffer was sent
+pub Moves-sent_part : {a b : Told} {k : List ErrorKind} (sent old new : List ℕ) → old ≡ sent ++ new → Moves a sent k b → Moves (with_buffer a old) [] k (with_buffer b new)
+Moves-sent_part sent old new e f = Moves-buffered old new [] f (append-nil old ∙ e)
+
+-- after more was put into the buffer
+pub Moves-held : (a : Told) (old new x : List ℕ) → new ≡ old ++ x → Moves (with_buffer a old) x [] (with_buffer a new)
+Moves-held a old new x e = Moves-buffered old new x (Moves-refl a) (sym e)
+
+-- past an empty buffer
+pub Moves-passed : {a b : Told} {x : List ℕ} {k : List ErrorKind} (held : List ℕ) → held ≡ [] → Moves a x k b → Moves (with_buffer a held) x k (with_buffer b held)
+Moves-passed {a} {b} {x} held e f = Moves-buffered held held x f (ap (λ l. l ++ x) e ∙ sym (append-nil x) ∙ ap (λ l. x ++ l) (sym e))
+
+pub none_of_length : (xs : List ℕ) → length xs ≡ 0 → xs ≡ []
+none_of_length [] h = refl
+none_of_length (x ∷ xs) h = absurd (omega arith)
+
+-- at most S bytes are held
+pub buffer-le : {W : Type 0} {S : ℕ} (w : BufWriter W S) → length (writer_buffer w) ≤ S
+buffer-le w = let c = w.core.window in omega (arith, length-take (c.end - c.start) (drop c.start c.bytes), c.in_range)
+
+-- behind an empty buffer
+pub Moves-bare : {a b : Told} {x : List ℕ} {k : List ErrorKind} (buffer : List ℕ) → buffer ≡ [] → Moves (with_buffer a buffer) x k b → Moves a x k b
+Moves-bare {a} {b} {x} buffer e f = record {
+  front = f.front;
+  bytes = f.bytes ∙ ap (λ l. a.out ++ (a.held ++ l) ++ x) e ∙ ap (λ l. a.out ++ l ++ x) (append-nil a.held);
+  mishaps = f.mishaps;
+  turns = f.turns;
+}
+
+pub IsEnd-none : (whole end : List ℕ) → end ≡ [] → IsEnd whole end
+IsEnd-none whole end e = (whole, sym (append-nil whole) ∙ ap (λ l. whole ++ l) (sym e))
+
+pub IsEnd-held : (old mid new x : List ℕ) → IsEnd old mid → new ≡ mid ++ x → IsEnd (old ++ x) new
+IsEnd-held old mid new x f e = (f.0, ap (λ l. l ++ x) f.1 ∙ append_assoc f.0 mid x ∙ ap (λ l. f.0 ++ l) (sym e))

@@ -1,0 +1,107 @@
+-- Line states under the changes that a line writer makes.
+use Rattle.std.proofs.Common.{Result, Ok, Err, ◌⊎◌, slice_index, refl, append-nil, append_assoc, take-append-drop, ◌≡◌, ◌≢◌, ℕ, ◌+◌, ◌-◌, ◌<◌, ◌≤◌, List, [], ◌++◌, length, take, drop, get_or, sym, ap, ◌∙◌, subst, arith, length-append, length-take, ⊎_elim}
+use Rattle.std.proofs.Math.Seq.{get_or-append_right}
+use Rattle.std.proofs.lemmas.List.{get_or-append-add, get_or_append_left, get_or-take}
+use Rattle.std.proofs.lemmas.Bool.{cases_lt}
+use Rattle.std.specs.List.{slice_range}
+use lib.Seq.{take-add, take-take}
+use Rattle.std.proofs.lemmas.Bool.Decides.{nat_tests}
+use Rattle.no_std_io2_base.specs.declared.error.Error.{Error}
+use Rattle.no_std_io2_base.specs.Writes.{Told, Moves, MovesFront, IsFront, taken, zero_write, call_mishap}
+use Rattle.no_std_io2_base.proofs.MovesLemmas.{IsFront-refl, IsFront-trans, Moves-then, Moves-ends}
+use Rattle.no_std_io2.proofs.BufferLemmas.{Moves-buffered}
+use Rattle.no_std_io2.specs.Buffered.{with_buffer}
+use Rattle.std.specs.Result.{OnOk}
+use Rattle.no_std_io2.specs.LineState.{IsLineState, HasNoNewline}
+use Rattle.no_std_io2.specs.Buffered.{IsEnd}
+
+pub IsLineState-append : (front end : List ℕ) → IsLineState (front ++ end) → IsLineState end
+IsLineState-append front end line k h e =
+    let n = length front in
+    let sum = length-append front end in
+    let last : n + (length end - 1) ≡ length (front ++ end) - 1 = omega arith in
+    sym (get_or-append-add front end (length end - 1) 0) ∙ ap (λ m. get_or (front ++ end) m 0) last
+    ∙ line (n + k) (omega arith) (get_or-append-add front end k 0 ∙ e)
+
+pub IsLineState-end : (whole end : List ℕ) → IsEnd whole end → IsLineState whole → IsLineState end
+IsLineState-end whole end f line = IsLineState-append f.0 end (subst IsLineState f.1 line)
+
+pub IsLineState-plain : (xs : List ℕ) → HasNoNewline xs → IsLineState xs
+IsLineState-plain xs plain k h e = absurd (plain k h e)
+
+pub HasNoNewline-append : (xs ys : List ℕ) → HasNoNewline xs → HasNoNewline ys → HasNoNewline (xs ++ ys)
+HasNoNewline-append xs ys p q k h e = ⊎_elim
+    (λ left. p k left (sym (get_or_append_left xs ys 0 k left) ∙ e))
+    (λ right. q (k - length xs) (omega (arith, length-append xs ys)) (sym (get_or-append_right xs ys k 0 right) ∙ e))
+    (cases_lt k (length xs))
+
+pub HasNoNewline-take : (n : ℕ) (xs : List ℕ) → HasNoNewline xs → HasNoNewline (take n xs)
+HasNoNewline-take n xs p k h e =
+    let len = length-take n xs in
+    p k (omega arith) (sym (get_or-take n xs k 0 (omega arith)) ∙ e)
+
+pub HasNoNewline-taken : (reply : Result ℕ Error) (xs : List ℕ) → HasNoNewline xs → HasNoNewline (taken reply xs)
+HasNoNewline-taken (Ok n) xs p = HasNoNewline-take n xs p
+HasNoNewline-taken (Err e) xs p = λ k h. absurd (omega arith)
+
+-- what was taken of the lines, and what is held after it
+pub taken_then_held : (x : List ℕ) (len n end : ℕ) → n ≤ length (take len x) → n ≤ end → take end x ≡ take n (take len x) ++ slice_range x n end
+taken_then_held x len n end h g =
+    let lines = length-take len x in
+    ap (λ m. take m x) (let e : end ≡ n + (end - n) = omega arith in e) ∙ take-add n (end - n) x ∙ ap (λ l. l ++ slice_range x n end) (sym (take-take n len x (omega arith)))
+
+pub zero_write-lines : (x : List ℕ) (len : ℕ) → 0 < len → len ≤ length x → zero_write 0 (take len x) ≡ zero_write 0 x
+zero_write-lines x len h g = let lines = length-take len x in grind (arith, nat_tests)
+
+pub zero_write-some : (x : List ℕ) (n : ℕ) → 0 < n → zero_write n x ≡ []
+zero_write-some x n h = grind (arith, nat_tests)
+
+pub held_after : (mid passed new more front whole : List ℕ) → mid ≡ [] → passed ≡ mid → new ≡ passed ++ more → whole ≡ front ++ more → mid ++ whole ≡ front ++ new
+held_after mid passed new more front whole e f g h =
+    ap (λ l. l ++ whole) e ∙ h ∙ ap (λ l. front ++ l) (sym (g ∙ ap (λ l. l ++ more) (f ∙ e)))
+
+-- what ends in a newline
+pub IsLineState-ended : (xs ys : List ℕ) → 0 < length ys → slice_index ys (length ys - 1) ≡ 10 → IsLineState (xs ++ ys)
+IsLineState-ended xs ys some ends k h e =
+    let sum = length-append xs ys in
+    let last : length (xs ++ ys) - 1 ≡ length xs + (length ys - 1) = omega arith in
+    ap (λ m. get_or (xs ++ ys) m 0) last ∙ get_or-append-add xs ys (length ys - 1) 0 ∙ ends
+
+pub IsLineState-after : (old x new : List ℕ) → IsLineState old → IsLineState (old ++ x) → (IsEnd (old ++ x) new) ⊎ (IsEnd old new) → IsLineState new
+IsLineState-after old x new l m r = ⊎_elim (λ f. IsLineState-end _ new f m) (λ f. IsLineState-end _ new f l) r
+
+onok : {T : Type 0} (r : Result T Error) (P : Type 0) → P → OnOk r P
+onok (Ok t) P p = p
+onok (Err e) P p = tt
+
+onok_map : {T : Type 0} (r : Result T Error) (P Q : Type 0) → (P → Q) → OnOk r P → OnOk r Q
+onok_map (Ok t) P Q f p = f p
+onok_map (Err e) P Q f p = tt
+
+pub MovesFront-then : {a b c : Told} (x : List ℕ) (r : Result (Unit {0}) Error) → Moves a [] [] b → MovesFront b x r c → MovesFront a x r c
+MovesFront-then x r m f = (f.0, f.1, f.2, Moves-then m f.3)
+
+pub MovesFront-passed : {a b : Told} (x : List ℕ) (r : Result (Unit {0}) Error) (held new : List ℕ) → held ≡ [] → new ≡ held → MovesFront a x r b → MovesFront (with_buffer a held) x r (with_buffer b new)
+MovesFront-passed x r held new e g f =
+    (f.0, f.1, f.2, Moves-buffered held new f.0 f.3 (ap (λ l. l ++ f.0) e ∙ sym (append-nil f.0) ∙ ap (λ l. f.0 ++ l) (sym (g ∙ e))))
+
+pub MovesFront-ends : {a b c : Told} (x : List ℕ) (r : Result (Unit {0}) Error) → Moves a x [] b → Moves b [] (call_mishap r) c → MovesFront a x r c
+MovesFront-ends x r m n = (x, IsFront-refl x, onok r _ refl, Moves-ends m n)
+
+pub MovesFront-whole : {a b : Told} (x : List ℕ) (u : Unit {0}) → MovesFront a x (Ok u) b → Moves a x [] b
+MovesFront-whole {a} {b} x u f = subst (λ l. Moves a l [] b) f.2 f.3
+
+pub MovesFront-part : {a b : Told} (front x : List ℕ) (e : Error) → IsFront front x → MovesFront a front (Err e) b → MovesFront a x (Err e) b
+MovesFront-part front x e p f = (f.0, IsFront-trans f.0 front x f.1 p, tt, f.3)
+
+pub MovesFront-rest : {a b c : Told} (n : ℕ) (x rest : List ℕ) (r : Result (Unit {0}) Error) → rest ≡ drop n x → Moves a (take n x) [] b → MovesFront b rest r c → MovesFront a x r c
+MovesFront-rest {a} {b} {c} n x rest r d m f =
+    let whole = ap (λ l. take n x ++ l) d ∙ take-append-drop n x in (
+      take n x ++ f.0,
+      (f.1.0, sym whole ∙ ap (λ l. take n x ++ l) f.1.1 ∙ sym (append_assoc (take n x) f.0 f.1.0)),
+      onok_map r _ _ (λ e. ap (λ l. take n x ++ l) e ∙ whole) f.2,
+      Moves-then m f.3,
+    )
+
+pub HasNoNewline-none : (xs : List ℕ) → xs ≡ [] → HasNoNewline xs
+HasNoNewline-none xs e k h is = absurd (omega (arith, ap length e))

@@ -1,0 +1,47 @@
+use Rattle.std.proofs.Common.{◌≡◌, ◌+◌, ◌-◌, ◌<◌, ◌≤◌, ◌++◌, [], length, take, drop, arith, ◌∙◌, sym, ap, refl, append-nil, subst}
+use Rattle.std.specs.List.{slice_range}
+use Rattle.std.proofs.lemmas.Result.{err_from_is_err_and}
+use Rattle.no_std_io2_base.specs.Writes.{Moves}
+use Rattle.no_std_io2_base.proofs.MovesLemmas.{Moves-then, Moves-quiet}
+use Rattle.no_std_io2.specs.Buffered.{sender_told, sender_buffer, with_buffer}
+use Rattle.no_std_io2.proofs.LineLemmas.{IsLineState-end, held_after, taken_then_held, zero_write-lines, zero_write-some}
+use Rattle.no_std_io2.proofs.BufferLemmas.{Moves-sent_part, Moves-buffered}
+use Rattle.no_std_io2.proofs.buffered.lines.write_lines.Goals as goal
+
+pub returns-in_err-send-clause-line : goal.returns-in_err-send-clause-line
+returns-in_err-send-clause-line g c = IsLineState-end _ _ (c.in_err-send.ensures.sends.0, c.in_err-send.ensures.sends.1) c.requires.line
+
+pub returns-in_err-send-clause-moves : goal.returns-in_err-send-clause-moves
+returns-in_err-send-clause-moves g c =
+    let p = err_from_is_err_and c.from_residual.result c.from_residual.ensures.1 in
+    let sent = c.in_err-send.ensures.sends in
+    rw (p.1, p.2) (Moves-sent_part sent.0 _ _ sent.1 sent.2)
+
+pub returns-in_err-n-clause-moves : goal.returns-in_err-n-clause-moves
+returns-in_err-n-clause-moves g c =
+    let p = err_from_is_err_and c.from_residual-in_err-n.result c.from_residual-in_err-n.ensures.1 in
+    let sent = c.in_ok-send.ensures.sends in
+    let first = Moves-sent_part sent.0 _ (sender_buffer c.send.new.self) sent.1 sent.2 in
+    rw (p.1, p.2) (Moves-then first (Moves-buffered (sender_buffer c.send.new.self) (sender_buffer c.write_through.new.self) [] c.in_err-n.ensures.moves (append-nil _ ∙ sym c.write_through.ensures.same)))
+
+pub returns-then-n-eq0-clause-moves : goal.returns-then-n-eq0-clause-moves
+returns-then-n-eq0-clause-moves g c =
+    let sent = c.in_ok-send.ensures.sends in
+    let first = Moves-sent_part sent.0 _ (sender_buffer c.send.new.self) sent.1 sent.2 in
+    let direct = rw (c.if-n-eq0.true, zero_write-lines c.args.x.now c.args.len c.requires.some c.requires.within) at c.in_ok-n.ensures.moves in
+    Moves-then first (Moves-buffered (sender_buffer c.send.new.self) (sender_buffer c.write_through.new.self) [] direct (append-nil _ ∙ sym c.write_through.ensures.same))
+
+pub returns-clause-moves : goal.returns-clause-moves
+returns-clause-moves g c =
+    let x = c.args.x.now in
+    let n = c.in_ok-n.n in
+    let end = c.tail_end-end.result in
+    let sent = c.in_ok-send.ensures.sends in
+    let first = Moves-sent_part sent.0 _ (sender_buffer c.send.new.self) sent.1 sent.2 in
+    let whole = taken_then_held x c.args.len n end c.in_ok-n.ensures.bound c.tail_end-end.ensures.after in
+    let some : 0 < end = omega (arith, c.tail_end-end.ensures.after, c.if-n-eq0.false) in
+    let held : sender_buffer c.send.new.self ++ take end x ≡ take n (take c.args.len x) ++ sender_buffer c.hold.new.self =
+    held_after _ (sender_buffer c.write_through.new.self) _ (slice_range x n end) _ _ c.in_ok-send.ensures.empty c.write_through.ensures.same c.hold.ensures.buffer whole in
+    let then = Moves-then first (Moves-quiet (Moves-buffered (sender_buffer c.send.new.self) (sender_buffer c.hold.new.self) (take end x) c.in_ok-n.ensures.moves held)) in
+    rw (zero_write-some x end some)
+    (subst (λ i. Moves (sender_told g.W.Write.told c.args.w.now) (take end x) [] (with_buffer (g.W.Write.told i) (sender_buffer c.hold.new.self))) (sym c.hold.ensures.same) then)

@@ -1,0 +1,8 @@
+//! Buffers in front of readers and writers.
+mod lines;
+mod sender;
+mod window;
+mod writing;
+
+pub use lines::LineWriter;
+pub use writing::{BufWriter, IntoInnerError};

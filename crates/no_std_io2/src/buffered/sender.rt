@@ -1,0 +1,214 @@
+// A buffer in front of a writer.
+ghost use Rattle.std.specs.Prelude.{◌≡◌, ◌+◌, ◌<◌, ◌≤◌, ◌⊎◌, [], ◌∷◌, ◌++◌, length, Ok, IsOk, IfOk, IfErr, IsOkAnd, OnOk, false};
+ghost use Rattle.std.specs.Borrow.{Lends, sem};
+ghost use Rattle.no_std_io2.specs.contracts.buffered.sender.Sender.{the_row as sender-row};
+ghost use Rattle.no_std_io2_base.specs.Errors.{error_kind, is_interruption, IsNoInterruption};
+ghost use Rattle.no_std_io2_base.specs.Writes.{Moves, MovesFront, taken, write_mishap, call_mishap};
+ghost use Rattle.no_std_io2.specs.Buffered.{sender_inner, sender_buffer, sender_told, Sends, sending_calls, writing_calls, buffer_after, IsEnd, sender_with_inner};
+
+use super::window::Window;
+use no_std_io2_base::error::{Error, ErrorKind, Result};
+use no_std_io2_base::traits::Write;
+
+// The call did nothing and may be made again.
+fn is_interruption(error: &Error) -> bool
+    ensures { result ≡ is_interruption (error_kind error.now) }
+{
+    matches!(error.kind(), ErrorKind::Interrupted)
+}
+
+// What a `BufWriter` and a `LineWriter` stand on. It has no bound, so that a struct with a ghost field may hold it.
+#[derive(Drop)]
+pub struct Sender<W, const S: usize> {
+    inner: W,
+    window: Window<S>,
+}
+
+impl<W: Write + Drop, const S: usize> Sender<W, S> {
+    pub fn new(inner: W) -> Sender<W, S>
+        ensures inner { sender_inner result ≡ inner }
+        ensures empty { sender_buffer result ≡ [] }
+    {
+        Sender {
+            inner,
+            window: Window::new(),
+        }
+    }
+
+    pub fn get_ref(&self) -> &W
+        ensures { result.now ≡ sender_inner self.now }
+    {
+        &self.inner
+    }
+
+    // A write through the result lands in the inner writer, and nothing else changes.
+    pub fn get_mut(&mut self) -> &mut W
+        ensures value { result.now ≡ sender_inner self.old }
+        ensures* writes_back { sem 𝓛 (Lends (sender-row W.row S.row) W.row self.entry result
+            (sender_with_inner self.old)) }
+    {
+        &mut self.inner
+    }
+
+    pub fn buffer(&self) -> &[u8]
+        ensures value { result.now ≡ sender_buffer self.now }
+        ensures bound { length result.now ≤ S }
+    {
+        self.window.as_slice()
+    }
+
+    pub fn capacity(&self) -> usize
+        ensures { result ≡ S }
+    {
+        S
+    }
+
+    pub(crate) fn into_parts(self) -> W
+        ensures { result ≡ sender_inner self }
+    {
+        self.inner
+    }
+
+    // Passes over interruptions. What was taken is no longer held, whatever the answer.
+    pub(crate) fn send(&mut self) -> Result<()>
+        ensures fault { IsNoInterruption result }
+        ensures empty { OnOk result (sender_buffer self.new ≡ []) }
+        ensures sends { Sends (W.told self.old.inner) (sender_buffer self.old) result
+            (W.told self.new.inner) (sender_buffer self.new) }
+        ensures idle { sender_buffer self.old ≡ [] → (self.new.inner ≡ self.old.inner) × IsOk result }
+        ensures all { W.takes_all self.old.inner → W.takes_all self.new.inner × IsOk result }
+        ensures cost { W.is_metered self.old.inner → W.takes_all self.old.inner
+            → W.is_metered self.new.inner
+            × (W.cost self.new.inner ≡ W.cost self.old.inner + sending_calls (sender_buffer self.old)) }
+        ensures unmoved { self.new.window.bytes ≡ self.old.window.bytes }
+    {
+        while self.window.len() > 0 {
+            match self.inner.write(self.window.as_slice()) {
+                Ok(0) => {
+                    let text = "failed to write the buffered data";
+                    return Err(Error::new(ErrorKind::WriteZero, text));
+                }
+                Ok(n) => self.window.drop_front(n),
+                Err(e) => {
+                    if !is_interruption(&e) {
+                        return Err(e);
+                    }
+                }
+            }
+        }
+        Ok(())
+    }
+
+    // Past the buffer.
+    pub(crate) fn write_through(&mut self, buf: &[u8]) -> Result<usize>
+        ensures bound { IfOk result (λ n. n ≤ length buf.now) }
+        ensures moves { Moves (W.told (sender_inner self.old)) (taken result buf.now)
+            (write_mishap result buf.now) (W.told (sender_inner self.new)) }
+        ensures same { sender_buffer self.new ≡ sender_buffer self.old }
+    {
+        self.inner.write(buf)
+    }
+
+    pub(crate) fn write_all_through(&mut self, buf: &[u8]) -> Result<()>
+        ensures fault { IsNoInterruption result }
+        ensures moves { MovesFront (W.told (sender_inner self.old)) buf.now result
+            (W.told (sender_inner self.new)) }
+        ensures same { sender_buffer self.new ≡ sender_buffer self.old }
+    {
+        self.inner.write_all(buf)
+    }
+
+    // Into the buffer.
+    pub(crate) fn hold(&mut self, more: &[u8])
+        requires { length (sender_buffer self.old) + length more.now ≤ S }
+        ensures same { sender_inner self.new ≡ sender_inner self.old }
+        ensures buffer { sender_buffer self.new ≡ sender_buffer self.old ++ more.now }
+    {
+        self.window.push(more);
+    }
+}
+
+impl<W: Write + Drop, const S: usize> Write for Sender<W, S> {
+    ghost told = { sender_told W.told };
+
+    ghost takes_all = { λ w. W.takes_all (sender_inner w) };
+
+    ghost cost = { λ w. W.cost (sender_inner w) };
+
+    ghost is_metered = { λ _. ⊥ };
+
+    fn write(&mut self, buf: &[u8]) -> Result<usize>
+        ensures bound { IfOk result (λ n. n ≤ length buf.now) }
+        ensures moves { Moves (sender_told W.told self.old) (taken result buf.now)
+            (write_mishap result buf.now) (sender_told W.told self.new) }
+        ensures all { W.takes_all (sender_inner self.old)
+            → W.takes_all (sender_inner self.new) × (result ≡ Ok (length buf.now)) }
+        ensures cost { ⊥ → W.takes_all (sender_inner self.old)
+            → ⊥ × (W.cost (sender_inner self.new) ≡ W.cost (sender_inner self.old) + 1) }
+        ensures rest { IsEnd (sender_buffer self.old ++ taken result buf.now) (sender_buffer self.new) }
+        ensures fits { length buf.now < S → length (sender_buffer self.old) + length buf.now ≤ S
+            → IsOk result × (sender_inner self.new ≡ sender_inner self.old)
+            × (sender_buffer self.new ≡ sender_buffer self.old ++ buf.now) }
+        ensures whole { length buf.now < S → IfOk result (λ n. n ≡ length buf.now) }
+        ensures after { W.takes_all (sender_inner self.old)
+            → sender_buffer self.new ≡ buffer_after S (sender_buffer self.old) buf.now }
+        ensures calls { W.is_metered (sender_inner self.old) → W.takes_all (sender_inner self.old)
+            → W.is_metered (sender_inner self.new) × (W.cost (sender_inner self.new)
+            ≡ W.cost (sender_inner self.old) + writing_calls S (sender_buffer self.old) buf.now) }
+    {
+        if buf.len() > S - self.window.len() {
+            self.send()?;
+        }
+        if buf.len() >= S {
+            return self.inner.write(buf);
+        }
+        self.window.push(buf);
+        Ok(buf.len())
+    }
+
+    fn flush(&mut self) -> Result<()>
+        ensures empty { OnOk result ((sender_told W.told self.new).held ≡ []) }
+        ensures moves { Moves (sender_told W.told self.old) [] (call_mishap result)
+            (sender_told W.told self.new) }
+        ensures all { W.takes_all (sender_inner self.old) → W.takes_all (sender_inner self.new) }
+        ensures cost { ⊥ → W.takes_all (sender_inner self.old)
+            → ⊥ × (W.cost (sender_inner self.new) ≡ W.cost (sender_inner self.old)) }
+        ensures sent { OnOk result (sender_buffer self.new ≡ []) }
+        ensures rest { IsEnd (sender_buffer self.old) (sender_buffer self.new) }
+        ensures calls { W.is_metered (sender_inner self.old) → W.takes_all (sender_inner self.old)
+            → W.is_metered (sender_inner self.new) × (W.cost (sender_inner self.new)
+            ≡ W.cost (sender_inner self.old) + sending_calls (sender_buffer self.old)) }
+    {
+        self.send()?;
+        self.inner.flush()
+    }
+
+    fn write_all(&mut self, buf: &[u8]) -> Result<()>
+        ensures fault { IsNoInterruption result }
+        ensures moves { MovesFront (sender_told W.told self.old) buf.now result (sender_told W.told self.new) }
+        ensures all { W.takes_all (sender_inner self.old) → W.takes_all (sender_inner self.new) }
+        ensures cost { ⊥ → W.takes_all (sender_inner self.old)
+            → ⊥ × (W.cost (sender_inner self.new) ≡ W.cost (sender_inner self.old) + sending_calls buf.now) }
+        ensures rest { IsEnd (sender_buffer self.old ++ buf.now) (sender_buffer self.new)
+            ⊎ IsEnd (sender_buffer self.old) (sender_buffer self.new) }
+        ensures fits { length buf.now < S → length (sender_buffer self.old) + length buf.now ≤ S
+            → IsOk result × (sender_inner self.new ≡ sender_inner self.old)
+            × (sender_buffer self.new ≡ sender_buffer self.old ++ buf.now) }
+        ensures after { W.takes_all (sender_inner self.old)
+            → sender_buffer self.new ≡ buffer_after S (sender_buffer self.old) buf.now }
+        ensures calls { 0 < S → W.is_metered (sender_inner self.old) → W.takes_all (sender_inner self.old)
+            → W.is_metered (sender_inner self.new) × (W.cost (sender_inner self.new)
+            ≡ W.cost (sender_inner self.old) + writing_calls S (sender_buffer self.old) buf.now) }
+    {
+        if buf.len() > S - self.window.len() {
+            self.send()?;
+        }
+        if buf.len() >= S {
+            return self.inner.write_all(buf);
+        }
+        self.window.push(buf);
+        Ok(())
+    }
+
+    ghost steady = { λ w h. W.steady (sender_inner w) h };
+}

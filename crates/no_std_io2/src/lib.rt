@@ -1,0 +1,4 @@
+//! Byte streams for programs without an operating system.
+#![tactic(auto)]
+
+pub mod buffered;
