@@ -2,4 +2,5 @@
 mod boxed;
 mod lent;
 mod objects;
+mod slices;
 mod vectors;

@@ -1,4 +1,16 @@
 //! What reads, writes and seeks, with the laws that every implementation is proved to keep.
+mod chaining;
+mod lending;
+mod limiting;
+mod reading;
+mod seeking;
+mod store;
 mod writing;
 
+pub use chaining::Chain;
+pub use lending::BufRead;
+pub use limiting::Take;
+pub use reading::Read;
+pub use seeking::{Seek, SeekFrom};
+pub use store::Stored;
 pub use writing::Write;

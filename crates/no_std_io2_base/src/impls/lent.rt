@@ -1,5 +1,5 @@
 use crate::error::Result;
-use crate::traits::Write;
+use crate::traits::{BufRead, Read, Seek, SeekFrom, Stored, Write};
 
 /// A lent writer is its target.
 impl<W: Write> Write for &mut W {
@@ -24,4 +24,72 @@ impl<W: Write> Write for &mut W {
     }
 
     ghost steady = { λ w h. W.steady w.now h };
+}
+
+impl<T: Stored> Stored for &mut T {
+    ghost has_store = { λ r. T.has_store r.now };
+
+    ghost content = { λ r. T.content r.now };
+
+    ghost position = { λ r. T.position r.now };
+}
+
+/// A lent reader is its target.
+impl<T: Read> Read for &mut T {
+    ghost tells = { λ r. T.tells r.now };
+
+    ghost events = { λ r. T.events r.now };
+
+    ghost turns = { λ r. T.turns r.now };
+
+    ghost cost = { λ r. T.cost r.now };
+
+    ghost is_metered = { λ r. T.is_metered r.now };
+
+    ghost is_filling = { λ r. T.is_filling r.now };
+
+    ghost may_take_none = { λ r. T.may_take_none r.now };
+
+    fn read(&mut self, buf: &mut [u8]) -> Result<usize> {
+        Read::read(&mut **self, buf)
+    }
+
+    fn read_exact(&mut self, buf: &mut [u8]) -> Result<()> {
+        Read::read_exact(&mut **self, buf)
+    }
+
+    ghost filling_tells = { λ r h. T.filling_tells r.now h };
+
+    ghost store_tells = { λ r h. T.store_tells r.now h };
+
+    ghost store_fits = { λ r h. T.store_fits r.now h };
+}
+
+impl<T: BufRead> BufRead for &mut T {
+    ghost held = { λ r. T.held r.now };
+
+    ghost counts_fills = { λ r. T.counts_fills r.now };
+
+    ghost fills = { λ r. T.fills r.now };
+
+    ghost lends_surely = { λ r. T.lends_surely r.now };
+
+    ghost lent_length = { λ r. T.lent_length r.now };
+
+    fn fill_buf(&mut self) -> Result<&[u8]> {
+        BufRead::fill_buf(&mut **self)
+    }
+
+    fn consume(&mut self, amount: usize) {
+        BufRead::consume(&mut **self, amount)
+    }
+}
+
+/// A lent seeker is its target.
+impl<T: Seek> Seek for &mut T {
+    fn seek(&mut self, pos: SeekFrom) -> Result<u64> {
+        Seek::seek(&mut **self, pos)
+    }
+
+    ghost seek_fits = { λ r h. T.seek_fits r.now h };
 }

@@ -1,0 +1,33 @@
+-- Reads under a limit.
+use Rattle.std.proofs.Common.{◌≡◌, ℕ, zero, suc, ◌+◌, ◌-◌, ◌<◌, ◌≤◌, min, List, [], ◌∷◌, ◌++◌, Ok, length, take, drop, refl, sym, ap, subst, ◌∙◌, arith, length-append, length-take-le}
+use lib.Seq.{take-append-le}
+use Rattle.no_std_io2_base.specs.Events.{Event, byte, events_of, bytes, cut, Reads}
+use Rattle.no_std_io2_base.proofs.Events.{cut-bytes, length-events_of}
+
+-- the cut loses what the inner reader loses
+pub cut_reads : (E E' : List Event) (k n : ℕ) (part kept : List ℕ) → n ≤ length part → length part ≤ k → (0 < length (part ++ kept) → 0 < length part)
+    → Reads E (Ok n) part E' → Reads (cut k E) (Ok n) (part ++ kept) (cut (k - n) E')
+cut_reads E E' k n part kept fits within room read =
+    let long = length-take-le n part fits in
+    let rest : k - length (take n part) ≡ k - n = ap (λ m. k - m) long in (
+      ap (cut k) read.0 ∙ cut-bytes (take n part) E' k (omega (arith, long)) ∙ ap (λ m. events_of (take n part) ++ cut m E') rest ∙ ap (λ l. events_of l ++ cut (k - n) E') (sym (take-append-le n part kept fits)),
+      λ zero some. ap (cut k) (read.1 zero (room some)) ∙ cut-none k,
+    )
+  where
+    cut-none : (k : ℕ) → cut k [] ≡ []
+    cut-none zero = refl
+    cut-none (suc k) = refl
+
+cut-length_bytes : (k : ℕ) (bs : List ℕ) → length (cut k (events_of bs)) ≡ min k (length bs)
+cut-length_bytes zero bs = omega arith
+cut-length_bytes (suc k) [] = omega arith
+cut-length_bytes (suc k) (b ∷ bs) = omega (arith, cut-length_bytes k bs)
+
+pub cut-length : (k : ℕ) (E : List Event) → E ≡ events_of (bytes E) → length (cut k E) ≡ min k (length E)
+cut-length k E h = ap (λ l. length (cut k l)) h ∙ cut-length_bytes k (bytes E) ∙ ap (min k) (sym (length-events_of (bytes E)) ∙ ap length (sym h))
+
+-- bytes that are consumed go from the cut and from the limit
+pub cut_consumes : (E E' : List Event) (held : List ℕ) (n k : ℕ) → n ≤ k → n ≤ length held → E ≡ events_of (take n held) ++ E' → cut k E ≡ events_of (take n held) ++ cut (k - n) E'
+cut_consumes E E' held n k within fits is =
+    let long = length-take-le n held fits in
+    ap (cut k) is ∙ cut-bytes (take n held) E' k (omega (arith, long)) ∙ ap (λ m. events_of (take n held) ++ cut (k - m) E') long

@@ -1,0 +1,58 @@
+-- How bytes, cuts and faults of events go with `++`.
+use Rattle.std.proofs.Common.{◌≡◌, ℕ, zero, suc, ◌+◌, ◌-◌, ◌<◌, ◌≤◌, List, [], ◌∷◌, ◌++◌, length, take, drop, refl, sym, ap, ◌∙◌, subst, arith, zero-add, append_assoc}
+use Rattle.no_std_io2_base.specs.declared.error.Error.{Error}
+use Rattle.no_std_io2_base.specs.Errors.{IsInterruption}
+use Rattle.no_std_io2_base.specs.Events.{Event, byte, fails, events_of, bytes, HasNoFault, cut}
+
+pub bytes-append : (P Q : List Event) → bytes (P ++ Q) ≡ bytes P ++ bytes Q
+bytes-append [] Q = refl
+bytes-append (byte b ∷ P) Q = ap (λ l. b ∷ l) (bytes-append P Q)
+bytes-append (fails e ∷ P) Q = bytes-append P Q
+
+pub bytes-events_of : (bs : List ℕ) → bytes (events_of bs) ≡ bs
+bytes-events_of [] = refl
+bytes-events_of (b ∷ bs) = ap (λ l. b ∷ l) (bytes-events_of bs)
+
+pub length-events_of : (bs : List ℕ) → length (events_of bs) ≡ length bs
+length-events_of [] = refl
+length-events_of (b ∷ bs) = ap suc (length-events_of bs)
+
+pub events_of-append : (bs cs : List ℕ) → events_of (bs ++ cs) ≡ events_of bs ++ events_of cs
+events_of-append [] cs = refl
+events_of-append (b ∷ bs) cs = ap (λ l. byte b ∷ l) (events_of-append bs cs)
+
+pub HasNoFault-append : (P Q : List Event) → HasNoFault P → HasNoFault Q → HasNoFault (P ++ Q)
+HasNoFault-append [] Q p q = q
+HasNoFault-append (byte b ∷ P) Q p q = HasNoFault-append P Q p q
+HasNoFault-append (fails e ∷ P) Q p q = (p.0, HasNoFault-append P Q p.1 q)
+
+pub HasNoFault-events_of : (bs : List ℕ) → HasNoFault (events_of bs)
+HasNoFault-events_of [] = tt
+HasNoFault-events_of (b ∷ bs) = HasNoFault-events_of bs
+
+-- a cut past the bytes of P keeps all of P
+pub cut-append : (P R : List Event) (j k : ℕ) → 0 < k → j ≡ length (bytes P) + k → cut j (P ++ R) ≡ P ++ cut k R
+cut-append [] R j k some is = let same : j ≡ k = omega arith in ap (λ n. cut n R) same
+cut-append (byte b ∷ P) R zero k some is = absurd (omega arith)
+cut-append (byte b ∷ P) R (suc j) k some is = ap (λ l. byte b ∷ l) (cut-append P R j k some (omega arith))
+cut-append (fails e ∷ P) R zero k some is = absurd (omega arith)
+cut-append (fails e ∷ P) R (suc j) k some is = ap (λ l. fails e ∷ l) (cut-append P R (suc j) k some is)
+
+-- bytes that fit under the cut stay, and the rest is cut at what is left
+pub cut-bytes : (bs : List ℕ) (R : List Event) (k : ℕ) → length bs ≤ k → cut k (events_of bs ++ R) ≡ events_of bs ++ cut (k - length bs) R
+cut-bytes [] R k fits = let same : k ≡ k - 0 = omega arith in ap (λ n. cut n R) same
+cut-bytes (b ∷ bs) R zero fits = absurd (omega arith)
+cut-bytes (b ∷ bs) R (suc k) fits =
+    let same : suc k - suc (length bs) ≡ k - length bs = omega arith in
+    ap (λ l. byte b ∷ l) (cut-bytes bs R k (omega arith)) ∙ ap (λ n. byte b ∷ (events_of bs ++ cut n R)) (sym same)
+
+pub drop-events_of : (n : ℕ) (bs : List ℕ) → drop n (events_of bs) ≡ events_of (drop n bs)
+drop-events_of zero bs = refl
+drop-events_of (suc n) [] = refl
+drop-events_of (suc n) (b ∷ bs) = drop-events_of n bs
+
+pub bytes-cut : (k : ℕ) (E : List Event) → bytes (cut k E) ≡ take k (bytes E)
+bytes-cut zero E = refl
+bytes-cut (suc k) [] = refl
+bytes-cut (suc k) (byte b ∷ E) = ap (λ l. b ∷ l) (bytes-cut k E)
+bytes-cut (suc k) (fails e ∷ E) = bytes-cut (suc k) E

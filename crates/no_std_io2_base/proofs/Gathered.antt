@@ -1,0 +1,63 @@
+-- What a loop of reads has appended so far.
+use Rattle.std.proofs.Common.{◌≡◌, ℕ, ◌+◌, ◌-◌, ◌<◌, ◌≤◌, List, [], ◌∷◌, ◌++◌, length, take, refl, sym, ap, ◌∙◌, subst, arith, Ok, Err, append_assoc, append-nil, inl, inr, length-append}
+use lib.Seq.{take-append-le}
+use Rattle.no_std_io2_base.specs.declared.error.Error.{Error}
+use Rattle.no_std_io2_base.specs.declared.error.ErrorKind.TheVariants.{OutOfMemory}
+use Rattle.no_std_io2_base.specs.Errors.{error_kind, IsInterruption, IsFault}
+use Rattle.no_std_io2_base.specs.Events.{Event, byte, fails, events_of, bytes, HasNoFault, Reads, ReadsToEnd, EndsInFault}
+use Rattle.no_std_io2_base.proofs.Events.{bytes-append, bytes-events_of, HasNoFault-append, HasNoFault-events_of}
+
+-- `front`, which has no fault, is gone from E, and its bytes were appended
+pub record Gathered (E : List Event) (old new : List ℕ) (after : List Event) : Type 0 where
+  pub front : List Event
+  pub split : E ≡ front ++ after
+  pub no_fault : HasNoFault front
+  pub gave : new ≡ old ++ bytes front
+
+pub gathered_none : (E : List Event) (old new : List ℕ) → new ≡ old → Gathered E old new E
+gathered_none E old new is = record { front = []; split = refl; no_fault = tt; gave = is ∙ sym (append-nil old) }
+
+pub gathered_read : (E : List Event) (old new shown : List ℕ) (after rest : List Event) (n : ℕ) (buf : List ℕ)
+    → Gathered E old new after → Reads after (Ok n) buf rest → shown ≡ new ++ take n buf → Gathered E old shown rest
+gathered_read E old new shown after rest n buf t read is = record {
+  front = t.front ++ events_of (take n buf);
+  split = t.split ∙ ap (λ l. t.front ++ l) read.0 ∙ sym (append_assoc t.front (events_of (take n buf)) rest);
+  no_fault = HasNoFault-append t.front (events_of (take n buf)) t.no_fault (HasNoFault-events_of (take n buf));
+  gave = is ∙ ap (λ l. l ++ take n buf) t.gave ∙ append_assoc old (bytes t.front) (take n buf)
+      ∙ ap (λ l. old ++ l) (sym (bytes-append t.front (events_of (take n buf)) ∙ ap (λ l. bytes t.front ++ l) (bytes-events_of (take n buf))));
+}
+
+pub gathered_interruption : (E : List Event) (old new : List ℕ) (after : List Event) (e : Error) (rest : List Event)
+    → Gathered E old new after → after ≡ fails e ∷ rest → IsInterruption e → Gathered E old new rest
+gathered_interruption E old new after e rest t read again = record {
+  front = t.front ++ fails e ∷ [];
+  split = t.split ∙ ap (λ l. t.front ++ l) read ∙ sym (append_assoc t.front (fails e ∷ []) rest);
+  no_fault = HasNoFault-append t.front (fails e ∷ []) t.no_fault (again, tt);
+  gave = t.gave ∙ ap (λ l. old ++ l) (sym (bytes-append t.front (fails e ∷ []) ∙ append-nil (bytes t.front)));
+}
+
+pub gathered_end : (E : List Event) (old new : List ℕ) (after rest : List Event) (n k : ℕ) (buf : List ℕ)
+    → Gathered E old new after → Reads after (Ok n) buf rest → n ≡ 0 → 0 < length buf → k ≡ length new - length old → ReadsToEnd E (Ok k) old new rest
+gathered_end E old new after rest n k buf t read zero some is =
+    let none : after ≡ [] = read.1 zero some in
+    let same : after ≡ rest = read.0 ∙ ap (λ m. events_of (take m buf) ++ rest) zero in
+    let long = ap length t.gave ∙ length-append old (bytes t.front) in
+    let whole : E ≡ t.front = t.split ∙ ap (λ l. t.front ++ l) none ∙ append-nil t.front in
+    (subst HasNoFault (sym whole) t.no_fault, t.gave ∙ ap (λ l. old ++ bytes l) (sym whole), omega (arith, ap (λ l. length (bytes l)) whole), sym same ∙ none)
+
+pub gathered_fault : (E : List Event) (old new : List ℕ) (after : List Event) (e : Error) (rest : List Event)
+    → Gathered E old new after → after ≡ fails e ∷ rest → IsFault e → ReadsToEnd E (Err e) old new rest
+gathered_fault E old new after e rest t read fault = (
+  t.front ++ fails e ∷ [],
+  t.split ∙ ap (λ l. t.front ++ l) read ∙ sym (append_assoc t.front (fails e ∷ []) rest),
+  t.gave ∙ ap (λ l. old ++ l) (sym (bytes-append t.front (fails e ∷ []) ∙ append-nil (bytes t.front))),
+  inl (t.front, refl, t.no_fault, fault),
+)
+
+pub gathered_memory : (E : List Event) (old new : List ℕ) (after : List Event) (e : Error)
+    → Gathered E old new after → error_kind e ≡ OutOfMemory → ReadsToEnd E (Err e) old new after
+gathered_memory E old new after e t kind = (t.front, t.split, t.gave, inr (t.no_fault, kind))
+
+-- a front stays where more is appended
+pub take-grown : (k : ℕ) (old mid new more : List ℕ) → take k mid ≡ old → k ≤ length mid → new ≡ mid ++ more → take k new ≡ old
+take-grown k old mid new more h fits is = ap (take k) is ∙ take-append-le k mid more fits ∙ h

@@ -1,0 +1,93 @@
+-- What a loop of reads has taken so far.
+use Rattle.std.proofs.Common.{◌≡◌, ℕ, zero, suc, ◌+◌, ◌-◌, ◌<◌, ◌≤◌, List, [], ◌∷◌, ◌++◌, length, take, refl, sym, ap, ◌∙◌, subst, arith, Ok, length-take-le, append_assoc, append-nil, inl, inr, length-append}
+use Rattle.no_std_io2_base.specs.declared.error.Error.{Error}
+use Rattle.no_std_io2_base.specs.declared.error.ErrorKind.TheVariants.{UnexpectedEof}
+use Rattle.no_std_io2_base.specs.Errors.{error_kind, IsInterruption, IsFault}
+use Rattle.no_std_io2_base.specs.Events.{Event, byte, fails, events_of, bytes, HasNoFault, cut, Reads, Fills, FallsShort, StopsAtFault, EndsInFault}
+use Rattle.no_std_io2_base.proofs.Events.{bytes-append, bytes-events_of, length-events_of, HasNoFault-append, HasNoFault-events_of, cut-append, cut-bytes}
+
+-- `front`, which has no fault, is gone from E and gave these bytes; at `room` bytes it ends with the last of them
+pub record Taken (E : List Event) (room : ℕ) (got : List ℕ) (after : List Event) : Type 0 where
+  pub front : List Event
+  pub split : E ≡ front ++ after
+  pub no_fault : HasNoFault front
+  pub gave : bytes front ≡ got
+  pub full : length got ≡ room → cut room E ≡ front
+
+pub taken_none : (E : List Event) (room : ℕ) → Taken E room [] E
+taken_none E room = record {
+  front = [];
+  split = refl;
+  no_fault = tt;
+  gave = refl;
+  full = λ h. subst (λ k. cut k E ≡ []) h refl;
+}
+
+pub taken_bytes : (E : List Event) (room : ℕ) (got : List ℕ) (after : List Event) (more : List ℕ) (rest : List Event)
+    → Taken E room got after → after ≡ events_of more ++ rest → 0 < length more → Taken E room (got ++ more) rest
+taken_bytes E room got after more rest t read some = record {
+  front = t.front ++ events_of more;
+  split = t.split ∙ ap (λ l. t.front ++ l) read ∙ sym (append_assoc t.front (events_of more) rest);
+  no_fault = HasNoFault-append t.front (events_of more) t.no_fault (HasNoFault-events_of more);
+  gave = bytes-append t.front (events_of more) ∙ ap (λ l. bytes t.front ++ l) (bytes-events_of more) ∙ ap (λ l. l ++ more) t.gave;
+  full = λ h.
+      let long : room ≡ length (bytes t.front) + length more = sym h ∙ length-append got more ∙ ap (λ l. length l + length more) (sym t.gave) in
+      let stop : cut (length more) (events_of more ++ rest) ≡ events_of more =
+      (let none : length more - length more ≡ 0 = omega arith in
+      cut-bytes more rest (length more) (omega arith) ∙ ap (λ n. events_of more ++ cut n rest) none ∙ append-nil (events_of more)) in
+      ap (cut room) (t.split ∙ ap (λ l. t.front ++ l) read) ∙ cut-append t.front (events_of more ++ rest) room (length more) some long ∙ ap (λ l. t.front ++ l) stop;
+}
+
+pub taken_interruption : (E : List Event) (room : ℕ) (got shown : List ℕ) (after : List Event) (e : Error) (rest : List Event)
+    → Taken E room got after → after ≡ fails e ∷ rest → IsInterruption e → length got < room → shown ≡ got → Taken E room shown rest
+taken_interruption E room got shown after e rest t read again short is = record {
+  front = t.front ++ fails e ∷ [];
+  split = t.split ∙ ap (λ l. t.front ++ l) read ∙ sym (append_assoc t.front (fails e ∷ []) rest);
+  no_fault = HasNoFault-append t.front (fails e ∷ []) t.no_fault (again, tt);
+  gave = bytes-append t.front (fails e ∷ []) ∙ append-nil (bytes t.front) ∙ t.gave ∙ sym is;
+  full = λ h. absurd (omega (arith, ap length is));
+}
+
+pub taken_fills : (E : List Event) (room : ℕ) (got : List ℕ) (after : List Event)
+    → Taken E room got after → length got ≡ room → Fills E got after
+taken_fills E room got after t h =
+    let is : cut (length got) E ≡ t.front = ap (λ n. cut n E) h ∙ t.full h in
+    (t.split ∙ ap (λ l. l ++ after) (sym is), subst HasNoFault (sym is) t.no_fault, ap bytes is ∙ t.gave)
+
+pub taken_fault : (E : List Event) (room most : ℕ) (got : List ℕ) (after : List Event) (e : Error) (rest : List Event)
+    → Taken E room got after → after ≡ fails e ∷ rest → IsFault e → length got < most → StopsAtFault E most e rest
+taken_fault E room most got after e rest t read fault short =
+    let gave : bytes (t.front ++ fails e ∷ []) ≡ got = bytes-append t.front (fails e ∷ []) ∙ append-nil (bytes t.front) ∙ t.gave in (
+      t.front ++ fails e ∷ [],
+      t.split ∙ ap (λ l. t.front ++ l) read ∙ sym (append_assoc t.front (fails e ∷ []) rest),
+      (t.front, refl, t.no_fault, fault),
+      subst (λ l. length l < most) (sym gave) short,
+    )
+
+pub taken_short : (may_take_none : Type 0) (E : List Event) (room : ℕ) (got : List ℕ) (after : List Event) (e : Error) (rest : List Event)
+    → Taken E room got after → after ≡ [] → after ≡ rest → error_kind e ≡ UnexpectedEof → length got < room → FallsShort may_take_none E room e rest
+taken_short may_take_none E room got after e rest t end same kind short =
+    let whole : E ≡ t.front = t.split ∙ ap (λ l. t.front ++ l) end ∙ append-nil t.front in (
+      subst HasNoFault (sym whole) t.no_fault,
+      subst (λ l. length l < room) (sym (ap bytes whole ∙ t.gave)) short,
+      kind,
+      inl (sym same ∙ end),
+    )
+
+-- one more read that gave bytes, in a loop that fills a buffer
+pub taken_read : (E : List Event) (room : ℕ) (got shown : List ℕ) (after rest : List Event) (n : ℕ) (buf : List ℕ)
+    → Taken E room got after → Reads after (Ok n) buf rest → n ≤ length buf → 0 < n → shown ≡ got ++ take n buf → Taken E room shown rest
+taken_read E room got shown after rest n buf t read fits some is =
+    subst (λ l. Taken E room l rest) (sym is) (taken_bytes E room got after (take n buf) rest t read.0 (omega (arith, length-take-le n buf fits)))
+
+-- as many bytes as a read gives, the position moves and the events are fewer
+pub moved_read : (E E' : List Event) (n : ℕ) (buf : List ℕ) (p p' : ℕ) (all : ℕ)
+    → n ≤ length buf → E ≡ events_of (take n buf) ++ E' → p' ≡ p + n → p + length E ≡ all → p' + length E' ≡ all
+moved_read E E' n buf p p' all fits read move is =
+    let long : length E ≡ n + length E' = ap length read ∙ length-append (events_of (take n buf)) E' ∙ ap (λ m. m + length E') (length-events_of (take n buf) ∙ length-take-le n buf fits) in
+    omega arith
+
+-- bytes alone hold no error
+pub no_error : (bs : List ℕ) (E E' : List Event) (e : Error) → E ≡ events_of bs → E ≡ fails e ∷ E' → ⊥
+no_error [] E E' e h k = cc
+no_error (b ∷ bs) E E' e h k = cc

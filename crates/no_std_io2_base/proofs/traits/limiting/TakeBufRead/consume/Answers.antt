@@ -1,0 +1,14 @@
+use Rattle.std.proofs.Common.{◌≡◌, ◌≤◌, arith, length, take, ap, sym, subst, ◌++◌, ◌∙◌, length-take}
+use lib.Seq.{take-take}
+use Rattle.no_std_io2_base.proofs.Cut.{cut_consumes}
+use Rattle.no_std_io2_base.proofs.traits.limiting.TakeBufRead.consume.Goals as goal
+
+pub returns-clause-told : goal.returns-clause-told
+returns-clause-told g c = λ t.
+    let now = c.consume.ensures.told t in
+    let held = g.T.BufRead.held c.args.self.now.inner in
+    let limit = c.args.self.now.limit in
+    let n = c.args.amount in
+    let most = length-take limit held in
+    let part : take n (take limit held) ≡ take n held = take-take n limit held (omega (arith, c.requires, most)) in
+    (now.0, rw part (cut_consumes _ _ held n limit (omega (arith, c.requires, most)) (omega (arith, c.requires, most)) now.1))

@@ -1,0 +1,27 @@
+-- What a clause reads of a `Chain`.
+use Rattle.std.specs.Prelude.{◌≡◌, ℕ, ◌+◌, false, List, [], ◌++◌, if◌then◌else◌}
+use Rattle.no_std_io2_base.specs.declared.traits.chaining.Chain.{Chain}
+use Rattle.no_std_io2_base.specs.Events.{Event}
+
+-- `c.into_inner().0`
+abbrev pub chain_first : {T U : Type 0} → Chain T U → T
+chain_first c = c.first
+
+-- `c.into_inner().1`
+abbrev pub chain_second : {T U : Type 0} → Chain T U → U
+chain_second c = c.second
+
+-- the second tells, and so does the first unless it is done
+abbrev pub chain_tells : {T U : Type 0} → (T → Type 0) → (U → Type 0) → Chain T U → Type 0
+chain_tells first second c = (c.done_first ≡ false → first c.first) × second c.second
+
+-- the first's events unless it is done, and then the second's
+abbrev pub chain_events : {T U : Type 0} → (T → List Event) → (U → List Event) → Chain T U → List Event
+chain_events first second c = (if c.done_first then [] else first c.first) ++ second c.second
+
+abbrev pub chain_turns : {T U : Type 0} → (T → ℕ) → (U → ℕ) → Chain T U → ℕ
+chain_turns first second c = first c.first + second c.second
+
+-- what the reader that is read now holds
+abbrev pub chain_held : {T U : Type 0} → (T → List ℕ) → (U → List ℕ) → Chain T U → List ℕ
+chain_held first second c = if c.done_first then second c.second else first c.first

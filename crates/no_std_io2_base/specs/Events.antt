@@ -1,0 +1,77 @@
+-- What a reader has left to give, and what its calls do to that.
+use Rattle.std.specs.Prelude.{◌≡◌, ◌≢◌, ℕ, zero, suc, ◌+◌, ◌≤◌, ◌<◌, min, List, [], ◌∷◌, ◌++◌, length, take, ⊤, Ok, Err, Result, ◌⊎◌}
+use Rattle.no_std_io2_base.specs.declared.error.Error.{Error}
+use Rattle.no_std_io2_base.specs.declared.error.ErrorKind.TheVariants.{UnexpectedEof, OutOfMemory}
+use Rattle.no_std_io2_base.specs.Errors.{error_kind, IsInterruption, IsFault}
+
+-- what is still to come of a reader: a byte, or an error that a call answers
+pub data Event : Type 0 where
+  byte : ℕ → Event
+  fails : Error → Event
+
+-- the events that are these bytes
+abbrev pub events_of : List ℕ → List Event
+events_of [] = []
+events_of (b ∷ bs) = byte b ∷ events_of bs
+
+-- the bytes of E, in order
+abbrev pub bytes : List Event → List ℕ
+bytes [] = []
+bytes (byte b ∷ E) = b ∷ bytes E
+bytes (fails e ∷ E) = bytes E
+
+-- E has no fault
+abbrev pub HasNoFault : List Event → Type 0
+HasNoFault [] = ⊤
+HasNoFault (byte b ∷ E) = HasNoFault E
+HasNoFault (fails e ∷ E) = IsInterruption e × HasNoFault E
+
+-- E up to and with its byte number `limit`, all of E where it has fewer; nothing at 0
+abbrev pub cut : ℕ → List Event → List Event
+cut zero E = []
+cut (suc k) [] = []
+cut (suc k) (byte b ∷ E) = byte b ∷ cut k E
+cut (suc k) (fails e ∷ E) = fails e ∷ cut (suc k) E
+
+-- one read into buf turned E into after: n bytes now stand at its front, or the error that stood first is gone; no byte comes only at the end or with no room
+abbrev pub Reads : List Event → Result ℕ Error → List ℕ → List Event → Type 0
+Reads E (Ok n) buf after = (E ≡ events_of (take n buf) ++ after) × (n ≡ 0 → 0 < length buf → E ≡ [])
+Reads E (Err e) buf after = E ≡ fails e ∷ after
+
+-- a call spent a turn, where it gave bytes or an error
+abbrev pub SpendsTurn : Result ℕ Error → ℕ → ℕ → Type 0
+SpendsTurn (Ok n) old new = 0 < n → new < old
+SpendsTurn (Err e) old new = new < old
+
+-- P ends in the fault e, its only one
+abbrev pub EndsInFault : List Event → Error → Type 0
+EndsInFault P e = (Q : List Event) × (P ≡ Q ++ fails e ∷ []) × HasNoFault Q × IsFault e
+
+-- how many bytes a call gave
+abbrev pub given : Result ℕ Error → ℕ
+given (Ok n) = n
+given (Err e) = 0
+
+-- P is the front of E that fills a buffer with these bytes: it stands right after the last of them
+abbrev pub Fills : List Event → List ℕ → List Event → Type 0
+Fills E buf after = (E ≡ cut (length buf) E ++ after) × HasNoFault (cut (length buf) E) × (bytes (cut (length buf) E) ≡ buf)
+
+-- E has no fault and fewer bytes than `room`, and all of it is taken; or, by a reader that may take none, nothing
+abbrev pub FallsShort : Type 0 → List Event → ℕ → Error → List Event → Type 0
+FallsShort may_take_none E room e after =
+    HasNoFault E × (length (bytes E) < room) × (error_kind e ≡ UnexpectedEof) × ((after ≡ []) ⊎ (may_take_none × (after ≡ E)))
+
+-- E up to and with its first fault, the answer, is taken, and has fewer bytes than `room`
+abbrev pub StopsAtFault : List Event → ℕ → Error → List Event → Type 0
+StopsAtFault E room e after = (P : List Event) × (E ≡ P ++ after) × EndsInFault P e × (length (bytes P) < room)
+
+-- `read_exact(buf)` turned E into after
+abbrev pub ReadsExact : {A : Type 0} → Type 0 → List Event → Result A Error → List ℕ → List Event → Type 0
+ReadsExact may_take_none E (Ok _) buf after = Fills E buf after
+ReadsExact may_take_none E (Err e) buf after = StopsAtFault E (length buf) e after ⊎ FallsShort may_take_none E (length buf) e after
+
+-- `read_to_end` turned E into after and appended the bytes that it took: all of them, or those up to the first fault or to where memory was refused
+abbrev pub ReadsToEnd : List Event → Result ℕ Error → List ℕ → List ℕ → List Event → Type 0
+ReadsToEnd E (Ok n) old new after = HasNoFault E × (new ≡ old ++ bytes E) × (n ≡ length (bytes E)) × (after ≡ [])
+ReadsToEnd E (Err e) old new after =
+    (P : List Event) × (E ≡ P ++ after) × (new ≡ old ++ bytes P) × (EndsInFault P e ⊎ (HasNoFault P × (error_kind e ≡ OutOfMemory)))

@@ -1,0 +1,87 @@
+ghost use Rattle.std.specs.Prelude.{◌≡◌, ℕ, ◌+◌, min, ◌++◌, length, take, drop, [], Ok, IfOk};
+ghost use Rattle.no_std_io2_base.specs.Events.{events_of};
+ghost use Rattle.no_std_io2_base.specs.Laws.{bytes_alone};
+
+use crate::error::{Error, ErrorKind, Result};
+use crate::traits::{BufRead, Read, Stored};
+
+// Copies as many bytes as both have, and returns how many.
+pub(crate) fn copy_prefix(from: &[u8], to: &mut [u8]) -> usize
+    ensures count { result ≡ min (length from.now) (length to.old) }
+    ensures copied { to.new ≡ take result from.now ++ drop result to.old }
+{
+    let n = from.len().min(to.len());
+    to[..n].copy_from_slice(&from[..n]);
+    n
+}
+
+// A slice tells no store: what it left behind is forgotten.
+impl Stored for &[u8] {
+    ghost has_store = { λ _. ⊥ };
+
+    ghost content = { λ _. [] };
+
+    ghost position = { λ _. 0 };
+}
+
+impl Read for &[u8] {
+    ghost tells = { λ _. Unit {0} };
+
+    ghost events = { λ s. events_of s.now };
+
+    ghost turns = { λ s. length s.now };
+
+    ghost cost = { λ _. 0 };
+
+    ghost is_metered = { λ _. ⊥ };
+
+    ghost is_filling = { λ _. Unit {0} };
+
+    ghost may_take_none = { λ _. Unit {0} };
+
+    fn read(&mut self, buf: &mut [u8]) -> Result<usize> {
+        let all: &[u8] = *self;
+        let n = copy_prefix(all, buf);
+        *self = &all[n..];
+        Ok(n)
+    }
+
+    fn read_exact(&mut self, buf: &mut [u8]) -> Result<()> {
+        let all: &[u8] = *self;
+        if all.len() < buf.len() {
+            let message = "failed to fill whole buffer";
+            return Err(Error::new(ErrorKind::UnexpectedEof, message));
+        }
+        let n = copy_prefix(all, buf);
+        *self = &all[n..];
+        Ok(())
+    }
+
+    ghost filling_tells = { λ s _. (tt, bytes_alone s.now) };
+
+    ghost store_tells = { λ s h. absurd h };
+
+    ghost store_fits = { λ s h. absurd h };
+}
+
+impl BufRead for &[u8] {
+    ghost held = { λ s. s.now };
+
+    ghost counts_fills = { λ _. ⊥ };
+
+    ghost fills = { λ _. 0 };
+
+    ghost lends_surely = { λ _. Unit {0} };
+
+    ghost lent_length = { λ s. length s.now };
+
+    #[tactic(auto, using(crate::proofs::Held::begins_whole))]
+    fn fill_buf(&mut self) -> Result<&[u8]> {
+        Ok(*self)
+    }
+
+    fn consume(&mut self, amount: usize) {
+        let all: &[u8] = *self;
+        *self = &all[amount..];
+    }
+}
