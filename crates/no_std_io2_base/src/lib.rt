@@ -4,4 +4,7 @@
 
 pub mod error;
 pub mod impls;
+mod tells;
+#[cfg(test)]
+mod tests;
 pub mod traits;

@@ -1,5 +1,5 @@
 use crate::error::Result;
-use crate::traits::Write;
+use crate::traits::{BufRead, Read, Seek, SeekFrom, Stored, Write};
 use std::alloc::Allocator;
 
 /// A boxed writer is what is in the box.
@@ -25,4 +25,72 @@ impl<W: Write, A: Allocator> Write for Box<W, A> {
     }
 
     ghost steady = { λ b h. W.steady b.value h };
+}
+
+impl<T: Stored, A: Allocator> Stored for Box<T, A> {
+    ghost has_store = { λ b. T.has_store b.value };
+
+    ghost content = { λ b. T.content b.value };
+
+    ghost position = { λ b. T.position b.value };
+}
+
+/// A boxed reader is what is in the box.
+impl<T: Read, A: Allocator> Read for Box<T, A> {
+    ghost tells = { λ b. T.tells b.value };
+
+    ghost events = { λ b. T.events b.value };
+
+    ghost turns = { λ b. T.turns b.value };
+
+    ghost cost = { λ b. T.cost b.value };
+
+    ghost is_metered = { λ b. T.is_metered b.value };
+
+    ghost is_filling = { λ b. T.is_filling b.value };
+
+    ghost may_take_none = { λ b. T.may_take_none b.value };
+
+    fn read(&mut self, buf: &mut [u8]) -> Result<usize> {
+        self.as_mut().read(buf)
+    }
+
+    fn read_exact(&mut self, buf: &mut [u8]) -> Result<()> {
+        self.as_mut().read_exact(buf)
+    }
+
+    ghost filling_tells = { λ b h. T.filling_tells b.value h };
+
+    ghost store_tells = { λ b h. T.store_tells b.value h };
+
+    ghost store_fits = { λ b h. T.store_fits b.value h };
+}
+
+impl<T: BufRead, A: Allocator> BufRead for Box<T, A> {
+    ghost held = { λ b. T.held b.value };
+
+    ghost counts_fills = { λ b. T.counts_fills b.value };
+
+    ghost fills = { λ b. T.fills b.value };
+
+    ghost lends_surely = { λ b. T.lends_surely b.value };
+
+    ghost lent_length = { λ b. T.lent_length b.value };
+
+    fn fill_buf(&mut self) -> Result<&[u8]> {
+        self.as_mut().fill_buf()
+    }
+
+    fn consume(&mut self, amount: usize) {
+        self.as_mut().consume(amount)
+    }
+}
+
+/// A boxed seeker is what is in the box.
+impl<T: Seek, A: Allocator> Seek for Box<T, A> {
+    fn seek(&mut self, pos: SeekFrom) -> Result<u64> {
+        self.as_mut().seek(pos)
+    }
+
+    ghost seek_fits = { λ b h. T.seek_fits b.value h };
 }

@@ -1,5 +1,7 @@
+ghost use Rattle.std.specs.Prelude.{[]};
+
 use crate::error::Result;
-use crate::traits::Write;
+use crate::traits::{Seek, SeekFrom, Stored, Write};
 use std::alloc::Allocator;
 
 /// A boxed object tells what is in the box tells, but for counts, and that it takes all.
@@ -25,4 +27,20 @@ impl<A: Allocator> Write for Box<dyn Write + Drop, A> {
     }
 
     ghost steady = { λ w h. absurd h };
+}
+
+impl<A: Allocator> Stored for Box<dyn Seek + Drop, A> {
+    ghost has_store = { λ _. ⊥ };
+
+    ghost content = { λ _. [] };
+
+    ghost position = { λ _. 0 };
+}
+
+impl<A: Allocator> Seek for Box<dyn Seek + Drop, A> {
+    fn seek(&mut self, pos: SeekFrom) -> Result<u64> {
+        (**self).seek(pos)
+    }
+
+    ghost seek_fits = { λ b h. absurd h };
 }
