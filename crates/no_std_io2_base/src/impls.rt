@@ -4,3 +4,5 @@ mod lent;
 mod objects;
 mod slices;
 mod vectors;
+
+pub(crate) use slices::copy_prefix;

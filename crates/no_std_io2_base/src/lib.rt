@@ -2,6 +2,7 @@
 //! memory. Users name `no_std_io2` alone, which shows all of it under `io`.
 #![tactic(auto)]
 
+pub mod cursor;
 pub mod error;
 pub mod impls;
 mod tells;

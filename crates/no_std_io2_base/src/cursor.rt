@@ -1,0 +1,143 @@
+//! Bytes in memory as a stream, with a position in them.
+ghost use Rattle.std.specs.Prelude.{◌≡◌, List, IsOk, IfOk, IfErr, ◌↔◌, IsTrue};
+ghost use types.Logic.{sem};
+ghost use Rattle.std.specs.Borrow.{Lends};
+ghost use Rattle.no_std_io2_base.specs.contracts.cursor.Cursor.{the_row as cursor-row};
+ghost use Rattle.no_std_io2_base.specs.Errors.{error_kind};
+ghost use Rattle.no_std_io2_base.specs.Cursor.{cursor_place, cursor_inner, cursor_with_inner};
+
+mod reading;
+mod seeking;
+
+use crate::error::{Error, ErrorKind, Result};
+use std::alloc::Allocator;
+
+/// What lends itself as one slice: the content of a [`Cursor`]. It stands where `std::io::Cursor`
+/// asks `AsRef<[u8]>`. The same value always lends the same elements.
+pub trait AsSlice<T> {
+    // The elements that are lent.
+    ghost slice: { Self → List T };
+
+    /// The elements, in order.
+    fn as_slice(&self) -> &[T]
+        ensures { result.now ≡ slice self.now };
+}
+
+impl AsSlice<u8> for &[u8] {
+    ghost slice = { λ s. s.now };
+
+    fn as_slice(&self) -> &[u8] {
+        self
+    }
+}
+
+impl AsSlice<u8> for &mut [u8] {
+    ghost slice = { λ s. s.now };
+
+    fn as_slice(&self) -> &[u8] {
+        self
+    }
+}
+
+impl<const N: usize> AsSlice<u8> for [u8; N] {
+    ghost slice = { λ s. s };
+
+    fn as_slice(&self) -> &[u8] {
+        self
+    }
+}
+
+impl<A: Allocator> AsSlice<u8> for Vec<u8, A> {
+    ghost slice = { λ v. v.items };
+
+    fn as_slice(&self) -> &[u8] {
+        Vec::as_slice(self)
+    }
+}
+
+impl<A: Allocator> AsSlice<u8> for &mut Vec<u8, A> {
+    ghost slice = { λ v. v.now.items };
+
+    fn as_slice(&self) -> &[u8] {
+        Vec::as_slice(self)
+    }
+}
+
+/// A content in memory, and a position in it, from 0 to 2^64 - 1, past the end too. It reads, seeks
+/// and, over a vector or a slice that may be written, writes. Follows `std::io::Cursor`.
+#[derive(Debug, PartialEq, Eq, Default, Drop)]
+pub struct Cursor<T> {
+    inner: T,
+    pos: u64,
+}
+
+impl<T> Cursor<T> {
+    /// A cursor on this content, at position 0. Follows `std::io::Cursor::new`.
+    pub fn new(inner: T) -> Cursor<T>
+        ensures inner { cursor_inner result ≡ inner }
+        ensures position { cursor_place result ≡ 0 }
+    {
+        Cursor { inner, pos: 0 }
+    }
+
+    /// The content. Follows `std::io::Cursor::into_inner`.
+    pub fn into_inner(self) -> T
+        ensures { result ≡ cursor_inner self }
+    {
+        self.inner
+    }
+
+    /// The content, lent. Follows `std::io::Cursor::get_ref`.
+    pub fn get_ref(&self) -> &T
+        ensures { result.now ≡ cursor_inner self.now }
+    {
+        &self.inner
+    }
+
+    /// The content, lent to be changed: the position stays. Follows `std::io::Cursor::get_mut`.
+    pub fn get_mut(&mut self) -> &mut T
+        ensures value { result.now ≡ cursor_inner self.old }
+        ensures* writes_back { sem 𝓛 (Lends (cursor-row T.row) T.row self.entry result (cursor_with_inner self.old)) }
+    {
+        &mut self.inner
+    }
+
+    /// The position, in bytes from the start. Follows `std::io::Cursor::position`.
+    pub fn position(&self) -> u64
+        ensures { result ≡ cursor_place self.now }
+    {
+        self.pos
+    }
+
+    /// Moves to this position, past the end too. Follows `std::io::Cursor::set_position`.
+    pub fn set_position(&mut self, pos: u64)
+        ensures position { cursor_place self.new ≡ pos }
+        ensures inner { cursor_inner self.new ≡ cursor_inner self.old }
+    {
+        self.pos = pos;
+    }
+
+    /// A cursor on a clone of the content, at the same position. It stands where Rust derives
+    /// `Clone`, which has no answer for want of memory.
+    ///
+    /// # Errors
+    /// `OutOfMemory` where the content's clone was refused.
+    pub fn clone(&self) -> Result<Cursor<T>>
+    where
+        T: Clone,
+        ensures position { IfOk result (λ c. cursor_place c ≡ cursor_place self.now) }
+        ensures inner { IfOk result (λ c. T.is_clone (cursor_inner self.now) (cursor_inner c)) }
+        ensures equal { ((x : T) → T.is_clone (cursor_inner self.now) x → x ≡ cursor_inner self.now)
+            → IfOk result (λ c. c ≡ self.now) }
+        ensures err { IfErr result (λ e. error_kind e ≡ ErrorKind.OutOfMemory) }
+        ensures succeeds { T.is_infallible (cursor_inner self.now) → IsOk result }
+    {
+        match self.inner.clone() {
+            Ok(inner) => Ok(Cursor {
+                inner,
+                pos: self.pos,
+            }),
+            Err(_) => Err(Error::from(ErrorKind::OutOfMemory)),
+        }
+    }
+}

@@ -1,0 +1,126 @@
+ghost use Rattle.std.specs.Prelude.{◌≡◌, ◌+◌, ◌≤◌, ◌<◌, ◌^◌, ◌↔◌, min, length, take, codes, Some, IsOk, IsOkAnd, IfOk, IfErr, OnErr};
+ghost use Rattle.no_std_io2_base.specs.Cursor.{cursor_place, cursor_inner, cursor_left, cursor_stores};
+ghost use Rattle.no_std_io2_base.specs.Errors.{error_kind, error_text};
+ghost use Rattle.no_std_io2_base.specs.Events.{events_of, given, Reads, ReadsExact, SpendsTurn};
+ghost use Rattle.no_std_io2_base.specs.Laws.{bytes_alone};
+ghost use Rattle.std.proofs.Common.{rules};
+
+use super::{AsSlice, Cursor};
+use crate::error::{Error, ErrorKind, Result};
+use crate::impls::copy_prefix;
+use crate::traits::{BufRead, Read, Stored};
+
+impl<T: AsSlice<u8>> Stored for Cursor<T> {
+    ghost has_store = { cursor_stores T.slice };
+
+    ghost content = { λ c. T.slice (cursor_inner c) };
+
+    ghost position = { cursor_place };
+}
+
+impl<T: AsSlice<u8>> Cursor<T> {
+    // The content from the position on.
+    fn left(&self) -> &[u8]
+        ensures left { result.now ≡ cursor_left T.slice self.now }
+        ensures fits { length (T.slice (cursor_inner self.now)) < 2 ^ 64 }
+    {
+        let all = self.inner.as_slice();
+        let start = (all.len() as u64).min(self.pos) as usize;
+        &all[start..]
+    }
+}
+
+impl<T: AsSlice<u8>> Read for Cursor<T> {
+    ghost tells = { λ _. Unit {0} };
+
+    ghost events = { λ c. events_of (cursor_left T.slice c) };
+
+    ghost turns = { λ c. length (cursor_left T.slice c) };
+
+    ghost cost = { λ _. 0 };
+
+    ghost is_metered = { λ _. ⊥ };
+
+    ghost is_filling = { λ _. Unit {0} };
+
+    ghost may_take_none = { λ _. Unit {0} };
+
+    fn read(&mut self, buf: &mut [u8]) -> Result<usize>
+        // The trait's.
+        ensures bound { IfOk result (λ n. n ≤ length buf.new) }
+        ensures told { Reads (events_of (cursor_left T.slice self.old)) result buf.new (events_of (cursor_left T.slice self.new)) }
+        ensures fills { IsOkAnd result (λ n. n ≡ min (length buf.old) (length (events_of (cursor_left T.slice self.old)))) }
+
+        // It never fails, and gives as many bytes as there are and fit.
+        ensures answer { IsOkAnd result (λ n. n ≡ min (length buf.old) (length (cursor_left T.slice self.old))) }
+        ensures position { cursor_place self.new ≡ cursor_place self.old + given result }
+        ensures inner { cursor_inner self.new ≡ cursor_inner self.old }
+    {
+        let n = copy_prefix(self.left(), buf);
+        self.pos += n as u64;
+        Ok(n)
+    }
+
+    fn read_exact(&mut self, buf: &mut [u8]) -> Result<()>
+        // The trait's.
+        ensures told { ReadsExact (Unit {0}) (events_of (cursor_left T.slice self.old)) result buf.new (events_of (cursor_left T.slice self.new)) }
+        ensures store { cursor_stores T.slice self.old → cursor_stores T.slice self.new
+            × (T.slice (cursor_inner self.new) ≡ T.slice (cursor_inner self.old))
+            × (cursor_place self.new + length (events_of (cursor_left T.slice self.new))
+            ≡ cursor_place self.old + length (events_of (cursor_left T.slice self.old))) }
+
+        // It fails exactly where too few bytes are left, and changes nothing then.
+        ensures variant { IsOk result ↔ (length buf.old ≤ length (cursor_left T.slice self.old)) }
+        ensures ok { IfOk result (λ _. (buf.new ≡ take (length buf.old) (cursor_left T.slice self.old))
+            × (cursor_place self.new ≡ cursor_place self.old + length buf.old)) }
+        ensures kind { IfErr result (λ e. error_kind e ≡ ErrorKind.UnexpectedEof) }
+        ensures text { IfErr result (λ e. error_text e ≡ Some (codes "failed to fill whole buffer")) }
+        ensures err { OnErr result ((cursor_place self.new ≡ cursor_place self.old) × (buf.new ≡ buf.old)) }
+        ensures inner { cursor_inner self.new ≡ cursor_inner self.old }
+    {
+        let left = self.left();
+        if left.len() < buf.len() {
+            let message = "failed to fill whole buffer";
+            return Err(Error::new(ErrorKind::UnexpectedEof, message));
+        }
+        let n = copy_prefix(left, buf);
+        self.pos += n as u64;
+        Ok(())
+    }
+
+    ghost filling_tells = { λ c _. (tt, bytes_alone (cursor_left T.slice c)) };
+
+    ghost store_tells = { λ c _. (tt, Prim.search rules) };
+
+    ghost store_fits = { λ c h. h };
+}
+
+impl<T: AsSlice<u8>> BufRead for Cursor<T> {
+    ghost held = { cursor_left T.slice };
+
+    ghost counts_fills = { λ _. ⊥ };
+
+    ghost fills = { λ _. 0 };
+
+    ghost lends_surely = { λ _. Unit {0} };
+
+    ghost lent_length = { λ c. length (cursor_left T.slice c) };
+
+    #[tactic(auto, using(crate::proofs::Held::begins_whole))]
+    fn fill_buf(&mut self) -> Result<&[u8]>
+        // It never fails, and lends all that is left.
+        ensures all { IsOkAnd result (λ s. s.now ≡ cursor_left T.slice self.old) }
+    {
+        Ok(self.left())
+    }
+
+    fn consume(&mut self, amount: usize)
+        requires { amount ≤ length (cursor_left T.slice self.old) }
+        ensures position { cursor_place self.new ≡ cursor_place self.old + amount }
+        ensures inner { cursor_inner self.new ≡ cursor_inner self.old }
+    {
+        // The new position is at most the content's length, which fits.
+        let _left = self.left();
+        self.pos += amount as u64;
+    }
+}
