@@ -1,9 +1,26 @@
+ghost use Rattle.std.specs.Prelude.{◌≡◌, length, codes, Some, Ok, IfOk, IfErr};
+ghost use Rattle.no_std_io2_base.specs.Cursor.{cursor_place, cursor_inner, cursor_stores};
+ghost use Rattle.no_std_io2_base.specs.Errors.{error_text};
+ghost use Rattle.no_std_io2_base.specs.Seek.{Seeks};
+
 use super::{AsSlice, Cursor};
 use crate::error::{Error, ErrorKind, Result};
 use crate::traits::{Seek, SeekFrom};
 
 impl<T: AsSlice<u8>> Seek for Cursor<T> {
-    fn seek(&mut self, pos: SeekFrom) -> Result<u64> {
+    fn seek(&mut self, pos: SeekFrom) -> Result<u64>
+        // The trait's.
+        ensures store { cursor_stores T.slice self.old → cursor_stores T.slice self.new
+            × (T.slice (cursor_inner self.new) ≡ T.slice (cursor_inner self.old))
+            × Seeks (length (T.slice (cursor_inner self.old))) (cursor_place self.old) pos result (cursor_place self.new) }
+        ensures position { IfOk result (λ n. cursor_stores T.slice self.new → cursor_place self.new ≡ n) }
+
+        // The same, whatever the content, which stays.
+        ensures seeks { Seeks (length (T.slice (cursor_inner self.old))) (cursor_place self.old) pos result (cursor_place self.new) }
+        ensures inner { cursor_inner self.new ≡ cursor_inner self.old }
+        ensures text { IfErr result (λ e. error_text e
+            ≡ Some (codes "invalid seek to a negative or overflowing position")) }
+    {
         let (base, offset) = match pos {
             SeekFrom::Start(at) => (at, 0),
             SeekFrom::End(offset) => (self.inner.as_slice().len() as u64, offset),
@@ -25,6 +42,22 @@ impl<T: AsSlice<u8>> Seek for Cursor<T> {
                 Err(Error::new(ErrorKind::InvalidInput, message))
             }
         }
+    }
+
+    fn stream_position(&mut self) -> Result<u64>
+        ensures same { self.new ≡ self.old }
+        ensures position { result ≡ Ok (cursor_place self.old) }
+    {
+        Ok(self.pos)
+    }
+
+    fn rewind(&mut self) -> Result<()>
+        ensures inner { cursor_inner self.new ≡ cursor_inner self.old }
+        ensures position { cursor_place self.new ≡ 0 }
+        ensures ok { result ≡ Ok tt }
+    {
+        self.pos = 0;
+        Ok(())
     }
 
     ghost seek_fits = { λ c h. h };
