@@ -1,7 +1,76 @@
--- A content from a position on.
-use Rattle.std.proofs.Common.{◌≡◌, ℕ, ◌+◌, ◌≤◌, List, length, drop, sym}
-use Rattle.std.proofs.lemmas.List.{drop-drop}
+-- A content and a position in it.
+use Rattle.std.proofs.Common.{◌≡◌, ℕ, ◌+◌, ◌-◌, ◌<◌, ◌≤◌, min, List, [], ◌∷◌, ◌++◌, Ok, Err, Result, length, take, drop, replicate, refl, sym, ap, subst, ◌∙◌, arith, rules, count_by, inl, inr, ◌⊎◌, append-nil, append_assoc, length-append, length-take, length-take-le}
+use Rattle.std.proofs.lemmas.List.{length-replicate, drop-drop, take_all, take_at, drop_all, drop_at, drop-append-le, take-append-le}
+use Rattle.std.proofs.lemmas.Grind.{common_steps}
+use Rattle.std.proofs.lemmas.Bool.Decides.{nat_tests}
+use Rattle.no_std_io2_base.specs.declared.error.Error.{Error}
+use Rattle.no_std_io2_base.specs.declared.error.ErrorKind.{ErrorKind}
+use Rattle.no_std_io2_base.specs.declared.error.ErrorKind.TheVariants.{InvalidInput, OutOfMemory}
+use Rattle.no_std_io2_base.specs.Errors.{error_kind, is_interruption}
+use Rattle.no_std_io2_base.specs.Writes.{Told, Moves, told_out, taken, write_mishap, zero_write}
+use Rattle.no_std_io2_base.specs.Cursor.{bytes_before, put_at, IsRefusal, PutsWhole}
+use Rattle.no_std_io2_base.proofs.MovesLemmas.{zero_write-whole}
 
 -- n bytes further on
 pub left_after : (all : List ℕ) (place n : ℕ) → drop (place + n) all ≡ drop n (drop place all)
 left_after all place n = sym (drop-drop n place all)
+
+pub bytes_before-within : (place : ℕ) (bs : List ℕ) → place ≤ length bs → bytes_before place bs ≡ take place bs
+bytes_before-within place bs within =
+    let none : place - length bs ≡ 0 = omega arith in
+    ap (λ n. take place bs ++ replicate n 0) none ∙ append-nil (take place bs)
+
+pub length-bytes_before : (place : ℕ) (bs : List ℕ) → length (bytes_before place bs) ≡ place
+length-bytes_before place bs =
+    omega (arith, length-append (take place bs) (replicate (place - length bs) 0), length-take place bs, length-replicate {A = ℕ} (place - length bs) 0)
+
+-- x inside the bytes
+pub put_within : (place : ℕ) (x bs : List ℕ) → place ≤ length bs → take place bs ++ x ++ drop (place + length x) bs ≡ put_at place x bs
+put_within place x bs within =
+    ap (λ l. l ++ x ++ drop (place + length x) bs) (sym (bytes_before-within place bs within))
+
+-- x behind the bytes
+pub put_past : (place : ℕ) (x bs : List ℕ) → length bs ≤ place → take place bs ++ replicate (place - length bs) 0 ++ x ≡ put_at place x bs
+put_past place x bs past =
+    sym (append-nil _) ∙ ap (λ l. bytes_before place bs ++ x ++ l) (sym (drop_all (place + length x) bs (omega arith)))
+
+-- the end of x was appended, and its front put before it
+pub put_across : (place k : ℕ) (x bs : List ℕ) → place + k ≡ length bs → k ≤ length x
+    → take place (bs ++ drop k x) ++ take k x ++ drop (place + k) (bs ++ drop k x) ≡ put_at place x bs
+put_across place k x bs seam fits =
+    let front : take place (bs ++ drop k x) ≡ bytes_before place bs = take-append-le place bs (drop k x) (omega arith) ∙ sym (bytes_before-within place bs (omega arith)) in
+    let back : drop (place + k) (bs ++ drop k x) ≡ drop k x = drop_at bs (drop k x) (place + k) (sym seam) in
+    let whole : take k x ++ drop k x ≡ x = grind (arith, common_steps) in
+    let none : drop (place + length x) bs ≡ [] = drop_all (place + length x) bs (omega arith) in
+    ap (λ l. l ++ take k x ++ drop (place + k) (bs ++ drop k x)) front ∙ ap (λ l. bytes_before place bs ++ take k x ++ l) back ∙ append_assoc (bytes_before place bs) (take k x) (drop k x) ∙ ap (λ l. bytes_before place bs ++ l) whole ∙ sym (append-nil _) ∙ ap (λ l. bytes_before place bs ++ x ++ l) (sym none)
+
+-- what was put stands right before the place behind it
+pub before_put : (place : ℕ) (x bs : List ℕ) → bytes_before (place + length x) (put_at place x bs) ≡ bytes_before place bs ++ x
+before_put place x bs =
+    let front = bytes_before place bs ++ x in
+    let rest = drop (place + length x) bs in
+    let long : length front ≡ place + length x = length-append (bytes_before place bs) x ∙ ap (λ n. n + length x) (length-bytes_before place bs) in
+    bytes_before-within (place + length x) (front ++ rest) (omega (arith, long, length-append front rest)) ∙ take_at front rest (place + length x) long
+
+-- bytes went out as soon as they were accepted
+pub appends_moves : (old new x : List ℕ) (k : List ErrorKind) → new ≡ old ++ x → count_by is_interruption k ≡ 0 → Moves (told_out old) x k (told_out new)
+appends_moves old new x k is none = record {
+  front = (x, is);
+  bytes = append-nil new ∙ is ∙ ap (λ l. l ++ x) (sym (append-nil old));
+  mishaps = tt;
+  turns = omega (arith, none);
+}
+
+refused_quietly : (place : ℕ) (x : List ℕ) (e : Error) → IsRefusal place x e → count_by is_interruption (error_kind e ∷ []) ≡ 0
+refused_quietly place x e (inl h) = ap (λ k. count_by is_interruption (k ∷ [])) h.1
+refused_quietly place x e (inr h) = ap (λ k. count_by is_interruption (k ∷ [])) h.1
+
+-- a write to a vector keeps the law of writers
+pub puts_moves : (bs : List ℕ) (place : ℕ) (x : List ℕ) (reply : Result ℕ Error) (bs' : List ℕ) (place' : ℕ) → PutsWhole bs place x reply bs' place'
+    → Moves (told_out (bytes_before place bs)) (taken reply x) (write_mishap reply x) (told_out (bytes_before place' bs'))
+puts_moves bs place x (Ok n) bs' place' h =
+    let all : take n x ≡ x = take_all n x (omega (arith, h.1)) in
+    let quiet : count_by is_interruption (zero_write n x) ≡ 0 = ap (λ m. count_by is_interruption (zero_write m x)) h.1 ∙ ap (count_by is_interruption) (zero_write-whole x) in
+    appends_moves _ _ _ _ (ap (λ l. bytes_before place' l) h.2 ∙ ap (λ m. bytes_before m (put_at place x bs)) h.3 ∙ before_put place x bs ∙ ap (λ l. bytes_before place bs ++ l) (sym all)) quiet
+puts_moves bs place x (Err e) bs' place' h =
+    appends_moves _ _ _ _ (ap (λ l. bytes_before place' l) h.2 ∙ ap (λ m. bytes_before m bs) h.3 ∙ sym (append-nil _)) (refused_quietly place x e h.1)

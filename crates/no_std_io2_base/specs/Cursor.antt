@@ -1,6 +1,9 @@
 -- What a clause reads of a `Cursor`.
-use Rattle.std.specs.Prelude.{◌≡◌, ℕ, ◌^◌, ◌<◌, List, length, drop}
+use Rattle.std.specs.Prelude.{◌≡◌, ℕ, ◌+◌, ◌-◌, ◌^◌, ◌<◌, ◌≤◌, ◌⊎◌, min, List, ◌++◌, length, take, drop, replicate, codes, None, Some, Ok, Err, Result}
 use Rattle.no_std_io2_base.specs.declared.cursor.Cursor.{Cursor}
+use Rattle.no_std_io2_base.specs.declared.error.Error.{Error}
+use Rattle.no_std_io2_base.specs.declared.error.ErrorKind.TheVariants.{InvalidInput, OutOfMemory}
+use Rattle.no_std_io2_base.specs.Errors.{error_kind, error_text}
 use Rattle.no_std_io2_base.specs.Events.{Event, events_of}
 
 abbrev pub cursor_place : {T : Type 0} → Cursor T → ℕ
@@ -20,3 +23,26 @@ cursor_stores slice c = (length (slice c.inner) < 2 ^ 64) × (c.pos < 2 ^ 64)
 -- c after `*c.get_mut() = x`
 abbrev pub cursor_with_inner : {T : Type 0} → Cursor T → T → Cursor T
 cursor_with_inner c x = record c { inner = x }
+
+-- the bytes before a place, with zeros where there are too few
+abbrev pub bytes_before : ℕ → List ℕ → List ℕ
+bytes_before place bs = take place bs ++ replicate (place - length bs) 0
+
+-- the content's bytes before the position
+abbrev pub cursor_out : {T : Type 0} → (T → List ℕ) → Cursor T → List ℕ
+cursor_out slice c = bytes_before c.pos (slice c.inner)
+
+-- the bytes after x was put at a place: what stood before and behind stays
+abbrev pub put_at : ℕ → List ℕ → List ℕ → List ℕ
+put_at place x bs = bytes_before place bs ++ x ++ drop (place + length x) bs
+
+-- why x was refused at a place: it would end past the greatest `usize`, or there is no memory
+abbrev pub IsRefusal : ℕ → List ℕ → Error → Type 0
+IsRefusal place x e =
+    ((2 ^ 64 ≤ place + length x) × (error_kind e ≡ InvalidInput) × (error_text e ≡ Some (codes "vector position past the greatest usize"))) ⊎ ((place + length x < 2 ^ 64) × (error_kind e ≡ OutOfMemory) × (error_text e ≡ None))
+
+-- a vector took the whole of x at a place, which moved behind it; or it would have had to grow, was refused, and nothing changed
+abbrev pub PutsWhole : List ℕ → ℕ → List ℕ → Result ℕ Error → List ℕ → ℕ → Type 0
+PutsWhole bs place x (Ok n) bs' place' =
+    (place + length x < 2 ^ 64) × (n ≡ length x) × (bs' ≡ put_at place x bs) × (place' ≡ place + length x)
+PutsWhole bs place x (Err e) bs' place' = (length bs < place + length x) × IsRefusal place x e × (bs' ≡ bs) × (place' ≡ place)

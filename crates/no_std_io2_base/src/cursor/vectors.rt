@@ -1,0 +1,118 @@
+ghost use Rattle.std.specs.Prelude.{◌≡◌, ℕ, ◌+◌, ◌≤◌, ◌<◌, ◌^◌, ◌++◌, [], Ok, IsOk, OnOk, OnErr, IfOk, length, take, drop, vec_len, is_ok, if◌then◌else◌};
+ghost use Rattle.no_std_io2_base.specs.Cursor.{cursor_place, cursor_inner, cursor_out, put_at, PutsWhole};
+ghost use Rattle.no_std_io2_base.specs.Writes.{Moves, taken, write_mishap, call_mishap, told_out};
+
+use super::Cursor;
+use crate::error::{Error, ErrorKind, Result};
+use crate::traits::Write;
+use std::alloc::Allocator;
+
+// Puts `buf` over the bytes from `start` on.
+pub(super) fn overwrite(content: &mut [u8], start: usize, buf: &[u8])
+    requires { start + length buf.now ≤ length content.old }
+    ensures { content.new ≡ take start content.old ++ buf.now ++ drop (start + length buf.now) content.old }
+{
+    content[start..start + buf.len()].copy_from_slice(buf);
+}
+
+// Puts `buf` behind the end, after zeros up to `start`.
+fn pad_and_append<A: Allocator>(content: &mut Vec<u8, A>, start: usize, buf: &[u8]) -> bool
+    requires gap { vec_len content.old < start }
+    requires fits { start + length buf.now < 2 ^ 64 }
+    ensures { content.new.items ≡ (if result then put_at start buf.now content.old.items else content.old.items) }
+{
+    let more = start - content.len() + buf.len();
+    if content.reserve(more).is_err() {
+        return false;
+    }
+    content.resize(start, 0).is_ok() && content.extend_from_slice(buf).is_ok()
+}
+
+// Puts `buf` at `start`, first what goes behind the end, and then what goes over other bytes.
+fn append_and_overwrite<A: Allocator>(content: &mut Vec<u8, A>, start: usize, buf: &[u8]) -> bool
+    requires within { start ≤ vec_len content.old }
+    requires past { vec_len content.old < start + length buf.now }
+    ensures { content.new.items ≡ (if result then put_at start buf.now content.old.items else content.old.items) }
+{
+    let within = content.len() - start;
+    if content.extend_from_slice(&buf[within..]).is_err() {
+        return false;
+    }
+    overwrite(content, start, &buf[..within]);
+    true
+}
+
+// Writes `buf` into the vector at the position, and moves that behind it.
+fn write_at<A: Allocator>(content: &mut Vec<u8, A>, pos: &mut u64, buf: &[u8]) -> Result<usize>
+    ensures { PutsWhole content.old.items pos.old buf.now result content.new.items pos.new }
+{
+    let start = *pos as usize;
+    let Some(end) = start.checked_add(buf.len()) else {
+        let message = "vector position past the greatest usize";
+        return Err(Error::new(ErrorKind::InvalidInput, message));
+    };
+    let len = content.len();
+    if end <= len {
+        overwrite(content, start, buf);
+    } else {
+        let is_done = if len < start {
+            pad_and_append(content, start, buf)
+        } else {
+            append_and_overwrite(content, start, buf)
+        };
+        if !is_done {
+            return Err(Error::from(ErrorKind::OutOfMemory));
+        }
+    }
+    *pos = end as u64;
+    Ok(buf.len())
+}
+
+/// A vector takes a buffer whole, at the position: zeros fill the gap up to it, for an empty buffer
+/// too, and what stands before and behind the buffer stays. Follows
+/// `std::io::Write for Cursor<Vec<u8>>`.
+///
+/// # Errors
+/// `InvalidInput` where the buffer would end past the greatest `usize`, else `OutOfMemory` where
+/// the vector was refused the growth that it needs: content and position are as they were.
+impl<A: Allocator> Write for Cursor<Vec<u8, A>> {
+    ghost told = { λ c. told_out (cursor_out (λ v. v.items) c) };
+
+    ghost takes_all = { λ _. ⊥ };
+
+    ghost cost = { λ _. 0 };
+
+    ghost is_metered = { λ _. ⊥ };
+
+    fn write(&mut self, buf: &[u8]) -> Result<usize>
+        // The trait's.
+        ensures bound { IfOk result (λ n. n ≤ length buf.now) }
+        ensures moves { Moves (told_out (cursor_out (λ v. v.items) self.old)) (taken result buf.now) (write_mishap result buf.now)
+            (told_out (cursor_out (λ v. v.items) self.new)) }
+        ensures all { ⊥ → ⊥ × (result ≡ Ok (length buf.now)) }
+        ensures cost { ⊥ → ⊥ → ⊥ × (0 ≡ 0 + 1) }
+
+        // All of the buffer, at the position, or nothing.
+        ensures puts { PutsWhole (cursor_inner self.old).items (cursor_place self.old) buf.now result
+            (cursor_inner self.new).items (cursor_place self.new) }
+    {
+        write_at(&mut self.inner, &mut self.pos, buf)
+    }
+
+    fn flush(&mut self) -> Result<()>
+        // The trait's.
+        ensures empty { OnOk result ((told_out (cursor_out (λ v. v.items) self.new)).held ≡ []) }
+        ensures moves { Moves (told_out (cursor_out (λ v. v.items) self.old)) [] (call_mishap result)
+            (told_out (cursor_out (λ v. v.items) self.new)) }
+        ensures all { ⊥ → ⊥ }
+        ensures cost { ⊥ → ⊥ → ⊥ × (let n : ℕ = 0 in n ≡ n) }
+
+        // It does nothing.
+        ensures ok { IsOk result }
+        ensures same { self.new ≡ self.old }
+    {
+        Ok(())
+    }
+
+    ghost steady = { λ c h. absurd h };
+}
