@@ -7,9 +7,8 @@ use Rattle.no_std_io2_base.specs.declared.error.Error.{Error}
 use Rattle.no_std_io2_base.specs.declared.error.ErrorKind.{ErrorKind}
 use Rattle.no_std_io2_base.specs.declared.error.ErrorKind.TheVariants.{InvalidInput, OutOfMemory}
 use Rattle.no_std_io2_base.specs.Errors.{error_kind, is_interruption}
-use Rattle.no_std_io2_base.specs.Writes.{Told, Moves, told_out, taken, write_mishap, zero_write}
+use Rattle.no_std_io2_base.specs.Writes.{Told, Moves, MovesFront, told_out, taken, write_mishap, zero_write}
 use Rattle.no_std_io2_base.specs.Cursor.{bytes_before, put_at, IsRefusal, PutsWhole}
-use Rattle.no_std_io2_base.proofs.MovesLemmas.{zero_write-whole}
 
 -- n bytes further on
 pub left_after : (all : List ℕ) (place n : ℕ) → drop (place + n) all ≡ drop n (drop place all)
@@ -65,12 +64,25 @@ refused_quietly : (place : ℕ) (x : List ℕ) (e : Error) → IsRefusal place x
 refused_quietly place x e (inl h) = ap (λ k. count_by is_interruption (k ∷ [])) h.1
 refused_quietly place x e (inr h) = ap (λ k. count_by is_interruption (k ∷ [])) h.1
 
--- a write to a vector keeps the law of writers
+-- x that was put goes out
+put_goes_out : (bs : List ℕ) (place : ℕ) (x bs' : List ℕ) (place' : ℕ) → bs' ≡ put_at place x bs → place' ≡ place + length x → bytes_before place' bs' ≡ bytes_before place bs ++ x
+put_goes_out bs place x bs' place' is at =
+    ap (λ l. bytes_before place' l) is ∙ ap (λ m. bytes_before m (put_at place x bs)) at ∙ before_put place x bs
+
+quiet_count : (n : ℕ) (x : List ℕ) → count_by is_interruption (zero_write n x) ≡ 0
+quiet_count n x = grind (arith, nat_tests)
+
+-- `write` to a vector keeps the law of writers
 pub puts_moves : (bs : List ℕ) (place : ℕ) (x : List ℕ) (reply : Result ℕ Error) (bs' : List ℕ) (place' : ℕ) → PutsWhole bs place x reply bs' place'
     → Moves (told_out (bytes_before place bs)) (taken reply x) (write_mishap reply x) (told_out (bytes_before place' bs'))
 puts_moves bs place x (Ok n) bs' place' h =
     let all : take n x ≡ x = take_all n x (omega (arith, h.1)) in
-    let quiet : count_by is_interruption (zero_write n x) ≡ 0 = ap (λ m. count_by is_interruption (zero_write m x)) h.1 ∙ ap (count_by is_interruption) (zero_write-whole x) in
-    appends_moves _ _ _ _ (ap (λ l. bytes_before place' l) h.2 ∙ ap (λ m. bytes_before m (put_at place x bs)) h.3 ∙ before_put place x bs ∙ ap (λ l. bytes_before place bs ++ l) (sym all)) quiet
+    appends_moves _ _ _ _ (put_goes_out bs place x bs' place' h.2 h.3 ∙ ap (λ l. bytes_before place bs ++ l) (sym all)) (quiet_count n x)
 puts_moves bs place x (Err e) bs' place' h =
     appends_moves _ _ _ _ (ap (λ l. bytes_before place' l) h.2 ∙ ap (λ m. bytes_before m bs) h.3 ∙ sym (append-nil _)) (refused_quietly place x e h.1)
+
+-- and so does `write_all`
+pub puts_moves_all : (bs : List ℕ) (place : ℕ) (x : List ℕ) (n : ℕ) (bs' : List ℕ) (place' : ℕ) → PutsWhole bs place x (Ok n) bs' place'
+    → MovesFront (told_out (bytes_before place bs)) x (Ok tt) (told_out (bytes_before place' bs'))
+puts_moves_all bs place x n bs' place' h =
+    (x, ([], sym (append-nil x)), refl, appends_moves _ _ _ _ (put_goes_out bs place x bs' place' h.2 h.3) refl)

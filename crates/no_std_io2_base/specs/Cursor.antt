@@ -36,13 +36,32 @@ cursor_out slice c = bytes_before c.pos (slice c.inner)
 abbrev pub put_at : ℕ → List ℕ → List ℕ → List ℕ
 put_at place x bs = bytes_before place bs ++ x ++ drop (place + length x) bs
 
+-- the front of x that fits between a place and the end
+abbrev pub fitting : ℕ → List ℕ → List ℕ → List ℕ
+fitting place x bs = take (length bs - place) x
+
+-- the bytes with x over those from a place on
+abbrev pub put_over : ℕ → List ℕ → List ℕ → List ℕ
+put_over place x bs = take place bs ++ x ++ drop (place + length x) bs
+
 -- why x was refused at a place: it would end past the greatest `usize`, or there is no memory
 abbrev pub IsRefusal : ℕ → List ℕ → Error → Type 0
 IsRefusal place x e =
     ((2 ^ 64 ≤ place + length x) × (error_kind e ≡ InvalidInput) × (error_text e ≡ Some (codes "vector position past the greatest usize"))) ⊎ ((place + length x < 2 ^ 64) × (error_kind e ≡ OutOfMemory) × (error_text e ≡ None))
 
--- a vector took the whole of x at a place, which moved behind it; or it would have had to grow, was refused, and nothing changed
+-- `write` of x: a vector took all of it at a place, which moved behind it; or it would have had to grow, was refused, and nothing changed
 abbrev pub PutsWhole : List ℕ → ℕ → List ℕ → Result ℕ Error → List ℕ → ℕ → Type 0
 PutsWhole bs place x (Ok n) bs' place' =
     (place + length x < 2 ^ 64) × (n ≡ length x) × (bs' ≡ put_at place x bs) × (place' ≡ place + length x)
 PutsWhole bs place x (Err e) bs' place' = (length bs < place + length x) × IsRefusal place x e × (bs' ≡ bs) × (place' ≡ place)
+
+-- `write_all` of x: the same, but where x is empty nothing is done
+abbrev pub PutsAll : List ℕ → ℕ → List ℕ → Result (Unit {0}) Error → List ℕ → ℕ → Type 0
+PutsAll bs place x (Ok u) bs' place' =
+    (0 < length x → (place + length x < 2 ^ 64) × (bs' ≡ put_at place x bs)) × (length x ≡ 0 → bs' ≡ bs) × (place' ≡ place + length x)
+PutsAll bs place x (Err e) bs' place' = (length bs < place + length x) × IsRefusal place x e × (bs' ≡ bs) × (place' ≡ place)
+
+-- a slice took the front of x that fits at a place, which moved behind it
+abbrev pub PutsFitting : List ℕ → ℕ → List ℕ → List ℕ → ℕ → Type 0
+PutsFitting bs place x bs' place' =
+    let front = fitting place x bs in (bs' ≡ put_over place front bs) × (place' ≡ place + length front)

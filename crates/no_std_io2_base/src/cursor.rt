@@ -8,6 +8,7 @@ ghost use Rattle.no_std_io2_base.specs.Cursor.{cursor_place, cursor_inner, curso
 
 mod reading;
 mod seeking;
+mod slices;
 mod vectors;
 
 use crate::error::{Error, ErrorKind, Result};

@@ -1,6 +1,7 @@
-ghost use Rattle.std.specs.Prelude.{◌≡◌, ℕ, ◌+◌, ◌≤◌, ◌<◌, ◌^◌, ◌++◌, [], Ok, IsOk, OnOk, OnErr, IfOk, length, take, drop, vec_len, is_ok, if◌then◌else◌};
-ghost use Rattle.no_std_io2_base.specs.Cursor.{cursor_place, cursor_inner, cursor_out, put_at, PutsWhole};
-ghost use Rattle.no_std_io2_base.specs.Writes.{Moves, taken, write_mishap, call_mishap, told_out};
+ghost use Rattle.std.specs.Prelude.{◌≡◌, ℕ, ◌+◌, nat_lt, ◌≤◌, ◌<◌, ◌^◌, ◌++◌, [], Ok, IsOk, OnOk, OnErr, IfOk, length, take, drop, vec_len, is_ok, if◌then◌else◌};
+ghost use Rattle.no_std_io2_base.specs.Cursor.{cursor_place, cursor_inner, cursor_out, put_at, PutsWhole, PutsAll};
+ghost use Rattle.no_std_io2_base.specs.Errors.{IsNoInterruption};
+ghost use Rattle.no_std_io2_base.specs.Writes.{Moves, MovesFront, taken, write_mishap, call_mishap, told_out};
 
 use super::Cursor;
 use crate::error::{Error, ErrorKind, Result};
@@ -8,7 +9,7 @@ use crate::traits::Write;
 use std::alloc::Allocator;
 
 // Puts `buf` over the bytes from `start` on.
-pub(super) fn overwrite(content: &mut [u8], start: usize, buf: &[u8])
+fn overwrite(content: &mut [u8], start: usize, buf: &[u8])
     requires { start + length buf.now ≤ length content.old }
     ensures { content.new ≡ take start content.old ++ buf.now ++ drop (start + length buf.now) content.old }
 {
@@ -69,7 +70,7 @@ fn write_at<A: Allocator>(content: &mut Vec<u8, A>, pos: &mut u64, buf: &[u8]) -
 }
 
 /// A vector takes a buffer whole, at the position: zeros fill the gap up to it, for an empty buffer
-/// too, and what stands before and behind the buffer stays. Follows
+/// of `write` too, and what stands before and behind the buffer stays. Follows
 /// `std::io::Write for Cursor<Vec<u8>>`.
 ///
 /// # Errors
@@ -111,6 +112,93 @@ impl<A: Allocator> Write for Cursor<Vec<u8, A>> {
         ensures ok { IsOk result }
         ensures same { self.new ≡ self.old }
     {
+        Ok(())
+    }
+
+    fn write_all(&mut self, buf: &[u8]) -> Result<()>
+        // The trait's.
+        ensures fault { IsNoInterruption result }
+        ensures moves { MovesFront (told_out (cursor_out (λ v. v.items) self.old)) buf.now result
+            (told_out (cursor_out (λ v. v.items) self.new)) }
+        ensures all { ⊥ → ⊥ }
+        ensures cost { ⊥ → ⊥ → ⊥ × (0 ≡ 0 + (if nat_lt 0 (length buf.now) then 1 else 0)) }
+
+        // All of the buffer, at the position, or nothing.
+        ensures puts { PutsAll (cursor_inner self.old).items (cursor_place self.old) buf.now result
+            (cursor_inner self.new).items (cursor_place self.new) }
+    {
+        if buf.is_empty() {
+            return Ok(());
+        }
+        write_at(&mut self.inner, &mut self.pos, buf)?;
+        Ok(())
+    }
+
+    ghost steady = { λ c h. absurd h };
+}
+
+/// A lent vector takes a buffer as an owned one does. Follows
+/// `std::io::Write for Cursor<&mut Vec<u8>>`.
+///
+/// # Errors
+/// Those of an owned vector.
+impl<A: Allocator> Write for Cursor<&mut Vec<u8, A>> {
+    ghost told = { λ c. told_out (cursor_out (λ v. v.now.items) c) };
+
+    ghost takes_all = { λ _. ⊥ };
+
+    ghost cost = { λ _. 0 };
+
+    ghost is_metered = { λ _. ⊥ };
+
+    fn write(&mut self, buf: &[u8]) -> Result<usize>
+        // The trait's.
+        ensures bound { IfOk result (λ n. n ≤ length buf.now) }
+        ensures moves { Moves (told_out (cursor_out (λ v. v.now.items) self.old)) (taken result buf.now) (write_mishap result buf.now)
+            (told_out (cursor_out (λ v. v.now.items) self.new)) }
+        ensures all { ⊥ → ⊥ × (result ≡ Ok (length buf.now)) }
+        ensures cost { ⊥ → ⊥ → ⊥ × (0 ≡ 0 + 1) }
+
+        // All of the buffer, at the position, or nothing.
+        ensures puts { PutsWhole (cursor_inner self.old).now.items (cursor_place self.old) buf.now result
+            (cursor_inner self.new).now.items (cursor_place self.new) }
+        ensures reference { (cursor_inner self.new).ghost_name ≡ (cursor_inner self.old).ghost_name }
+    {
+        write_at(self.inner, &mut self.pos, buf)
+    }
+
+    fn flush(&mut self) -> Result<()>
+        // The trait's.
+        ensures empty { OnOk result ((told_out (cursor_out (λ v. v.now.items) self.new)).held ≡ []) }
+        ensures moves { Moves (told_out (cursor_out (λ v. v.now.items) self.old)) [] (call_mishap result)
+            (told_out (cursor_out (λ v. v.now.items) self.new)) }
+        ensures all { ⊥ → ⊥ }
+        ensures cost { ⊥ → ⊥ → ⊥ × (let n : ℕ = 0 in n ≡ n) }
+
+        // It does nothing.
+        ensures ok { IsOk result }
+        ensures same { self.new ≡ self.old }
+    {
+        Ok(())
+    }
+
+    fn write_all(&mut self, buf: &[u8]) -> Result<()>
+        // The trait's.
+        ensures fault { IsNoInterruption result }
+        ensures moves { MovesFront (told_out (cursor_out (λ v. v.now.items) self.old)) buf.now result
+            (told_out (cursor_out (λ v. v.now.items) self.new)) }
+        ensures all { ⊥ → ⊥ }
+        ensures cost { ⊥ → ⊥ → ⊥ × (0 ≡ 0 + (if nat_lt 0 (length buf.now) then 1 else 0)) }
+
+        // All of the buffer, at the position, or nothing.
+        ensures puts { PutsAll (cursor_inner self.old).now.items (cursor_place self.old) buf.now result
+            (cursor_inner self.new).now.items (cursor_place self.new) }
+        ensures reference { (cursor_inner self.new).ghost_name ≡ (cursor_inner self.old).ghost_name }
+    {
+        if buf.is_empty() {
+            return Ok(());
+        }
+        write_at(self.inner, &mut self.pos, buf)?;
         Ok(())
     }
 

@@ -1,0 +1,87 @@
+ghost use Rattle.std.specs.Prelude.{◌≡◌, ℕ, ◌+◌, ◌-◌, ◌≤◌, ◌↔◌, nat_lt, min, [], codes, Some, Ok, IsOk, IsOkAnd, OnOk, IfOk, IfErr, length, if◌then◌else◌};
+ghost use Rattle.no_std_io2_base.specs.Cursor.{cursor_place, cursor_inner, cursor_out, PutsFitting};
+ghost use Rattle.no_std_io2_base.specs.Errors.{error_kind, error_text, IsNoInterruption};
+ghost use Rattle.no_std_io2_base.specs.Writes.{Moves, MovesFront, taken, write_mishap, call_mishap, told_out};
+
+use super::Cursor;
+use crate::error::{Error, ErrorKind, Result};
+use crate::impls::copy_prefix;
+use crate::traits::Write;
+
+/// A slice keeps its length: it takes the front of a buffer that fits between the position and its
+/// end, 0 bytes past that. What stands before and behind them stays. Follows
+/// `std::io::Write for Cursor<&mut [u8]>`.
+///
+/// # Errors
+/// None of `write` and `flush`. `write_all` answers `WriteZero` where the buffer doesn't fit: the
+/// front that fits was written.
+impl Write for Cursor<&mut [u8]> {
+    ghost told = { λ c. told_out (cursor_out (λ s. s.now) c) };
+
+    ghost takes_all = { λ _. ⊥ };
+
+    ghost cost = { λ _. 0 };
+
+    ghost is_metered = { λ _. ⊥ };
+
+    fn write(&mut self, buf: &[u8]) -> Result<usize>
+        // The trait's.
+        ensures bound { IfOk result (λ n. n ≤ length buf.now) }
+        ensures moves { Moves (told_out (cursor_out (λ s. s.now) self.old)) (taken result buf.now) (write_mishap result buf.now)
+            (told_out (cursor_out (λ s. s.now) self.new)) }
+        ensures all { ⊥ → ⊥ × (result ≡ Ok (length buf.now)) }
+        ensures cost { ⊥ → ⊥ → ⊥ × (0 ≡ 0 + 1) }
+
+        // What fits, at the position.
+        ensures answer { IsOkAnd result (λ n. n
+            ≡ min (length buf.now) (length (cursor_inner self.old).now - cursor_place self.old)) }
+        ensures puts { PutsFitting (cursor_inner self.old).now (cursor_place self.old) buf.now
+            (cursor_inner self.new).now (cursor_place self.new) }
+        ensures reference { (cursor_inner self.new).ghost_name ≡ (cursor_inner self.old).ghost_name }
+    {
+        let start = (self.inner.len() as u64).min(self.pos) as usize;
+        let n = copy_prefix(buf, &mut self.inner[start..]);
+        self.pos += n as u64;
+        Ok(n)
+    }
+
+    fn flush(&mut self) -> Result<()>
+        // The trait's.
+        ensures empty { OnOk result ((told_out (cursor_out (λ s. s.now) self.new)).held ≡ []) }
+        ensures moves { Moves (told_out (cursor_out (λ s. s.now) self.old)) [] (call_mishap result)
+            (told_out (cursor_out (λ s. s.now) self.new)) }
+        ensures all { ⊥ → ⊥ }
+        ensures cost { ⊥ → ⊥ → ⊥ × (let n : ℕ = 0 in n ≡ n) }
+
+        // It does nothing.
+        ensures ok { IsOk result }
+        ensures same { self.new ≡ self.old }
+    {
+        Ok(())
+    }
+
+    fn write_all(&mut self, buf: &[u8]) -> Result<()>
+        // The trait's.
+        ensures fault { IsNoInterruption result }
+        ensures moves { MovesFront (told_out (cursor_out (λ s. s.now) self.old)) buf.now result
+            (told_out (cursor_out (λ s. s.now) self.new)) }
+        ensures all { ⊥ → ⊥ }
+        ensures cost { ⊥ → ⊥ → ⊥ × (0 ≡ 0 + (if nat_lt 0 (length buf.now) then 1 else 0)) }
+
+        // What fits, at the position, and an error exactly where that is not all.
+        ensures variant { IsOk result ↔ (length buf.now ≤ length (cursor_inner self.old).now - cursor_place self.old) }
+        ensures kind { IfErr result (λ e. error_kind e ≡ ErrorKind.WriteZero) }
+        ensures text { IfErr result (λ e. error_text e ≡ Some (codes "failed to write whole buffer")) }
+        ensures puts { PutsFitting (cursor_inner self.old).now (cursor_place self.old) buf.now
+            (cursor_inner self.new).now (cursor_place self.new) }
+        ensures reference { (cursor_inner self.new).ghost_name ≡ (cursor_inner self.old).ghost_name }
+    {
+        if self.write(buf)? < buf.len() {
+            let message = "failed to write whole buffer";
+            return Err(Error::new(ErrorKind::WriteZero, message));
+        }
+        Ok(())
+    }
+
+    ghost steady = { λ c h. absurd h };
+}
