@@ -1,14 +1,15 @@
 -- A content and a position in it.
-use Rattle.std.proofs.Common.{◌≡◌, ℕ, ◌+◌, ◌-◌, ◌<◌, ◌≤◌, min, List, [], ◌∷◌, ◌++◌, Ok, Err, Result, length, take, drop, replicate, refl, sym, ap, subst, ◌∙◌, arith, rules, count_by, inl, inr, ◌⊎◌, append-nil, append_assoc, length-append, length-take, length-take-le}
-use Rattle.std.proofs.lemmas.List.{length-replicate, drop-drop, take_all, take_at, drop_all, drop_at, drop-append-le, take-append-le}
+use Rattle.std.proofs.Common.{◌≡◌, ℕ, ◌+◌, ◌-◌, ◌<◌, ◌≤◌, min, List, [], ◌∷◌, ◌++◌, Ok, Err, Result, length, take, drop, replicate, refl, sym, ap, subst, ◌∙◌, arith, rules, count_by, inl, inr, ◌⊎◌, append-nil, append_assoc, take-append-drop, length-append, length-take, length-take-le}
+use Rattle.std.proofs.lemmas.Bool.{cases_lt}
+use Rattle.std.proofs.lemmas.List.{length-replicate, drop-drop, take_all, take_at, take_min, drop_all, drop_at, drop-append-le, take-append-le}
 use Rattle.std.proofs.lemmas.Grind.{common_steps}
 use Rattle.std.proofs.lemmas.Bool.Decides.{nat_tests}
 use Rattle.no_std_io2_base.specs.declared.error.Error.{Error}
 use Rattle.no_std_io2_base.specs.declared.error.ErrorKind.{ErrorKind}
-use Rattle.no_std_io2_base.specs.declared.error.ErrorKind.TheVariants.{InvalidInput, OutOfMemory}
+use Rattle.no_std_io2_base.specs.declared.error.ErrorKind.TheVariants.{InvalidInput, OutOfMemory, WriteZero}
 use Rattle.no_std_io2_base.specs.Errors.{error_kind, is_interruption}
 use Rattle.no_std_io2_base.specs.Writes.{Told, Moves, MovesFront, told_out, taken, write_mishap, zero_write}
-use Rattle.no_std_io2_base.specs.Cursor.{bytes_before, put_at, IsRefusal, PutsWhole}
+use Rattle.no_std_io2_base.specs.Cursor.{bytes_before, put_at, put_over, fitting, IsRefusal, PutsWhole, PutsFitting}
 
 -- n bytes further on
 pub left_after : (all : List ℕ) (place n : ℕ) → drop (place + n) all ≡ drop n (drop place all)
@@ -86,3 +87,45 @@ pub puts_moves_all : (bs : List ℕ) (place : ℕ) (x : List ℕ) (n : ℕ) (bs'
     → MovesFront (told_out (bytes_before place bs)) x (Ok tt) (told_out (bytes_before place' bs'))
 puts_moves_all bs place x n bs' place' h =
     (x, ([], sym (append-nil x)), refl, appends_moves _ _ _ _ (put_goes_out bs place x bs' place' h.2 h.3) refl)
+
+-- what fits in a slice goes out
+pub fitting_goes_out : (bs : List ℕ) (place : ℕ) (x bs' : List ℕ) (place' : ℕ) → PutsFitting bs place x bs' place'
+    → bytes_before place' bs' ≡ bytes_before place bs ++ fitting place x bs
+fitting_goes_out bs place x bs' place' h = elim (cases_lt (length bs) place) [ inl past ↦ out past | inr within ↦ inside within ]
+  where
+    front : List ℕ
+    front = fitting place x bs
+
+    inside : place ≤ length bs → bytes_before place' bs' ≡ bytes_before place bs ++ fitting place x bs
+    inside within = put_goes_out bs place front bs' place' (h.0 ∙ put_within place front bs within) h.1
+
+    out : length bs < place → bytes_before place' bs' ≡ bytes_before place bs ++ fitting place x bs
+    out past =
+        let none : length bs - place ≡ 0 = omega arith in
+        let empty : front ≡ [] = ap (λ n. take n x) none in
+        let rest : drop (place + 0) bs ≡ [] = drop_all (place + 0) bs (omega arith) in
+        let same : put_over place [] bs ≡ bs = ap (λ l. take place bs ++ [] ++ l) rest ∙ append-nil (take place bs ++ []) ∙ append-nil (take place bs) ∙ take_all place bs (omega arith) in
+        let stays : bs' ≡ bs = h.0 ∙ ap (λ l. put_over place l bs) empty ∙ same in
+        let at : place' ≡ place = omega (arith, h.1, ap length empty) in
+        ap (λ l. bytes_before place' l) stays ∙ ap (λ m. bytes_before m bs) at ∙ sym (append-nil (bytes_before place bs)) ∙ ap (λ l. bytes_before place bs ++ l) (sym empty)
+
+-- `write` to a slice keeps the law of writers
+pub fits_moves : (bs : List ℕ) (place : ℕ) (x : List ℕ) (n : ℕ) (bs' : List ℕ) (place' : ℕ) → n ≡ min (length x) (length bs - place) → PutsFitting bs place x bs' place'
+    → Moves (told_out (bytes_before place bs)) (take n x) (write_mishap (Ok n) x) (told_out (bytes_before place' bs'))
+fits_moves bs place x n bs' place' count h =
+    let part : take n x ≡ fitting place x bs = ap (λ m. take m x) (let e : n ≡ min (length bs - place) (length x) = omega arith in e) ∙ take_min (length bs - place) x in
+    appends_moves _ _ _ _ (fitting_goes_out bs place x bs' place' h ∙ ap (λ l. bytes_before place bs ++ l) (sym part)) (quiet_count n x)
+
+-- and so does `write_all`, where not all fits
+pub fits_moves_part : (bs : List ℕ) (place : ℕ) (x : List ℕ) (e : Error) (bs' : List ℕ) (place' : ℕ) → error_kind e ≡ WriteZero → PutsFitting bs place x bs' place'
+    → MovesFront (told_out (bytes_before place bs)) x (Err e) (told_out (bytes_before place' bs'))
+fits_moves_part bs place x e bs' place' kind h =
+    let room = length bs - place in
+    (fitting place x bs, (drop room x, sym (take-append-drop room x)), tt, appends_moves _ _ _ _ (fitting_goes_out bs place x bs' place' h) (ap (λ k. count_by is_interruption (k ∷ [])) kind))
+
+-- and where it does
+pub fits_moves_all : (bs : List ℕ) (place : ℕ) (x bs' : List ℕ) (place' : ℕ) → length x ≤ length bs - place → PutsFitting bs place x bs' place'
+    → MovesFront (told_out (bytes_before place bs)) x (Ok tt) (told_out (bytes_before place' bs'))
+fits_moves_all bs place x bs' place' room h =
+    let whole : fitting place x bs ≡ x = take_all (length bs - place) x room in
+    (x, ([], sym (append-nil x)), refl, appends_moves _ _ _ _ (fitting_goes_out bs place x bs' place' h ∙ ap (λ l. bytes_before place bs ++ l) whole) refl)

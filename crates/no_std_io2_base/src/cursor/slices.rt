@@ -8,6 +8,17 @@ use crate::error::{Error, ErrorKind, Result};
 use crate::impls::copy_prefix;
 use crate::traits::Write;
 
+// Writes what fits into the slice at the position, and moves that behind it.
+fn write_fitting(content: &mut [u8], pos: &mut u64, buf: &[u8]) -> usize
+    ensures count { result ≡ min (length buf.now) (length content.old - pos.old) }
+    ensures puts { PutsFitting content.old pos.old buf.now content.new pos.new }
+{
+    let start = (content.len() as u64).min(*pos) as usize;
+    let n = copy_prefix(buf, &mut content[start..]);
+    *pos += n as u64;
+    n
+}
+
 /// A slice keeps its length: it takes the front of a buffer that fits between the position and its
 /// end, 0 bytes past that. What stands before and behind them stays. Follows
 /// `std::io::Write for Cursor<&mut [u8]>`.
@@ -39,10 +50,7 @@ impl Write for Cursor<&mut [u8]> {
             (cursor_inner self.new).now (cursor_place self.new) }
         ensures reference { (cursor_inner self.new).ghost_name ≡ (cursor_inner self.old).ghost_name }
     {
-        let start = (self.inner.len() as u64).min(self.pos) as usize;
-        let n = copy_prefix(buf, &mut self.inner[start..]);
-        self.pos += n as u64;
-        Ok(n)
+        Ok(write_fitting(self.inner, &mut self.pos, buf))
     }
 
     fn flush(&mut self) -> Result<()>
@@ -76,7 +84,7 @@ impl Write for Cursor<&mut [u8]> {
             (cursor_inner self.new).now (cursor_place self.new) }
         ensures reference { (cursor_inner self.new).ghost_name ≡ (cursor_inner self.old).ghost_name }
     {
-        if self.write(buf)? < buf.len() {
+        if write_fitting(self.inner, &mut self.pos, buf) < buf.len() {
             let message = "failed to write whole buffer";
             return Err(Error::new(ErrorKind::WriteZero, message));
         }
