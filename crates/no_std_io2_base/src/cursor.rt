@@ -9,6 +9,7 @@ ghost use Rattle.no_std_io2_base.specs.Cursor.{cursor_place, cursor_inner, curso
 mod reading;
 mod seeking;
 mod slices;
+mod tells;
 mod vectors;
 
 use crate::error::{Error, ErrorKind, Result};
