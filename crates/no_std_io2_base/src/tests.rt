@@ -1,2 +1,3 @@
+mod cursors;
 mod errors;
 mod writers;
