@@ -1,5 +1,5 @@
 -- What a clause reads of a `Take`.
-use Rattle.std.specs.Prelude.{◌≡◌, ℕ, ◌+◌, List, take}
+use Rattle.std.specs.Prelude.{ℕ, List, take}
 use Rattle.no_std_io2_base.specs.declared.traits.limiting.Take.{Take}
 use Rattle.no_std_io2_base.specs.Events.{Event, cut}
 

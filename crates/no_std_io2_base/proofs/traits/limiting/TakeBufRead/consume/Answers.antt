@@ -1,4 +1,4 @@
-use Rattle.std.proofs.Common.{◌≡◌, ◌≤◌, arith, length, take, ap, sym, subst, ◌++◌, ◌∙◌, length-take}
+use Rattle.std.proofs.Common.{◌≡◌, arith, take, length-take}
 use lib.Seq.{take-take}
 use Rattle.no_std_io2_base.proofs.Cut.{cut_consumes}
 use Rattle.no_std_io2_base.proofs.traits.limiting.TakeBufRead.consume.Goals as goal

@@ -1,4 +1,4 @@
-use Rattle.std.proofs.Common.{arith, rules}
+use Rattle.std.proofs.Common.{arith}
 use Rattle.std.proofs.lemmas.Grind.{common_steps}
 use Rattle.no_std_io2_base.proofs.Held.{begins_cut}
 use Rattle.no_std_io2_base.proofs.traits.limiting.TakeBufRead.fill_buf.Goals as goal

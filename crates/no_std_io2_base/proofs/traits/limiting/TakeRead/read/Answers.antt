@@ -1,4 +1,4 @@
-use Rattle.std.proofs.Common.{Ok, ap, rules, arith, length-take-le}
+use Rattle.std.proofs.Common.{rules, arith, length-take-le}
 use Rattle.no_std_io2_base.proofs.Cut.{cut_reads, cut-length}
 use Rattle.no_std_io2_base.proofs.traits.limiting.TakeRead.read.Goals as goal
 
