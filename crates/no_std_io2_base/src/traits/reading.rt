@@ -11,7 +11,7 @@ use crate::error::{Error, ErrorKind, Result};
 use std::alloc::Allocator;
 
 // The least room that `read_to_end` makes where there is none.
-const LEAST_ROOM: usize = 32;
+pub(super) const LEAST_ROOM: usize = 32;
 
 // The least and the most zeros that it opens for reads at a time, where there is room for them.
 const FIRST_OPENED: usize = 8 * 1024;
