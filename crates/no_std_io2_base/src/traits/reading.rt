@@ -2,10 +2,12 @@ ghost use Rattle.std.specs.Prelude.{◌≡◌, ℕ, List, ◌++◌, take, drop, 
 ghost use Rattle.no_std_io2_base.specs.Errors.{error_kind, IsFault};
 ghost use Rattle.no_std_io2_base.specs.Events.{Event, cut, bytes, events_of, given, Reads, ReadsExact, ReadsToEnd, SpendsTurn};
 ghost use Rattle.no_std_io2_base.specs.Chain.{chain_first, chain_second, chain_tells, chain_events};
+ghost use Rattle.no_std_io2_base.specs.SingleBytes.{bytes_reader};
 ghost use Rattle.no_std_io2_base.specs.Take.{take_inner, take_limit, take_events};
 
 use super::chaining::Chain;
 use super::limiting::Take;
+use super::single_bytes::Bytes;
 use super::store::Stored;
 use crate::error::{Error, ErrorKind, Result};
 use std::alloc::Allocator;
@@ -195,6 +197,15 @@ pub trait Read: Stored {
         ensures value { result.now ≡ self.old }
     {
         self
+    }
+
+    /// This reader's bytes, one at a time. Follows `std::io::Read::bytes`.
+    final fn bytes(self) -> Bytes<Self>
+    where
+        Self: Sized,
+        ensures { bytes_reader result ≡ self }
+    {
+        Bytes::new(self)
     }
 
     /// This reader, and after its end `next`. Follows `std::io::Read::chain`.
