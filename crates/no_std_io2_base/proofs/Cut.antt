@@ -1,7 +1,7 @@
 -- Reads under a limit.
-use Rattle.std.proofs.Common.{◌≡◌, ℕ, zero, suc, ◌+◌, ◌-◌, ◌<◌, ◌≤◌, min, List, [], ◌∷◌, ◌++◌, Ok, length, take, drop, refl, sym, ap, subst, ◌∙◌, arith, length-append, length-take-le}
+use Rattle.std.proofs.Common.{◌≡◌, ℕ, zero, suc, ◌-◌, ◌<◌, ◌≤◌, min, List, [], ◌∷◌, ◌++◌, Ok, length, take, refl, sym, ap, ◌∙◌, arith, length-take-le}
 use lib.Seq.{take-append-le}
-use Rattle.no_std_io2_base.specs.Events.{Event, byte, events_of, bytes, cut, Reads}
+use Rattle.no_std_io2_base.specs.Events.{Event, events_of, bytes, cut, Reads}
 use Rattle.no_std_io2_base.proofs.Events.{cut-bytes, length-events_of}
 
 -- the cut loses what the inner reader loses

@@ -1,8 +1,7 @@
 -- What is held stands at the front of the events.
-use Rattle.std.proofs.Common.{◌≡◌, ℕ, zero, suc, ◌+◌, ◌-◌, ◌≤◌, List, [], ◌∷◌, ◌++◌, length, take, drop, refl, sym, ap, ◌∙◌, arith, append_assoc, append-nil}
+use Rattle.std.proofs.Common.{ℕ, zero, suc, ◌≤◌, List, [], ◌∷◌, ◌++◌, take, refl, sym, ap, ◌∙◌, arith, append_assoc, append-nil}
 use Rattle.no_std_io2_base.specs.Events.{Event, byte, events_of, cut}
 use Rattle.no_std_io2_base.specs.Lending.{BeginsWith}
-use Rattle.no_std_io2_base.proofs.Events.{cut-bytes}
 
 pub begins_whole : (bs : List ℕ) → BeginsWith (events_of bs) bs
 begins_whole bs = record { rest = []; is = sym (append-nil (events_of bs)) }

@@ -1,8 +1,8 @@
 -- Bytes in memory, as events.
-use Rattle.std.proofs.Common.{◌≡◌, ℕ, ◌+◌, ◌-◌, ◌<◌, ◌≤◌, min, List, [], ◌++◌, length, take, drop, refl, sym, ap, ◌∙◌, subst, arith, Ok, append-nil, take-append-drop, length-take-le, drop_of_length-le}
+use Rattle.std.proofs.Common.{◌≡◌, ℕ, ◌-◌, ◌<◌, min, List, ◌++◌, length, take, drop, sym, ap, ◌∙◌, subst, arith, Ok, append-nil, take-append-drop, drop_of_length-le}
 use Rattle.std.proofs.lemmas.List.{take_rest, drop_min}
 use Rattle.no_std_io2_base.specs.Laws.{bytes-events_of}
-use Rattle.no_std_io2_base.specs.Events.{Event, events_of, bytes, HasNoFault, cut, Reads, Fills}
+use Rattle.no_std_io2_base.specs.Events.{events_of, bytes, HasNoFault, cut, Reads, Fills}
 use Rattle.no_std_io2_base.proofs.Events.{events_of-append, HasNoFault-events_of, cut-bytes}
 
 pub events_of-split : (all : List ℕ) (n : ℕ) → events_of all ≡ events_of (take n all) ++ events_of (drop n all)

@@ -1,7 +1,6 @@
 -- Proofs of laws that impls give.
-use Rattle.std.specs.Prelude.{◌≡◌, ℕ, Bool, true, false, if◌then◌else◌, ◌++◌, List, [], ◌∷◌, refl}
-use Rattle.std.proofs.Common.{ap, sym, subst, zero, suc, take, ◌∙◌, append_assoc}
-use Rattle.no_std_io2_base.specs.Lending.{BeginsWith}
+use Rattle.std.specs.Prelude.{◌≡◌, ℕ, List, [], ◌∷◌, refl}
+use Rattle.std.proofs.Common.{ap, sym, zero, suc, ◌∙◌}
 use Rattle.no_std_io2_base.specs.Events.{Event, byte, events_of, bytes, cut}
 
 pub bytes-events_of : (bs : List ℕ) → bytes (events_of bs) ≡ bs

@@ -1,5 +1,5 @@
 -- What `fill_buf` lends, and what it leaves.
-use Rattle.std.specs.Prelude.{◌≡◌, ◌≢◌, ℕ, ◌-◌, ◌≤◌, ◌<◌, List, [], ◌∷◌, ◌++◌, length, ⊤, Ok, Err, Result}
+use Rattle.std.specs.Prelude.{◌≡◌, ℕ, ◌-◌, ◌<◌, List, [], ◌∷◌, ◌++◌, length, ⊤, Ok, Err, Result}
 use mathlib.Core.Option.{none}
 use Rattle.std.specs.Borrow.{follows_so, Fml, RattleType, MutBor, Bor}
 use Rattle.no_std_io2_base.specs.declared.error.Error.{Error}

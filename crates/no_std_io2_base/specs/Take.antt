@@ -1,7 +1,7 @@
--- What a clause reads of a `Take`.
-use Rattle.std.specs.Prelude.{◌≡◌, ℕ, ◌+◌, List, take}
+-- What a clause reads of a `Take`, and what its calls do.
+use Rattle.std.specs.Prelude.{◌≡◌, ℕ, ◌+◌, List, ◌++◌, length, take}
 use Rattle.no_std_io2_base.specs.declared.traits.limiting.Take.{Take}
-use Rattle.no_std_io2_base.specs.Events.{Event, cut}
+use Rattle.no_std_io2_base.specs.Events.{Event, bytes, cut}
 
 -- `t.limit()`
 abbrev pub take_limit : {T : Type 0} → Take T → ℕ
@@ -22,3 +22,10 @@ take_held held t = take t.limit (held t.inner)
 -- t after `*t.get_mut() = x`
 abbrev pub take_with_inner : {T : Type 0} → Take T → T → Take T
 take_with_inner t x = record t { inner = x }
+
+-- What a call removed from the events of E cut at `limit`, it removed from E; and `limit` fell by the bytes among it.
+pub record TakesAlong (limit : ℕ) (E : List Event) (new_limit : ℕ) (after : List Event) : Type 0 where
+  pub removed : List Event
+  pub below : E ≡ removed ++ after
+  pub here : cut limit E ≡ removed ++ cut new_limit after
+  pub falls : new_limit + length (bytes removed) ≡ limit

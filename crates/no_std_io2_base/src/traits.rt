@@ -4,6 +4,7 @@ mod lending;
 mod limiting;
 mod reading;
 mod seeking;
+mod single_bytes;
 mod store;
 mod writing;
 
@@ -12,5 +13,6 @@ pub use lending::BufRead;
 pub use limiting::Take;
 pub use reading::Read;
 pub use seeking::{Seek, SeekFrom};
+pub use single_bytes::Bytes;
 pub use store::Stored;
 pub use writing::Write;

@@ -1,49 +1,66 @@
-ghost use Rattle.std.specs.Prelude.{◌≡◌, ℕ, List, ◌++◌, take, drop, ◌+◌, ◌≤◌, ◌<◌, ◌^◌, min, length, IfOk, IfErr, OnErr, IsOkAnd, vec_len, vec_capacity};
+ghost use Rattle.std.specs.Prelude.{◌≡◌, ℕ, List, ◌++◌, take, drop, ◌+◌, ◌≤◌, ◌<◌, ◌^◌, min, length, IfOk, IfErr, OnOk, OnErr, IsOkAnd, vec_len, vec_capacity};
 ghost use Rattle.no_std_io2_base.specs.Errors.{error_kind, IsFault};
 ghost use Rattle.no_std_io2_base.specs.Events.{Event, cut, bytes, events_of, given, Reads, ReadsExact, ReadsToEnd, SpendsTurn};
 ghost use Rattle.no_std_io2_base.specs.Chain.{chain_first, chain_second, chain_tells, chain_events};
+ghost use Rattle.no_std_io2_base.specs.SingleBytes.{bytes_reader};
 ghost use Rattle.no_std_io2_base.specs.Take.{take_inner, take_limit, take_events};
 
 use super::chaining::Chain;
 use super::limiting::Take;
+use super::single_bytes::Bytes;
 use super::store::Stored;
 use crate::error::{Error, ErrorKind, Result};
 use std::alloc::Allocator;
 
-// How much room `read_to_end` makes before a read, where there is none.
-const CHUNK: usize = 32;
+// The least room that `read_to_end` makes where there is none.
+pub(super) const LEAST_ROOM: usize = 32;
 
-// Room for some bytes, at most CHUNK, and for CHUNK where there was none.
-fn make_room<A: Allocator>(buf: &mut Vec<u8, A>) -> Result<usize>
+// The least and the most zeros that it opens for reads at a time, where there is room for them.
+const FIRST_OPENED: usize = 8 * 1024;
+
+const MOST_OPENED: usize = 128 * 1024;
+
+// Makes room for `wanted` more bytes.
+pub(super) fn reserve_room<A: Allocator>(buf: &mut Vec<u8, A>, wanted: usize) -> Result<()>
     ensures items { buf.new.items ≡ buf.old.items }
     ensures len { vec_len buf.new ≡ vec_len buf.old }
-    ensures room { IfOk result (λ n. (0 < n) × (n ≤ 32) × (vec_len buf.new + n ≤ vec_capacity buf.new)) }
-    ensures err { IfErr result (λ e. error_kind e ≡ ErrorKind.OutOfMemory) }
-    ensures unless_room { OnErr result (vec_capacity buf.old ≡ vec_len buf.old) }
+    ensures room { OnOk result (vec_len buf.new + wanted ≤ vec_capacity buf.new) }
+    ensures kind { IfErr result (λ e. error_kind e ≡ ErrorKind.OutOfMemory) }
+    ensures full { OnErr result (vec_capacity buf.old < vec_len buf.old + wanted) }
 {
-    if buf.len() == buf.capacity() && buf.reserve(CHUNK).is_err() {
-        return Err(Error::from(ErrorKind::OutOfMemory));
-    }
-    Ok(CHUNK.min(buf.capacity() - buf.len()))
-}
-
-fn make_first_room<A: Allocator>(buf: &mut Vec<u8, A>) -> Result<()>
-    ensures items { buf.new.items ≡ buf.old.items }
-    ensures len { vec_len buf.new ≡ vec_len buf.old }
-    ensures err { IfErr result (λ e. error_kind e ≡ ErrorKind.OutOfMemory) }
-{
-    if buf.reserve(CHUNK).is_err() {
+    if buf.reserve(wanted).is_err() {
         return Err(Error::from(ErrorKind::OutOfMemory));
     }
     Ok(())
 }
 
-fn append_within<A: Allocator>(buf: &mut Vec<u8, A>, bytes: &[u8])
-    requires { vec_len buf.old + length bytes.now ≤ vec_capacity buf.old }
-    ensures items { buf.new.items ≡ buf.old.items ++ bytes.now }
-    ensures len { vec_len buf.old ≤ vec_len buf.new }
+// Opens zeros behind the `filled` bytes for the next read, where none are left: as many as were
+// read so far, within bounds. So each byte is zeroed once, and few are that no read fills. Where
+// the capacity is full, it grows by at least `least`.
+pub(super) fn open_room<A: Allocator>(
+    buf: &mut Vec<u8, A>,
+    filled: usize,
+    read: usize,
+    least: usize,
+) -> Result<()>
+    requires within { filled ≤ vec_len buf.old }
+    requires some { 0 < least }
+    ensures within { filled ≤ vec_len buf.new }
+    ensures front { take filled buf.new.items ≡ take filled buf.old.items }
+    ensures room { OnOk result (filled < vec_len buf.new) }
+    ensures kind { IfErr result (λ e. error_kind e ≡ ErrorKind.OutOfMemory) }
+    ensures full { OnErr result ((vec_capacity buf.old ≡ filled) × (vec_len buf.new ≡ filled)) }
 {
-    let _ = buf.extend_from_slice(bytes);
+    if filled < buf.len() {
+        return Ok(());
+    }
+    if buf.len() == buf.capacity() {
+        reserve_room(buf, least)?;
+    }
+    let opened = read.max(FIRST_OPENED).min(MOST_OPENED);
+    let end = filled + opened.min(buf.capacity() - filled);
+    let _ = buf.resize(end, 0);
+    Ok(())
 }
 
 /// A source of bytes. Follows Rust's `std::io::Read`.
@@ -151,15 +168,19 @@ pub trait Read: Stored {
             ≡ Self.position self.old + length (events self.old)) }
     {
         let start = buf.len();
-        let mut chunk = [0u8; CHUNK];
-        make_first_room(buf)?;
+        let mut filled = start;
+        reserve_room(buf, LEAST_ROOM)?;
         'reads: loop {
-            let most = make_room(buf)?;
-            match self.read(&mut chunk[..most]) {
-                Ok(0) => return Ok(buf.len() - start),
-                Ok(n) => append_within(buf, &chunk[..n]),
+            open_room(buf, filled, filled - start, LEAST_ROOM)?;
+            match self.read(&mut buf[filled..]) {
+                Ok(0) => {
+                    buf.truncate(filled);
+                    return Ok(filled - start);
+                }
+                Ok(n) => filled += n,
                 Err(e) => {
                     if !e.is_interruption() {
+                        buf.truncate(filled);
                         return Err(e);
                     }
                 }
@@ -176,6 +197,15 @@ pub trait Read: Stored {
         ensures value { result.now ≡ self.old }
     {
         self
+    }
+
+    /// This reader's bytes, one at a time. Follows `std::io::Read::bytes`.
+    final fn bytes(self) -> Bytes<Self>
+    where
+        Self: Sized,
+        ensures { bytes_reader result ≡ self }
+    {
+        Bytes::new(self)
     }
 
     /// This reader, and after its end `next`. Follows `std::io::Read::chain`.

@@ -1,4 +1,4 @@
-use Rattle.std.proofs.Common.{◌≡◌, ◌++◌, min, rules, arith, Ok, length, take, drop, sym, ap, ◌∙◌, take_at, length-take-le}
+use Rattle.std.proofs.Common.{◌≡◌, arith, take, ap, ◌∙◌, take_at, length-take-le}
 use Rattle.std.proofs.lemmas.List.{take_rest}
 use Rattle.no_std_io2_base.proofs.Slices.{read_bytes}
 use Rattle.no_std_io2_base.proofs.Events.{length-events_of}

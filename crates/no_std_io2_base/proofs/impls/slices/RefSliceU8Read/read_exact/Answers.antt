@@ -1,8 +1,8 @@
-use Rattle.std.proofs.Common.{◌≡◌, ◌≤◌, ◌++◌, [], min, rules, arith, Ok, length, take, drop, refl, sym, ap, subst, ◌∙◌, inl, inr, append-nil, drop_of_length-le, length-take-le}
+use Rattle.std.proofs.Common.{◌++◌, rules, arith, length, take, refl, ap, ◌∙◌, inr, append-nil, drop_of_length-le}
 use Rattle.std.proofs.lemmas.List.{take_rest}
 use Rattle.no_std_io2_base.specs.Laws.{bytes-events_of}
 use Rattle.no_std_io2_base.proofs.Slices.{fill_bytes}
-use Rattle.no_std_io2_base.proofs.Events.{length-events_of, HasNoFault-events_of}
+use Rattle.no_std_io2_base.proofs.Events.{HasNoFault-events_of}
 use Rattle.no_std_io2_base.proofs.impls.slices.RefSliceU8Read.read_exact.Goals as goal
 
 pub returns-then-all-buf-clause-told : goal.returns-then-all-buf-clause-told

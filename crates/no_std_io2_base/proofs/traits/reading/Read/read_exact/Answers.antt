@@ -1,6 +1,5 @@
-use Rattle.std.proofs.Common.{◌≡◌, ◌+◌, ◌-◌, ◌<◌, ◌≤◌, ◌++◌, length, take, rules, arith, sym, ap, subst, ◌∙◌, le_refl, inl, length-take-le}
+use Rattle.std.proofs.Common.{◌-◌, length, rules, arith, ◌∙◌, le_refl, inl, length-take-le}
 use Rattle.std.proofs.lemmas.Slice.{take-put_mid_below}
-use borrow.Rule.Slice.PartMut.{put_mid}
 use Rattle.no_std_io2_base.proofs.Parts.{take-put_mid}
 use Rattle.no_std_io2_base.proofs.Taken.{taken_read, taken_interruption, taken_fault, moved_read, no_error}
 use Rattle.no_std_io2_base.proofs.traits.reading.Read.read_exact.Goals as goal

@@ -1,0 +1,63 @@
+use Rattle.std.proofs.Common.{◌-◌, length, rules, arith, ◌∙◌, le_refl, inl, length-take-le}
+use Rattle.std.proofs.lemmas.Slice.{take-put_mid_below}
+use Rattle.no_std_io2_base.proofs.Along.{along_then}
+use Rattle.no_std_io2_base.proofs.Parts.{take-put_mid}
+use Rattle.no_std_io2_base.proofs.Taken.{taken_read, taken_interruption, taken_fault}
+use Rattle.no_std_io2_base.proofs.traits.limiting.TakeRead.read_exact.Goals as goal
+
+pub reads-preserved-in-Ok : goal.reads-preserved-in-Ok
+reads-preserved-in-Ok g c =
+    let at = c.reads.at in
+    let old = c.reads.buf in
+    let before = c.reads.invariant in
+    let read = c.in-Ok.ensures in
+    let shown = take-put_mid at (length old - at) c.in-Ok.n old c.read.new.buf (omega arith) (omega (arith, read.bound)) in
+    record {
+      long = search rules;
+      within = search rules;
+      turns = search rules;
+      told = λ t.
+          let so_far = before.told t in
+          let now = read.told so_far.0 in
+          (now.0, taken_read _ _ _ _ _ _ _ _ so_far.1 now.1 (omega (arith, read.bound)) (omega arith) shown);
+      is_filling = search rules;
+      limit = omega (arith, before.limit, read.limit);
+      at_limit = λ none. (read.at_limit (omega (arith, before.limit, none))).1 ∙ before.at_limit none;
+      along = λ t. along_then _ _ _ _ _ _ (before.along t) (read.along (before.told t).0);
+    }
+
+pub returns-then-not-is_interruption-clause-told :
+    goal.returns-then-not-is_interruption-clause-told
+returns-then-not-is_interruption-clause-told g c = λ t.
+    let before = c.reads.invariant.told t in
+    let now = c.in-Err.ensures.told before.0 in
+    let at = c.reads.at in
+    let long = length-take-le at c.reads.buf (omega arith) in
+    (now.0, inl (taken_fault _ _ _ _ _ _ _ before.1 now.1 (search rules) (search (rules, long))))
+
+pub returns-then-not-is_interruption-clause-along :
+    goal.returns-then-not-is_interruption-clause-along
+returns-then-not-is_interruption-clause-along g c = λ t.
+    let before = c.reads.invariant in
+    along_then _ _ _ _ _ _ (before.along t) (c.in-Err.ensures.along (before.told t).0)
+
+pub reads-preserved : goal.reads-preserved
+reads-preserved g c =
+    let at = c.reads.at in
+    let old = c.reads.buf in
+    let before = c.reads.invariant in
+    let read = c.in-Err.ensures in
+    record {
+      long = search rules;
+      within = search rules;
+      turns = search rules;
+      told = λ t.
+          let so_far = before.told t in
+          let now = read.told so_far.0 in
+          let long = length-take-le at old (omega arith) in
+          (now.0, taken_interruption _ _ _ _ _ _ _ so_far.1 now.1 (search rules) (omega arith) (take-put_mid_below _ _ _ _ _ (le_refl _) (omega arith)));
+      is_filling = search rules;
+      limit = omega (arith, before.limit, read.limit);
+      at_limit = λ none. absurd (read.at_limit (omega (arith, before.limit, none))).0;
+      along = λ t. along_then _ _ _ _ _ _ (before.along t) (read.along (before.told t).0);
+    }
