@@ -17,6 +17,9 @@ pub record Gathered (E : List Event) (old new : List ℕ) (after : List Event) :
 pub gathered_none : (E : List Event) (old new : List ℕ) → new ≡ old → Gathered E old new E
 gathered_none E old new is = record { front = []; split = refl; no_fault = tt; gave = is ∙ sym (append-nil old) }
 
+pub gathered_same : (E : List Event) (old new shown : List ℕ) (after : List Event) → Gathered E old new after → shown ≡ new → Gathered E old shown after
+gathered_same E old new shown after t is = subst (λ l. Gathered E old l after) (sym is) t
+
 pub gathered_read : (E : List Event) (old new shown : List ℕ) (after rest : List Event) (n : ℕ) (buf : List ℕ)
     → Gathered E old new after → Reads after (Ok n) buf rest → shown ≡ new ++ take n buf → Gathered E old shown rest
 gathered_read E old new shown after rest n buf t read is = record {

@@ -1,7 +1,9 @@
 //! The traits at streams in memory, references, boxes and boxed objects.
 mod boxed;
+mod lending_objects;
 mod lent;
 mod objects;
+mod reading_objects;
 mod slices;
 mod vectors;
 

@@ -12,6 +12,7 @@ pub use chaining::Chain;
 pub use lending::BufRead;
 pub use limiting::Take;
 pub use reading::Read;
+pub(crate) use reading::{LEAST_ROOM, open_room, reserve_room};
 pub use seeking::{Seek, SeekFrom};
 pub use single_bytes::Bytes;
 pub use store::Stored;

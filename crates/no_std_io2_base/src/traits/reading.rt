@@ -13,7 +13,7 @@ use crate::error::{Error, ErrorKind, Result};
 use std::alloc::Allocator;
 
 // The least room that `read_to_end` makes where there is none.
-pub(super) const LEAST_ROOM: usize = 32;
+pub(crate) const LEAST_ROOM: usize = 32;
 
 // The least and the most zeros that it opens for reads at a time, where there is room for them.
 const FIRST_OPENED: usize = 8 * 1024;
@@ -21,7 +21,7 @@ const FIRST_OPENED: usize = 8 * 1024;
 const MOST_OPENED: usize = 128 * 1024;
 
 // Makes room for `wanted` more bytes.
-pub(super) fn reserve_room<A: Allocator>(buf: &mut Vec<u8, A>, wanted: usize) -> Result<()>
+pub(crate) fn reserve_room<A: Allocator>(buf: &mut Vec<u8, A>, wanted: usize) -> Result<()>
     ensures items { buf.new.items ≡ buf.old.items }
     ensures len { vec_len buf.new ≡ vec_len buf.old }
     ensures room { OnOk result (vec_len buf.new + wanted ≤ vec_capacity buf.new) }
@@ -37,7 +37,7 @@ pub(super) fn reserve_room<A: Allocator>(buf: &mut Vec<u8, A>, wanted: usize) ->
 // Opens zeros behind the `filled` bytes for the next read, where none are left: as many as were
 // read so far, within bounds. So each byte is zeroed once, and few are that no read fills. Where
 // the capacity is full, it grows by at least `least`.
-pub(super) fn open_room<A: Allocator>(
+pub(crate) fn open_room<A: Allocator>(
     buf: &mut Vec<u8, A>,
     filled: usize,
     read: usize,

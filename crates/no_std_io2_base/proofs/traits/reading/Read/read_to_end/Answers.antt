@@ -1,5 +1,5 @@
 use Rattle.std.proofs.Common.{◌+◌, ◌≤◌, ◌++◌, take, rules, arith, sym, ap, subst, ◌∙◌, le_refl}
-use Rattle.no_std_io2_base.proofs.Gathered.{Gathered, gathered_read, gathered_interruption, gathered_fault}
+use Rattle.no_std_io2_base.proofs.Gathered.{gathered_same, gathered_read, gathered_interruption, gathered_fault}
 use Rattle.no_std_io2_base.proofs.Parts.{take-written, take-written_below, take-stays}
 use Rattle.no_std_io2_base.proofs.Taken.{moved_read, no_error}
 use Rattle.no_std_io2_base.proofs.traits.reading.Read.read_to_end.Goals as goal
@@ -43,7 +43,7 @@ returns-then-not-is_interruption-clause-told g c = λ t.
     let opened = c.open_room.new.buf in
     let kept = take-written_below filled opened.len filled c.deref_mut.result.now opened.items c.read.new.buf (le_refl _) (omega arith) opened.ok.0 c.deref_mut.ensures.value in
     let same = c.truncate-then-not-is_interruption.ensures.items ∙ kept ∙ c.open_room.ensures.front in
-    (now.0, gathered_fault _ _ _ _ _ _ (subst (λ l. Gathered (g.Self.Read.events c.args.self.now) c.args.buf.now.items l (g.Self.Read.events c.reads.self)) (sym same) before.1) now.1 (search rules))
+    (now.0, gathered_fault _ _ _ _ _ _ (gathered_same _ _ _ _ _ before.1 same) now.1 (search rules))
 
 pub reads-preserved : goal.reads-preserved
 reads-preserved g c =
@@ -63,7 +63,7 @@ reads-preserved g c =
       told = λ t.
           let before = c.reads.invariant.told t in
           let now = read.told before.0 in
-          (now.0, gathered_interruption _ _ _ _ _ _ (subst (λ l. Gathered (g.Self.Read.events c.args.self.now) c.args.buf.now.items l (g.Self.Read.events c.reads.self)) (sym (kept ∙ c.open_room.ensures.front)) before.1) now.1 (search rules));
+          (now.0, gathered_interruption _ _ _ _ _ _ (gathered_same _ _ _ _ _ before.1 (kept ∙ c.open_room.ensures.front)) now.1 (search rules));
       is_metered = search rules;
       is_filling = search rules;
       store = λ t.

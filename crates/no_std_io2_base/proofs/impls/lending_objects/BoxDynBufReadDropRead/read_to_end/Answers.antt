@@ -1,0 +1,66 @@
+use Rattle.std.proofs.Common.{◌+◌, ◌≤◌, ◌++◌, take, rules, arith, sym, ap, subst, ◌∙◌, le_refl}
+use Rattle.std.proofs.lemmas.Result.{err_from_is_err_and}
+use Rattle.no_std_io2_base.proofs.Gathered.{gathered_same, gathered_none, gathered_memory, gathered_read, gathered_interruption, gathered_fault}
+use Rattle.no_std_io2_base.proofs.Parts.{take-written, take-written_below, take-stays}
+use Rattle.no_std_io2_base.proofs.impls.lending_objects.BoxDynBufReadDropRead.read_to_end.Goals as goal
+
+pub reads-preserved-in-Ok : goal.reads-preserved-in-Ok
+reads-preserved-in-Ok g c =
+    let read = c.in-Ok.ensures in
+    let n = c.in-Ok.n in
+    let filled = c.reads.filled in
+    let start = c.args.buf.now.len in
+    let opened = c.open_room.new.buf in
+    let slice = c.deref_mut.result.now in
+    let value = c.deref_mut.ensures.value in
+    let fits : filled + n ≤ opened.len = omega (arith, read.bound, c.read.auto.buf) in
+    let front = take-written_below start opened.len filled slice opened.items c.read.new.buf (omega arith) (omega arith) opened.ok.0 value in
+    let shown = take-written n opened.len filled slice opened.items c.read.new.buf fits read.bound opened.ok.0 value in
+    record {
+      grows = omega arith;
+      within = fits;
+      front = front ∙ take-stays start filled _ _ (omega arith) c.open_room.ensures.front ∙ c.reads.invariant.front;
+      turns = search rules;
+      told = λ t.
+          let before = c.reads.invariant.told t in
+          let now = read.told before.0 in
+          (now.0, gathered_read _ _ _ _ _ _ _ _ before.1 now.1 (shown ∙ ap (λ l. l ++ take n c.read.new.buf) c.open_room.ensures.front));
+    }
+
+pub returns-then-not-is_interruption-clause-told :
+    goal.returns-then-not-is_interruption-clause-told
+returns-then-not-is_interruption-clause-told g c = λ t.
+    let before = c.reads.invariant.told t in
+    let now = c.in-Err.ensures.told before.0 in
+    let filled = c.reads.filled in
+    let opened = c.open_room.new.buf in
+    let kept = take-written_below filled opened.len filled c.deref_mut.result.now opened.items c.read.new.buf (le_refl _) (omega arith) opened.ok.0 c.deref_mut.ensures.value in
+    let same = c.truncate-then-not-is_interruption.ensures.items ∙ kept ∙ c.open_room.ensures.front in
+    (now.0, gathered_fault _ _ _ _ _ _ (gathered_same _ _ _ _ _ before.1 same) now.1 (search rules))
+
+pub reads-preserved : goal.reads-preserved
+reads-preserved g c =
+    let read = c.in-Err.ensures in
+    let filled = c.reads.filled in
+    let start = c.args.buf.now.len in
+    let opened = c.open_room.new.buf in
+    let slice = c.deref_mut.result.now in
+    let value = c.deref_mut.ensures.value in
+    let front = take-written_below start opened.len filled slice opened.items c.read.new.buf (omega arith) (omega arith) opened.ok.0 value in
+    let kept = take-written_below filled opened.len filled slice opened.items c.read.new.buf (le_refl _) (omega arith) opened.ok.0 value in
+    record {
+      grows = omega arith;
+      within = omega arith;
+      front = front ∙ take-stays start filled _ _ (omega arith) c.open_room.ensures.front ∙ c.reads.invariant.front;
+      turns = search rules;
+      told = λ t.
+          let before = c.reads.invariant.told t in
+          let now = read.told before.0 in
+          (now.0, gathered_interruption _ _ _ _ _ _ (gathered_same _ _ _ _ _ before.1 (kept ∙ c.open_room.ensures.front)) now.1 (search rules));
+    }
+
+pub returns-in_err-reserve_room-clause-told :
+    goal.returns-in_err-reserve_room-clause-told
+returns-in_err-reserve_room-clause-told g c = λ t.
+    let p = err_from_is_err_and c.from_residual.result c.from_residual.ensures.1 in
+    (t, rw (p.1, p.2) (gathered_memory _ _ _ _ _ (gathered_none _ _ _ c.reserve_room.ensures.items) c.in_err-reserve_room.ensures.kind))

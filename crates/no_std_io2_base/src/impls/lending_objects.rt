@@ -1,0 +1,88 @@
+ghost use Rattle.std.specs.Prelude.{[]};
+
+use crate::error::Result;
+use crate::traits::{BufRead, LEAST_ROOM, Read, Stored, open_room, reserve_room};
+use std::alloc::Allocator;
+
+// A boxed object tells no store. The body of `read_to_end` is the trait's, written again: a method
+// with a bound of its own is not left to its trait at a boxed object.
+impl<A: Allocator> Stored for Box<dyn BufRead + Drop, A> {
+    ghost has_store = { λ _. ⊥ };
+
+    ghost content = { λ _. [] };
+
+    ghost position = { λ _. 0 };
+}
+
+/// A boxed object reads as what is in the box does, and tells the same, but for counts.
+impl<A: Allocator> Read for Box<dyn BufRead + Drop, A> {
+    ghost tells = { λ b. (BufRead-box b).Read.tells b.value };
+
+    ghost events = { λ b. (BufRead-box b).Read.events b.value };
+
+    ghost turns = { λ b. (BufRead-box b).Read.turns b.value };
+
+    ghost cost = { λ _. 0 };
+
+    ghost is_metered = { λ _. ⊥ };
+
+    ghost is_filling = { λ _. ⊥ };
+
+    ghost may_take_none = { λ b. (BufRead-box b).Read.may_take_none b.value };
+
+    fn read(&mut self, buf: &mut [u8]) -> Result<usize> {
+        (**self).read(buf)
+    }
+
+    fn read_exact(&mut self, buf: &mut [u8]) -> Result<()> {
+        (**self).read_exact(buf)
+    }
+
+    fn read_to_end<B: Allocator>(&mut self, buf: &mut Vec<u8, B>) -> Result<usize> {
+        let start = buf.len();
+        let mut filled = start;
+        reserve_room(buf, LEAST_ROOM)?;
+        'reads: loop {
+            open_room(buf, filled, filled - start, LEAST_ROOM)?;
+            match self.read(&mut buf[filled..]) {
+                Ok(0) => {
+                    buf.truncate(filled);
+                    return Ok(filled - start);
+                }
+                Ok(n) => filled += n,
+                Err(e) => {
+                    if !e.is_interruption() {
+                        buf.truncate(filled);
+                        return Err(e);
+                    }
+                }
+            }
+        }
+    }
+
+    ghost filling_tells = { λ r h. absurd h };
+
+    ghost store_tells = { λ r h. absurd h };
+
+    ghost store_fits = { λ r h. absurd h };
+}
+
+impl<A: Allocator> BufRead for Box<dyn BufRead + Drop, A> {
+    ghost held = { λ b. (BufRead-box b).BufRead.held b.value };
+
+    ghost counts_fills = { λ _. ⊥ };
+
+    ghost fills = { λ _. 0 };
+
+    ghost lends_surely = { λ _. ⊥ };
+
+    ghost lent_length = { λ _. 0 };
+
+    fn fill_buf(&mut self) -> Result<&[u8]> {
+        (**self).fill_buf()
+    }
+
+    fn consume(&mut self, amount: usize) {
+        (**self).consume(amount)
+    }
+}
