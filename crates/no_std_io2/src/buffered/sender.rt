@@ -105,6 +105,11 @@ impl<W: Write + Drop, const S: usize> Sender<W, S> {
         ensures moves { Moves (W.told (sender_inner self.old)) (taken result buf.now)
             (write_mishap result buf.now) (W.told (sender_inner self.new)) }
         ensures same { sender_buffer self.new ≡ sender_buffer self.old }
+        ensures all { W.takes_all (sender_inner self.old)
+            → W.takes_all (sender_inner self.new) × (result ≡ Ok (length buf.now)) }
+        ensures calls { W.is_metered (sender_inner self.old) → W.takes_all (sender_inner self.old)
+            → W.is_metered (sender_inner self.new)
+            × (W.cost (sender_inner self.new) ≡ W.cost (sender_inner self.old) + 1) }
     {
         self.inner.write(buf)
     }
@@ -114,6 +119,10 @@ impl<W: Write + Drop, const S: usize> Sender<W, S> {
         ensures moves { MovesFront (W.told (sender_inner self.old)) buf.now result
             (W.told (sender_inner self.new)) }
         ensures same { sender_buffer self.new ≡ sender_buffer self.old }
+        ensures all { W.takes_all (sender_inner self.old) → W.takes_all (sender_inner self.new) }
+        ensures calls { W.is_metered (sender_inner self.old) → W.takes_all (sender_inner self.old)
+            → W.is_metered (sender_inner self.new)
+            × (W.cost (sender_inner self.new) ≡ W.cost (sender_inner self.old) + sending_calls buf.now) }
     {
         self.inner.write_all(buf)
     }
@@ -199,6 +208,9 @@ impl<W: Write + Drop, const S: usize> Write for Sender<W, S> {
         ensures calls { 0 < S → W.is_metered (sender_inner self.old) → W.takes_all (sender_inner self.old)
             → W.is_metered (sender_inner self.new) × (W.cost (sender_inner self.new)
             ≡ W.cost (sender_inner self.old) + writing_calls S (sender_buffer self.old) buf.now) }
+        ensures few { W.is_metered (sender_inner self.old) → W.takes_all (sender_inner self.old)
+            → W.is_metered (sender_inner self.new)
+            × (W.cost (sender_inner self.new) ≤ W.cost (sender_inner self.old) + 2) }
     {
         if buf.len() > S - self.window.len() {
             self.send()?;

@@ -91,6 +91,13 @@ pub struct IntoInnerError<W> {
 }
 
 impl<W> IntoInnerError<W> {
+    pub(super) fn new(writer: W, error: Error) -> IntoInnerError<W>
+        ensures writer { into_inner_error_writer result ≡ writer }
+        ensures cause { into_inner_error_cause result ≡ error }
+    {
+        IntoInnerError { writer, error }
+    }
+
     pub fn error(&self) -> &Error
         ensures { result.now ≡ into_inner_error_cause self.now }
     {
