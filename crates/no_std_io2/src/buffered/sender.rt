@@ -210,7 +210,8 @@ impl<W: Write + Drop, const S: usize> Write for Sender<W, S> {
             ≡ W.cost (sender_inner self.old) + writing_calls S (sender_buffer self.old) buf.now) }
         ensures few { W.is_metered (sender_inner self.old) → W.takes_all (sender_inner self.old)
             → W.is_metered (sender_inner self.new)
-            × (W.cost (sender_inner self.new) ≤ W.cost (sender_inner self.old) + 2) }
+            × (W.cost (sender_inner self.new)
+            ≤ W.cost (sender_inner self.old) + sending_calls (sender_buffer self.old) + 1) }
     {
         if buf.len() > S - self.window.len() {
             self.send()?;
