@@ -306,6 +306,10 @@ impl<W: Write + Drop, const S: usize> Write for Sender<W, S> {
         ensures calls { 0 < S → W.is_metered (sender_inner self.old) → W.takes_all (sender_inner self.old)
             → W.is_metered (sender_inner self.new) × (W.cost (sender_inner self.new)
             ≡ W.cost (sender_inner self.old) + writing_calls S (sender_buffer self.old) buf.now) }
+        ensures few { W.is_metered (sender_inner self.old) → W.takes_all (sender_inner self.old)
+            → W.is_metered (sender_inner self.new)
+            × (W.cost (sender_inner self.new)
+            ≤ W.cost (sender_inner self.old) + sending_calls (sender_buffer self.old) + 1) }
     {
         self.write_all_cold(buf)
     }
