@@ -1,0 +1,5 @@
+pub mod Runs
+pub mod Sink
+pub mod Tally
+pub mod Closed
+pub mod Faulty

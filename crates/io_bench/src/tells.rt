@@ -1,0 +1,1 @@
+// What each device tells: one function a type, proved, so that no impl can tell less.
