@@ -1,13 +1,17 @@
--- What replies accept, and whole runs.
-use Rattle.std.specs.Prelude.{◌≡◌, ℕ, ◌≤◌, List, [], ◌∷◌, ◌++◌, length, take, ⊤, Option, None, Some}
+-- What replies accept, which of them failed, and whole runs.
+use Rattle.std.specs.Prelude.{◌≡◌, ℕ, ◌+◌, ◌≤◌, ◌==◌, ◌&&◌, nat_lt, Bool, true, false, if◌then◌else◌, List, [], ◌∷◌, ◌++◌, length, take, drop, count_by, ⊤, Option, None, Some}
 use Rattle.no_std_io2_base.specs.declared.error.Error.{Error}
 use Rattle.no_std_io2_base.specs.declared.error.ErrorKind.{ErrorKind}
-use Rattle.no_std_io2_base.specs.Errors.{error_kind}
+use Rattle.no_std_io2_base.specs.Errors.{error_kind, kind_number}
 use Rattle.no_std_io2_base.specs.Writes.{Told, Moves, IsFront, zero_write}
 use Rattle.io_bench.specs.declared.runs.Op.{Op}
 use Rattle.io_bench.specs.declared.runs.Op.TheVariants.{Write, WriteAll, Flush}
 use Rattle.io_bench.specs.declared.runs.Reply.{Reply}
 use Rattle.io_bench.specs.declared.runs.Reply.TheVariants.{Took, Done, Failed}
+
+-- what stands behind the old items
+abbrev pub appended : {X : Type 0} → List X → List X → List X
+appended old new = drop (length old) new
 
 -- the bytes that a call with this reply accepted
 abbrev pub Accepts : Op → Reply → List ℕ → Type 0
@@ -38,11 +42,51 @@ mishap_of Flush (Took n) = []
 mishap_of op Done = []
 mishap_of op (Failed e) = error_kind e ∷ []
 
--- the mishaps of a run
+-- the mishaps of a run, in order
 abbrev pub mishaps_of : List Op → List Reply → List ErrorKind
 mishaps_of [] replies = []
 mishaps_of (op ∷ ops) [] = []
 mishaps_of (op ∷ ops) (reply ∷ replies) = mishap_of op reply ++ mishaps_of ops replies
+
+-- calls in a row and their replies, from old to new
+pub record Ran (old : Told) (ops : List Op) (replies : List Reply) (new : Told) : Type 0 where
+  pub accepted : List ℕ
+  pub run : Run ops replies accepted
+  pub moves : Moves old accepted (mishaps_of ops replies) new
+
+-- whether a call failed: with an error, or nothing was taken of some bytes
+abbrev pub is_failure : Op → Reply → Bool
+is_failure (Write x) (Took n) = (n == 0) && nat_lt 0 (length x.now)
+is_failure (WriteAll x) (Took n) = false
+is_failure Flush (Took n) = false
+is_failure op Done = false
+is_failure op (Failed e) = true
+
+-- how many calls failed
+abbrev pub failures : List Op → List Reply → ℕ
+failures [] replies = 0
+failures (op ∷ ops) [] = 0
+failures (op ∷ ops) (reply ∷ replies) = (if is_failure op reply then 1 else 0) + failures ops replies
+
+-- how many of these kinds are this one
+abbrev pub count_of : ErrorKind → List ErrorKind → ℕ
+count_of kind kinds = count_by (λ other. kind_number other == kind_number kind) kinds
+
+-- how many calls failed with this kind
+abbrev pub failures_of : ErrorKind → List Op → List Reply → ℕ
+failures_of kind ops replies = count_of kind (mishaps_of ops replies)
+
+-- a told list stays told, and is shorter by n at least
+abbrev pub IsShorterBy : ℕ → Option (List ErrorKind) → Option (List ErrorKind) → Type 0
+IsShorterBy n None new = ⊤
+IsShorterBy n (Some old) None = ⊥
+IsShorterBy n (Some old) (Some new) = length new + n ≤ length old
+
+-- a told list stays told, and has n fewer of this kind at least
+abbrev pub HasFewer : ErrorKind → ℕ → Option (List ErrorKind) → Option (List ErrorKind) → Type 0
+HasFewer kind n None new = ⊤
+HasFewer kind n (Some old) None = ⊥
+HasFewer kind n (Some old) (Some new) = count_of kind new + n ≤ count_of kind old
 
 -- a flush that succeeded
 abbrev pub IsFlushed : Op → Reply → Type 0
@@ -70,6 +114,7 @@ IsWhole (WriteAll x) (Took n) = ⊥
 IsWhole Flush (Took n) = ⊥
 IsWhole op (Failed e) = ⊥
 
+-- each call has one reply, and each is whole
 abbrev pub AreWhole : List Op → List Reply → Type 0
 AreWhole [] [] = ⊤
 AreWhole (op ∷ ops) (reply ∷ replies) = IsWhole op reply × AreWhole ops replies
@@ -82,10 +127,3 @@ pub record Answers (old : Told) (op : Op) (reply : Reply) (new : Told) : Type 0 
   pub accepts : Accepts op reply accepted
   pub moves : Moves old accepted (mishap_of op reply) new
   pub flushed : IsFlushed op reply → new.held ≡ []
-
--- calls in a row and their replies, from old to new
-pub record Ran (old : Told) (ops : List Op) (replies : List Reply) (new : Told) : Type 0 where
-  pub accepted : List ℕ
-  pub run : Run ops replies accepted
-  pub moves : Moves old accepted (mishaps_of ops replies) new
-  pub flushed : EndsFlushed ops replies → new.held ≡ []

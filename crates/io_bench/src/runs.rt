@@ -1,26 +1,35 @@
 // Calls of a writer in a row.
-ghost use Rattle.std.specs.Prelude.{◌≡◌, List, ◌++◌, OnOk, OnErr, IfErr};
-ghost use Rattle.no_std_io2_base.specs.declared.error.ErrorKind.TheVariants.{OutOfMemory};
+ghost use Rattle.std.specs.Prelude.{◌≡◌, [], ◌++◌, Some, OnOk, OnErr, IfErr};
 ghost use Rattle.no_std_io2_base.specs.Errors.{error_kind};
-ghost use Rattle.io_bench.specs.Runs.{Answers, Ran, AreWhole, IsWhole};
+ghost use Rattle.no_std_io2_base.specs.declared.error.ErrorKind.{ErrorKind};
+ghost use Rattle.io_bench.specs.Runs.{appended, Answers, Ran, EndsFlushed, failures, failures_of, IsShorterBy, HasFewer, AreWhole, IsWhole};
 
 use no_std_io2_base::error::{Error, ErrorKind, Result};
 use no_std_io2_base::traits::Write;
 
-#[derive(Clone, Copy, Drop)]
+/// A call of a writer.
+#[derive(Clone, Copy, Debug, Drop)]
 pub enum Op<'a> {
+    /// `write` of these bytes.
     Write(&'a [u8]),
+    /// `write_all` of these bytes.
     WriteAll(&'a [u8]),
+    /// `flush`.
     Flush,
 }
 
+/// What a call answered.
 #[derive(Debug, Drop)]
 pub enum Reply {
+    /// `write` took this many bytes.
     Took(usize),
+    /// `write_all` or `flush` succeeded.
     Done,
+    /// The call failed with this error.
     Failed(Error),
 }
 
+// Makes one call.
 fn make_call<W: Write>(w: &mut W, op: Op<'_>) -> Reply
     ensures answers { Answers (W.told w.old) op.entry result (W.told w.new) }
     ensures all { W.takes_all w.old → W.takes_all w.new × IsWhole op.entry result }
@@ -41,18 +50,43 @@ fn make_call<W: Write>(w: &mut W, op: Op<'_>) -> Reply
     }
 }
 
-// Makes the calls in order, and appends one reply each. It reserves all replies first.
+/// Makes these calls of a writer in order, and appends one reply each. It goes on after a failed
+/// call, so a retry is one more call in the list.
+///
+/// Whatever the writer is, it has then accepted exactly what the replies say: out and then held is
+/// what it was, followed by the accepted bytes. Where the last call is a flush that succeeded,
+/// nothing is held. Where the writer tells mishaps to come, at most that many calls failed, and with
+/// those kinds; so none fails where there is none to come.
+///
+/// # Errors
+/// `OutOfMemory` where there is no room for the replies: then no call was made, and the writer and
+/// the replies are as they were. A failed call is a reply, and no error of the run.
 pub fn run_writes<W: Write>(w: &mut W, ops: &[Op<'_>], replies: &mut Vec<Reply>) -> Result<()>
-    ensures ran { OnOk result ((more : List Reply) × (replies.new.items ≡ replies.old.items ++ more)
-        × Ran (W.told w.old) ops.now more (W.told w.new)
-        × (W.takes_all w.old → W.takes_all w.new × AreWhole ops.now more)) }
-    ensures kind { IfErr result (λ e. error_kind e ≡ OutOfMemory) }
+    ensures appends { OnOk result (replies.new.items
+        ≡ replies.old.items ++ appended replies.old.items replies.new.items) }
+    // One reply a call, and exactly what the replies say was accepted.
+    ensures ran { OnOk result (Ran (W.told w.old) ops.now
+        (appended replies.old.items replies.new.items) (W.told w.new)) }
+    ensures flushed { OnOk result (EndsFlushed ops.now (appended replies.old.items replies.new.items)
+        → (W.told w.new).held ≡ []) }
+    // No more failures than mishaps were told.
+    ensures failures { OnOk result (IsShorterBy
+        (failures ops.now (appended replies.old.items replies.new.items))
+        (W.told w.old).mishaps (W.told w.new).mishaps) }
+    ensures kinds { OnOk result ((kind : ErrorKind) → HasFewer kind
+        (failures_of kind ops.now (appended replies.old.items replies.new.items))
+        (W.told w.old).mishaps (W.told w.new).mishaps) }
+    ensures steady { OnOk result ((W.told w.old).mishaps ≡ Some []
+        → failures ops.now (appended replies.old.items replies.new.items) ≡ 0) }
+    ensures all { OnOk result (W.takes_all w.old → W.takes_all w.new
+        × AreWhole ops.now (appended replies.old.items replies.new.items)) }
+    ensures kind { IfErr result (λ e. error_kind e ≡ ErrorKind.OutOfMemory) }
     ensures err { OnErr result ((w.new ≡ w.old) × (replies.new.items ≡ replies.old.items)) }
 {
     if replies.reserve(ops.len()).is_err() {
         return Err(Error::from(ErrorKind::OutOfMemory));
     }
-    for op in ops {
+    'calls: for op in ops {
         let reply = make_call(w, *op);
         replies.push_reserved(reply);
     }

@@ -5,7 +5,8 @@ use Rattle.io_bench.specs.Closed.{given_bytes}
 use Rattle.no_std_io2.proofs.BufferLemmas.{buffer-le, Moves-bare}
 use Rattle.no_std_io2.specs.Buffered.{writer_inner, writer_buffer}
 use Rattle.io_bench.specs.Tally.{tally_inner, tally_calls}
-use Rattle.io_bench.proofs.RunLemmas.{Ran-next, AreWhole-next, Ran-none, Paid-on, Paid-all, given_all}
+use Rattle.io_bench.proofs.RunLemmas.{Ran-next, AreWhole-next, Ran-none}
+use Rattle.io_bench.proofs.ClosedLemmas.{Paid-on, Paid-all, given_all}
 use Rattle.io_bench.proofs.PaidLemmas.{Paid-empty, sending_calls-min}
 use Rattle.io_bench.proofs.closed.run_closed.Goals as goal
 
