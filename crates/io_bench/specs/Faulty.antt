@@ -1,8 +1,9 @@
 -- What a clause reads of a `Faulty`.
 use Rattle.std.proofs.Common.{ap, ◌∙◌}
-use Rattle.std.specs.Prelude.{◌≡◌, Some, ℕ, List, [], ◌∷◌, ◌++◌, drop, if◌then◌else◌, ◌==◌, ◌+◌, count_by}
-use Rattle.no_std_io2_base.specs.Errors.{is_interruption}
+use Rattle.std.specs.Prelude.{◌≡◌, ◌<◌, Some, None, Option, ℕ, List, [], ◌∷◌, ◌++◌, drop, take, if◌then◌else◌, ◌==◌, ◌+◌, count_by, ⊤, Result, Ok, IsErrAnd}
+use Rattle.no_std_io2_base.specs.Errors.{is_interruption, error_kind, error_text}
 use Rattle.std.specs.Option.{option_map}
+use Rattle.no_std_io2_base.specs.declared.error.Error.{Error}
 use Rattle.no_std_io2_base.specs.declared.error.ErrorKind.{ErrorKind}
 use Rattle.no_std_io2_base.specs.declared.error.ErrorKind.TheVariants.{WriteZero}
 use Rattle.no_std_io2_base.specs.Writes.{Told}
@@ -18,12 +19,33 @@ faulty_inner f = f.inner
 abbrev pub acts_left : {W : Type 0} → Faulty W → List Act
 acts_left f = drop f.at f.acts.items
 
+-- the first of the acts, if there is one
+abbrev pub first_act : List Act → Option Act
+first_act [] = None
+first_act (act ∷ acts) = Some act
+
+-- the next act, if one is left
+abbrev pub next_act : {W : Type 0} → Faulty W → Option Act
+next_act f = first_act (acts_left f)
+
+-- an error of this kind, without a text
+abbrev pub FailsWith : {T : Type 0} → ErrorKind → Result T Error → Type 0
+FailsWith kind reply = IsErrAnd reply (λ e. (error_kind e ≡ kind) × (error_text e ≡ None))
+
+-- a flush is handed on
+abbrev pub LetsFlush : Option Act → Type 0
+LetsFlush None = ⊤
+LetsFlush (Some (Take n)) = ⊤
+LetsFlush (Some Zero) = ⊤
+LetsFlush (Some (Fail kind)) = ⊥
+
 -- the mishap that an act makes of a call
 abbrev pub act_mishap : Act → List ErrorKind
 act_mishap (Take n) = if n == 0 then WriteZero ∷ [] else []
 act_mishap Zero = WriteZero ∷ []
 act_mishap (Fail kind) = kind ∷ []
 
+-- the mishaps of these acts
 abbrev pub act_mishaps : List Act → List ErrorKind
 act_mishaps [] = []
 act_mishaps (act ∷ acts) = act_mishap act ++ act_mishaps acts
