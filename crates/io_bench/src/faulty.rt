@@ -22,7 +22,7 @@ pub enum Act {
 /// A writer in front of another one, that fails as its acts say. Each call of `write` or `flush`
 /// spends the next act; once the acts are spent, calls are handed on whole. `write_all` is the
 /// trait's own.
-#[derive(Drop)]
+#[derive(Debug, Drop)]
 pub struct Faulty<W> {
     inner: W,
     acts: Vec<Act>,

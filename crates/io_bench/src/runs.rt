@@ -8,7 +8,7 @@ use no_std_io2_base::error::{Error, ErrorKind, Result};
 use no_std_io2_base::traits::Write;
 
 /// A call of a writer.
-#[derive(Clone, Copy, Debug, Drop)]
+#[derive(Clone, Copy, Debug, PartialEq, Eq, Drop)]
 pub enum Op<'a> {
     /// `write` of these bytes.
     Write(&'a [u8]),

@@ -4,6 +4,7 @@ ghost use Rattle.std.specs.Prelude.{◌≡◌, [], ⊤};
 use crate::trace::Trace;
 use no_std_io2_base::error::Result;
 use no_std_io2_base::traits::Write;
+use std::fmt;
 
 /// A writer that takes every byte and never fails. It keeps nothing: its bytes are seen by
 /// contracts alone. As `std::io::sink`, which also takes all.
@@ -48,4 +49,10 @@ impl Write for Sink {
     }
 
     ghost steady = { λ w h. refl };
+}
+
+impl fmt::Debug for Sink {
+    fn fmt<W: fmt::Write>(&self, f: &mut fmt::Formatter<W>) -> fmt::Result {
+        f.write_str("Sink")
+    }
 }

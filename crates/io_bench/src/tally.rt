@@ -5,6 +5,7 @@ ghost use Rattle.no_std_io2_base.specs.Writes.{Moves, taken, write_mishap, call_
 use crate::trace::Trace;
 use no_std_io2_base::error::Result;
 use no_std_io2_base::traits::Write;
+use std::fmt;
 
 /// Hands each call on to an inner stream, and counts the calls of `write`, whatever they answer.
 ///
@@ -110,4 +111,13 @@ impl<T: Write> Write for Tally<T> {
     }
 
     ghost steady = { λ w h. T.steady (tally_inner w) h };
+}
+
+impl<T: fmt::Debug> fmt::Debug for Tally<T> {
+    fn fmt<W: fmt::Write>(&self, f: &mut fmt::Formatter<W>) -> fmt::Result {
+        f.debug_struct("Tally")
+            .field("inner", &self.inner)
+            .field("writes", &self.writes)
+            .finish()
+    }
 }

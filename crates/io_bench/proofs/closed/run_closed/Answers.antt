@@ -10,15 +10,15 @@ use Rattle.io_bench.proofs.ClosedLemmas.{Paid-on, Paid-all, given_all}
 use Rattle.io_bench.proofs.PaidLemmas.{Paid-empty, sending_calls-min}
 use Rattle.io_bench.proofs.closed.run_closed.Goals as goal
 
-pub loop-op-preserved : goal.loop-op-preserved
-loop-op-preserved g c =
-    let before = c.loop-op.invariant in
+pub calls-preserved : goal.calls-preserved
+calls-preserved g c =
+    let before = c.calls.invariant in
     let ops = c.args.ops.now in
-    let i = c.loop-op.op-index in
+    let i = c.calls.op-index in
     let replies = before.ran.0 in
     let call = c.make_counted_call-reply.ensures in
     let within : i < length ops = omega arith in
-    let w = c.loop-op.buffered in
+    let w = c.calls.buffered in
     record {
       ran = (
         replies ++ c.make_counted_call-reply.result ∷ [],
@@ -31,8 +31,8 @@ loop-op-preserved g c =
       room = omega (arith, c.push_reserved.ensures.len, c.push_reserved.ensures.capacity, before.room);
     }
 
-pub loop-op-init : goal.loop-op-init
-loop-op-init g c =
+pub calls-init : goal.calls-init
+calls-init g c =
     record {
       ran = ([], c.reserve.ensures.items ∙ sym (append-nil c.args.replies.now.items), Ran-none _, tt);
       all = subst (λ t. g.W.Write.takes_all (tally_inner t)) (sym c.new-buffered.ensures.inner) c.requires.all;
@@ -42,20 +42,23 @@ loop-op-init g c =
 
 pub returns-in-Ok-clause-bytes : goal.returns-in-Ok-clause-bytes
 returns-in-Ok-clause-bytes g c =
-    let before = c.loop-op.invariant in
+    let before = c.calls.invariant in
     let ops = c.args.ops.now in
     let last = g.W.Write.told (tally_inner c.in-Ok.inner) in
     let ran = before.ran.2 in
-    let bytes = given_all ops c.loop-op.op-index before.ran.0 ran.accepted (omega arith) ran.run before.ran.3 in
+    let bytes = given_all ops c.calls.op-index before.ran.0 ran.accepted (omega arith) ran.run before.ran.3 in
     let all = Moves-bare _ c.new-buffered.ensures.empty (Moves-ends ran.moves c.in-Ok.ensures.ok) in
     subst (λ t. Moves (g.W.Write.told (tally_inner t)) (given_bytes ops) [] last) c.new-buffered.ensures.inner
     (subst (λ l. Moves (g.W.Write.told (tally_inner (writer_inner c.new-buffered.result))) l [] last) bytes all)
 
 pub returns-in-Ok-clause-bound : goal.returns-in-Ok-clause-bound
 returns-in-Ok-clause-bound g c =
-    let before = c.loop-op.invariant in
+    let before = c.calls.invariant in
     let ops = c.args.ops.now in
     let last = c.in-Ok.ensures.calls tt before.all in
-    let bound = Paid-all g.row.S before.paid.0 ops c.loop-op.op-index _ (omega arith) before.paid.2 in
+    let bound = Paid-all g.row.S before.paid.0 ops c.calls.op-index _ (omega arith) before.paid.2 in
     let first = ap tally_calls c.new-buffered.ensures.inner in
-    omega (arith, last.1, bound, first, before.paid.1, sending_calls-min (writer_buffer c.loop-op.buffered))
+    omega (arith, last.1, bound, first, before.paid.1, sending_calls-min (writer_buffer c.calls.buffered))
+
+pub returns-in-Ok-clause-all : goal.returns-in-Ok-clause-all
+returns-in-Ok-clause-all g c = c.in-Ok.ensures.all c.calls.invariant.all

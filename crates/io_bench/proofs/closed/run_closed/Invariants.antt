@@ -9,8 +9,8 @@ use Rattle.io_bench.specs.Closed.{given_bytes, flushes}
 use Rattle.io_bench.proofs.PaidLemmas.{Paid}
 use Rattle.io_bench.proofs.closed.run_closed.Given as goal
 
-abbrev pub invariant-loop-op : goal.invariant-loop-op
-invariant-loop-op g l =
+abbrev pub invariant-calls : goal.invariant-calls
+invariant-calls g l =
     let told = writer_told (λ t. g.W.Write.told (tally_inner t)) in
     let made = take l.op-index l.ops in
     record {
