@@ -14,6 +14,7 @@ mod tally;
 mod tells;
 #[cfg(test)]
 mod tests;
+mod towers;
 mod trace;
 
 pub use closed::run_closed;
