@@ -12,6 +12,7 @@ use crate::tally::Tally;
 use no_std_io2::buffered::BufWriter;
 use no_std_io2_base::error::{Error, ErrorKind, Result};
 use no_std_io2_base::traits::Write;
+use std::alloc::Allocator;
 
 // Makes one call, and says what it costs.
 fn make_counted_call<W: Write + Drop, const S: usize>(
@@ -56,7 +57,7 @@ fn make_counted_call<W: Write + Drop, const S: usize>(
 pub fn run_closed<W: Write + Drop, const S: usize>(
     w: Tally<W>,
     ops: &[Op<'_>],
-    replies: &mut Vec<Reply>,
+    replies: &mut Vec<Reply, impl Allocator>,
 ) -> Result<Tally<W>>
     requires some { 0 < S }
     requires all { W.takes_all (tally_inner w) }

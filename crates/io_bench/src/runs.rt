@@ -6,6 +6,7 @@ ghost use Rattle.io_bench.specs.Runs.{appended, Answers, Ran, EndsFlushed, failu
 
 use no_std_io2_base::error::{Error, ErrorKind, Result};
 use no_std_io2_base::traits::Write;
+use std::alloc::Allocator;
 
 /// A call of a writer.
 #[derive(Clone, Copy, Debug, PartialEq, Eq, Drop)]
@@ -61,7 +62,11 @@ fn make_call<W: Write>(w: &mut W, op: Op<'_>) -> Reply
 /// # Errors
 /// `OutOfMemory` where there is no room for the replies: then no call was made, and the writer and
 /// the replies are as they were. A failed call is a reply, and no error of the run.
-pub fn run_writes<W: Write>(w: &mut W, ops: &[Op<'_>], replies: &mut Vec<Reply>) -> Result<()>
+pub fn run_writes<W: Write>(
+    w: &mut W,
+    ops: &[Op<'_>],
+    replies: &mut Vec<Reply, impl Allocator>,
+) -> Result<()>
     ensures appends { OnOk result (replies.new.items
         ≡ replies.old.items ++ appended replies.old.items replies.new.items) }
     // One reply a call, and exactly what the replies say was accepted.

@@ -1,8 +1,15 @@
-use Rattle.std.proofs.Common.{◌≡◌, ◌+◌, ◌<◌, ◌≤◌, ◌++◌, ◌∷◌, [], length, rules, arith, ap, ◌∙◌, append_assoc}
-use Rattle.io_bench.proofs.RunLemmas.{Ran-next, AreWhole-next, EndsFlushed-next, all_made}
+use Rattle.std.proofs.Common.{◌≡◌, ◌+◌, ◌<◌, ◌≤◌, ◌++◌, ◌∷◌, [], length, rules, arith, ap, ◌∙◌, sym, append-nil, append_assoc}
+use Rattle.io_bench.proofs.RunLemmas.{Ran-none, Ran-next, AreWhole-next, EndsFlushed-next, all_made}
 use Rattle.io_bench.specs.Runs.{failures, IsShorterBy}
 use Rattle.io_bench.proofs.FailureLemmas.{failures_told, failures_none}
 use Rattle.io_bench.proofs.runs.run_writes.Goals as goal
+
+pub calls-init : goal.calls-init
+calls-init g c =
+    record {
+      ran = ([], c.reserve.ensures.items ∙ sym (append-nil c.args.replies.now.items), Ran-none _, λ e. absurd e, λ t. (t, tt));
+      room = search rules;
+    }
 
 pub calls-preserved : goal.calls-preserved
 calls-preserved g c =
