@@ -1,0 +1,78 @@
+-- The bytes that a list of calls is given, and what the calls cost.
+use Rattle.std.proofs.Common.{◌≡◌, ℕ, ◌+◌, ◌<◌, ◌≤◌, ◌*◌, ◌/◌, min, le_of_eq, take_all, add-zero, add_assoc, arith, length, take, get_or, List, [], ◌∷◌, ◌++◌, refl, sym, ap, ◌∙◌, subst, append_assoc, append-nil}
+use Rattle.std.proofs.lemmas.List.{take_more, length-append}
+use Rattle.no_std_io2.specs.Buffered.{writing_calls, sending_calls, buffer_after}
+use Rattle.io_bench.specs.declared.runs.Op.{Op}
+use Rattle.io_bench.specs.declared.runs.Op.TheVariants.{Write, WriteAll, Flush}
+use Rattle.io_bench.specs.declared.runs.Reply.{Reply}
+use Rattle.io_bench.specs.declared.runs.Reply.TheVariants.{Took, Done, Failed}
+use Rattle.io_bench.specs.Runs.{Accepts, Run, IsWhole, AreWhole}
+use Rattle.io_bench.specs.Closed.{op_bytes, given_bytes, op_flushes, flushes, op_calls, op_buffer}
+use Rattle.io_bench.proofs.PaidLemmas.{Paid, Paid-write, Paid-flush, Paid-bound}
+
+-- where each call is whole, the bytes that were given are the bytes accepted
+whole_accepts : (op : Op) (reply : Reply) (xs : List ℕ) → Accepts op reply xs → IsWhole op reply → xs ≡ op_bytes op
+whole_accepts (Write x) (Took n) xs a w = a.1 ∙ take_all n x.now (le_of_eq (sym w))
+whole_accepts (WriteAll x) Done xs a w = a
+whole_accepts Flush Done xs a w = a
+whole_accepts (Write x) Done xs a w = absurd w
+whole_accepts (WriteAll x) (Took n) xs a w = absurd w
+whole_accepts Flush (Took n) xs a w = absurd w
+whole_accepts (Write x) (Failed e) xs a w = absurd w
+whole_accepts (WriteAll x) (Failed e) xs a w = absurd w
+whole_accepts Flush (Failed e) xs a w = absurd w
+
+pub whole_run : (ops : List Op) (replies : List Reply) (xs : List ℕ) → Run ops replies xs → AreWhole ops replies → xs ≡ given_bytes ops
+whole_run [] [] xs r w = r
+whole_run (op ∷ ops) (reply ∷ replies) xs r w =
+    r.4 ∙ ap (λ l. l ++ r.1) (whole_accepts op reply r.0 r.2 w.0) ∙ ap (λ l. op_bytes op ++ l) (whole_run ops replies r.1 r.3 w.1)
+whole_run [] (reply ∷ replies) xs r w = absurd r
+whole_run (op ∷ ops) [] xs r w = absurd r
+
+given_bytes-more : (ops : List Op) (op : Op) → given_bytes (ops ++ op ∷ []) ≡ given_bytes ops ++ op_bytes op
+given_bytes-more [] op = append-nil (op_bytes op)
+given_bytes-more (o ∷ ops) op = ap (λ l. op_bytes o ++ l) (given_bytes-more ops op) ∙ sym (append_assoc (op_bytes o) (given_bytes ops) (op_bytes op))
+
+flushes-more : (ops : List Op) (op : Op) → flushes (ops ++ op ∷ []) ≡ flushes ops + op_flushes op
+flushes-more [] op = omega arith
+flushes-more (o ∷ ops) op = omega (arith, flushes-more ops op)
+
+-- one more call, and what it costs
+Paid-call : (S c f n : ℕ) (buffer : List ℕ) (op : Op) → 0 < S → length buffer ≤ S → Paid S c f n (length buffer)
+    → Paid S (c + op_calls S buffer op) (f + op_flushes op) (n + length (op_bytes op)) (length (op_buffer S buffer op))
+Paid-call S c f n buffer (Write x) some fits p = subst (λ m. Paid S (c + writing_calls S buffer x.now) m (n + length x.now) (length (buffer_after S buffer x.now))) (sym (add-zero f)) (Paid-write S c f n buffer x.now some fits p)
+Paid-call S c f n buffer (WriteAll x) some fits p = subst (λ m. Paid S (c + writing_calls S buffer x.now) m (n + length x.now) (length (buffer_after S buffer x.now))) (sym (add-zero f)) (Paid-write S c f n buffer x.now some fits p)
+Paid-call S c f n buffer Flush some fits p = subst (λ m. Paid S (c + sending_calls buffer) (f + 1) m 0) (sym (add-zero n)) (Paid-flush S c f n buffer p)
+
+pub Paid-next : (S c d : ℕ) (ops : List Op) (i : ℕ) (o : Op) (buffer next : List ℕ) → 0 < S → length buffer ≤ S → i < length ops
+    → Paid S c (flushes (take i ops)) (length (given_bytes (take i ops))) (length buffer)
+    → d ≡ c + op_calls S buffer (get_or ops i o) → next ≡ op_buffer S buffer (get_or ops i o)
+    → Paid S d (flushes (take (i + 1) ops)) (length (given_bytes (take (i + 1) ops))) (length next)
+Paid-next S c d ops i o buffer next some fits h p e g =
+    let made = take i ops in let op = get_or ops i o in
+    let more = take_more ops i o h in
+    let f = ap flushes more ∙ flushes-more made op in
+    let n = ap (λ l. length (given_bytes l)) more ∙ ap length (given_bytes-more made op) ∙ length-append (given_bytes made) (op_bytes op) in
+    subst (λ m. Paid S m (flushes (take (i + 1) ops)) (length (given_bytes (take (i + 1) ops))) (length next)) (sym e)
+    (subst (λ l. Paid S (c + op_calls S buffer op) (flushes (take (i + 1) ops)) (length (given_bytes (take (i + 1) ops))) (length l)) (sym g)
+    (subst (λ m. Paid S (c + op_calls S buffer op) m (length (given_bytes (take (i + 1) ops))) (length (op_buffer S buffer op))) (sym f)
+    (subst (λ m. Paid S (c + op_calls S buffer op) (flushes made + op_flushes op) m (length (op_buffer S buffer op))) (sym n)
+    (Paid-call S c (flushes made) (length (given_bytes made)) buffer op some fits p))))
+
+-- the same beside a count that began at some number
+pub Paid-on : (S start old new : ℕ) (ops : List Op) (i : ℕ) (o : Op) (buffer next : List ℕ) → 0 < S → length buffer ≤ S → i < length ops
+    → (calls : ℕ) × (old ≡ start + calls) × Paid S calls (flushes (take i ops)) (length (given_bytes (take i ops))) (length buffer)
+    → new ≡ old + op_calls S buffer (get_or ops i o) → next ≡ op_buffer S buffer (get_or ops i o)
+    → (calls : ℕ) × (new ≡ start + calls) × Paid S calls (flushes (take (i + 1) ops)) (length (given_bytes (take (i + 1) ops))) (length next)
+Paid-on S start old new ops i o buffer next some fits h p e g =
+    let more = op_calls S buffer (get_or ops i o) in
+    (p.0 + more, e ∙ ap (λ m. m + more) p.1 ∙ add_assoc start p.0 more, Paid-next S p.0 (p.0 + more) ops i o buffer next some fits h p.2 refl g)
+
+-- the whole of a list of calls, once all are made
+pub given_all : (ops : List Op) (i : ℕ) (replies : List Reply) (xs : List ℕ) → length ops ≤ i → Run (take i ops) replies xs → AreWhole (take i ops) replies → xs ≡ given_bytes ops
+given_all ops i replies xs h r w = whole_run (take i ops) replies xs r w ∙ ap given_bytes (take_all i ops h)
+
+pub Paid-all : (S c : ℕ) (ops : List Op) (i h : ℕ) → length ops ≤ i → Paid S c (flushes (take i ops)) (length (given_bytes (take i ops))) h
+    → c + min h 1 ≤ 2 * (length (given_bytes ops) / (S + 1)) + flushes ops + 1
+Paid-all S c ops i h e p = let bound = Paid-bound S c _ _ h p in
+    subst (λ l. c + min h 1 ≤ 2 * (length (given_bytes l) / (S + 1)) + flushes l + 1) (take_all i ops e) bound

@@ -1,0 +1,50 @@
+-- Mishaps that were told are enough for the calls that failed.
+use Rattle.std.proofs.Common.{◌≡◌, ℕ, ◌+◌, ◌≤◌, ◌==◌, nat_lt, Bool, true, false, if◌then◌else◌, List, [], ◌∷◌, ◌++◌, length, Option, None, Some, refl, sym, ap, ◌∙◌, subst, arith, count_by}
+use Rattle.std.proofs.lemmas.Bool.Decides.{nat_tests}
+use Rattle.std.proofs.lemmas.List.{length-append}
+use Rattle.std.proofs.lemmas.List.Sums.{sum_by-cons}
+use Rattle.no_std_io2_base.specs.declared.error.ErrorKind.{ErrorKind}
+use Rattle.no_std_io2_base.specs.Writes.{Told, HasSpent}
+use Rattle.io_bench.specs.declared.runs.Op.{Op}
+use Rattle.io_bench.specs.declared.runs.Op.TheVariants.{Write, WriteAll, Flush}
+use Rattle.io_bench.specs.declared.runs.Reply.{Reply}
+use Rattle.io_bench.specs.declared.runs.Reply.TheVariants.{Took, Done, Failed}
+use Rattle.io_bench.specs.Runs.{mishap_of, mishaps_of, is_failure, failures, IsShorterBy}
+
+count_by-all : {X : Type 0} (xs : List X) → count_by (λ _. true) xs ≡ length xs
+count_by-all [] = refl
+count_by-all (x ∷ xs) = omega (arith, sum_by-cons (λ _. 1) x xs, count_by-all xs)
+
+-- a call has a mishap exactly where it failed
+length-mishap_of : (op : Op) (reply : Reply) → length (mishap_of op reply) ≡ (if is_failure op reply then 1 else 0)
+length-mishap_of (Write x) (Took n) = grind (arith, nat_tests)
+length-mishap_of (WriteAll x) (Took n) = refl
+length-mishap_of Flush (Took n) = refl
+length-mishap_of (Write x) Done = refl
+length-mishap_of (WriteAll x) Done = refl
+length-mishap_of Flush Done = refl
+length-mishap_of (Write x) (Failed e) = refl
+length-mishap_of (WriteAll x) (Failed e) = refl
+length-mishap_of Flush (Failed e) = refl
+
+pub failures-length : (ops : List Op) (replies : List Reply) → failures ops replies ≡ length (mishaps_of ops replies)
+failures-length [] replies = refl
+failures-length (op ∷ ops) [] = refl
+failures-length (op ∷ ops) (reply ∷ replies) =
+    omega (arith, failures-length ops replies, length-mishap_of op reply, length-append (mishap_of op reply) (mishaps_of ops replies))
+
+shorter : (old : Option (List ErrorKind)) (happened : List ErrorKind) (new : Option (List ErrorKind)) → HasSpent old happened new → IsShorterBy (length happened) old new
+shorter None happened new h = tt
+shorter (Some old) happened None h = absurd h
+shorter (Some old) happened (Some new) h = omega (arith, h (λ _. true), count_by-all old, count_by-all happened, count_by-all new)
+
+pub failures_told : (ops : List Op) (replies : List Reply) (old new : Option (List ErrorKind)) → HasSpent old (mishaps_of ops replies) new → IsShorterBy (failures ops replies) old new
+failures_told ops replies old new h = subst (λ n. IsShorterBy n old new) (sym (failures-length ops replies)) (shorter old (mishaps_of ops replies) new h)
+
+none_left : (n : ℕ) (new : Option (List ErrorKind)) → IsShorterBy n (Some []) new → n ≡ 0
+none_left n None h = absurd h
+none_left n (Some new) h = omega (arith, h)
+
+-- over no mishap to come no call fails
+pub failures_none : (ops : List Op) (replies : List Reply) (old new : Option (List ErrorKind)) → HasSpent old (mishaps_of ops replies) new → old ≡ Some [] → failures ops replies ≡ 0
+failures_none ops replies old new h e = none_left _ new (subst (λ o. IsShorterBy (failures ops replies) o new) e (failures_told ops replies old new h))

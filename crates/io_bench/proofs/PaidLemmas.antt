@@ -1,0 +1,86 @@
+-- The count of inner writes: two in a row carry more than S bytes, unless a flush made the first.
+use Rattle.std.proofs.Common.{◌≡◌, ℕ, ◌+◌, ◌*◌, ◌/◌, ◌<◌, ◌≤◌, min, zero, suc, List, [], ◌∷◌, length, ◌⊎◌, inl, inr, sym, ⊎_elim, subst, Bool, true, false, cond, ◌&&◌, nat_lt, nat_le, refl, arith}
+use Rattle.std.proofs.Math.Nat.{le-div_iff_mul-le}
+use Rattle.std.proofs.lemmas.List.{length-append}
+use Rattle.no_std_io2.specs.Buffered.{writing_calls, sending_calls, buffer_after}
+use Rattle.std.proofs.lemmas.Bool.Decides.{nat_tests}
+use Rattle.std.proofs.lemmas.Bool.{cases_lt}
+
+-- c writes so far, f flushes, n bytes given, h of them in the buffer: p pairs of writes that carried more than S bytes
+-- each are complete, and either no write stands alone, or the last one does, which carried all but at most one of S + 1 bytes
+pub data Paid (S c f n h : ℕ) : Type 0 where
+  pairs : (p : ℕ) → c ≤ 2 * p + f → p * (S + 1) + h ≤ n → Paid S c f n h
+  open_one : (p : ℕ) → c ≤ 2 * p + 1 + f → p * (S + 1) + S + min h 1 ≤ n → Paid S c f n h
+
+pub Paid-start : (S : ℕ) → Paid S 0 0 0 0
+Paid-start S = pairs 0 (omega arith) (omega arith)
+
+-- a write that fits
+pub Paid-held : (S c f n h x : ℕ) → Paid S c f n h → Paid S c f (n + x) (h + x)
+Paid-held S c f n h x (pairs p a b) = pairs p a (omega arith)
+Paid-held S c f n h x (open_one p a b) = open_one p a (omega arith)
+
+-- a short write that does not fit: the buffer is sent
+pub Paid-sent : (S c f n h x : ℕ) → 0 < h → x < S → S < h + x → Paid S c f n h → Paid S (c + 1) f (n + x) x
+Paid-sent S c f n h x s t u (pairs p a b) = open_one p (omega arith) (omega arith)
+Paid-sent S c f n h x s t u (open_one p a b) = pairs (p + 1) (omega arith) (omega arith)
+
+-- a long write past an empty buffer
+pub Paid-direct : (S c f n x : ℕ) → 0 < S → S ≤ x → Paid S c f n 0 → Paid S (c + 1) f (n + x) 0
+Paid-direct S c f n x s t (pairs p a b) = open_one p (omega arith) (omega arith)
+Paid-direct S c f n x s t (open_one p a b) = pairs (p + 1) (omega arith) (omega arith)
+
+-- a long write that sends the buffer first
+pub Paid-both : (S c f n h x : ℕ) → 0 < S → 0 < h → S ≤ x → Paid S c f n h → Paid S (c + 2) f (n + x) 0
+Paid-both S c f n h x s t u (pairs p a b) = pairs (p + 1) (omega arith) (omega arith)
+Paid-both S c f n h x s t u (open_one p a b) = open_one (p + 1) (omega arith) (omega arith)
+
+pub Paid-flushed : (S c f n h : ℕ) → 0 < h → Paid S c f n h → Paid S (c + 1) (f + 1) n 0
+Paid-flushed S c f n h s (pairs p a b) = pairs p (omega arith) (omega arith)
+Paid-flushed S c f n h s (open_one p a b) = pairs (p + 1) (omega arith) (omega arith)
+
+pub Paid-idle : (S c f n : ℕ) → Paid S c f n 0 → Paid S c (f + 1) n 0
+Paid-idle S c f n (pairs p a b) = pairs p (omega arith) b
+Paid-idle S c f n (open_one p a b) = open_one p (omega arith) b
+
+-- p full pairs are no more than the quotient
+le_quotient : (S n p : ℕ) → p * (S + 1) ≤ n → p ≤ n / (S + 1)
+le_quotient S n p h = (le-div_iff_mul-le {k = S + 1} {x = p} {y = n} (omega arith)).1 h
+
+-- the bound, with the last sending
+pub Paid-bound : (S c f n h : ℕ) → Paid S c f n h → c + min h 1 ≤ 2 * (n / (S + 1)) + f + 1
+Paid-bound S c f n h (pairs p a b) = let q = le_quotient S n p (omega arith) in omega arith
+Paid-bound S c f n zero (open_one p a b) = let q = le_quotient S n p (omega arith) in omega arith
+Paid-bound S c f n (suc h) (open_one p a b) = let q = le_quotient S n (p + 1) (omega arith) in omega arith
+
+Paid-same : {S c f n h d k : ℕ} → c ≡ d → h ≡ k → Paid S c f n h → Paid S d f n k
+Paid-same {S} {c} {f} {n} {h} {d} {k} e g paid = subst (λ m. Paid S m f n k) e (subst (λ m. Paid S c f n m) g paid)
+
+-- the calls that a write takes, and what it leaves in the buffer
+pub Paid-write : (S c f n : ℕ) (buffer x : List ℕ) → 0 < S → length buffer ≤ S → Paid S c f n (length buffer)
+    → Paid S (c + writing_calls S buffer x) f (n + length x) (length (buffer_after S buffer x))
+Paid-write S c f n buffer x some fits paid = ⊎_elim short long (cases_lt (length x) S)
+  where
+    short : length x < S → Paid S (c + writing_calls S buffer x) f (n + length x) (length (buffer_after S buffer x))
+    short t = ⊎_elim
+        (λ over. Paid-same (grind (arith, nat_tests)) (grind (arith, nat_tests)) (Paid-sent S c f n (length buffer) (length x) (omega arith) t over paid))
+        (λ under. Paid-same (grind (arith, nat_tests)) (grind (arith, nat_tests, length-append)) (Paid-held S c f n (length buffer) (length x) paid))
+        (cases_lt S (length buffer + length x))
+
+    long : S ≤ length x → Paid S (c + writing_calls S buffer x) f (n + length x) (length (buffer_after S buffer x))
+    long t = ⊎_elim
+        (λ none. Paid-same (grind (arith, nat_tests)) (grind (arith, nat_tests)) (Paid-direct S c f n (length x) some t (Paid-same refl (omega arith) paid)))
+        (λ held. Paid-same (grind (arith, nat_tests)) (grind (arith, nat_tests)) (Paid-both S c f n (length buffer) (length x) some held t paid))
+        (cases_lt (length buffer) 1)
+
+pub Paid-flush : (S c f n : ℕ) (buffer : List ℕ) → Paid S c f n (length buffer) → Paid S (c + sending_calls buffer) (f + 1) n 0
+Paid-flush S c f n buffer paid = ⊎_elim
+    (λ none. Paid-same (grind (arith, nat_tests)) refl (Paid-idle S c f n (Paid-same refl (omega arith) paid)))
+    (λ held. Paid-same (grind (arith, nat_tests)) refl (Paid-flushed S c f n (length buffer) held paid))
+    (cases_lt (length buffer) 1)
+
+pub Paid-empty : (S : ℕ) (buffer : List ℕ) → buffer ≡ [] → Paid S 0 0 0 (length buffer)
+Paid-empty S buffer e = subst (λ l. Paid S 0 0 0 (length l)) (sym e) (Paid-start S)
+
+pub sending_calls-min : (buffer : List ℕ) → sending_calls buffer ≡ min (length buffer) 1
+sending_calls-min buffer = grind (arith, nat_tests)

@@ -1,0 +1,42 @@
+use Rattle.std.proofs.Common.{refl}
+use Rattle.no_std_io2_base.proofs.MovesLemmas.{Moves-steady}
+use Rattle.no_std_io2.proofs.BufferLemmas.{ok_same}
+use Rattle.io_bench.proofs.closed.make_counted_call.Goals as goal
+
+pub returns-in-Ok-clause-calls : goal.returns-in-Ok-clause-calls
+returns-in-Ok-clause-calls g c = rw c.in-Write.is (c.in-Ok.ensures.calls tt c.requires.all).1
+
+pub returns-in-Ok-write_all-clause-calls : goal.returns-in-Ok-write_all-clause-calls
+returns-in-Ok-write_all-clause-calls g c = rw c.in-WriteAll.is (c.in-Ok-write_all.ensures.calls c.requires.some tt c.requires.all).1
+
+pub returns-in-Err-write_all-clause-all : goal.returns-in-Err-write_all-clause-all
+returns-in-Err-write_all-clause-all g c =
+    absurd (Moves-steady (g.met.W.Write.steady _ c.requires.all) c.in-Err-write_all.ensures.moves.3)
+
+pub returns-in-Err-write_all-clause-calls : goal.returns-in-Err-write_all-clause-calls
+returns-in-Err-write_all-clause-calls g c =
+    absurd (Moves-steady (g.met.W.Write.steady _ c.requires.all) c.in-Err-write_all.ensures.moves.3)
+
+pub returns-in-Err-flush-clause-all : goal.returns-in-Err-flush-clause-all
+returns-in-Err-flush-clause-all g c =
+    absurd (Moves-steady (g.met.W.Write.steady _ c.requires.all) c.in-Err-flush.ensures.moves)
+
+pub returns-in-Err-flush-clause-buffer : goal.returns-in-Err-flush-clause-buffer
+returns-in-Err-flush-clause-buffer g c =
+    absurd (Moves-steady (g.met.W.Write.steady _ c.requires.all) c.in-Err-flush.ensures.moves)
+
+pub returns-in-Ok-clause-all : goal.returns-in-Ok-clause-all
+returns-in-Ok-clause-all g c =
+    let all = c.in-Ok.ensures.all c.requires.all in
+    rw c.in-Write.is (all.0, ok_same all.1)
+
+pub returns-in-Err-clause-calls : goal.returns-in-Err-clause-calls
+returns-in-Err-clause-calls g c =
+    absurd (Moves-steady (g.met.W.Write.steady _ c.requires.all) c.in-Err.ensures.moves)
+
+pub returns-in-Ok-flush-clause-calls : goal.returns-in-Ok-flush-clause-calls
+returns-in-Ok-flush-clause-calls g c = rw c.in-Flush.is (c.in-Ok-flush.ensures.calls tt c.requires.all).1
+
+pub returns-in-Err-flush-clause-calls : goal.returns-in-Err-flush-clause-calls
+returns-in-Err-flush-clause-calls g c =
+    absurd (Moves-steady (g.met.W.Write.steady _ c.requires.all) c.in-Err-flush.ensures.moves)

@@ -1,0 +1,44 @@
+use Rattle.std.proofs.Common.{◌≡◌, ◌+◌, ◌<◌, ◌≤◌, ◌++◌, ◌∷◌, [], length, rules, arith, ap, ◌∙◌, sym, append-nil, append_assoc}
+use Rattle.io_bench.proofs.RunLemmas.{Ran-none, Ran-next, AreWhole-next, EndsFlushed-next, all_made}
+use Rattle.io_bench.specs.Runs.{failures, IsShorterBy}
+use Rattle.io_bench.proofs.FailureLemmas.{failures_told, failures_none}
+use Rattle.io_bench.proofs.runs.run_writes.Goals as goal
+
+pub calls-init : goal.calls-init
+calls-init g c =
+    record {
+      ran = ([], c.reserve.ensures.items ∙ sym (append-nil c.args.replies.now.items), Ran-none _, λ e. absurd e, λ t. (t, tt));
+      room = search rules;
+    }
+
+pub calls-preserved : goal.calls-preserved
+calls-preserved g c =
+    let before = c.calls.invariant in
+    let ops = c.args.ops.now in
+    let i = c.calls.op-index in
+    let replies = before.ran.0 in
+    let call = c.make_call-reply.ensures in
+    let within : i < length ops = omega arith in
+    record {
+      ran = (
+        replies ++ c.make_call-reply.result ∷ [],
+        c.push_reserved.ensures.items ∙ ap (λ l. l ++ c.make_call-reply.result ∷ []) before.ran.1 ∙ append_assoc c.args.replies.now.items replies (c.make_call-reply.result ∷ []),
+        Ran-next ops i _ replies within before.ran.2 call.answers,
+        EndsFlushed-next ops i _ replies within before.ran.2 call.answers,
+        λ t. let b = before.ran.4 t in let a = call.all b.0 in (a.0, AreWhole-next _ ops i _ replies within b.1 a.1),
+      );
+      room = omega (arith, c.push_reserved.ensures.len, c.push_reserved.ensures.capacity, before.room);
+    }
+
+pub returns-clause-failures : goal.returns-clause-failures
+returns-clause-failures g c =
+    let ran = c.calls.invariant.ran in
+    let told = g.W.Write.told in
+    all_made (λ o r. IsShorterBy (failures o r) (told c.args.w.now).mishaps (told c.calls.w).mishaps) _ c.calls.op-index _ _ ran.0 (omega arith) ran.1
+    (failures_told _ ran.0 _ _ ran.2.moves.mishaps)
+
+pub returns-clause-steady : goal.returns-clause-steady
+returns-clause-steady g c e =
+    let ran = c.calls.invariant.ran in
+    all_made (λ o r. failures o r ≡ 0) _ c.calls.op-index _ _ ran.0 (omega arith) ran.1
+    (failures_none _ ran.0 _ _ ran.2.moves.mishaps e)

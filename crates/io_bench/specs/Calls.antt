@@ -1,0 +1,20 @@
+-- What one call of a writer does, by the laws of `Write`, for a device that hands a call on.
+use Rattle.std.specs.Prelude.{◌≡◌, ℕ, ◌+◌, ◌≤◌, List, [], length, Result, Ok, IfOk, OnOk}
+use Rattle.no_std_io2_base.specs.declared.error.Error.{Error}
+use Rattle.no_std_io2_base.specs.Writes.{Told, Moves, taken, write_mishap, call_mishap}
+
+-- a `write(x)` of a writer with these ghost members, from old to new
+pub record IsWrite {W : Type 0} (told : W → Told) (takes_all : W → Type 0) (cost : W → ℕ) (is_metered : W → Type 0)
+    (old : W) (x : List ℕ) (reply : Result ℕ Error) (new : W) : Type 0 where
+  pub bound : IfOk reply (λ n. n ≤ length x)
+  pub moves : Moves (told old) (taken reply x) (write_mishap reply x) (told new)
+  pub all : takes_all old → takes_all new × (reply ≡ Ok (length x))
+  pub counted : is_metered old → takes_all old → is_metered new × (cost new ≡ cost old + 1)
+
+-- a `flush` of a writer with these ghost members, from old to new
+pub record IsFlush {W : Type 0} (told : W → Told) (takes_all : W → Type 0) (cost : W → ℕ) (is_metered : W → Type 0)
+    (old : W) (reply : Result (Unit {0}) Error) (new : W) : Type 0 where
+  pub empty : OnOk reply ((told new).held ≡ [])
+  pub moves : Moves (told old) [] (call_mishap reply) (told new)
+  pub all : takes_all old → takes_all new
+  pub counted : is_metered old → takes_all old → is_metered new × (cost new ≡ cost old)

@@ -1,0 +1,66 @@
+-- What a clause reads of a `Faulty`.
+use Rattle.std.proofs.Common.{ap, ◌∙◌}
+use Rattle.std.specs.Prelude.{◌≡◌, ◌<◌, Some, None, Option, ℕ, List, [], ◌∷◌, ◌++◌, drop, take, if◌then◌else◌, ◌==◌, ◌+◌, count_by, ⊤, Result, Ok, IsErrAnd}
+use Rattle.no_std_io2_base.specs.Errors.{is_interruption, error_kind, error_text}
+use Rattle.std.specs.Option.{option_map}
+use Rattle.no_std_io2_base.specs.declared.error.Error.{Error}
+use Rattle.no_std_io2_base.specs.declared.error.ErrorKind.{ErrorKind}
+use Rattle.no_std_io2_base.specs.declared.error.ErrorKind.TheVariants.{WriteZero}
+use Rattle.no_std_io2_base.specs.Writes.{Told}
+use Rattle.io_bench.specs.declared.faulty.Act.{Act}
+use Rattle.io_bench.specs.declared.faulty.Act.TheVariants.{Take, Zero, Fail}
+use Rattle.io_bench.specs.declared.faulty.Faulty.{Faulty}
+
+-- `f.get_ref()`
+abbrev pub faulty_inner : {W : Type 0} → Faulty W → W
+faulty_inner f = f.inner
+
+-- the acts to come
+abbrev pub acts_left : {W : Type 0} → Faulty W → List Act
+acts_left f = drop f.at f.acts.items
+
+-- the first of the acts, if there is one
+abbrev pub first_act : List Act → Option Act
+first_act [] = None
+first_act (act ∷ acts) = Some act
+
+-- the next act, if one is left
+abbrev pub next_act : {W : Type 0} → Faulty W → Option Act
+next_act f = first_act (acts_left f)
+
+-- an error of this kind, without a text
+abbrev pub FailsWith : {T : Type 0} → ErrorKind → Result T Error → Type 0
+FailsWith kind reply = IsErrAnd reply (λ e. (error_kind e ≡ kind) × (error_text e ≡ None))
+
+-- a flush is handed on
+abbrev pub LetsFlush : Option Act → Type 0
+LetsFlush None = ⊤
+LetsFlush (Some (Take n)) = ⊤
+LetsFlush (Some Zero) = ⊤
+LetsFlush (Some (Fail kind)) = ⊥
+
+-- the mishap that an act makes of a call
+abbrev pub act_mishap : Act → List ErrorKind
+act_mishap (Take n) = if n == 0 then WriteZero ∷ [] else []
+act_mishap Zero = WriteZero ∷ []
+act_mishap (Fail kind) = kind ∷ []
+
+-- the mishaps of these acts
+abbrev pub act_mishaps : List Act → List ErrorKind
+act_mishaps [] = []
+act_mishaps (act ∷ acts) = act_mishap act ++ act_mishaps acts
+
+-- what a writer tells behind these acts: each act that interrupts is one turn more
+abbrev pub with_acts : Told → List Act → Told
+with_acts told acts = record told {
+  mishaps = option_map (λ kinds. kinds ++ act_mishaps acts) told.mishaps;
+  turns = told.turns + count_by is_interruption (act_mishaps acts);
+}
+
+-- what a `Faulty` tells, where its inner writer tells `told`
+abbrev pub faulty_told : {W : Type 0} → (W → Told) → Faulty W → Told
+faulty_told told f = with_acts (told f.inner) (acts_left f)
+
+-- behind no act, a writer with no mishap to come has none
+pub faulty_steady : {W : Type 0} (told : W → Told) (f : Faulty W) → (told (faulty_inner f)).mishaps ≡ Some [] → acts_left f ≡ [] → (faulty_told told f).mishaps ≡ Some []
+faulty_steady told f e g = ap (option_map (λ kinds. kinds ++ act_mishaps (acts_left f))) e ∙ ap (λ acts. Some (act_mishaps acts)) g

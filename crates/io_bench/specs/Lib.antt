@@ -1,0 +1,6 @@
+pub mod Calls
+pub mod Closed
+pub mod Faulty
+pub mod Runs
+pub mod Sink
+pub mod Tally

@@ -1,0 +1,11 @@
+-- What a clause reads of a `Tally`.
+use Rattle.std.specs.Prelude.{ℕ, length}
+use Rattle.io_bench.specs.declared.tally.Tally.{Tally}
+
+-- `t.get_ref()`
+abbrev pub tally_inner : {T : Type 0} → Tally T → T
+tally_inner t = t.inner
+
+-- the exact number of calls of `write`
+abbrev pub tally_calls : {T : Type 0} → Tally T → ℕ
+tally_calls t = length t.calls.bytes

@@ -1,0 +1,89 @@
+// A run through one `BufWriter` over a base that takes all.
+ghost use Rattle.std.specs.Prelude.{◌≡◌, ◌+◌, ◌*◌, ◌/◌, ◌<◌, ◌≤◌, [], ◌++◌, length, IfOk, IfErr, OnOk, OnErr};
+ghost use Rattle.no_std_io2_base.specs.Errors.{error_kind};
+ghost use Rattle.no_std_io2_base.specs.Writes.{Moves};
+ghost use Rattle.no_std_io2.specs.Buffered.{writer_inner, writer_buffer, writer_told};
+ghost use Rattle.io_bench.specs.Runs.{appended, Answers, AreWhole, IsWhole};
+ghost use Rattle.io_bench.specs.Tally.{tally_inner, tally_calls};
+ghost use Rattle.io_bench.specs.Closed.{given_bytes, flushes, op_calls, op_buffer, CountedWriterFits};
+
+use crate::runs::{Op, Reply};
+use crate::tally::Tally;
+use no_std_io2::buffered::BufWriter;
+use no_std_io2_base::error::{Error, ErrorKind, Result};
+use no_std_io2_base::traits::Write;
+use std::alloc::Allocator;
+
+// Makes one call, and says what it costs.
+fn make_counted_call<W: Write + Drop, const S: usize>(
+    w: &mut BufWriter<Tally<W>, S>,
+    op: Op<'_>,
+) -> Reply
+    requires some { 0 < S }
+    requires all { W.takes_all (tally_inner (writer_inner w.old)) }
+    ensures answers { Answers (writer_told (λ t. W.told (tally_inner t)) w.old) op.entry result
+        (writer_told (λ t. W.told (tally_inner t)) w.new) }
+    ensures all { W.takes_all (tally_inner (writer_inner w.new)) × IsWhole op.entry result }
+    ensures calls { tally_calls (writer_inner w.new)
+        ≡ tally_calls (writer_inner w.old) + op_calls S (writer_buffer w.old) op.entry }
+    ensures buffer { writer_buffer w.new ≡ op_buffer S (writer_buffer w.old) op.entry }
+{
+    match op {
+        Op::Write(x) => match w.write(x) {
+            Ok(n) => Reply::Took(n),
+            Err(e) => Reply::Failed(e),
+        },
+        Op::WriteAll(x) => match w.write_all(x) {
+            Ok(()) => Reply::Done,
+            Err(e) => Reply::Failed(e),
+        },
+        Op::Flush => match w.flush() {
+            Ok(()) => Reply::Done,
+            Err(e) => Reply::Failed(e),
+        },
+    }
+}
+
+/// Makes these calls, in order, of a new `BufWriter<_, S>` over `w`, appends one reply each, and
+/// gives `w` back by `into_inner`. The base of `w` takes all, and S is above 0.
+///
+/// Each call then succeeds whole, the base got exactly the bytes of all calls and takes all as
+/// before, and the inner writes are few: where the calls give N bytes and F of them are flushes,
+/// `w` counted at most `2 * (N / (S + 1)) + F + 1` more.
+///
+/// # Errors
+/// `OutOfMemory` where there is no room for the replies: then no call was made, the replies are as
+/// they were, and `w` is dropped.
+pub fn run_closed<W: Write + Drop, const S: usize>(
+    w: Tally<W>,
+    ops: &[Op<'_>],
+    replies: &mut Vec<Reply, impl Allocator>,
+) -> Result<Tally<W>>
+    requires some { 0 < S }
+    requires all { W.takes_all (tally_inner w) }
+    // Its `BufWriter` is below 2^63 bytes.
+    requires fits { CountedWriterFits W.row S.row }
+    ensures appends { OnOk result (replies.new.items
+        ≡ replies.old.items ++ appended replies.old.items replies.new.items) }
+    ensures whole { OnOk result (AreWhole ops.now (appended replies.old.items replies.new.items)) }
+    ensures all { IfOk result (λ t. W.takes_all (tally_inner t)) }
+    ensures bytes { IfOk result (λ t. Moves (W.told (tally_inner w)) (given_bytes ops.now) []
+        (W.told (tally_inner t))) }
+    ensures bound { IfOk result (λ t. tally_calls t ≤ tally_calls w
+        + (2 * (length (given_bytes ops.now) / (S + 1)) + flushes ops.now + 1)) }
+    ensures kind { IfErr result (λ e. error_kind e ≡ ErrorKind.OutOfMemory) }
+    ensures err { OnErr result (replies.new.items ≡ replies.old.items) }
+{
+    if replies.reserve(ops.len()).is_err() {
+        return Err(Error::from(ErrorKind::OutOfMemory));
+    }
+    let mut buffered = BufWriter::<Tally<W>, S>::new(w);
+    'calls: for op in ops {
+        let reply = make_counted_call(&mut buffered, *op);
+        replies.push_reserved(reply);
+    }
+    match buffered.into_inner() {
+        Ok(inner) => Ok(inner),
+        Err(e) => Err(Error::from(e)),
+    }
+}

@@ -1,0 +1,149 @@
+// A writer that fails as it is told.
+ghost use Rattle.std.specs.Prelude.{◌≡◌, ℕ, ◌+◌, ◌<◌, ◌≤◌, [], ◌∷◌, Some, None, Ok, IfOk, OnOk, IsErrAnd, MatchOption, length, take, drop, vec_len};
+ghost use Rattle.no_std_io2_base.specs.declared.error.ErrorKind.{ErrorKind};
+ghost use Rattle.no_std_io2_base.specs.Writes.{Moves, taken, write_mishap, call_mishap};
+ghost use Rattle.io_bench.specs.Calls.{IsWrite, IsFlush};
+
+use no_std_io2_base::error::{Error, ErrorKind, Result};
+use no_std_io2_base::traits::Write;
+
+/// What a [`Faulty`] does with its next call.
+#[derive(Clone, Copy, Debug, PartialEq, Eq)]
+pub enum Act {
+    /// A `write` hands on at most this many bytes, and for 0 it answers `Ok(0)` by itself. A `flush`
+    /// is handed on.
+    Take(usize),
+    /// A `write` answers `Ok(0)` by itself. A `flush` is handed on.
+    Zero,
+    /// The call answers an error of this kind, and does nothing else.
+    Fail(ErrorKind),
+}
+
+/// A writer in front of another one, that fails as its acts say. Each call of `write` or `flush`
+/// spends the next act; once the acts are spent, calls are handed on whole. `write_all` is the
+/// trait's own.
+#[derive(Debug, Drop)]
+pub struct Faulty<W> {
+    inner: W,
+    acts: Vec<Act>,
+    at: usize,
+    ghost within: { at ≤ vec_len acts },
+}
+
+impl<W> Faulty<W> {
+    ghost use Rattle.io_bench.specs.Faulty.{faulty_inner, acts_left, next_act};
+
+    /// Hands calls on to `inner` as these acts say, the first one first.
+    pub fn new(inner: W, acts: Vec<Act>) -> Faulty<W>
+        ensures inner { faulty_inner result ≡ inner }
+        ensures acts { acts_left result ≡ acts.items }
+    {
+        Faulty { inner, acts, at: 0 }
+    }
+
+    /// The inner writer.
+    pub fn get_ref(&self) -> &W
+        ensures { result.now ≡ faulty_inner self.now }
+    {
+        &self.inner
+    }
+
+    /// The inner writer, back. The acts that are left are lost.
+    pub fn into_inner(self) -> W
+        ensures { result ≡ faulty_inner self }
+    {
+        self.inner
+    }
+
+    // The next act, which is then spent.
+    fn spend(&mut self) -> Option<Act>
+        ensures inner { faulty_inner self.new ≡ faulty_inner self.old }
+        ensures act { result ≡ next_act self.old }
+        ensures acts { acts_left self.new ≡ drop 1 (acts_left self.old) }
+    {
+        if self.at == self.acts.len() {
+            return None;
+        }
+        let act = self.acts[self.at];
+        self.at += 1;
+        Some(act)
+    }
+}
+
+/// Tells what the inner writer tells, and where that tells mishaps to come, also those of the acts
+/// that are left. It takes all where the inner writer does and no act is left. Its cost is the
+/// inner writer's, and it is not metered.
+impl<W: Write> Write for Faulty<W> {
+    ghost use Rattle.io_bench.specs.Faulty.{faulty_inner, faulty_told, faulty_steady, acts_left, next_act, FailsWith, LetsFlush};
+
+    ghost told = { faulty_told W.told };
+
+    ghost takes_all = { λ f. W.takes_all (faulty_inner f) × (acts_left f ≡ []) };
+
+    ghost cost = { λ f. W.cost (faulty_inner f) };
+
+    ghost is_metered = { λ _. ⊥ };
+
+    fn write(&mut self, buf: &[u8]) -> Result<usize>
+        // The trait's.
+        ensures bound { IfOk result (λ n. n ≤ length buf.now) }
+        ensures moves { Moves (faulty_told W.told self.old) (taken result buf.now)
+            (write_mishap result buf.now) (faulty_told W.told self.new) }
+        ensures all { W.takes_all (faulty_inner self.old) × (acts_left self.old ≡ [])
+            → (W.takes_all (faulty_inner self.new) × (acts_left self.new ≡ []))
+            × (result ≡ Ok (length buf.now)) }
+        ensures cost { ⊥ → W.takes_all (faulty_inner self.old) × (acts_left self.old ≡ [])
+            → ⊥ × (W.cost (faulty_inner self.new) ≡ W.cost (faulty_inner self.old) + 1) }
+
+        // One act is spent, and what it says is done.
+        ensures acts { acts_left self.new ≡ drop 1 (acts_left self.old) }
+        ensures fail { (kind : ErrorKind) → next_act self.old ≡ Some (Act.Fail kind)
+            → FailsWith kind result × (faulty_inner self.new ≡ faulty_inner self.old) }
+        ensures zero { next_act self.old ≡ Some Act.Zero
+            → (result ≡ Ok 0) × (faulty_inner self.new ≡ faulty_inner self.old) }
+        ensures take_none { next_act self.old ≡ Some (Act.Take 0)
+            → (result ≡ Ok 0) × (faulty_inner self.new ≡ faulty_inner self.old) }
+        ensures take { (n : ℕ) → 0 < n → next_act self.old ≡ Some (Act.Take n)
+            → IsWrite W.told W.takes_all W.cost W.is_metered
+            (faulty_inner self.old) (take n buf.now) result (faulty_inner self.new) }
+        ensures whole { next_act self.old ≡ None
+            → IsWrite W.told W.takes_all W.cost W.is_metered
+            (faulty_inner self.old) buf.now result (faulty_inner self.new) }
+    {
+        match self.spend() {
+            None => self.inner.write(buf),
+            Some(Act::Fail(kind)) => Err(Error::from(kind)),
+            Some(Act::Zero | Act::Take(0)) => Ok(0),
+            Some(Act::Take(n)) => {
+                let most = n.min(buf.len());
+                self.inner.write(&buf[..most])
+            }
+        }
+    }
+
+    fn flush(&mut self) -> Result<()>
+        // The trait's.
+        ensures empty { OnOk result ((faulty_told W.told self.new).held ≡ []) }
+        ensures moves { Moves (faulty_told W.told self.old) [] (call_mishap result)
+            (faulty_told W.told self.new) }
+        ensures all { W.takes_all (faulty_inner self.old) × (acts_left self.old ≡ [])
+            → W.takes_all (faulty_inner self.new) × (acts_left self.new ≡ []) }
+        ensures cost { ⊥ → W.takes_all (faulty_inner self.old) × (acts_left self.old ≡ [])
+            → ⊥ × (W.cost (faulty_inner self.new) ≡ W.cost (faulty_inner self.old)) }
+
+        // One act is spent, and what it says is done.
+        ensures acts { acts_left self.new ≡ drop 1 (acts_left self.old) }
+        ensures fail { (kind : ErrorKind) → next_act self.old ≡ Some (Act.Fail kind)
+            → FailsWith kind result × (faulty_inner self.new ≡ faulty_inner self.old) }
+        ensures whole { LetsFlush (next_act self.old)
+            → IsFlush W.told W.takes_all W.cost W.is_metered
+            (faulty_inner self.old) result (faulty_inner self.new) }
+    {
+        match self.spend() {
+            Some(Act::Fail(kind)) => Err(Error::from(kind)),
+            _ => self.inner.flush(),
+        }
+    }
+
+    ghost steady = { λ f h. faulty_steady W.told f (W.steady (faulty_inner f) h.0) h.1 };
+}

@@ -1,0 +1,24 @@
+//! Scripted devices and whole runs, to try writers with.
+//!
+//! [`run_writes`] makes a list of calls on any writer and notes each reply; its contract says what
+//! such a run does to the writer, whatever the writer is. [`Sink`], [`Faulty`] and [`Tally`] are
+//! writers to put below: one that takes all, one that fails as it is told, and one that counts.
+//! [`run_closed`] is a run through one `BufWriter` with a bound on the inner writes.
+#![tactic(auto)]
+
+mod closed;
+mod faulty;
+mod runs;
+mod sink;
+mod tally;
+mod tells;
+#[cfg(test)]
+mod tests;
+mod towers;
+mod trace;
+
+pub use closed::run_closed;
+pub use faulty::{Act, Faulty};
+pub use runs::{Op, Reply, run_writes};
+pub use sink::Sink;
+pub use tally::Tally;

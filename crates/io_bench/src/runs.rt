@@ -1,0 +1,99 @@
+// Calls of a writer in a row.
+ghost use Rattle.std.specs.Prelude.{◌≡◌, [], ◌++◌, Some, OnOk, OnErr, IfErr};
+ghost use Rattle.no_std_io2_base.specs.Errors.{error_kind};
+ghost use Rattle.no_std_io2_base.specs.declared.error.ErrorKind.{ErrorKind};
+ghost use Rattle.io_bench.specs.Runs.{appended, Answers, Ran, EndsFlushed, failures, failures_of, IsShorterBy, HasFewer, AreWhole, IsWhole};
+
+use no_std_io2_base::error::{Error, ErrorKind, Result};
+use no_std_io2_base::traits::Write;
+use std::alloc::Allocator;
+
+/// A call of a writer.
+#[derive(Clone, Copy, Debug, PartialEq, Eq, Drop)]
+pub enum Op<'a> {
+    /// `write` of these bytes.
+    Write(&'a [u8]),
+    /// `write_all` of these bytes.
+    WriteAll(&'a [u8]),
+    /// `flush`.
+    Flush,
+}
+
+/// What a call answered.
+#[derive(Debug, Drop)]
+pub enum Reply {
+    /// `write` took this many bytes.
+    Took(usize),
+    /// `write_all` or `flush` succeeded.
+    Done,
+    /// The call failed with this error.
+    Failed(Error),
+}
+
+// Makes one call.
+fn make_call<W: Write>(w: &mut W, op: Op<'_>) -> Reply
+    ensures answers { Answers (W.told w.old) op.entry result (W.told w.new) }
+    ensures all { W.takes_all w.old → W.takes_all w.new × IsWhole op.entry result }
+{
+    match op {
+        Op::Write(x) => match w.write(x) {
+            Ok(n) => Reply::Took(n),
+            Err(e) => Reply::Failed(e),
+        },
+        Op::WriteAll(x) => match w.write_all(x) {
+            Ok(()) => Reply::Done,
+            Err(e) => Reply::Failed(e),
+        },
+        Op::Flush => match w.flush() {
+            Ok(()) => Reply::Done,
+            Err(e) => Reply::Failed(e),
+        },
+    }
+}
+
+/// Makes these calls of a writer in order, and appends one reply each. It goes on after a failed
+/// call, so a retry is one more call in the list.
+///
+/// Whatever the writer is, it has then accepted exactly what the replies say: out and then held is
+/// what it was, followed by the accepted bytes. Where the last call is a flush that succeeded,
+/// nothing is held. Where the writer tells mishaps to come, at most that many calls failed, and with
+/// those kinds; so none fails where there is none to come.
+///
+/// # Errors
+/// `OutOfMemory` where there is no room for the replies: then no call was made, and the writer and
+/// the replies are as they were. A failed call is a reply, and no error of the run.
+pub fn run_writes<W: Write>(
+    w: &mut W,
+    ops: &[Op<'_>],
+    replies: &mut Vec<Reply, impl Allocator>,
+) -> Result<()>
+    ensures appends { OnOk result (replies.new.items
+        ≡ replies.old.items ++ appended replies.old.items replies.new.items) }
+    // One reply a call, and exactly what the replies say was accepted.
+    ensures ran { OnOk result (Ran (W.told w.old) ops.now
+        (appended replies.old.items replies.new.items) (W.told w.new)) }
+    ensures flushed { OnOk result (EndsFlushed ops.now (appended replies.old.items replies.new.items)
+        → (W.told w.new).held ≡ []) }
+    // No more failures than mishaps were told.
+    ensures failures { OnOk result (IsShorterBy
+        (failures ops.now (appended replies.old.items replies.new.items))
+        (W.told w.old).mishaps (W.told w.new).mishaps) }
+    ensures kinds { OnOk result ((kind : ErrorKind) → HasFewer kind
+        (failures_of kind ops.now (appended replies.old.items replies.new.items))
+        (W.told w.old).mishaps (W.told w.new).mishaps) }
+    ensures steady { OnOk result ((W.told w.old).mishaps ≡ Some []
+        → failures ops.now (appended replies.old.items replies.new.items) ≡ 0) }
+    ensures all { OnOk result (W.takes_all w.old → W.takes_all w.new
+        × AreWhole ops.now (appended replies.old.items replies.new.items)) }
+    ensures kind { IfErr result (λ e. error_kind e ≡ ErrorKind.OutOfMemory) }
+    ensures err { OnErr result ((w.new ≡ w.old) × (replies.new.items ≡ replies.old.items)) }
+{
+    if replies.reserve(ops.len()).is_err() {
+        return Err(Error::from(ErrorKind::OutOfMemory));
+    }
+    'calls: for op in ops {
+        let reply = make_call(w, *op);
+        replies.push_reserved(reply);
+    }
+    Ok(())
+}

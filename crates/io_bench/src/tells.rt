@@ -1,0 +1,38 @@
+// What each device tells: one function a type, proved, so that no impl can tell less.
+ghost use Rattle.std.specs.Prelude.{◌≡◌, [], Some, ◌++◌};
+ghost use Rattle.std.specs.Option.{option_map};
+ghost use Rattle.io_bench.specs.Sink.{sink_taken};
+ghost use Rattle.io_bench.specs.Tally.{tally_inner, tally_calls};
+ghost use Rattle.io_bench.specs.Faulty.{faulty_inner, acts_left, act_mishaps};
+
+use crate::faulty::Faulty;
+use crate::sink::Sink;
+use crate::tally::Tally;
+use no_std_io2_base::traits::Write;
+
+fn sink_tells(s: &Sink)
+    ensures told { ⟦<Sink as Write>⟧.told s.now
+        ≡ record { out = sink_taken s.now; held = []; mishaps = Some []; turns = 0 } }
+    ensures all { ⟦<Sink as Write>⟧.takes_all s.now }
+    ensures cost { ⟦<Sink as Write>⟧.cost s.now ≡ 0 }
+    ensures plain { ¬ (⟦<Sink as Write>⟧.is_metered s.now) }
+{}
+
+fn tally_tells<T: Write>(t: &Tally<T>)
+    ensures told { ⟦<Tally<T> as Write>⟧.told t.now ≡ T.told (tally_inner t.now) }
+    ensures all { T.takes_all (tally_inner t.now) → ⟦<Tally<T> as Write>⟧.takes_all t.now }
+    ensures cost { ⟦<Tally<T> as Write>⟧.cost t.now ≡ tally_calls t.now }
+    ensures metered { ⟦<Tally<T> as Write>⟧.is_metered t.now }
+{}
+
+fn faulty_tells<W: Write>(f: &Faulty<W>)
+    ensures out { (⟦<Faulty<W> as Write>⟧.told f.now).out ≡ (W.told (faulty_inner f.now)).out }
+    ensures held { (⟦<Faulty<W> as Write>⟧.told f.now).held ≡ (W.told (faulty_inner f.now)).held }
+    ensures mishaps { (⟦<Faulty<W> as Write>⟧.told f.now).mishaps
+        ≡ option_map (λ kinds. kinds ++ act_mishaps (acts_left f.now))
+        (W.told (faulty_inner f.now)).mishaps }
+    ensures all { W.takes_all (faulty_inner f.now) → acts_left f.now ≡ []
+        → ⟦<Faulty<W> as Write>⟧.takes_all f.now }
+    ensures cost { ⟦<Faulty<W> as Write>⟧.cost f.now ≡ W.cost (faulty_inner f.now) }
+    ensures plain { ¬ (⟦<Faulty<W> as Write>⟧.is_metered f.now) }
+{}

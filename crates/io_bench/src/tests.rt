@@ -1,0 +1,33 @@
+// Worked examples, with answers from outside.
+mod buffered;
+mod counts;
+mod devices;
+mod drops;
+mod lines;
+mod runs;
+mod towers;
+mod writers;
+
+use crate::runs::Reply;
+use no_std_io2_base::error::ErrorKind;
+use std::alloc::{AllocError, Global};
+
+// A reply, with its error's kind alone, so that replies can be compared.
+#[derive(Clone, Copy, Debug, PartialEq, Eq)]
+enum Outcome {
+    Took(usize),
+    Done,
+    Failed(ErrorKind),
+}
+
+fn outcomes(alloc: Global, replies: &[Reply]) -> Result<Vec<Outcome>, AllocError> {
+    let mut all = Vec::new(alloc);
+    for reply in replies {
+        all.push(match reply {
+            Reply::Took(n) => Outcome::Took(*n),
+            Reply::Done => Outcome::Done,
+            Reply::Failed(e) => Outcome::Failed(e.kind()),
+        })?;
+    }
+    Ok(all)
+}

@@ -1,0 +1,60 @@
+// What a lender finds after a buffer was dropped.
+use super::{Outcome, outcomes};
+use crate::faulty::{Act, Faulty};
+use crate::runs::{Op, run_writes};
+use crate::sink::Sink;
+use no_std_io2::buffered::{BufWriter, LineWriter};
+use no_std_io2_base::error::ErrorKind;
+use no_std_io2_base::traits::Write;
+use std::test::Fail;
+
+type Answer = std::result::Result<(), Fail>;
+
+#[test]
+fn a_drop_sends(rt: HostRuntime) -> Answer {
+    let mut v = Vec::new(rt.alloc());
+    {
+        let mut w = BufWriter::<&mut Vec<u8>, 8>::new(&mut v);
+        assert_eq!(rt; w.write(b"abc")?, 3);
+    }
+    assert_eq!(rt; v.as_slice(), b"abc".as_slice());
+    Ok(())
+}
+
+#[test]
+fn into_inner_sends_once(rt: HostRuntime) -> Answer {
+    let mut v = Vec::new(rt.alloc());
+    {
+        let mut w = BufWriter::<&mut Vec<u8>, 8>::new(&mut v);
+        assert_eq!(rt; w.write(b"abc")?, 3);
+        let Ok(_v) = w.into_inner() else {
+            panic!(rt; "not sent");
+        };
+    }
+    assert_eq!(rt; v.as_slice(), b"abc".as_slice());
+    Ok(())
+}
+
+#[test]
+fn a_drop_stops_at_a_fault(rt: HostRuntime) -> Answer {
+    let mut v = Vec::new(rt.alloc());
+    {
+        let acts = vec![in rt.alloc(); Act::Take(1), Act::Fail(ErrorKind::BrokenPipe)]?;
+        let mut w = BufWriter::<Faulty<&mut Vec<u8>>, 8>::new(Faulty::new(&mut v, acts));
+        w.write_all(b"abc")?;
+    }
+    assert_eq!(rt; v.as_slice(), b"a".as_slice());
+    Ok(())
+}
+
+#[test]
+fn lines_into_a_boxed_object(rt: HostRuntime) -> Answer {
+    let inner: Box<dyn Write + Drop> = Box::new(rt.alloc(), Sink::new())?;
+    let mut w = LineWriter::<Box<dyn Write + Drop>, 8>::new(inner);
+    let mut replies = Vec::new(rt.alloc());
+    run_writes(&mut w, &[Op::WriteAll(b"a\nb"), Op::Flush], &mut replies)?;
+    let want = [Outcome::Done, Outcome::Done];
+    assert_eq!(rt; outcomes(rt.alloc(), &replies)?.as_slice(), want.as_slice());
+    assert!(rt; w.buffer().is_empty());
+    Ok(())
+}
