@@ -9,9 +9,7 @@ ghost use Rattle.io_bench.specs.Closed.{given_bytes, flushes, op_calls, op_buffe
 
 use crate::runs::{Op, Reply};
 use crate::tally::Tally;
-use no_std_io2::buffered::BufWriter;
-use no_std_io2_base::error::{Error, ErrorKind, Result};
-use no_std_io2_base::traits::Write;
+use no_std_io2::io::{BufWriter, Error, ErrorKind, Result, Write};
 use std::alloc::Allocator;
 
 // Makes one call, and says what it costs.

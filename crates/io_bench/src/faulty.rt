@@ -4,8 +4,7 @@ ghost use Rattle.no_std_io2_base.specs.declared.error.ErrorKind.{ErrorKind};
 ghost use Rattle.no_std_io2_base.specs.Writes.{Moves, taken, write_mishap, call_mishap};
 ghost use Rattle.io_bench.specs.Calls.{IsWrite, IsFlush};
 
-use no_std_io2_base::error::{Error, ErrorKind, Result};
-use no_std_io2_base::traits::Write;
+use no_std_io2::io::{Error, ErrorKind, Result, Write};
 
 /// What a [`Faulty`] does with its next call.
 #[derive(Clone, Copy, Debug, PartialEq, Eq)]

@@ -4,8 +4,7 @@ ghost use Rattle.no_std_io2_base.specs.Errors.{error_kind};
 ghost use Rattle.no_std_io2_base.specs.declared.error.ErrorKind.{ErrorKind};
 ghost use Rattle.io_bench.specs.Runs.{appended, Answers, Ran, EndsFlushed, failures, failures_of, IsShorterBy, HasFewer, AreWhole, IsWhole};
 
-use no_std_io2_base::error::{Error, ErrorKind, Result};
-use no_std_io2_base::traits::Write;
+use no_std_io2::io::{Error, ErrorKind, Result, Write};
 use std::alloc::Allocator;
 
 /// A call of a writer.

@@ -2,8 +2,7 @@
 ghost use Rattle.std.specs.Prelude.{◌≡◌, [], ⊤};
 
 use crate::trace::Trace;
-use no_std_io2_base::error::Result;
-use no_std_io2_base::traits::Write;
+use no_std_io2::io::{Result, Write};
 use std::fmt;
 
 /// A writer that takes every byte and never fails. It keeps nothing: its bytes are seen by

@@ -3,8 +3,7 @@ ghost use Rattle.std.specs.Prelude.{◌≡◌, ◌+◌, ◌-◌, ◌^◌, ◌≤
 ghost use Rattle.no_std_io2_base.specs.Writes.{Moves, taken, write_mishap, call_mishap};
 
 use crate::trace::Trace;
-use no_std_io2_base::error::Result;
-use no_std_io2_base::traits::Write;
+use no_std_io2::io::{Result, Write};
 use std::fmt;
 
 /// Hands each call on to an inner stream, and counts the calls of `write`, whatever they answer.

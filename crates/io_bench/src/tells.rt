@@ -8,7 +8,7 @@ ghost use Rattle.io_bench.specs.Faulty.{faulty_inner, acts_left, act_mishaps};
 use crate::faulty::Faulty;
 use crate::sink::Sink;
 use crate::tally::Tally;
-use no_std_io2_base::traits::Write;
+use no_std_io2::io::Write;
 
 fn sink_tells(s: &Sink)
     ensures told { ⟦<Sink as Write>⟧.told s.now

@@ -9,7 +9,7 @@ mod towers;
 mod writers;
 
 use crate::runs::Reply;
-use no_std_io2_base::error::ErrorKind;
+use no_std_io2::io::ErrorKind;
 use std::alloc::{AllocError, Global};
 
 // A reply, with its error's kind alone, so that replies can be compared.

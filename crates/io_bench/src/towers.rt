@@ -8,8 +8,7 @@ use crate::faulty::Faulty;
 use crate::runs::{Op, Reply, run_writes};
 use crate::sink::Sink;
 use crate::tally::Tally;
-use no_std_io2::buffered::{BufWriter, LineWriter};
-use no_std_io2_base::error::Result;
+use no_std_io2::io::{BufWriter, LineWriter, Result};
 
 // Over a writer that takes all, a tower of buffers answers each call whole.
 fn run_whole<const S: usize, const T: usize>(

@@ -1,4 +1,20 @@
-//! Byte streams for programs without an operating system.
+//! Byte streams that neither lose, repeat nor reorder a byte, for programs without an operating
+//! system. The names are those of Rust's `std::io`, under [`io`].
 #![tactic(auto)]
 
 pub mod buffered;
+
+/// The standard trait of errors.
+pub mod error {
+    pub use std::error::Error;
+}
+
+/// The whole surface, as Rust's `std::io`.
+pub mod io {
+    pub use super::buffered::{BufWriter, IntoInnerError, LineWriter};
+    pub use no_std_io2_base::cursor::{AsSlice, Cursor};
+    pub use no_std_io2_base::error::{Error, ErrorKind, Result};
+    pub use no_std_io2_base::traits::{
+        BufRead, Bytes, Chain, Read, Seek, SeekFrom, Stored, Take, Write,
+    };
+}

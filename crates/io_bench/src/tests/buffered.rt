@@ -2,9 +2,7 @@
 use crate::faulty::{Act, Faulty};
 use crate::sink::Sink;
 use crate::tally::Tally;
-use no_std_io2::buffered::BufWriter;
-use no_std_io2_base::error::ErrorKind;
-use no_std_io2_base::traits::Write;
+use no_std_io2::io::{BufWriter, ErrorKind, Write};
 use std::test::Fail;
 
 type Answer = std::result::Result<(), Fail>;

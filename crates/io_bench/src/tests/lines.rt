@@ -2,9 +2,7 @@
 use crate::faulty::{Act, Faulty};
 use crate::sink::Sink;
 use crate::tally::Tally;
-use no_std_io2::buffered::LineWriter;
-use no_std_io2_base::error::ErrorKind;
-use no_std_io2_base::traits::Write;
+use no_std_io2::io::{ErrorKind, LineWriter, Write};
 use std::alloc::{AllocError, Global};
 use std::test::Fail;
 

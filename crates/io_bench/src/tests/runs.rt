@@ -1,7 +1,7 @@
 use super::writers::{Closed, OneByOne, Stutter};
 use super::{Outcome, outcomes};
 use crate::runs::{Op, Reply, run_writes};
-use no_std_io2_base::error::ErrorKind;
+use no_std_io2::io::ErrorKind;
 use std::test::Fail;
 
 #[test]

@@ -4,9 +4,7 @@ use crate::faulty::{Act, Faulty};
 use crate::runs::{Op, run_writes};
 use crate::sink::Sink;
 use crate::tally::Tally;
-use no_std_io2::buffered::{BufWriter, LineWriter};
-use no_std_io2_base::error::ErrorKind;
-use no_std_io2_base::traits::Write;
+use no_std_io2::io::{BufWriter, ErrorKind, LineWriter, Write};
 use std::test::Fail;
 
 type Answer = std::result::Result<(), Fail>;

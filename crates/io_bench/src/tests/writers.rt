@@ -3,8 +3,7 @@ ghost use Rattle.std.specs.Prelude.{None, [], ⊤, refl};
 ghost use Rattle.no_std_io2_base.specs.Writes.{told_out};
 
 use crate::sink::Sink;
-use no_std_io2_base::error::{Error, ErrorKind, Result};
-use no_std_io2_base::traits::Write;
+use no_std_io2::io::{Error, ErrorKind, Result, Write};
 
 // Takes one byte a call.
 #[derive(Drop)]
