@@ -4,6 +4,7 @@
 
 pub mod error;
 pub mod impls;
+mod reader_tells;
 mod tells;
 #[cfg(test)]
 mod tests;
