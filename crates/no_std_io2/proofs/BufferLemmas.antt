@@ -1,9 +1,10 @@
 -- A buffer in front of a writer.
-use Rattle.std.proofs.Common.{◌≡◌, ℕ, ◌+◌, ◌-◌, ◌<◌, ◌≤◌, length-take, Result, Ok, List, [], ◌∷◌, refl, ◌++◌, length, take, drop, length-drop, sym, ap, ◌∙◌, arith, length-append, append_assoc, append-nil, take-append-drop}
+use Rattle.std.proofs.Common.{◌≡◌, ℕ, ◌+◌, ◌-◌, ◌<◌, ◌≤◌, length-take, Result, Ok, Err, IsOk, Some, List, [], ◌∷◌, refl, ◌++◌, length, take, drop, length-drop, sym, ap, ◌∙◌, arith, length-append, append_assoc, append-nil, take-append-drop}
 use Rattle.std.proofs.lemmas.Bool.Decides.{nat_tests}
 use Rattle.no_std_io2_base.specs.declared.error.ErrorKind.{ErrorKind}
-use Rattle.no_std_io2_base.specs.Writes.{Told, Moves}
-use Rattle.no_std_io2_base.proofs.MovesLemmas.{Moves-refl}
+use Rattle.no_std_io2_base.specs.declared.error.Error.{Error}
+use Rattle.no_std_io2_base.specs.Writes.{Told, Moves, call_mishap}
+use Rattle.no_std_io2_base.proofs.MovesLemmas.{Moves-refl, Moves-steady}
 use Rattle.no_std_io2.specs.declared.buffered.writing.BufWriter.{BufWriter}
 use Rattle.no_std_io2.specs.Buffered.{with_buffer, sending_calls, writer_buffer, IsEnd}
 
@@ -76,3 +77,8 @@ IsEnd-none whole end e = (whole, sym (append-nil whole) ∙ ap (λ l. whole ++ l
 
 pub IsEnd-held : (old mid new x : List ℕ) → IsEnd old mid → new ≡ mid ++ x → IsEnd (old ++ x) new
 IsEnd-held old mid new x f e = (f.0, ap (λ l. l ++ x) f.1 ∙ append_assoc f.0 mid x ∙ ap (λ l. f.0 ++ l) (sym e))
+
+-- a call of a writer with no mishap to come answers `Ok`
+pub call_steady : {a c : Told} {x : List ℕ} (reply : Result (Unit {0}) Error) → a.mishaps ≡ Some [] → Moves a x (call_mishap reply) c → IsOk reply
+call_steady (Ok u) e f = refl
+call_steady (Err err) e f = absurd (Moves-steady e f)

@@ -52,10 +52,13 @@ Sends old buffer reply new rest =
 abbrev pub sending_calls : List ℕ → ℕ
 sending_calls buffer = if nat_lt 0 (length buffer) then 1 else 0
 
+-- how many inner calls it takes that n more bytes fit beside the buffer, where the inner writer takes all
+abbrev pub way_calls : ℕ → List ℕ → ℕ → ℕ
+way_calls S buffer n = if nat_lt 0 (length buffer) && nat_lt S (length buffer + n) then 1 else 0
+
 -- how many inner calls a write of x takes, where the inner writer takes all
 abbrev pub writing_calls : ℕ → List ℕ → List ℕ → ℕ
-writing_calls S buffer x =
-    (if nat_lt 0 (length buffer) && nat_lt S (length buffer + length x) then 1 else 0) + (if nat_le S (length x) then 1 else 0)
+writing_calls S buffer x = way_calls S buffer (length x) + (if nat_le S (length x) then 1 else 0)
 
 -- the buffer after a write of x, where the inner writer takes all
 abbrev pub buffer_after : ℕ → List ℕ → List ℕ → List ℕ

@@ -1,10 +1,10 @@
-// A buffer in front of a writer.
+//! A writer with a window of held bytes in front: what both buffered writers stand on.
 ghost use Rattle.std.specs.Prelude.{◌≡◌, ◌+◌, ◌<◌, ◌≤◌, ◌⊎◌, [], ◌∷◌, ◌++◌, length, Ok, IsOk, IfOk, IfErr, IsOkAnd, OnOk, false};
 ghost use Rattle.std.specs.Borrow.{Lends, sem};
 ghost use Rattle.no_std_io2.specs.contracts.buffered.sender.Sender.{the_row as sender-row};
 ghost use Rattle.no_std_io2_base.specs.Errors.{error_kind, is_interruption, IsNoInterruption};
 ghost use Rattle.no_std_io2_base.specs.Writes.{Moves, MovesFront, taken, write_mishap, call_mishap};
-ghost use Rattle.no_std_io2.specs.Buffered.{sender_inner, sender_buffer, sender_told, Sends, sending_calls, writing_calls, buffer_after, IsEnd, sender_with_inner};
+ghost use Rattle.no_std_io2.specs.Buffered.{sender_inner, sender_buffer, sender_told, Sends, sending_calls, way_calls, writing_calls, buffer_after, IsEnd, sender_with_inner};
 
 use super::window::Window;
 use no_std_io2_base::error::{Error, ErrorKind, Result};
@@ -17,7 +17,8 @@ fn is_interruption(error: &Error) -> bool
     matches!(error.kind(), ErrorKind::Interrupted)
 }
 
-// What a `BufWriter` and a `LineWriter` stand on. It has no bound, so that a struct with a ghost field may hold it.
+/// An inner writer and the bytes that are held for it. It has no bound, so that a struct with a
+/// ghost field may hold it.
 #[derive(Drop)]
 pub struct Sender<W, const S: usize> {
     inner: W,
@@ -63,13 +64,18 @@ impl<W: Write + Drop, const S: usize> Sender<W, S> {
         S
     }
 
+    /// The inner writer; what is held is lost.
     pub(crate) fn into_parts(self) -> W
         ensures { result ≡ sender_inner self }
     {
         self.inner
     }
 
-    // Passes over interruptions. What was taken is no longer held, whatever the answer.
+    /// Sends the held bytes: repeats the inner `write` with all that is held, and passes over
+    /// interruptions. What was taken is no longer held, whatever the answer, and no byte moves.
+    ///
+    /// # Errors
+    /// `WriteZero` where the inner writer took no byte of some, else its first fault.
     pub(crate) fn send(&mut self) -> Result<()>
         ensures fault { IsNoInterruption result }
         ensures empty { OnOk result (sender_buffer self.new ≡ []) }
@@ -99,32 +105,123 @@ impl<W: Write + Drop, const S: usize> Sender<W, S> {
         Ok(())
     }
 
-    // Past the buffer.
+    /// One inner `write`, past the held bytes.
     pub(crate) fn write_through(&mut self, buf: &[u8]) -> Result<usize>
         ensures bound { IfOk result (λ n. n ≤ length buf.now) }
         ensures moves { Moves (W.told (sender_inner self.old)) (taken result buf.now)
             (write_mishap result buf.now) (W.told (sender_inner self.new)) }
         ensures same { sender_buffer self.new ≡ sender_buffer self.old }
+        ensures all { W.takes_all (sender_inner self.old)
+            → W.takes_all (sender_inner self.new) × (result ≡ Ok (length buf.now)) }
+        ensures cost { W.is_metered (sender_inner self.old) → W.takes_all (sender_inner self.old)
+            → W.is_metered (sender_inner self.new)
+            × (W.cost (sender_inner self.new) ≡ W.cost (sender_inner self.old) + 1) }
     {
         self.inner.write(buf)
     }
 
+    /// One inner `write_all`, past the held bytes.
     pub(crate) fn write_all_through(&mut self, buf: &[u8]) -> Result<()>
         ensures fault { IsNoInterruption result }
         ensures moves { MovesFront (W.told (sender_inner self.old)) buf.now result
             (W.told (sender_inner self.new)) }
         ensures same { sender_buffer self.new ≡ sender_buffer self.old }
+        ensures all { W.takes_all (sender_inner self.old) → W.takes_all (sender_inner self.new) × IsOk result }
+        ensures cost { W.is_metered (sender_inner self.old) → W.takes_all (sender_inner self.old)
+            → W.is_metered (sender_inner self.new)
+            × (W.cost (sender_inner self.new) ≡ W.cost (sender_inner self.old) + sending_calls buf.now) }
     {
         self.inner.write_all(buf)
     }
 
-    // Into the buffer.
+    /// Holds `more` behind what is held.
     pub(crate) fn hold(&mut self, more: &[u8])
         requires { length (sender_buffer self.old) + length more.now ≤ S }
         ensures same { sender_inner self.new ≡ sender_inner self.old }
         ensures buffer { sender_buffer self.new ≡ sender_buffer self.old ++ more.now }
     {
         self.window.push(more);
+    }
+
+    /// Sends what is held, where `more` bytes don't fit beside it.
+    ///
+    /// # Errors
+    /// As `send`.
+    fn make_way(&mut self, more: usize) -> Result<()>
+        ensures fault { IsNoInterruption result }
+        ensures moves { Moves (sender_told W.told self.old) [] (call_mishap result)
+            (sender_told W.told self.new) }
+        ensures rest { IsEnd (sender_buffer self.old) (sender_buffer self.new) }
+        ensures room { OnOk result (more < S → length (sender_buffer self.new) + more ≤ S) }
+        ensures empty { OnOk result (S ≤ more → sender_buffer self.new ≡ []) }
+        ensures idle { length (sender_buffer self.old) + more ≤ S → IsOk result
+            × (sender_inner self.new ≡ sender_inner self.old)
+            × (sender_buffer self.new ≡ sender_buffer self.old) }
+        ensures sent { S < length (sender_buffer self.old) + more
+            → OnOk result (sender_buffer self.new ≡ []) }
+        ensures all { W.takes_all (sender_inner self.old) → W.takes_all (sender_inner self.new) × IsOk result }
+        ensures cost { W.is_metered (sender_inner self.old) → W.takes_all (sender_inner self.old)
+            → W.is_metered (sender_inner self.new) × (W.cost (sender_inner self.new)
+            ≡ W.cost (sender_inner self.old) + way_calls S (sender_buffer self.old) more) }
+    {
+        if more > S - self.window.len() {
+            return self.send();
+        }
+        Ok(())
+    }
+
+    /// The whole of `write`. It stands apart, so that the one test for room is inlined.
+    #[cold]
+    #[inline(never)]
+    fn write_cold(&mut self, buf: &[u8]) -> Result<usize>
+        ensures bound { IfOk result (λ n. n ≤ length buf.now) }
+        ensures moves { Moves (sender_told W.told self.old) (taken result buf.now)
+            (write_mishap result buf.now) (sender_told W.told self.new) }
+        ensures all { W.takes_all (sender_inner self.old)
+            → W.takes_all (sender_inner self.new) × (result ≡ Ok (length buf.now)) }
+        ensures rest { IsEnd (sender_buffer self.old ++ taken result buf.now) (sender_buffer self.new) }
+        ensures fits { length buf.now < S → length (sender_buffer self.old) + length buf.now ≤ S
+            → IsOk result × (sender_inner self.new ≡ sender_inner self.old)
+            × (sender_buffer self.new ≡ sender_buffer self.old ++ buf.now) }
+        ensures whole { length buf.now < S → IfOk result (λ n. n ≡ length buf.now) }
+        ensures after { W.takes_all (sender_inner self.old)
+            → sender_buffer self.new ≡ buffer_after S (sender_buffer self.old) buf.now }
+        ensures calls { W.is_metered (sender_inner self.old) → W.takes_all (sender_inner self.old)
+            → W.is_metered (sender_inner self.new) × (W.cost (sender_inner self.new)
+            ≡ W.cost (sender_inner self.old) + writing_calls S (sender_buffer self.old) buf.now) }
+    {
+        self.make_way(buf.len())?;
+        if buf.len() >= S {
+            return self.inner.write(buf);
+        }
+        self.window.push(buf);
+        Ok(buf.len())
+    }
+
+    /// The whole of `write_all`, as `write_cold`.
+    #[cold]
+    #[inline(never)]
+    fn write_all_cold(&mut self, buf: &[u8]) -> Result<()>
+        ensures fault { IsNoInterruption result }
+        ensures moves { MovesFront (sender_told W.told self.old) buf.now result (sender_told W.told self.new) }
+        ensures all { W.takes_all (sender_inner self.old) → W.takes_all (sender_inner self.new) × IsOk result }
+        ensures rest { IsEnd (sender_buffer self.old ++ buf.now) (sender_buffer self.new)
+            ⊎ IsEnd (sender_buffer self.old) (sender_buffer self.new) }
+        ensures fits { length buf.now < S → length (sender_buffer self.old) + length buf.now ≤ S
+            → IsOk result × (sender_inner self.new ≡ sender_inner self.old)
+            × (sender_buffer self.new ≡ sender_buffer self.old ++ buf.now) }
+        ensures after { W.takes_all (sender_inner self.old)
+            → sender_buffer self.new ≡ buffer_after S (sender_buffer self.old) buf.now }
+        ensures calls { 0 < S → W.is_metered (sender_inner self.old) → W.takes_all (sender_inner self.old)
+            → W.is_metered (sender_inner self.new) × (W.cost (sender_inner self.new)
+            ≡ W.cost (sender_inner self.old) + writing_calls S (sender_buffer self.old) buf.now) }
+    {
+        self.make_way(buf.len())?;
+        if buf.len() >= S {
+            return self.inner.write_all(buf);
+        }
+        self.window.push(buf);
+        Ok(())
     }
 }
 
@@ -137,6 +234,7 @@ impl<W: Write + Drop, const S: usize> Write for Sender<W, S> {
 
     ghost is_metered = { λ _. ⊥ };
 
+    #[inline(always)]
     fn write(&mut self, buf: &[u8]) -> Result<usize>
         ensures bound { IfOk result (λ n. n ≤ length buf.now) }
         ensures moves { Moves (sender_told W.told self.old) (taken result buf.now)
@@ -156,14 +254,11 @@ impl<W: Write + Drop, const S: usize> Write for Sender<W, S> {
             → W.is_metered (sender_inner self.new) × (W.cost (sender_inner self.new)
             ≡ W.cost (sender_inner self.old) + writing_calls S (sender_buffer self.old) buf.now) }
     {
-        if buf.len() > S - self.window.len() {
-            self.send()?;
+        if buf.len() < self.window.room() {
+            self.window.append(buf);
+            return Ok(buf.len());
         }
-        if buf.len() >= S {
-            return self.inner.write(buf);
-        }
-        self.window.push(buf);
-        Ok(buf.len())
+        self.write_cold(buf)
     }
 
     fn flush(&mut self) -> Result<()>
@@ -183,6 +278,7 @@ impl<W: Write + Drop, const S: usize> Write for Sender<W, S> {
         self.inner.flush()
     }
 
+    #[inline(always)]
     fn write_all(&mut self, buf: &[u8]) -> Result<()>
         ensures fault { IsNoInterruption result }
         ensures moves { MovesFront (sender_told W.told self.old) buf.now result (sender_told W.told self.new) }
@@ -200,14 +296,11 @@ impl<W: Write + Drop, const S: usize> Write for Sender<W, S> {
             → W.is_metered (sender_inner self.new) × (W.cost (sender_inner self.new)
             ≡ W.cost (sender_inner self.old) + writing_calls S (sender_buffer self.old) buf.now) }
     {
-        if buf.len() > S - self.window.len() {
-            self.send()?;
+        if buf.len() < self.window.room() {
+            self.window.append(buf);
+            return Ok(());
         }
-        if buf.len() >= S {
-            return self.inner.write_all(buf);
-        }
-        self.window.push(buf);
-        Ok(())
+        self.write_all_cold(buf)
     }
 
     ghost steady = { λ w h. W.steady (sender_inner w) h };

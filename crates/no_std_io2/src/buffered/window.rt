@@ -1,6 +1,7 @@
-// The bytes from a start to an end inside an array.
-ghost use Rattle.std.specs.Prelude.{◌≡◌, ◌+◌, ◌≤◌, [], ◌++◌, length, drop};
+//! The bytes from a start to an end inside an array.
+ghost use Rattle.std.specs.Prelude.{◌≡◌, ◌+◌, ◌-◌, ◌≤◌, [], ◌++◌, length, drop};
 
+/// Holds the bytes from `start` to `end`. Dropping some at the front moves no byte.
 #[derive(Drop)]
 pub(crate) struct Window<const S: usize> {
     bytes: [u8; S],
@@ -8,11 +9,14 @@ pub(crate) struct Window<const S: usize> {
     end: usize,
     ghost ordered: { start ≤ end },
     ghost in_range: { end ≤ S },
+    // Where nothing is held, all of the array is room behind the end.
+    ghost empty_at_front: { start ≡ end → end ≡ 0 },
 }
 
 impl<const S: usize> Window<S> {
-    ghost use Rattle.no_std_io2.specs.Window.{window_bytes};
+    ghost use Rattle.no_std_io2.specs.Window.{window_bytes, window_room};
 
+    #[inline]
     pub(crate) fn new() -> Self
         ensures { window_bytes result ≡ [] }
     {
@@ -23,6 +27,7 @@ impl<const S: usize> Window<S> {
         }
     }
 
+    #[inline]
     pub(crate) fn len(&self) -> usize
         ensures len { result ≡ length (window_bytes self.now) }
         ensures bound { result ≤ S }
@@ -30,6 +35,7 @@ impl<const S: usize> Window<S> {
         self.end - self.start
     }
 
+    #[inline]
     pub(crate) fn as_slice(&self) -> &[u8]
         ensures value { result.now ≡ window_bytes self.now }
         ensures bound { length result.now ≤ S }
@@ -38,11 +44,21 @@ impl<const S: usize> Window<S> {
         &all[self.start..self.end]
     }
 
-    // No byte moves.
+    /// How many bytes fit behind the end.
+    #[inline]
+    pub(crate) fn room(&self) -> usize
+        ensures { result ≡ window_room self.now }
+    {
+        S - self.end
+    }
+
+    /// No byte moves. Where nothing is left, both ends go back to the front.
+    #[inline]
     pub(crate) fn drop_front(&mut self, n: usize)
         requires { n ≤ length (window_bytes self.old) }
         ensures rest { window_bytes self.new ≡ drop n (window_bytes self.old) }
         ensures unmoved { self.new.bytes ≡ self.old.bytes }
+        ensures emptied { window_bytes self.new ≡ [] → (self.new.start ≡ 0) × (self.new.end ≡ 0) }
     {
         self.start += n;
         if self.start == self.end {
@@ -51,25 +67,39 @@ impl<const S: usize> Window<S> {
         }
     }
 
+    /// Moves the held bytes to the front.
     fn make_room(&mut self)
         ensures same { window_bytes self.new ≡ window_bytes self.old }
         ensures start { self.new.start ≡ 0 }
+        ensures room { window_room self.new ≡ S - length (window_bytes self.new) }
     {
         self.bytes.copy_within(self.start..self.end, 0);
         self.end -= self.start;
         self.start = 0;
     }
 
-    pub(crate) fn push(&mut self, more: &[u8])
-        requires { length (window_bytes self.old) + length more.now ≤ S }
-        ensures { window_bytes self.new ≡ window_bytes self.old ++ more.now }
+    /// Copies `more` behind the end, where it fits. No held byte moves.
+    #[inline]
+    pub(crate) fn append(&mut self, more: &[u8])
+        requires { length more.now ≤ window_room self.old }
+        ensures held { window_bytes self.new ≡ window_bytes self.old ++ more.now }
+        ensures unmoved { self.new.start ≡ self.old.start }
     {
-        if more.len() > S - self.end {
-            self.make_room();
-        }
         let end = self.end + more.len();
         let all = &mut self.bytes[..];
         all[self.end..end].copy_from_slice(more);
         self.end = end;
+    }
+
+    /// Appends `more`. The held bytes move only where it doesn't fit behind the end.
+    pub(crate) fn push(&mut self, more: &[u8])
+        requires { length (window_bytes self.old) + length more.now ≤ S }
+        ensures held { window_bytes self.new ≡ window_bytes self.old ++ more.now }
+        ensures unmoved { length more.now ≤ window_room self.old → self.new.start ≡ self.old.start }
+    {
+        if more.len() > self.room() {
+            self.make_room();
+        }
+        self.append(more);
     }
 }
