@@ -1,5 +1,5 @@
 -- A buffer in front of a writer.
-use Rattle.std.proofs.Common.{◌≡◌, ℕ, ◌+◌, ◌-◌, ◌<◌, ◌≤◌, length-take, Result, Ok, Err, IsOk, Some, List, [], ◌∷◌, refl, ◌++◌, length, take, drop, length-drop, sym, ap, ◌∙◌, arith, length-append, append_assoc, append-nil, take-append-drop}
+use Rattle.std.proofs.Common.{◌≡◌, ℕ, ◌+◌, ◌-◌, ◌<◌, ◌≤◌, subst, length-take, Result, Ok, Err, IsOk, Some, List, [], ◌∷◌, refl, ◌++◌, length, take, drop, length-drop, sym, ap, ◌∙◌, arith, length-append, append_assoc, append-nil, take-append-drop}
 use Rattle.std.proofs.lemmas.Bool.Decides.{nat_tests}
 use Rattle.no_std_io2_base.specs.declared.error.ErrorKind.{ErrorKind}
 use Rattle.no_std_io2_base.specs.declared.error.Error.{Error}
@@ -82,3 +82,8 @@ IsEnd-held old mid new x f e = (f.0, ap (λ l. l ++ x) f.1 ∙ append_assoc f.0 
 pub call_steady : {a c : Told} {x : List ℕ} (reply : Result (Unit {0}) Error) → a.mishaps ≡ Some [] → Moves a x (call_mishap reply) c → IsOk reply
 call_steady (Ok u) e f = refl
 call_steady (Err err) e f = absurd (Moves-steady e f)
+
+-- the same, with the inner writer the same
+pub Moves-kept : {W : Type 0} (told : W → Told) (inner next : W) (old new x : List ℕ) → next ≡ inner → new ≡ old ++ x → Moves (with_buffer (told inner) old) x [] (with_buffer (told next) new)
+Moves-kept told inner next old new x same e =
+    subst (λ w. Moves (with_buffer (told inner) old) x [] (with_buffer (told w) new)) (sym same) (Moves-held (told inner) old new x e)

@@ -1,5 +1,6 @@
 //! A writer with a window of held bytes in front: what both buffered writers stand on.
 ghost use Rattle.std.specs.Prelude.{◌≡◌, ◌+◌, ◌<◌, ◌≤◌, ◌⊎◌, [], ◌∷◌, ◌++◌, length, Ok, IsOk, IfOk, IfErr, IsOkAnd, OnOk, false};
+ghost use Rattle.std.specs.Bool.{OnTrue, OnFalse};
 ghost use Rattle.std.specs.Borrow.{Lends, sem};
 ghost use Rattle.no_std_io2.specs.contracts.buffered.sender.Sender.{the_row as sender-row};
 ghost use Rattle.no_std_io2_base.specs.Errors.{error_kind, is_interruption, IsNoInterruption};
@@ -170,7 +171,23 @@ impl<W: Write + Drop, const S: usize> Sender<W, S> {
         Ok(())
     }
 
-    /// The whole of `write`. It stands apart, so that the one test for room is inlined.
+    /// Holds `buf` where it is shorter than the room behind what is held: the hot path of a write.
+    #[inline(always)]
+    pub(crate) fn hold_if_room(&mut self, buf: &[u8]) -> bool
+        ensures held { OnTrue result ((length buf.now < S)
+            × (length (sender_buffer self.old) + length buf.now ≤ S)
+            × (sender_inner self.new ≡ sender_inner self.old)
+            × (sender_buffer self.new ≡ sender_buffer self.old ++ buf.now)) }
+        ensures same { OnFalse result (self.new ≡ self.old) }
+    {
+        if buf.len() < self.window.room() {
+            self.window.append(buf);
+            return true;
+        }
+        false
+    }
+
+    /// The whole of `write`. It stands apart, so that callers inline no more than the hot path.
     #[cold]
     #[inline(never)]
     fn write_cold(&mut self, buf: &[u8]) -> Result<usize>
@@ -254,10 +271,6 @@ impl<W: Write + Drop, const S: usize> Write for Sender<W, S> {
             → W.is_metered (sender_inner self.new) × (W.cost (sender_inner self.new)
             ≡ W.cost (sender_inner self.old) + writing_calls S (sender_buffer self.old) buf.now) }
     {
-        if buf.len() < self.window.room() {
-            self.window.append(buf);
-            return Ok(buf.len());
-        }
         self.write_cold(buf)
     }
 
@@ -285,6 +298,7 @@ impl<W: Write + Drop, const S: usize> Write for Sender<W, S> {
         ensures all { W.takes_all (sender_inner self.old) → W.takes_all (sender_inner self.new) }
         ensures cost { ⊥ → W.takes_all (sender_inner self.old)
             → ⊥ × (W.cost (sender_inner self.new) ≡ W.cost (sender_inner self.old) + sending_calls buf.now) }
+        ensures ok { W.takes_all (sender_inner self.old) → IsOk result }
         ensures rest { IsEnd (sender_buffer self.old ++ buf.now) (sender_buffer self.new)
             ⊎ IsEnd (sender_buffer self.old) (sender_buffer self.new) }
         ensures fits { length buf.now < S → length (sender_buffer self.old) + length buf.now ≤ S
@@ -296,10 +310,6 @@ impl<W: Write + Drop, const S: usize> Write for Sender<W, S> {
             → W.is_metered (sender_inner self.new) × (W.cost (sender_inner self.new)
             ≡ W.cost (sender_inner self.old) + writing_calls S (sender_buffer self.old) buf.now) }
     {
-        if buf.len() < self.window.room() {
-            self.window.append(buf);
-            return Ok(());
-        }
         self.write_all_cold(buf)
     }
 

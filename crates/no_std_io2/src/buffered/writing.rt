@@ -121,6 +121,7 @@ impl<W: Write + Drop, const S: usize> Write for BufWriter<W, S> {
 
     ghost is_metered = { λ _. ⊥ };
 
+    #[inline(always)]
     fn write(&mut self, buf: &[u8]) -> Result<usize>
         ensures bound { IfOk result (λ n. n ≤ length buf.now) }
         ensures moves { Moves (writer_told W.told self.old) (taken result buf.now)
@@ -140,6 +141,9 @@ impl<W: Write + Drop, const S: usize> Write for BufWriter<W, S> {
             → W.is_metered (writer_inner self.new) × (W.cost (writer_inner self.new)
             ≡ W.cost (writer_inner self.old) + writing_calls S (writer_buffer self.old) buf.now) }
     {
+        if self.core.hold_if_room(buf) {
+            return Ok(buf.len());
+        }
         self.core.write(buf)
     }
 
@@ -159,6 +163,7 @@ impl<W: Write + Drop, const S: usize> Write for BufWriter<W, S> {
         self.core.flush()
     }
 
+    #[inline(always)]
     fn write_all(&mut self, buf: &[u8]) -> Result<()>
         ensures fault { IsNoInterruption result }
         ensures moves { MovesFront (writer_told W.told self.old) buf.now result (writer_told W.told self.new) }
@@ -176,6 +181,9 @@ impl<W: Write + Drop, const S: usize> Write for BufWriter<W, S> {
             → W.is_metered (writer_inner self.new) × (W.cost (writer_inner self.new)
             ≡ W.cost (writer_inner self.old) + writing_calls S (writer_buffer self.old) buf.now) }
     {
+        if self.core.hold_if_room(buf) {
+            return Ok(());
+        }
         self.core.write_all(buf)
     }
 
