@@ -180,11 +180,7 @@ impl<W: Write + Drop, const S: usize> Sender<W, S> {
             × (sender_buffer self.new ≡ sender_buffer self.old ++ buf.now)) }
         ensures same { OnFalse result (self.new ≡ self.old) }
     {
-        if buf.len() < self.window.room() {
-            self.window.append(buf);
-            return true;
-        }
-        false
+        self.window.append_if_room(buf)
     }
 
     /// The whole of `write`. It stands apart, so that callers inline no more than the hot path.

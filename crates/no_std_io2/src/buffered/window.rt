@@ -1,5 +1,6 @@
 //! The bytes from a start to an end inside an array.
-ghost use Rattle.std.specs.Prelude.{◌≡◌, ◌+◌, ◌-◌, ◌≤◌, [], ◌++◌, length, drop};
+ghost use Rattle.std.specs.Prelude.{◌≡◌, ◌+◌, ◌-◌, ◌<◌, ◌≤◌, [], ◌++◌, length, drop};
+ghost use Rattle.std.specs.Bool.{OnTrue, OnFalse};
 
 /// Holds the bytes from `start` to `end`. Dropping some at the front moves no byte.
 #[derive(Drop)]
@@ -89,6 +90,23 @@ impl<const S: usize> Window<S> {
         let all = &mut self.bytes[..];
         all[self.end..end].copy_from_slice(more);
         self.end = end;
+    }
+
+    /// Copies `more` behind the end, where that leaves room there. No held byte moves.
+    #[inline(always)]
+    pub(crate) fn append_if_room(&mut self, more: &[u8]) -> bool
+        ensures held { OnTrue result ((length more.now < window_room self.old)
+            × (window_bytes self.new ≡ window_bytes self.old ++ more.now)) }
+        ensures same { OnFalse result (self.new ≡ self.old) }
+    {
+        let end = self.end + more.len();
+        if end >= S {
+            return false;
+        }
+        let all = &mut self.bytes[..];
+        all[self.end..end].copy_from_slice(more);
+        self.end = end;
+        true
     }
 
     /// Appends `more`. The held bytes move only where it doesn't fit behind the end.
