@@ -277,6 +277,7 @@ impl<W: Write + Drop, const S: usize> Write for Sender<W, S> {
         ensures all { W.takes_all (sender_inner self.old) → W.takes_all (sender_inner self.new) }
         ensures cost { ⊥ → W.takes_all (sender_inner self.old)
             → ⊥ × (W.cost (sender_inner self.new) ≡ W.cost (sender_inner self.old)) }
+        ensures ok { W.takes_all (sender_inner self.old) → IsOk result }
         ensures sent { OnOk result (sender_buffer self.new ≡ []) }
         ensures rest { IsEnd (sender_buffer self.old) (sender_buffer self.new) }
         ensures calls { W.is_metered (sender_inner self.old) → W.takes_all (sender_inner self.old)

@@ -1,20 +1,36 @@
-// A buffer in front of a writer.
-ghost use Rattle.std.specs.Prelude.{◌≡◌, ◌+◌, ◌<◌, ◌≤◌, ◌⊎◌, [], ◌∷◌, ◌++◌, length, Ok, IsOk, IfOk, IfErr, IsOkAnd, OnOk, false};
+//! A buffer in front of a writer.
+ghost use Rattle.std.specs.Prelude.{Some, ◌≡◌, ◌+◌, ◌<◌, ◌≤◌, ◌⊎◌, [], ◌∷◌, ◌++◌, length, Ok, IsOk, IfOk, IfErr, IsOkAnd, OnOk, false};
 ghost use Rattle.std.specs.Borrow.{Lends, sem};
 ghost use Rattle.no_std_io2.specs.contracts.buffered.writing.BufWriter.{the_row as writer-row};
-ghost use Rattle.no_std_io2_base.specs.Errors.{error_kind, is_interruption, IsNoInterruption};
+ghost use Rattle.no_std_io2_base.specs.Errors.{error_kind, error_display, IsFault, IsNoInterruption};
 ghost use Rattle.no_std_io2_base.specs.Writes.{Moves, MovesFront, taken, write_mishap, call_mishap};
 ghost use Rattle.no_std_io2.specs.Buffered.{writer_inner, writer_buffer, writer_told, into_inner_error_writer, into_inner_error_cause, Sends, sending_calls, writing_calls, buffer_after, IsEnd, writer_with_inner};
 
 use super::sender::Sender;
 use no_std_io2_base::error::{Error, Result};
 use no_std_io2_base::traits::Write;
+use std::fmt;
+use std::fmt::{Debug, Display, Formatter};
 
+/// A buffer of `S` bytes in front of a writer, for programs that write many small pieces: the inner
+/// writer gets few large ones. Follows `std::io::BufWriter`, over an array in place of a vector.
+///
+/// A piece shorter than `S` is held whole; what is held is *sent* first where the two together are
+/// above `S`. A piece of `S` bytes and more goes past the buffer. Sending repeats the inner `write`
+/// with all that is held, passes over interruptions and stops at a fault; what was taken is no
+/// longer held then, so no byte goes out twice. With `S` = 0 each call goes to the inner writer.
+///
+/// Dropping it sends once, ignores a fault, and doesn't flush the inner writer. To see a fault,
+/// call [`flush`](Write::flush) or [`into_inner`](BufWriter::into_inner) first.
+///
+/// To contracts it tells what its inner writer tells, with the buffer's bytes held behind the inner
+/// writer's own.
 pub struct BufWriter<W: Write + Drop, const S: usize> {
     core: Sender<W, S>,
 }
 
 impl<W: Write + Drop, const S: usize> BufWriter<W, S> {
+    /// Puts an empty buffer of `S` bytes in front of `inner`. Follows `std::io::BufWriter::with_capacity`.
     pub fn new(inner: W) -> BufWriter<W, S>
         ensures inner { writer_inner result ≡ inner }
         ensures empty { writer_buffer result ≡ [] }
@@ -24,13 +40,15 @@ impl<W: Write + Drop, const S: usize> BufWriter<W, S> {
         }
     }
 
+    /// The inner writer. Follows `std::io::BufWriter::get_ref`.
     pub fn get_ref(&self) -> &W
         ensures { result.now ≡ writer_inner self.now }
     {
         self.core.get_ref()
     }
 
-    // A write through the result lands in the inner writer, and nothing else changes.
+    /// The inner writer, to be changed. The buffer stays. Bytes that are written here go out before
+    /// those that are held. Follows `std::io::BufWriter::get_mut`.
     pub fn get_mut(&mut self) -> &mut W
         ensures value { result.now ≡ writer_inner self.old }
         ensures* writes_back { sem 𝓛 (Lends (writer-row W.row S.row) W.row self.entry result
@@ -39,6 +57,7 @@ impl<W: Write + Drop, const S: usize> BufWriter<W, S> {
         self.core.get_mut()
     }
 
+    /// The held bytes, at most `S`. Follows `std::io::BufWriter::buffer`.
     pub fn buffer(&self) -> &[u8]
         ensures value { result.now ≡ writer_buffer self.now }
         ensures bound { length result.now ≤ S }
@@ -46,18 +65,36 @@ impl<W: Write + Drop, const S: usize> BufWriter<W, S> {
         self.core.buffer()
     }
 
+    /// How many bytes can be held: `S`. Follows `std::io::BufWriter::capacity`.
     pub fn capacity(&self) -> usize
         ensures { result ≡ S }
     {
         S
     }
 
+    /// Sends what is held and gives the inner writer, which isn't flushed. With nothing held it makes
+    /// no inner call. Follows `std::io::BufWriter::into_inner`.
+    ///
+    /// # Errors
+    /// `WriteZero` where the inner writer took no byte of some, else its first fault; never
+    /// `Interrupted`. The writer comes back inside the error, and holds what was not sent.
+    ///
+    /// In a `match`, bind the error to a name: the borrow check refuses `Err(_)` here, and passes
+    /// `Err(_e)`.
     pub fn into_inner(mut self) -> std::result::Result<W, IntoInnerError<BufWriter<W, S>>>
+        // No byte is lost.
         ensures ok { IfOk result (λ w. Moves (writer_told W.told self) [] [] (W.told w)) }
-        ensures fault { IfErr result (λ e. is_interruption (error_kind (into_inner_error_cause e)) ≡ false) }
         ensures err { IfErr result (λ e. Moves (writer_told W.told self) []
             (error_kind (into_inner_error_cause e) ∷ []) (writer_told W.told (into_inner_error_writer e))) }
+        ensures rest { IfErr result (λ e. IsEnd (writer_buffer self)
+            (writer_buffer (into_inner_error_writer e))) }
+
+        // Which errors come, and when none does.
+        ensures fault { IfErr result (λ e. IsFault (into_inner_error_cause e)) }
         ensures empty { writer_buffer self ≡ [] → result ≡ Ok (writer_inner self) }
+        ensures steady { (W.told (writer_inner self)).mishaps ≡ Some [] → IsOk result }
+
+        // What it costs.
         ensures all { W.takes_all (writer_inner self) → IsOkAnd result W.takes_all }
         ensures calls { W.is_metered (writer_inner self) → W.takes_all (writer_inner self)
             → IfOk result (λ w. W.is_metered w
@@ -68,14 +105,12 @@ impl<W: Write + Drop, const S: usize> BufWriter<W, S> {
                 let BufWriter { core } = self;
                 Ok(core.into_parts())
             }
-            Err(error) => Err(IntoInnerError {
-                writer: self,
-                error,
-            }),
+            Err(error) => Err(IntoInnerError::new(self, error)),
         }
     }
 }
 
+/// Sends once and ignores a fault; the inner writer isn't flushed.
 impl<W: Write + Drop, const S: usize> Drop for BufWriter<W, S> {
     fn drop(mut self) {
         let _ = self.core.send();
@@ -83,7 +118,19 @@ impl<W: Write + Drop, const S: usize> Drop for BufWriter<W, S> {
     }
 }
 
-// The sending failed. It holds the writer, with the bytes that are not yet sent.
+/// Shows the inner writer, and how many bytes are held of how many can be, as `3/8`.
+impl<W: Write + Drop + Debug, const S: usize> Debug for BufWriter<W, S> {
+    fn fmt<V: fmt::Write>(&self, f: &mut Formatter<V>) -> fmt::Result {
+        let held = self.buffer().len();
+        f.debug_struct("BufWriter")
+            .field("writer", self.get_ref())
+            .field("buffer", &format_args!("{held}/{S}"))
+            .finish()
+    }
+}
+
+/// The error of [`BufWriter::into_inner`]: why the sending failed, and the writer, which holds the
+/// bytes that were not sent. Follows `std::io::IntoInnerError`.
 #[derive(Drop)]
 pub struct IntoInnerError<W> {
     writer: W,
@@ -91,12 +138,21 @@ pub struct IntoInnerError<W> {
 }
 
 impl<W> IntoInnerError<W> {
+    pub(crate) fn new(writer: W, error: Error) -> IntoInnerError<W>
+        ensures writer { into_inner_error_writer result ≡ writer }
+        ensures cause { into_inner_error_cause result ≡ error }
+    {
+        IntoInnerError { writer, error }
+    }
+
+    /// Why the sending failed. Follows `std::io::IntoInnerError::error`.
     pub fn error(&self) -> &Error
         ensures { result.now ≡ into_inner_error_cause self.now }
     {
         &self.error
     }
 
+    /// The buffered writer, to be used again. Follows `std::io::IntoInnerError::into_inner`.
     pub fn into_inner(self) -> W
         ensures { result ≡ into_inner_error_writer self }
     {
@@ -104,6 +160,7 @@ impl<W> IntoInnerError<W> {
     }
 }
 
+/// The error alone; the writer is dropped, and a buffered one sends once more then.
 impl<W: Drop> From<IntoInnerError<W>> for Error {
     ghost from_gives = { λ x y. y ≡ into_inner_error_cause x };
 
@@ -112,6 +169,27 @@ impl<W: Drop> From<IntoInnerError<W>> for Error {
     }
 }
 
+/// Prints what the error prints.
+impl<W> Display for IntoInnerError<W> {
+    ghost output = { λ e. Some (error_display (into_inner_error_cause e)) };
+
+    fn fmt<V: fmt::Write>(&self, f: &mut Formatter<V>) -> fmt::Result {
+        Display::fmt(&self.error, f)
+    }
+}
+
+impl<W: Debug> Debug for IntoInnerError<W> {
+    fn fmt<V: fmt::Write>(&self, f: &mut Formatter<V>) -> fmt::Result {
+        f.debug_struct("IntoInnerError")
+            .field("writer", &self.writer)
+            .field("error", &self.error)
+            .finish()
+    }
+}
+
+impl<W: Debug + Drop> std::error::Error for IntoInnerError<W> {}
+
+/// Tells what its inner writer tells, and holds its buffer behind that.
 impl<W: Write + Drop, const S: usize> Write for BufWriter<W, S> {
     ghost told = { writer_told W.told };
 
@@ -121,8 +199,14 @@ impl<W: Write + Drop, const S: usize> Write for BufWriter<W, S> {
 
     ghost is_metered = { λ _. ⊥ };
 
+    /// Holds `buf` where it is shorter than `S`, else hands it to the inner `write`. What is held is
+    /// sent first where both together are above `S`; a refusal there accepts nothing of `buf`.
+    ///
+    /// # Errors
+    /// Sending's fault, or the inner `write`'s error. What was not sent is still held.
     #[inline(always)]
     fn write(&mut self, buf: &[u8]) -> Result<usize>
+        // The trait's.
         ensures bound { IfOk result (λ n. n ≤ length buf.now) }
         ensures moves { Moves (writer_told W.told self.old) (taken result buf.now)
             (write_mishap result buf.now) (writer_told W.told self.new) }
@@ -130,6 +214,8 @@ impl<W: Write + Drop, const S: usize> Write for BufWriter<W, S> {
             → W.takes_all (writer_inner self.new) × (result ≡ Ok (length buf.now)) }
         ensures cost { ⊥ → W.takes_all (writer_inner self.old)
             → ⊥ × (W.cost (writer_inner self.new) ≡ W.cost (writer_inner self.old) + 1) }
+
+        // What is held then.
         ensures rest { IsEnd (writer_buffer self.old ++ taken result buf.now) (writer_buffer self.new) }
         ensures fits { length buf.now < S → length (writer_buffer self.old) + length buf.now ≤ S
             → IsOk result × (writer_inner self.new ≡ writer_inner self.old)
@@ -137,6 +223,8 @@ impl<W: Write + Drop, const S: usize> Write for BufWriter<W, S> {
         ensures whole { length buf.now < S → IfOk result (λ n. n ≡ length buf.now) }
         ensures after { W.takes_all (writer_inner self.old)
             → writer_buffer self.new ≡ buffer_after S (writer_buffer self.old) buf.now }
+
+        // What it costs.
         ensures calls { W.is_metered (writer_inner self.old) → W.takes_all (writer_inner self.old)
             → W.is_metered (writer_inner self.new) × (W.cost (writer_inner self.new)
             ≡ W.cost (writer_inner self.old) + writing_calls S (writer_buffer self.old) buf.now) }
@@ -147,13 +235,22 @@ impl<W: Write + Drop, const S: usize> Write for BufWriter<W, S> {
         self.core.write(buf)
     }
 
+    /// Sends what is held, then flushes the inner writer.
+    ///
+    /// # Errors
+    /// Sending's fault, with the inner writer not flushed, or the inner `flush`'s error. What was
+    /// not sent is still held.
     fn flush(&mut self) -> Result<()>
+        // The trait's.
         ensures empty { OnOk result ((writer_told W.told self.new).held ≡ []) }
         ensures moves { Moves (writer_told W.told self.old) [] (call_mishap result)
             (writer_told W.told self.new) }
         ensures all { W.takes_all (writer_inner self.old) → W.takes_all (writer_inner self.new) }
         ensures cost { ⊥ → W.takes_all (writer_inner self.old)
             → ⊥ × (W.cost (writer_inner self.new) ≡ W.cost (writer_inner self.old)) }
+
+        // What is held then, and what it costs.
+        ensures ok { W.takes_all (writer_inner self.old) → IsOk result }
         ensures sent { OnOk result (writer_buffer self.new ≡ []) }
         ensures rest { IsEnd (writer_buffer self.old) (writer_buffer self.new) }
         ensures calls { W.is_metered (writer_inner self.old) → W.takes_all (writer_inner self.old)
@@ -163,13 +260,21 @@ impl<W: Write + Drop, const S: usize> Write for BufWriter<W, S> {
         self.core.flush()
     }
 
+    /// As `write`, with the inner `write_all` for a buffer of `S` bytes and more.
+    ///
+    /// # Errors
+    /// Sending's fault, or the inner `write_all`'s error. What was not sent is still held.
     #[inline(always)]
     fn write_all(&mut self, buf: &[u8]) -> Result<()>
+        // The trait's.
         ensures fault { IsNoInterruption result }
         ensures moves { MovesFront (writer_told W.told self.old) buf.now result (writer_told W.told self.new) }
         ensures all { W.takes_all (writer_inner self.old) → W.takes_all (writer_inner self.new) }
         ensures cost { ⊥ → W.takes_all (writer_inner self.old)
             → ⊥ × (W.cost (writer_inner self.new) ≡ W.cost (writer_inner self.old) + sending_calls buf.now) }
+
+        // What is held then.
+        ensures ok { W.takes_all (writer_inner self.old) → IsOk result }
         ensures rest { IsEnd (writer_buffer self.old ++ buf.now) (writer_buffer self.new)
             ⊎ IsEnd (writer_buffer self.old) (writer_buffer self.new) }
         ensures fits { length buf.now < S → length (writer_buffer self.old) + length buf.now ≤ S
@@ -177,6 +282,8 @@ impl<W: Write + Drop, const S: usize> Write for BufWriter<W, S> {
             × (writer_buffer self.new ≡ writer_buffer self.old ++ buf.now) }
         ensures after { W.takes_all (writer_inner self.old)
             → writer_buffer self.new ≡ buffer_after S (writer_buffer self.old) buf.now }
+
+        // What it costs.
         ensures calls { 0 < S → W.is_metered (writer_inner self.old) → W.takes_all (writer_inner self.old)
             → W.is_metered (writer_inner self.new) × (W.cost (writer_inner self.new)
             ≡ W.cost (writer_inner self.old) + writing_calls S (writer_buffer self.old) buf.now) }
