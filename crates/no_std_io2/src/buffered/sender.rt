@@ -114,7 +114,7 @@ impl<W: Write + Drop, const S: usize> Sender<W, S> {
         ensures same { sender_buffer self.new ≡ sender_buffer self.old }
         ensures all { W.takes_all (sender_inner self.old)
             → W.takes_all (sender_inner self.new) × (result ≡ Ok (length buf.now)) }
-        ensures cost { W.is_metered (sender_inner self.old) → W.takes_all (sender_inner self.old)
+        ensures calls { W.is_metered (sender_inner self.old) → W.takes_all (sender_inner self.old)
             → W.is_metered (sender_inner self.new)
             × (W.cost (sender_inner self.new) ≡ W.cost (sender_inner self.old) + 1) }
     {
@@ -127,8 +127,9 @@ impl<W: Write + Drop, const S: usize> Sender<W, S> {
         ensures moves { MovesFront (W.told (sender_inner self.old)) buf.now result
             (W.told (sender_inner self.new)) }
         ensures same { sender_buffer self.new ≡ sender_buffer self.old }
-        ensures all { W.takes_all (sender_inner self.old) → W.takes_all (sender_inner self.new) × IsOk result }
-        ensures cost { W.is_metered (sender_inner self.old) → W.takes_all (sender_inner self.old)
+        ensures all { W.takes_all (sender_inner self.old) → W.takes_all (sender_inner self.new) }
+        ensures ok { W.takes_all (sender_inner self.old) → IsOk result }
+        ensures calls { W.is_metered (sender_inner self.old) → W.takes_all (sender_inner self.old)
             → W.is_metered (sender_inner self.new)
             × (W.cost (sender_inner self.new) ≡ W.cost (sender_inner self.old) + sending_calls buf.now) }
     {
@@ -228,6 +229,9 @@ impl<W: Write + Drop, const S: usize> Sender<W, S> {
         ensures calls { 0 < S → W.is_metered (sender_inner self.old) → W.takes_all (sender_inner self.old)
             → W.is_metered (sender_inner self.new) × (W.cost (sender_inner self.new)
             ≡ W.cost (sender_inner self.old) + writing_calls S (sender_buffer self.old) buf.now) }
+        ensures few { W.is_metered (sender_inner self.old) → W.takes_all (sender_inner self.old)
+            → W.is_metered (sender_inner self.new) × (W.cost (sender_inner self.new)
+            ≤ W.cost (sender_inner self.old) + sending_calls (sender_buffer self.old) + 1) }
     {
         self.make_way(buf.len())?;
         if buf.len() >= S {
@@ -306,6 +310,9 @@ impl<W: Write + Drop, const S: usize> Write for Sender<W, S> {
         ensures calls { 0 < S → W.is_metered (sender_inner self.old) → W.takes_all (sender_inner self.old)
             → W.is_metered (sender_inner self.new) × (W.cost (sender_inner self.new)
             ≡ W.cost (sender_inner self.old) + writing_calls S (sender_buffer self.old) buf.now) }
+        ensures few { W.is_metered (sender_inner self.old) → W.takes_all (sender_inner self.old)
+            → W.is_metered (sender_inner self.new) × (W.cost (sender_inner self.new)
+            ≤ W.cost (sender_inner self.old) + sending_calls (sender_buffer self.old) + 1) }
     {
         self.write_all_cold(buf)
     }

@@ -138,7 +138,7 @@ pub struct IntoInnerError<W> {
 }
 
 impl<W> IntoInnerError<W> {
-    pub(crate) fn new(writer: W, error: Error) -> IntoInnerError<W>
+    pub(super) fn new(writer: W, error: Error) -> IntoInnerError<W>
         ensures writer { into_inner_error_writer result ≡ writer }
         ensures cause { into_inner_error_cause result ≡ error }
     {
