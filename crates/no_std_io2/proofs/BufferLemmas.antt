@@ -87,3 +87,14 @@ call_steady (Err err) e f = absurd (Moves-steady e f)
 pub Moves-kept : {W : Type 0} (told : W → Told) (inner next : W) (old new x : List ℕ) → next ≡ inner → new ≡ old ++ x → Moves (with_buffer (told inner) old) x [] (with_buffer (told next) new)
 Moves-kept told inner next old new x same e =
     subst (λ w. Moves (with_buffer (told inner) old) x [] (with_buffer (told w) new)) (sym same) (Moves-held (told inner) old new x e)
+
+-- after the whole buffer was sent, with no buffer left
+pub Moves-out : {a b : Told} {k : List ErrorKind} (old sent rest : List ℕ) → old ≡ sent ++ rest → rest ≡ [] → Moves a sent k b → Moves (with_buffer a old) [] k b
+Moves-out {a} {b} old sent rest e none f =
+    let whole : old ≡ sent = e ∙ ap (λ l. sent ++ l) none ∙ append-nil sent in
+    record {
+      front = f.front;
+      bytes = f.bytes ∙ append_assoc a.out a.held sent ∙ ap (λ l. a.out ++ (a.held ++ l)) (sym whole) ∙ sym (append-nil (a.out ++ (a.held ++ old)));
+      mishaps = f.mishaps;
+      turns = f.turns;
+    }

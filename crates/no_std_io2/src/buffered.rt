@@ -1,6 +1,7 @@
 //! Buffers in front of readers and writers.
 mod lines;
 mod sender;
+mod tells;
 mod window;
 mod writing;
 

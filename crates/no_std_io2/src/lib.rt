@@ -3,6 +3,8 @@
 #![tactic(auto)]
 
 pub mod buffered;
+#[cfg(test)]
+mod tests;
 
 /// The standard trait of errors.
 pub mod error {

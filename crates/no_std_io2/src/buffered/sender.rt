@@ -1,5 +1,5 @@
 //! A writer with a window of held bytes in front: what both buffered writers stand on.
-ghost use Rattle.std.specs.Prelude.{◌≡◌, ◌+◌, ◌<◌, ◌≤◌, ◌⊎◌, [], ◌∷◌, ◌++◌, length, Ok, IsOk, IfOk, IfErr, IsOkAnd, OnOk, false};
+ghost use Rattle.std.specs.Prelude.{◌≡◌, ◌+◌, ◌<◌, ◌≤◌, ◌⊎◌, [], ◌∷◌, ◌++◌, length, Ok, IsOk, IfOk, IfErr, IsOkAnd, OnOk, OnErr, false};
 ghost use Rattle.std.specs.Bool.{OnTrue, OnFalse};
 ghost use Rattle.std.specs.Borrow.{Lends, sem};
 ghost use Rattle.no_std_io2.specs.contracts.buffered.sender.Sender.{the_row as sender-row};
@@ -80,6 +80,7 @@ impl<W: Write + Drop, const S: usize> Sender<W, S> {
     pub(crate) fn send(&mut self) -> Result<()>
         ensures fault { IsNoInterruption result }
         ensures empty { OnOk result (sender_buffer self.new ≡ []) }
+        ensures left { OnErr result (0 < length (sender_buffer self.new)) }
         ensures sends { Sends (W.told self.old.inner) (sender_buffer self.old) result
             (W.told self.new.inner) (sender_buffer self.new) }
         ensures idle { sender_buffer self.old ≡ [] → (self.new.inner ≡ self.old.inner) × IsOk result }
@@ -228,6 +229,9 @@ impl<W: Write + Drop, const S: usize> Sender<W, S> {
         ensures calls { 0 < S → W.is_metered (sender_inner self.old) → W.takes_all (sender_inner self.old)
             → W.is_metered (sender_inner self.new) × (W.cost (sender_inner self.new)
             ≡ W.cost (sender_inner self.old) + writing_calls S (sender_buffer self.old) buf.now) }
+        ensures few { W.is_metered (sender_inner self.old) → W.takes_all (sender_inner self.old)
+            → W.is_metered (sender_inner self.new) × (W.cost (sender_inner self.new)
+            ≤ W.cost (sender_inner self.old) + sending_calls (sender_buffer self.old) + 1) }
     {
         self.make_way(buf.len())?;
         if buf.len() >= S {
@@ -307,8 +311,7 @@ impl<W: Write + Drop, const S: usize> Write for Sender<W, S> {
             → W.is_metered (sender_inner self.new) × (W.cost (sender_inner self.new)
             ≡ W.cost (sender_inner self.old) + writing_calls S (sender_buffer self.old) buf.now) }
         ensures few { W.is_metered (sender_inner self.old) → W.takes_all (sender_inner self.old)
-            → W.is_metered (sender_inner self.new)
-            × (W.cost (sender_inner self.new)
+            → W.is_metered (sender_inner self.new) × (W.cost (sender_inner self.new)
             ≤ W.cost (sender_inner self.old) + sending_calls (sender_buffer self.old) + 1) }
     {
         self.write_all_cold(buf)

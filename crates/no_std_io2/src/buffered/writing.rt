@@ -6,6 +6,8 @@ ghost use Rattle.no_std_io2_base.specs.Errors.{error_kind, error_display, IsFaul
 ghost use Rattle.no_std_io2_base.specs.Writes.{Moves, MovesFront, taken, write_mishap, call_mishap};
 ghost use Rattle.no_std_io2.specs.Buffered.{writer_inner, writer_buffer, writer_told, into_inner_error_writer, into_inner_error_cause, Sends, sending_calls, writing_calls, buffer_after, IsEnd, writer_with_inner};
 
+mod seeking;
+
 use super::sender::Sender;
 use no_std_io2_base::error::{Error, Result};
 use no_std_io2_base::traits::Write;
@@ -138,7 +140,7 @@ pub struct IntoInnerError<W> {
 }
 
 impl<W> IntoInnerError<W> {
-    pub(crate) fn new(writer: W, error: Error) -> IntoInnerError<W>
+    pub(super) fn new(writer: W, error: Error) -> IntoInnerError<W>
         ensures writer { into_inner_error_writer result ≡ writer }
         ensures cause { into_inner_error_cause result ≡ error }
     {

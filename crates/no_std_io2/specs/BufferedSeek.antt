@@ -1,0 +1,14 @@
+-- Seeking through a buffer.
+use Rattle.std.specs.Prelude.{◌≡◌, ℕ, List, [], length, Result}
+use Rattle.no_std_io2_base.specs.declared.error.Error.{Error}
+use Rattle.no_std_io2_base.specs.declared.traits.seeking.SeekFrom.{SeekFrom}
+use Rattle.no_std_io2_base.specs.Seek.{Seeks}
+use Rattle.no_std_io2_base.specs.Writes.{Told, Moves}
+
+-- All was sent, which left the inner writer in some state, and it was sought from there.
+pub record SeeksAfterSending {W : Type 0} (told : W → Told) (has_store : W → Type 0) (content : W → List ℕ) (position : W → ℕ) (old : Told) (pos : SeekFrom) (reply : Result ℕ Error) (new : W) : Type 0 where
+  pub sent : W
+  -- no byte is lost
+  pub moves : Moves old [] [] (told sent)
+  -- a store that it told then was sought
+  pub seeks : has_store sent → has_store new × (content new ≡ content sent) × Seeks (length (content sent)) (position sent) pos reply (position new)

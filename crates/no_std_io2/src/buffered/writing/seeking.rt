@@ -1,0 +1,53 @@
+ghost use Rattle.std.specs.Prelude.{◌≡◌, ◌<◌, [], ◌∷◌, length, IfOk, IfErr, OnOk};
+ghost use Rattle.no_std_io2_base.specs.Errors.{error_kind};
+ghost use Rattle.no_std_io2_base.specs.Seek.{Seeks};
+ghost use Rattle.no_std_io2_base.specs.Writes.{Moves};
+ghost use Rattle.no_std_io2.specs.Buffered.{writer_inner, writer_buffer, writer_told, IsEnd};
+ghost use Rattle.no_std_io2.specs.BufferedSeek.{SeeksAfterSending};
+
+use super::BufWriter;
+use no_std_io2_base::error::Result;
+use no_std_io2_base::traits::{Seek, SeekFrom, Stored, Write};
+
+/// The inner writer's store, where the buffer is empty.
+impl<W: Write + Stored + Drop, const S: usize> Stored for BufWriter<W, S> {
+    ghost has_store = { λ w. (writer_buffer w ≡ []) × W.has_store (writer_inner w) };
+
+    ghost content = { λ w. W.content (writer_inner w) };
+
+    ghost position = { λ w. W.position (writer_inner w) };
+}
+
+/// Follows `std::io::Seek for BufWriter`.
+impl<W: Write + Seek + Drop, const S: usize> Seek for BufWriter<W, S> {
+    /// Sends what is held, then seeks the inner writer.
+    ///
+    /// # Errors
+    /// Sending's fault, with the rest still held and no seek made, or the inner `seek`'s error, with
+    /// nothing held.
+    fn seek(&mut self, pos: SeekFrom) -> Result<u64>
+        // The trait's.
+        ensures store { (writer_buffer self.old ≡ []) × W.has_store (writer_inner self.old)
+            → ((writer_buffer self.new ≡ []) × W.has_store (writer_inner self.new))
+            × (W.content (writer_inner self.new) ≡ W.content (writer_inner self.old))
+            × Seeks (length (W.content (writer_inner self.old))) (W.position (writer_inner self.old)) pos
+            result (W.position (writer_inner self.new)) }
+        ensures position { IfOk result (λ n. (writer_buffer self.new ≡ []) × W.has_store (writer_inner self.new)
+            → W.position (writer_inner self.new) ≡ n) }
+
+        // Refused by the sending, with bytes still held.
+        ensures rest { IsEnd (writer_buffer self.old) (writer_buffer self.new) }
+        ensures refused { IfErr result (λ e. 0 < length (writer_buffer self.new)
+            → Moves (writer_told W.told self.old) [] (error_kind e ∷ []) (writer_told W.told self.new)) }
+
+        // Else all was sent, and the inner seek went from there.
+        ensures empty { OnOk result (writer_buffer self.new ≡ []) }
+        ensures sent { writer_buffer self.new ≡ [] → SeeksAfterSending W.told W.has_store W.content
+            W.position (writer_told W.told self.old) pos result (writer_inner self.new) }
+    {
+        self.core.send()?;
+        self.core.get_mut().seek(pos)
+    }
+
+    ghost seek_fits = { λ w h. W.seek_fits (writer_inner w) h.1 };
+}
