@@ -1,9 +1,13 @@
 //! Buffers in front of readers and writers.
 mod lines;
+mod read_ahead;
+mod reader_tells;
+mod reading;
 mod sender;
 mod tells;
 mod window;
 mod writing;
 
 pub use lines::LineWriter;
+pub use reading::BufReader;
 pub use writing::{BufWriter, IntoInnerError};
