@@ -5,6 +5,7 @@
 pub mod buffered;
 #[cfg(test)]
 mod tests;
+pub mod util;
 
 /// The standard trait of errors.
 pub mod error {
