@@ -2,9 +2,8 @@
 use Rattle.std.proofs.Common.{◌≡◌, ℕ, ◌-◌, ◌<◌, ◌≤◌, List, [], ◌∷◌, ◌++◌, length, take, refl, sym, ap, ◌∙◌, subst, arith, Ok, Err, append_assoc, append-nil, inl, inr, length-append}
 use lib.Seq.{take-append-le}
 use Rattle.no_std_io2_base.specs.declared.error.Error.{Error}
-use Rattle.no_std_io2_base.specs.declared.error.ErrorKind.TheVariants.{OutOfMemory}
-use Rattle.no_std_io2_base.specs.Errors.{error_kind, IsInterruption, IsFault}
-use Rattle.no_std_io2_base.specs.Events.{Event, fails, events_of, bytes, HasNoFault, Reads, ReadsToEnd}
+use Rattle.no_std_io2_base.specs.Errors.{IsInterruption, IsFault}
+use Rattle.no_std_io2_base.specs.Events.{IsOutOfMemory, Event, fails, events_of, bytes, HasNoFault, Reads, ReadsToEnd}
 use Rattle.no_std_io2_base.proofs.Events.{bytes-append, bytes-events_of, HasNoFault-append, HasNoFault-events_of}
 
 -- `front`, which has no fault, is gone from E, and its bytes were appended
@@ -58,7 +57,7 @@ gathered_fault E old new after e rest t read fault = (
 )
 
 pub gathered_memory : (E : List Event) (old new : List ℕ) (after : List Event) (e : Error)
-    → Gathered E old new after → error_kind e ≡ OutOfMemory → ReadsToEnd E (Err e) old new after
+    → Gathered E old new after → IsOutOfMemory e → ReadsToEnd E (Err e) old new after
 gathered_memory E old new after e t kind = (t.front, t.split, t.gave, inr (t.no_fault, kind))
 
 -- a front stays where more is appended

@@ -1,9 +1,8 @@
 -- What a loop of reads has taken so far.
 use Rattle.std.proofs.Common.{◌≡◌, ℕ, ◌+◌, ◌-◌, ◌<◌, ◌≤◌, List, [], ◌∷◌, ◌++◌, length, take, refl, sym, ap, ◌∙◌, subst, arith, Ok, length-take-le, append_assoc, append-nil, inl, length-append}
 use Rattle.no_std_io2_base.specs.declared.error.Error.{Error}
-use Rattle.no_std_io2_base.specs.declared.error.ErrorKind.TheVariants.{UnexpectedEof}
-use Rattle.no_std_io2_base.specs.Errors.{error_kind, IsInterruption, IsFault}
-use Rattle.no_std_io2_base.specs.Events.{Event, fails, events_of, bytes, HasNoFault, cut, Reads, Fills, FallsShort, StopsAtFault}
+use Rattle.no_std_io2_base.specs.Errors.{IsInterruption, IsFault}
+use Rattle.no_std_io2_base.specs.Events.{IsUnexpectedEnd, Event, fails, events_of, bytes, HasNoFault, cut, Reads, Fills, FallsShort, StopsAtFault}
 use Rattle.no_std_io2_base.proofs.Events.{bytes-append, bytes-events_of, length-events_of, HasNoFault-append, HasNoFault-events_of, cut-append, cut-bytes}
 
 -- `front`, which has no fault, is gone from E and gave these bytes; at `room` bytes it ends with the last of them
@@ -65,7 +64,7 @@ taken_fault E room most got after e rest t read fault short =
     )
 
 pub taken_short : (may_take_none : Type 0) (E : List Event) (room : ℕ) (got : List ℕ) (after : List Event) (e : Error) (rest : List Event)
-    → Taken E room got after → after ≡ [] → after ≡ rest → error_kind e ≡ UnexpectedEof → length got < room → FallsShort may_take_none E room e rest
+    → Taken E room got after → after ≡ [] → after ≡ rest → IsUnexpectedEnd e → length got < room → FallsShort may_take_none E room e rest
 taken_short may_take_none E room got after e rest t end same kind short =
     let whole : E ≡ t.front = t.split ∙ ap (λ l. t.front ++ l) end ∙ append-nil t.front in (
       subst HasNoFault (sym whole) t.no_fault,

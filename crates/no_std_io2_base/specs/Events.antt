@@ -1,8 +1,8 @@
 -- What a reader has left to give, and what its calls do to that.
-use Rattle.std.specs.Prelude.{◌≡◌, ℕ, zero, suc, ◌<◌, List, [], ◌∷◌, ◌++◌, length, take, ⊤, Ok, Err, Result, ◌⊎◌}
+use Rattle.std.specs.Prelude.{◌≡◌, ℕ, zero, suc, ◌<◌, List, [], ◌∷◌, ◌++◌, length, take, ⊤, Ok, Err, Result, ◌⊎◌, Some, None, codes}
 use Rattle.no_std_io2_base.specs.declared.error.Error.{Error}
 use Rattle.no_std_io2_base.specs.declared.error.ErrorKind.TheVariants.{UnexpectedEof, OutOfMemory}
-use Rattle.no_std_io2_base.specs.Errors.{error_kind, IsInterruption, IsFault}
+use Rattle.no_std_io2_base.specs.Errors.{error_kind, error_text, IsInterruption, IsFault}
 
 -- what is still to come of a reader: a byte, or an error that a call answers
 pub data Event : Type 0 where
@@ -47,6 +47,14 @@ SpendsTurn (Err e) old new = new < old
 abbrev pub EndsInFault : List Event → Error → Type 0
 EndsInFault P e = (Q : List Event) × (P ≡ Q ++ fails e ∷ []) × HasNoFault Q × IsFault e
 
+-- the bytes ended too early
+abbrev pub IsUnexpectedEnd : Error → Type 0
+IsUnexpectedEnd e = (error_kind e ≡ UnexpectedEof) × (error_text e ≡ Some (codes "failed to fill whole buffer"))
+
+-- memory was refused: the kind alone
+abbrev pub IsOutOfMemory : Error → Type 0
+IsOutOfMemory e = (error_kind e ≡ OutOfMemory) × (error_text e ≡ None)
+
 -- how many bytes a call gave
 abbrev pub given : Result ℕ Error → ℕ
 given (Ok n) = n
@@ -59,7 +67,7 @@ Fills E buf after = (E ≡ cut (length buf) E ++ after) × HasNoFault (cut (leng
 -- E has no fault and fewer bytes than `room`, and all of it is taken; or, by a reader that may take none, nothing
 abbrev pub FallsShort : Type 0 → List Event → ℕ → Error → List Event → Type 0
 FallsShort may_take_none E room e after =
-    HasNoFault E × (length (bytes E) < room) × (error_kind e ≡ UnexpectedEof) × ((after ≡ []) ⊎ (may_take_none × (after ≡ E)))
+    HasNoFault E × (length (bytes E) < room) × IsUnexpectedEnd e × ((after ≡ []) ⊎ (may_take_none × (after ≡ E)))
 
 -- E up to and with its first fault, the answer, is taken, and has fewer bytes than `room`
 abbrev pub StopsAtFault : List Event → ℕ → Error → List Event → Type 0
@@ -74,4 +82,4 @@ ReadsExact may_take_none E (Err e) buf after = StopsAtFault E (length buf) e aft
 abbrev pub ReadsToEnd : List Event → Result ℕ Error → List ℕ → List ℕ → List Event → Type 0
 ReadsToEnd E (Ok n) old new after = HasNoFault E × (new ≡ old ++ bytes E) × (n ≡ length (bytes E)) × (after ≡ [])
 ReadsToEnd E (Err e) old new after =
-    (P : List Event) × (E ≡ P ++ after) × (new ≡ old ++ bytes P) × (EndsInFault P e ⊎ (HasNoFault P × (error_kind e ≡ OutOfMemory)))
+    (P : List Event) × (E ≡ P ++ after) × (new ≡ old ++ bytes P) × (EndsInFault P e ⊎ (HasNoFault P × IsOutOfMemory e))

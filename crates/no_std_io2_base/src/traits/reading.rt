@@ -1,6 +1,6 @@
 ghost use Rattle.std.specs.Prelude.{◌≡◌, ℕ, List, ◌++◌, take, drop, ◌+◌, ◌≤◌, ◌<◌, ◌^◌, min, length, IfOk, IfErr, OnOk, OnErr, IsOkAnd, vec_len, vec_capacity};
-ghost use Rattle.no_std_io2_base.specs.Errors.{error_kind, IsFault};
-ghost use Rattle.no_std_io2_base.specs.Events.{Event, cut, bytes, events_of, given, Reads, ReadsExact, ReadsToEnd, SpendsTurn};
+ghost use Rattle.no_std_io2_base.specs.Errors.{IsFault};
+ghost use Rattle.no_std_io2_base.specs.Events.{IsOutOfMemory, Event, cut, bytes, events_of, given, Reads, ReadsExact, ReadsToEnd, SpendsTurn};
 ghost use Rattle.no_std_io2_base.specs.Chain.{chain_first, chain_second, chain_tells, chain_events};
 ghost use Rattle.no_std_io2_base.specs.SingleBytes.{bytes_reader};
 ghost use Rattle.no_std_io2_base.specs.Take.{take_inner, take_limit, take_events};
@@ -25,7 +25,7 @@ pub(crate) fn reserve_room<A: Allocator>(buf: &mut Vec<u8, A>, wanted: usize) ->
     ensures items { buf.new.items ≡ buf.old.items }
     ensures len { vec_len buf.new ≡ vec_len buf.old }
     ensures room { OnOk result (vec_len buf.new + wanted ≤ vec_capacity buf.new) }
-    ensures kind { IfErr result (λ e. error_kind e ≡ ErrorKind.OutOfMemory) }
+    ensures refused { IfErr result IsOutOfMemory }
     ensures full { OnErr result (vec_capacity buf.old < vec_len buf.old + wanted) }
 {
     if buf.reserve(wanted).is_err() {
@@ -48,7 +48,7 @@ pub(crate) fn open_room<A: Allocator>(
     ensures within { filled ≤ vec_len buf.new }
     ensures front { take filled buf.new.items ≡ take filled buf.old.items }
     ensures room { OnOk result (filled < vec_len buf.new) }
-    ensures kind { IfErr result (λ e. error_kind e ≡ ErrorKind.OutOfMemory) }
+    ensures refused { IfErr result IsOutOfMemory }
     ensures full { OnErr result ((vec_capacity buf.old ≡ filled) × (vec_len buf.new ≡ filled)) }
 {
     if filled < buf.len() {

@@ -10,7 +10,7 @@ use Rattle.no_std_io2_base.proofs.traits.limiting.TakeRead.read_to_end.Goals as 
 pub returns-in_err-reserve_room-clause-told : goal.returns-in_err-reserve_room-clause-told
 returns-in_err-reserve_room-clause-told g c = λ t.
     let p = err_from_is_err_and c.from_residual.result c.from_residual.ensures.1 in
-    (t, rw (p.1, p.2) (gathered_memory _ _ _ _ _ (gathered_none _ _ _ c.reserve_room.ensures.items) c.in_err-reserve_room.ensures.kind))
+    (t, rw (p.1, p.2) (gathered_memory _ _ _ _ _ (gathered_none _ _ _ c.reserve_room.ensures.items) c.in_err-reserve_room.ensures.refused))
 
 pub returns-in_err-open_room-clause-told : goal.returns-in_err-open_room-clause-told
 returns-in_err-open_room-clause-told g c = λ t.
@@ -20,7 +20,7 @@ returns-in_err-open_room-clause-told g c = λ t.
     let opened = c.open_room.new.buf in
     let full = c.in_err-open_room.ensures.full in
     let same : opened.items ≡ take filled c.reads.buf.items = sym (take_all filled opened.items (omega (arith, full.1, opened.ok.0))) ∙ c.open_room.ensures.front in
-    (before.0, rw (p.1, p.2, same) (gathered_memory _ _ _ _ _ before.1 c.in_err-open_room.ensures.kind))
+    (before.0, rw (p.1, p.2, same) (gathered_memory _ _ _ _ _ before.1 c.in_err-open_room.ensures.refused))
 
 pub reads-preserved-in-Ok : goal.reads-preserved-in-Ok
 reads-preserved-in-Ok g c =
