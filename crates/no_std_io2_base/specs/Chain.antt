@@ -1,5 +1,5 @@
 -- What a clause reads of a `Chain`.
-use Rattle.std.specs.Prelude.{◌≡◌, ℕ, ◌+◌, false, List, [], ◌++◌, if◌then◌else◌}
+use Rattle.std.specs.Prelude.{◌≡◌, ℕ, ◌+◌, false, Bool, List, [], ◌++◌, if◌then◌else◌}
 use Rattle.no_std_io2_base.specs.declared.traits.chaining.Chain.{Chain}
 use Rattle.no_std_io2_base.specs.Events.{Event}
 
@@ -11,6 +11,10 @@ chain_first c = c.first
 abbrev pub chain_second : {T U : Type 0} → Chain T U → U
 chain_second c = c.second
 
+-- that the first is at its end, and is read no more
+abbrev pub chain_is_done : {T U : Type 0} → Chain T U → Bool
+chain_is_done c = c.done_first
+
 -- the second tells, and so does the first unless it is done
 abbrev pub chain_tells : {T U : Type 0} → (T → Type 0) → (U → Type 0) → Chain T U → Type 0
 chain_tells first second c = (c.done_first ≡ false → first c.first) × second c.second
@@ -19,6 +23,7 @@ chain_tells first second c = (c.done_first ≡ false → first c.first) × secon
 abbrev pub chain_events : {T U : Type 0} → (T → List Event) → (U → List Event) → Chain T U → List Event
 chain_events first second c = (if c.done_first then [] else first c.first) ++ second c.second
 
+-- no call of either raises its turns, and neither does the mark
 abbrev pub chain_turns : {T U : Type 0} → (T → ℕ) → (U → ℕ) → Chain T U → ℕ
 chain_turns first second c = first c.first + second c.second
 

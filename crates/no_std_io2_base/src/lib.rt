@@ -5,6 +5,7 @@
 pub mod cursor;
 pub mod error;
 pub mod impls;
+mod reader_tells;
 mod tells;
 #[cfg(test)]
 mod tests;

@@ -1,5 +1,6 @@
-ghost use Rattle.std.specs.Prelude.{◌≡◌, ℕ, ◌+◌, min, ◌++◌, length, take, drop, [], Ok, IfOk};
-ghost use Rattle.no_std_io2_base.specs.Events.{events_of};
+ghost use Rattle.std.specs.Prelude.{◌≡◌, ◌≤◌, ◌<◌, min, ◌++◌, length, take, drop, [], IfErr, OnOk, OnErr};
+ghost use Rattle.no_std_io2_base.specs.Errors.{IsFault};
+ghost use Rattle.no_std_io2_base.specs.Events.{events_of, ReadsExact};
 ghost use Rattle.no_std_io2_base.specs.Laws.{bytes_alone};
 
 use crate::error::{Error, ErrorKind, Result};
@@ -46,7 +47,17 @@ impl Read for &[u8] {
         Ok(n)
     }
 
-    fn read_exact(&mut self, buf: &mut [u8]) -> Result<()> {
+    // Where the bytes are too few, nothing is taken and the buffer is as it was.
+    fn read_exact(&mut self, buf: &mut [u8]) -> Result<()>
+        // The trait's.
+        ensures told { ReadsExact (Unit {0}) (events_of self.old.now) result buf.new (events_of self.new.now) }
+        ensures fault { IfErr result IsFault }
+        ensures turns { length self.new.now ≤ length self.old.now }
+
+        // Its own.
+        ensures ok { OnOk result (self.old.now ≡ buf.new ++ self.new.now) }
+        ensures short { OnErr result ((length self.old.now < length buf.old) × (self.new ≡ self.old) × (buf.new ≡ buf.old)) }
+    {
         let all: &[u8] = *self;
         if all.len() < buf.len() {
             let message = "failed to fill whole buffer";

@@ -44,6 +44,15 @@ impl<T, U> Chain<T, U> {
     {
         (&self.first, &self.second)
     }
+
+    /// The two readers, lent to be changed. The mark of a done first reader stays. Follows
+    /// `std::io::Chain::get_mut`.
+    pub fn get_mut(&mut self) -> (&mut T, &mut U)
+        ensures first { result.0.now ≡ chain_first self.old }
+        ensures second { result.1.now ≡ chain_second self.old }
+    {
+        (&mut self.first, &mut self.second)
+    }
 }
 
 // A chain tells no store.
