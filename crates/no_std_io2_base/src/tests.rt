@@ -1,3 +1,5 @@
 mod cursors;
 mod errors;
+mod readers;
+mod scripts;
 mod writers;
