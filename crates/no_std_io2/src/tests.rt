@@ -1,1 +1,2 @@
+mod seeking_writers;
 mod writers;
