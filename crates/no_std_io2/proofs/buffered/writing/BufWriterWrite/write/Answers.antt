@@ -6,10 +6,10 @@ use Rattle.no_std_io2.proofs.buffered.writing.BufWriterWrite.write.Goals as goal
 pub returns-clause-moves : goal.returns-clause-moves
 returns-clause-moves g c =
     let x = c.args.buf.now in
-    let held = c.if-hold_if_room.ensures.held in
+    let held = c.if-not-hold_if_room.ensures.held in
     rw (take_all _ x (le_refl _), zero_write-whole x) (Moves-kept g.W.Write.told _ _ _ _ x held.2 held.3)
 
 pub returns-clause-rest : goal.returns-clause-rest
 returns-clause-rest g c =
     let x = c.args.buf.now in
-    rw (take_all _ x (le_refl _)) (IsEnd-held _ _ _ x ([], refl) c.if-hold_if_room.ensures.held.3)
+    rw (take_all _ x (le_refl _)) (IsEnd-held _ _ _ x ([], refl) c.if-not-hold_if_room.ensures.held.3)
