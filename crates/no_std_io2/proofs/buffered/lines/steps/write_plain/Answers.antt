@@ -1,7 +1,7 @@
 use Rattle.std.proofs.Common.{◌∙◌}
 use Rattle.no_std_io2_base.proofs.MovesLemmas.{Moves-then}
 use Rattle.no_std_io2.proofs.LineLemmas.{IsLineState-end, IsLineState-plain, HasNoNewline-append, HasNoNewline-taken}
-use Rattle.no_std_io2.proofs.buffered.lines.write_plain.Goals as goal
+use Rattle.no_std_io2.proofs.buffered.lines.steps.write_plain.Goals as goal
 
 pub returns-clause-line : goal.returns-clause-line
 returns-clause-line g c =

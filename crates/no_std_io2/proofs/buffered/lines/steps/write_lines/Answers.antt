@@ -6,7 +6,7 @@ use Rattle.no_std_io2_base.proofs.MovesLemmas.{Moves-then, Moves-quiet}
 use Rattle.no_std_io2.specs.Buffered.{sender_told, sender_buffer, with_buffer}
 use Rattle.no_std_io2.proofs.LineLemmas.{IsLineState-end, held_after, taken_then_held, zero_write-lines, zero_write-some}
 use Rattle.no_std_io2.proofs.BufferLemmas.{Moves-sent_part, Moves-buffered}
-use Rattle.no_std_io2.proofs.buffered.lines.write_lines.Goals as goal
+use Rattle.no_std_io2.proofs.buffered.lines.steps.write_lines.Goals as goal
 
 pub returns-in_err-send-clause-line : goal.returns-in_err-send-clause-line
 returns-in_err-send-clause-line g c = IsLineState-end _ _ (c.in_err-send.ensures.sends.0, c.in_err-send.ensures.sends.1) c.requires.line

@@ -2,7 +2,7 @@ use Rattle.std.proofs.Common.{◌≡◌, [], rules, arith, sym, ◌∙◌}
 use Rattle.no_std_io2.specs.Buffered.{sender_buffer}
 use Rattle.no_std_io2.proofs.BufferLemmas.{Moves-sent_part, none_of_length}
 use Rattle.no_std_io2.proofs.LineLemmas.{IsLineState-end, IsLineState-after, IsLineState-ended, MovesFront-passed, MovesFront-ends, MovesFront-whole}
-use Rattle.no_std_io2.proofs.buffered.lines.write_all_lines.Goals as goal
+use Rattle.no_std_io2.proofs.buffered.lines.steps.send_lines.Goals as goal
 
 pub returns-then-is_empty-clause-moves : goal.returns-then-is_empty-clause-moves
 returns-then-is_empty-clause-moves g c =

@@ -1,5 +1,5 @@
 use Rattle.no_std_io2.proofs.LineLemmas.{IsLineState-after, IsLineState-plain, HasNoNewline-append, MovesFront-then}
-use Rattle.no_std_io2.proofs.buffered.lines.write_all_plain.Goals as goal
+use Rattle.no_std_io2.proofs.buffered.lines.steps.write_all_plain.Goals as goal
 
 pub returns-clause-line : goal.returns-clause-line
 returns-clause-line g c =

@@ -1,0 +1,96 @@
+-- The lines of a list of bytes, and what follows them.
+use Rattle.std.proofs.Common.{◌≡◌, ◌≢◌, ℕ, ◌+◌, ◌-◌, ◌<◌, ◌≤◌, ◌==◌, not, true, false, List, [], ◌++◌, length, take, drop, get_or, slice_index, refl, sym, ap, ◌∙◌, subst, arith, min, length-drop, length-take}
+use Rattle.std.proofs.lemmas.Bool.Decides.{nat_tests}
+use Rattle.std.proofs.lemmas.List.{get_or-drop, get_or-take, drop_all, take_min, take-take}
+use Rattle.std.proofs.lemmas.List.Sums.{suffix_len_is}
+use Rattle.no_std_io2.specs.LineState.{HasNoNewline, IsLineState}
+use Rattle.std.specs.List.{slice_range}
+use Rattle.no_std_io2.specs.Lines.{IsLinesLen, unfinished_line, lines_len, lines_or_all, held_tail}
+use Rattle.no_std_io2.proofs.LineLemmas.{IsLineState-plain, HasNoNewline-take}
+
+is_not_ten : (b : ℕ) → b ≢ 10 → not (b == 10) ≡ true
+is_not_ten b h = grind (arith, nat_tests)
+
+is_ten : (b : ℕ) → b ≡ 10 → not (b == 10) ≡ false
+is_ten b h = grind (arith, nat_tests)
+
+none_from : (xs : List ℕ) (n k : ℕ) → HasNoNewline (drop n xs) → n ≤ k → k < length xs → get_or xs k 0 ≢ 10
+none_from xs n k h le lt e =
+    h (k - n) (omega (arith, length-drop n xs)) (get_or-drop n xs (k - n) 0 ∙ ap (λ i. get_or xs i 0) (let same : n + (k - n) ≡ k = omega arith in same) ∙ e)
+
+-- what follows the lines
+pub unfinished_line-is : (xs : List ℕ) (n : ℕ) → IsLinesLen xs n → unfinished_line xs ≡ drop n xs
+unfinished_line-is xs n h =
+    let s = suffix_len_is (λ b. not (b == 10)) xs n 0 h.within (λ k le lt. is_not_ten _ (none_from xs n k h.none_after le lt)) (λ some. is_ten _ (h.ends some)) in
+    ap (λ m. drop m xs) (omega (arith, h.within))
+
+pub lines_len-is : (xs : List ℕ) (n : ℕ) → IsLinesLen xs n → lines_len xs ≡ n
+lines_len-is xs n h = omega (arith, ap length (unfinished_line-is xs n h), length-drop n xs, h.within)
+
+pub IsLinesLen-none : (xs : List ℕ) → HasNoNewline xs → IsLinesLen xs 0
+IsLinesLen-none xs h = record { within = omega arith; ends = λ some. absurd (omega arith); none_after = h }
+
+pub IsLinesLen-whole : (xs : List ℕ) → (0 < length xs → slice_index xs (length xs - 1) ≡ 10) → IsLinesLen xs (length xs)
+IsLinesLen-whole xs h = record { within = omega arith; ends = h; none_after = λ k lt. absurd (omega (arith, length-drop (length xs) xs)) }
+
+pub unfinished_line-none : (xs : List ℕ) → HasNoNewline xs → unfinished_line xs ≡ xs
+unfinished_line-none xs h = unfinished_line-is xs 0 (IsLinesLen-none xs h)
+
+pub unfinished_line-ended : (xs : List ℕ) → slice_index xs (length xs - 1) ≡ 10 → unfinished_line xs ≡ []
+unfinished_line-ended xs h =
+    unfinished_line-is xs (length xs) (IsLinesLen-whole xs (λ _. h)) ∙ drop_all (length xs) xs (omega arith)
+
+-- the first n bytes, which end in a newline where there are some
+pub IsLineState-lines : (xs : List ℕ) (n : ℕ) → n ≤ length xs → (0 < n → slice_index xs (n - 1) ≡ 10) → IsLineState (take n xs)
+IsLineState-lines xs n within ends k lt e =
+    let len = length-take n xs in
+    let last : length (take n xs) - 1 ≡ n - 1 = omega arith in
+    ap (λ m. get_or (take n xs) m 0) last ∙ get_or-take n xs (n - 1) 0 (omega arith) ∙ ends (omega arith)
+
+pub lines_or_all-none : (xs : List ℕ) → lines_len xs ≡ 0 → lines_or_all xs ≡ xs
+lines_or_all-none xs h = grind (arith, nat_tests)
+
+pub lines_or_all-some : (xs : List ℕ) (n : ℕ) → 0 < n → lines_len xs ≡ n → lines_or_all xs ≡ take n xs
+lines_or_all-some xs n some h = grind (arith, nat_tests)
+
+pub held_tail-all : (S : ℕ) (x : List ℕ) (len n : ℕ) → lines_len x ≡ len → len ≤ n → held_tail S x n ≡ take S (drop n x)
+held_tail-all S x len n e h = grind (arith, nat_tests)
+
+pub held_tail-rest : (S : ℕ) (x : List ℕ) (len n : ℕ) → lines_len x ≡ len → n < len → len - n ≤ S → held_tail S x n ≡ take (len - n) (drop n x)
+held_tail-rest S x len n e h g = grind (arith, nat_tests)
+
+pub held_tail-part : (S : ℕ) (x : List ℕ) (len n : ℕ) → lines_len x ≡ len → n < len → S < len - n → held_tail S x n ≡ lines_or_all (take S (drop n x))
+held_tail-part S x len n e h g = grind (arith, nat_tests)
+
+-- windows of x behind its first n bytes
+pub window_all : (x : List ℕ) (n S m : ℕ) → m ≡ min (length x - n) S → slice_range x n (n + m) ≡ take S (drop n x)
+window_all x n S m e =
+    let len = length-drop n x in
+    ap (λ i. take i (drop n x)) (let same : (n + m) - n ≡ min S (length (drop n x)) = omega arith in same) ∙ take_min S (drop n x)
+
+pub window_some : (x : List ℕ) (n m : ℕ) → slice_range x n (n + m) ≡ take m (drop n x)
+window_some x n m = ap (λ i. take i (drop n x)) (let same : (n + m) - n ≡ m = omega arith in same)
+
+pub IsLineState-all : (x : List ℕ) (len n end : ℕ) → IsLinesLen x len → n ≡ len → IsLineState (slice_range x n end)
+IsLineState-all x len n end h e =
+    IsLineState-plain _ (HasNoNewline-take (end - n) (drop n x) (subst (λ k. HasNoNewline (drop k x)) (sym e) h.none_after))
+
+pub IsLineState-rest : (x : List ℕ) (len n : ℕ) → IsLinesLen x len → n < len → IsLineState (slice_range x n len)
+IsLineState-rest x len n h lt =
+    IsLineState-lines (drop n x) (len - n) (omega (arith, length-drop n x, h.within))
+    (λ some. get_or-drop n x (len - n - 1) 0 ∙ ap (λ i. get_or x i 0) (let same : n + (len - n - 1) ≡ len - 1 = omega arith in same) ∙ h.ends (omega arith))
+
+-- the part of the tail that ends in a newline, or all of it where it has none
+pub tail_part : (S : ℕ) (x : List ℕ) (len n part : ℕ) → IsLinesLen x len → n < len → S < len - n → IsLinesLen (slice_range x n (n + S)) part → (part ≡ 0 → slice_range x n (n + S) ≡ held_tail S x n) × (0 < part → slice_range x n (n + part) ≡ held_tail S x n)
+tail_part S x len n part h lt more p =
+    let here : IsLinesLen (take S (drop n x)) part = subst (λ l. IsLinesLen l part) (window_some x n S) p in
+    let whole = held_tail-part S x len n (lines_len-is x len h) lt more in (
+      λ e. window_some x n S ∙ sym (lines_or_all-none _ (lines_len-is _ part here ∙ e)) ∙ sym whole,
+      λ some. window_some x n part ∙ sym (take-take part S (drop n x) (omega (arith, here.within, length-take S (drop n x))))
+          ∙ sym (lines_or_all-some _ part some (lines_len-is _ part here)) ∙ sym whole,
+    )
+
+pub IsLineState-part : (S : ℕ) (x : List ℕ) (n part : ℕ) → IsLinesLen (slice_range x n (n + S)) part → 0 < part → IsLineState (slice_range x n (n + part))
+IsLineState-part S x n part p some =
+    let here : IsLinesLen (take S (drop n x)) part = subst (λ l. IsLinesLen l part) (window_some x n S) p in
+    subst IsLineState (take-take part S (drop n x) (omega (arith, here.within, length-take S (drop n x))) ∙ sym (window_some x n part)) (IsLineState-lines _ part here.within here.ends)

@@ -1,0 +1,196 @@
+// The steps of a line writer's calls.
+ghost use Rattle.std.specs.Prelude.{◌≡◌, ◌+◌, ◌-◌, ◌<◌, ◌≤◌, ◌++◌, [], length, Ok, IsOk, IfOk, IsOkAnd, OnOk, drop, take, slice_range};
+ghost use Rattle.no_std_io2.specs.LineState.{IsLineState, HasNoNewline};
+ghost use Rattle.no_std_io2.specs.Lines.{IsLinesLen, WritesLines, unfinished_line, held_tail, whole_if_short};
+ghost use Rattle.no_std_io2.specs.Buffered.{sender_inner, sender_buffer, sender_told, buffer_after};
+ghost use Rattle.no_std_io2_base.specs.Errors.{IsNoInterruption};
+ghost use Rattle.no_std_io2_base.specs.Writes.{Moves, MovesFront, taken, write_mishap, call_mishap};
+
+use crate::buffered::sender::Sender;
+use memchr::memrchr;
+use no_std_io2_base::error::Result;
+use no_std_io2_base::traits::Write;
+
+// How long the lines at the front of x are.
+pub(super) fn lines_len(x: &[u8]) -> usize
+    ensures { IsLinesLen x.now result }
+{
+    match memrchr(b'\n', x) {
+        Some(at) => at + 1,
+        None => 0,
+    }
+}
+
+// Where the tail ends that is held, after `sent` bytes of x, of which the first `len` are lines.
+fn tail_end(x: &[u8], len: usize, sent: usize, room: usize) -> usize
+    requires lines { IsLinesLen x.now len }
+    requires sent { sent ≤ len }
+    ensures within { result ≤ length x.now }
+    ensures after { sent ≤ result }
+    ensures room { result ≤ sent + room }
+    ensures tail { slice_range x.now sent result ≡ held_tail room x.now sent }
+    ensures line { IsLineState (slice_range x.now sent result) }
+{
+    if sent >= len {
+        return sent + (x.len() - sent).min(room);
+    }
+    if len - sent <= room {
+        return len;
+    }
+    let part = lines_len(&x[sent..sent + room]);
+    if part == 0 { sent + room } else { sent + part }
+}
+
+// Held bytes that end in a newline are sent.
+fn send_line<W: Write + Drop, const S: usize>(w: &mut Sender<W, S>) -> Result<()>
+    requires line { IsLineState (sender_buffer w.old) }
+    ensures line { IsLineState (sender_buffer w.new) }
+    ensures open { OnOk result (HasNoNewline (sender_buffer w.new)) }
+    ensures held { OnOk result (sender_buffer w.new ≡ unfinished_line (sender_buffer w.old)) }
+    ensures moves { Moves (sender_told W.told w.old) [] (call_mishap result) (sender_told W.told w.new) }
+    ensures fault { IsNoInterruption result }
+    ensures idle { HasNoNewline (sender_buffer w.old)
+        → IsOk result × (sender_inner w.new ≡ sender_inner w.old)
+        × (sender_buffer w.new ≡ sender_buffer w.old) }
+    ensures all { W.takes_all (sender_inner w.old) → W.takes_all (sender_inner w.new) × IsOk result }
+    ensures calls { W.is_metered (sender_inner w.old) → W.takes_all (sender_inner w.old)
+        → W.is_metered (sender_inner w.new)
+        × (W.cost (sender_inner w.new) ≤ W.cost (sender_inner w.old) + 1) }
+{
+    if w.buffer().last() == Some(&b'\n') {
+        return w.send();
+    }
+    Ok(())
+}
+
+// A write of x, which has no newline.
+pub(super) fn write_plain<W: Write + Drop, const S: usize>(
+    w: &mut Sender<W, S>,
+    x: &[u8],
+) -> Result<usize>
+    requires line { IsLineState (sender_buffer w.old) }
+    requires plain { HasNoNewline x.now }
+    ensures line { IsLineState (sender_buffer w.new) }
+    ensures bound { IfOk result (λ n. n ≤ length x.now) }
+    ensures moves { Moves (sender_told W.told w.old) (taken result x.now) (write_mishap result x.now)
+        (sender_told W.told w.new) }
+    ensures fits { HasNoNewline (sender_buffer w.old)
+        → length x.now < S → length (sender_buffer w.old) + length x.now ≤ S
+        → IsOk result × (sender_inner w.new ≡ sender_inner w.old)
+        × (sender_buffer w.new ≡ sender_buffer w.old ++ x.now) }
+    ensures whole { length x.now < S → IfOk result (λ n. n ≡ length x.now) }
+    ensures all { W.takes_all (sender_inner w.old)
+        → W.takes_all (sender_inner w.new) × (result ≡ Ok (length x.now)) }
+    ensures after { W.takes_all (sender_inner w.old)
+        → sender_buffer w.new ≡ buffer_after S (unfinished_line (sender_buffer w.old)) x.now }
+    ensures calls { W.is_metered (sender_inner w.old) → W.takes_all (sender_inner w.old)
+        → W.is_metered (sender_inner w.new)
+        × (W.cost (sender_inner w.new) ≤ W.cost (sender_inner w.old) + 3) }
+{
+    send_line(w)?;
+    w.write(x)
+}
+
+// A write of x, whose first `len` bytes are lines.
+pub(super) fn write_lines<W: Write + Drop, const S: usize>(
+    w: &mut Sender<W, S>,
+    x: &[u8],
+    len: usize,
+) -> Result<usize>
+    requires line { IsLineState (sender_buffer w.old) }
+    requires some { 0 < len }
+    requires lines { IsLinesLen x.now len }
+    ensures line { IsLineState (sender_buffer w.new) }
+    ensures bound { IfOk result (λ n. n ≤ length x.now) }
+    ensures moves { Moves (sender_told W.told w.old) (taken result x.now) (write_mishap result x.now)
+        (sender_told W.told w.new) }
+    ensures tail { IfOk result (λ n. WritesLines S (W.told (sender_inner w.old))
+        (sender_buffer w.old) x.now n (W.told (sender_inner w.new)) (sender_buffer w.new)) }
+    ensures all { W.takes_all (sender_inner w.old) → W.takes_all (sender_inner w.new)
+        × IsOkAnd result (λ n. n + (length (unfinished_line x.now) - S) ≡ length x.now) }
+    ensures after { W.takes_all (sender_inner w.old)
+        → sender_buffer w.new ≡ take S (unfinished_line x.now) }
+    ensures calls { W.is_metered (sender_inner w.old) → W.takes_all (sender_inner w.old)
+        → W.is_metered (sender_inner w.new)
+        × (W.cost (sender_inner w.new) ≤ W.cost (sender_inner w.old) + 3) }
+{
+    w.send()?;
+    let n = w.write_through(&x[..len])?;
+    if n == 0 {
+        return Ok(0);
+    }
+    let end = tail_end(x, len, n, S);
+    w.hold(&x[n..end]);
+    Ok(end)
+}
+
+// Writes all of x, which has no newline.
+pub(super) fn write_all_plain<W: Write + Drop, const S: usize>(
+    w: &mut Sender<W, S>,
+    x: &[u8],
+) -> Result<()>
+    requires line { IsLineState (sender_buffer w.old) }
+    requires plain { HasNoNewline x.now }
+    ensures line { IsLineState (sender_buffer w.new) }
+    ensures open { OnOk result (HasNoNewline (sender_buffer w.new)) }
+    ensures fault { IsNoInterruption result }
+    ensures moves { MovesFront (sender_told W.told w.old) x.now result (sender_told W.told w.new) }
+    ensures fits { HasNoNewline (sender_buffer w.old)
+        → length x.now < S → length (sender_buffer w.old) + length x.now ≤ S
+        → IsOk result × (sender_inner w.new ≡ sender_inner w.old)
+        × (sender_buffer w.new ≡ sender_buffer w.old ++ x.now) }
+    ensures all { W.takes_all (sender_inner w.old) → W.takes_all (sender_inner w.new) × IsOk result }
+    ensures after { W.takes_all (sender_inner w.old)
+        → sender_buffer w.new ≡ buffer_after S (unfinished_line (sender_buffer w.old)) x.now }
+    ensures calls { W.is_metered (sender_inner w.old) → W.takes_all (sender_inner w.old)
+        → W.is_metered (sender_inner w.new)
+        × (W.cost (sender_inner w.new) ≤ W.cost (sender_inner w.old) + 3) }
+{
+    send_line(w)?;
+    w.write_all(x)
+}
+
+// Writes all of x, which is lines: through, or behind what is held, to be sent with it.
+fn send_lines<W: Write + Drop, const S: usize>(w: &mut Sender<W, S>, x: &[u8]) -> Result<()>
+    requires line { IsLineState (sender_buffer w.old) }
+    requires lines { IsLinesLen x.now (length x.now) }
+    requires some { 0 < length x.now }
+    ensures line { IsLineState (sender_buffer w.new) }
+    ensures sent { OnOk result (sender_buffer w.new ≡ []) }
+    ensures fault { IsNoInterruption result }
+    ensures moves { MovesFront (sender_told W.told w.old) x.now result (sender_told W.told w.new) }
+    ensures all { W.takes_all (sender_inner w.old) → W.takes_all (sender_inner w.new) × IsOk result }
+    ensures calls { W.is_metered (sender_inner w.old) → W.takes_all (sender_inner w.old)
+        → W.is_metered (sender_inner w.new)
+        × (W.cost (sender_inner w.new) ≤ W.cost (sender_inner w.old) + 2) }
+{
+    if w.buffer().is_empty() {
+        return w.write_all_through(x);
+    }
+    w.write_all(x)?;
+    w.send()
+}
+
+// Writes all of x, whose first `len` bytes are lines.
+pub(super) fn write_all_lines<W: Write + Drop, const S: usize>(
+    w: &mut Sender<W, S>,
+    x: &[u8],
+    len: usize,
+) -> Result<()>
+    requires line { IsLineState (sender_buffer w.old) }
+    requires some { 0 < len }
+    requires lines { IsLinesLen x.now len }
+    ensures line { IsLineState (sender_buffer w.new) }
+    ensures open { OnOk result (HasNoNewline (sender_buffer w.new)) }
+    ensures fault { IsNoInterruption result }
+    ensures moves { MovesFront (sender_told W.told w.old) x.now result (sender_told W.told w.new) }
+    ensures all { W.takes_all (sender_inner w.old) → W.takes_all (sender_inner w.new) × IsOk result }
+    ensures after { W.takes_all (sender_inner w.old)
+        → sender_buffer w.new ≡ whole_if_short S (unfinished_line x.now) }
+    ensures calls { W.is_metered (sender_inner w.old) → W.takes_all (sender_inner w.old)
+        → W.is_metered (sender_inner w.new)
+        × (W.cost (sender_inner w.new) ≤ W.cost (sender_inner w.old) + 3) }
+{
+    send_lines(w, &x[..len])?;
+    w.write_all(&x[len..])
+}
