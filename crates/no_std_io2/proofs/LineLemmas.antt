@@ -40,6 +40,15 @@ HasNoNewline-take n xs p k h e =
     let len = length-take n xs in
     p k (omega arith) (sym (get_or-take n xs k 0 (omega arith)) ∙ e)
 
+pub HasNoNewline-end : (whole end : List ℕ) → IsEnd whole end → HasNoNewline whole → HasNoNewline end
+HasNoNewline-end whole end f plain k h e =
+    let sum = length-append f.0 end in
+    plain (length f.0 + k) (omega (arith, ap length f.1)) (ap (λ l. get_or l (length f.0 + k) 0) f.1 ∙ get_or-append-add f.0 end k 0 ∙ e)
+
+pub HasNoNewline-after : (old x new : List ℕ) → HasNoNewline old → HasNoNewline x → (IsEnd (old ++ x) new) ⊎ (IsEnd old new) → HasNoNewline new
+HasNoNewline-after old x new p q r =
+    ⊎_elim (λ f. HasNoNewline-end _ new f (HasNoNewline-append old x p q)) (λ f. HasNoNewline-end _ new f p) r
+
 pub HasNoNewline-taken : (reply : Result ℕ Error) (xs : List ℕ) → HasNoNewline xs → HasNoNewline (taken reply xs)
 HasNoNewline-taken (Ok n) xs p = HasNoNewline-take n xs p
 HasNoNewline-taken (Err e) xs p = λ k h. absurd (omega arith)
@@ -70,11 +79,11 @@ IsLineState-ended xs ys some ends k h e =
 pub IsLineState-after : (old x new : List ℕ) → IsLineState old → IsLineState (old ++ x) → (IsEnd (old ++ x) new) ⊎ (IsEnd old new) → IsLineState new
 IsLineState-after old x new l m r = ⊎_elim (λ f. IsLineState-end _ new f m) (λ f. IsLineState-end _ new f l) r
 
-onok : {T : Type 0} (r : Result T Error) (P : Type 0) → P → OnOk r P
+pub onok : {T : Type 0} (r : Result T Error) (P : Type 0) → P → OnOk r P
 onok (Ok t) P p = p
 onok (Err e) P p = tt
 
-onok_map : {T : Type 0} (r : Result T Error) (P Q : Type 0) → (P → Q) → OnOk r P → OnOk r Q
+pub onok_map : {T : Type 0} (r : Result T Error) (P Q : Type 0) → (P → Q) → OnOk r P → OnOk r Q
 onok_map (Ok t) P Q f p = f p
 onok_map (Err e) P Q f p = tt
 

@@ -1,4 +1,6 @@
-use Rattle.std.proofs.Common.{◌∙◌}
+use Rattle.std.proofs.Common.{◌∙◌, ap, arith}
+use Rattle.no_std_io2.specs.Buffered.{sender_buffer, buffer_after}
+use Rattle.no_std_io2.proofs.CountLemmas.{writing_calls-le}
 use Rattle.no_std_io2_base.proofs.MovesLemmas.{Moves-then}
 use Rattle.no_std_io2.proofs.LineLemmas.{IsLineState-end, IsLineState-plain, HasNoNewline-append, HasNoNewline-taken}
 use Rattle.no_std_io2.proofs.buffered.lines.steps.write_plain.Goals as goal
@@ -9,3 +11,16 @@ returns-clause-line g c =
 
 pub returns-clause-moves : goal.returns-clause-moves
 returns-clause-moves g c = Moves-then c.in_ok-send_line.ensures.moves c.write.ensures.moves
+
+pub returns-clause-all : goal.returns-clause-all
+returns-clause-all g c = λ t. c.write.ensures.all (c.in_ok-send_line.ensures.all t).0
+
+pub returns-clause-after : goal.returns-clause-after
+returns-clause-after g c = λ t.
+    c.write.ensures.after (c.in_ok-send_line.ensures.all t).0 ∙ ap (λ h. buffer_after g.row.S h c.args.x.now) c.in_ok-send_line.ensures.held
+
+pub returns-clause-calls : goal.returns-clause-calls
+returns-clause-calls g c = λ m t.
+    let first = c.in_ok-send_line.ensures.calls m t in
+    let then = c.write.ensures.calls first.0 (c.in_ok-send_line.ensures.all t).0 in
+    (then.0, omega (arith, first.1, then.1, writing_calls-le g.row.S (sender_buffer c.send_line.new.w) c.args.x.now))
