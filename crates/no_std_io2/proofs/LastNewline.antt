@@ -1,11 +1,14 @@
 -- The lines of a list of bytes, and what follows them.
-use Rattle.std.proofs.Common.{◌≡◌, ◌≢◌, ℕ, ◌+◌, ◌-◌, ◌<◌, ◌≤◌, ◌==◌, not, true, false, List, [], ◌++◌, length, take, drop, get_or, slice_index, refl, sym, ap, ◌∙◌, subst, arith, min, length-drop, length-take}
+use Rattle.std.proofs.Common.{◌≡◌, ◌≢◌, ℕ, ◌+◌, ◌-◌, ◌<◌, ◌≤◌, ◌==◌, not, true, false, List, [], ◌++◌, length, take, drop, get_or, slice_index, refl, sym, ap, ◌∙◌, subst, append-nil, arith, min, length-drop, length-take}
 use Rattle.std.proofs.lemmas.Bool.Decides.{nat_tests}
 use Rattle.std.proofs.lemmas.List.{get_or-drop, get_or-take, drop_all, take_min, take-take}
 use Rattle.std.proofs.lemmas.List.Sums.{suffix_len_is}
 use Rattle.no_std_io2.specs.LineState.{HasNoNewline, IsLineState}
 use Rattle.std.specs.List.{slice_range}
-use Rattle.no_std_io2.specs.Lines.{IsLinesLen, unfinished_line, lines_len, lines_or_all, held_tail}
+use Rattle.no_std_io2.specs.Lines.{IsLinesLen, WritesLines, unfinished_line, lines_len, lines_or_all, held_tail}
+use Rattle.no_std_io2_base.specs.declared.error.ErrorKind.{ErrorKind}
+use Rattle.no_std_io2_base.specs.Writes.{Told, Moves}
+use Rattle.no_std_io2_base.proofs.MovesLemmas.{Moves-then, Moves-quiet}
 use Rattle.no_std_io2.proofs.LineLemmas.{IsLineState-plain, HasNoNewline-take}
 
 is_not_ten : (b : ℕ) → b ≢ 10 → not (b == 10) ≡ true
@@ -94,3 +97,29 @@ pub IsLineState-part : (S : ℕ) (x : List ℕ) (n part : ℕ) → IsLinesLen (s
 IsLineState-part S x n part p some =
     let here : IsLinesLen (take S (drop n x)) part = subst (λ l. IsLinesLen l part) (window_some x n S) p in
     subst IsLineState (take-take part S (drop n x) (omega (arith, here.within, length-take S (drop n x))) ∙ sym (window_some x n part)) (IsLineState-lines _ part here.within here.ends)
+
+-- what a write of lines leaves, where the inner writer got what was held and took n bytes of the lines
+pub writes_lines : {a b c : Told} {k : List ErrorKind} (S : ℕ) (old x : List ℕ) (len n end : ℕ) (sent mid passed new : List ℕ) → IsLinesLen x len → 0 < n → Moves a sent [] b → old ≡ sent ++ mid → mid ≡ [] → n ≤ length (take len x) → Moves b (take n (take len x)) k c → passed ≡ mid → new ≡ passed ++ slice_range x n end → slice_range x n end ≡ held_tail S x n → n ≤ end → end ≤ length x → WritesLines S a old x end c new
+writes_lines {a} {b} {c} S old x len n end sent mid passed new h some first gone none bound through same held tail le within =
+    let front = length-take len x in
+    let is_held : new ≡ slice_range x n end = held ∙ ap (λ l. l ++ slice_range x n end) (same ∙ none) in
+    let is_sent : sent ≡ old = sym (append-nil sent) ∙ ap (λ l. sent ++ l) (sym none) ∙ sym gone in
+    record {
+      sent = n;
+      within = omega (arith, lines_len-is x len h);
+      moves = subst (λ l. Moves a l [] c) (ap (λ l. l ++ take n (take len x)) is_sent ∙ ap (λ l. old ++ l) (take-take n len x (omega arith))) (Moves-then first (Moves-quiet through));
+      none = λ e. absurd (omega arith);
+      some = λ _. is_held ∙ tail;
+      count = omega (arith, ap length is_held, length-take (end - n) (drop n x), length-drop n x);
+    }
+
+-- where it took all of the lines
+pub lines_taken : (S : ℕ) (x : List ℕ) (len n end : ℕ) (new : List ℕ) → IsLinesLen x len → n ≡ length (take len x) → new ≡ slice_range x n end → slice_range x n end ≡ held_tail S x n → n ≤ end → end ≤ length x → (new ≡ take S (unfinished_line x)) × (end + (length (unfinished_line x) - S) ≡ length x)
+lines_taken S x len n end new h e held tail le within =
+    let front = length-take len x in
+    let all : n ≡ len = omega (arith, h.within) in
+    let rest = unfinished_line-is x len h in
+    let is : new ≡ take S (unfinished_line x) = held ∙ tail ∙ held_tail-all S x len n (lines_len-is x len h) (omega arith)
+        ∙ ap (take S) (ap (λ m. drop m x) all ∙ sym rest) in
+    let count = length-take (end - n) (drop n x) in
+    (is, omega (arith, ap length held, length-drop n x, ap length is, length-take S (unfinished_line x), ap length rest, length-drop len x, h.within))

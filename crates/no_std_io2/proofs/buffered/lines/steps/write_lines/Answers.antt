@@ -3,9 +3,12 @@ use Rattle.std.specs.List.{slice_range}
 use Rattle.std.proofs.lemmas.Result.{err_from_is_err_and}
 use Rattle.no_std_io2_base.specs.Writes.{Moves}
 use Rattle.no_std_io2_base.proofs.MovesLemmas.{Moves-then, Moves-quiet}
-use Rattle.no_std_io2.specs.Buffered.{sender_told, sender_buffer, with_buffer}
+use Rattle.no_std_io2.specs.Buffered.{sender_told, sender_inner, sender_buffer, with_buffer}
+use Rattle.no_std_io2.specs.Lines.{WritesLines, unfinished_line}
+use Rattle.no_std_io2.proofs.LastNewline.{writes_lines, lines_taken}
 use Rattle.no_std_io2.proofs.LineLemmas.{IsLineState-end, held_after, taken_then_held, zero_write-lines, zero_write-some}
-use Rattle.no_std_io2.proofs.BufferLemmas.{Moves-sent_part, Moves-buffered}
+use Rattle.no_std_io2.proofs.BufferLemmas.{Moves-sent_part, Moves-buffered, ok_same}
+use Rattle.no_std_io2.proofs.CountLemmas.{sending_calls-le}
 use Rattle.no_std_io2.proofs.buffered.lines.steps.write_lines.Goals as goal
 
 pub returns-in_err-send-clause-line : goal.returns-in_err-send-clause-line
@@ -28,7 +31,7 @@ pub returns-then-n-eq0-clause-moves : goal.returns-then-n-eq0-clause-moves
 returns-then-n-eq0-clause-moves g c =
     let sent = c.in_ok-send.ensures.sends in
     let first = Moves-sent_part sent.0 _ (sender_buffer c.send.new.self) sent.1 sent.2 in
-    let direct = rw (c.if-n-eq0.true, zero_write-lines c.args.x.now c.args.len c.requires.some c.requires.within) at c.in_ok-n.ensures.moves in
+    let direct = rw (c.if-n-eq0.true, zero_write-lines c.args.x.now c.args.len c.requires.some c.requires.lines.within) at c.in_ok-n.ensures.moves in
     Moves-then first (Moves-buffered (sender_buffer c.send.new.self) (sender_buffer c.write_through.new.self) [] direct (append-nil _ ∙ sym c.write_through.ensures.same))
 
 pub returns-clause-moves : goal.returns-clause-moves
@@ -45,3 +48,42 @@ returns-clause-moves g c =
     let then = Moves-then first (Moves-quiet (Moves-buffered (sender_buffer c.send.new.self) (sender_buffer c.hold.new.self) (take end x) c.in_ok-n.ensures.moves held)) in
     rw (zero_write-some x end some)
     (subst (λ i. Moves (sender_told g.W.Write.told c.args.w.now) (take end x) [] (with_buffer (g.W.Write.told i) (sender_buffer c.hold.new.self))) (sym c.hold.ensures.same) then)
+
+-- what is told of the tail
+written : (g : _) (c : goal.After-hold g) → WritesLines g.row.S (g.W.Write.told (sender_inner c.args.w.now)) (sender_buffer c.args.w.now) c.args.x.now c.tail_end-end.result (g.W.Write.told (sender_inner c.hold.new.self)) (sender_buffer c.hold.new.self)
+written g c =
+    let sent = c.in_ok-send.ensures.sends in
+    let told = g.W.Write.told in
+    subst (λ i. WritesLines g.row.S (told (sender_inner c.args.w.now)) (sender_buffer c.args.w.now) c.args.x.now c.tail_end-end.result (told i) (sender_buffer c.hold.new.self)) (sym c.hold.ensures.same)
+    (writes_lines g.row.S (sender_buffer c.args.w.now) c.args.x.now c.args.len c.in_ok-n.n c.tail_end-end.result sent.0 (sender_buffer c.send.new.self) (sender_buffer c.write_through.new.self) (sender_buffer c.hold.new.self)
+    c.requires.lines (omega (arith, c.if-n-eq0.false)) sent.2 sent.1 c.in_ok-send.ensures.empty c.in_ok-n.ensures.bound c.in_ok-n.ensures.moves c.write_through.ensures.same c.hold.ensures.buffer c.tail_end-end.ensures.tail c.tail_end-end.ensures.after c.tail_end-end.ensures.within)
+
+pub returns-clause-tail : goal.returns-clause-tail
+returns-clause-tail g c = written g c
+
+-- what is told of the tail where the inner writer takes all
+taken_whole : (g : _) (c : goal.After-hold g) → g.W.Write.takes_all (sender_inner c.args.w.now) → (sender_buffer c.hold.new.self ≡ take g.row.S (unfinished_line c.args.x.now)) × (c.tail_end-end.result + (length (unfinished_line c.args.x.now) - g.row.S) ≡ length c.args.x.now)
+taken_whole g c t =
+    let mid = (c.in_ok-send.ensures.all t).0 in
+    let x = c.args.x.now in
+    let n = c.in_ok-n.n in
+    let end = c.tail_end-end.result in
+    let held = c.hold.ensures.buffer ∙ ap (λ l. l ++ slice_range x n end) (c.write_through.ensures.same ∙ c.in_ok-send.ensures.empty) in
+    lines_taken g.row.S x c.args.len n end (sender_buffer c.hold.new.self) c.requires.lines (ok_same (c.in_ok-n.ensures.all mid).1) held c.tail_end-end.ensures.tail c.tail_end-end.ensures.after c.tail_end-end.ensures.within
+
+pub returns-clause-all : goal.returns-clause-all
+returns-clause-all g c = λ t.
+    let through = c.in_ok-n.ensures.all (c.in_ok-send.ensures.all t).0 in
+    (subst g.W.Write.takes_all (sym c.hold.ensures.same) through.0, (taken_whole g c t).1)
+
+pub returns-clause-after : goal.returns-clause-after
+returns-clause-after g c = λ t. (taken_whole g c t).0
+
+pub returns-clause-calls : goal.returns-clause-calls
+returns-clause-calls g c = λ m t.
+    let first = c.in_ok-send.ensures.cost m t in
+    let then = c.in_ok-n.ensures.calls first.0 (c.in_ok-send.ensures.all t).0 in
+    (
+      subst g.W.Write.is_metered (sym c.hold.ensures.same) then.0,
+      omega (arith, first.1, then.1, ap g.W.Write.cost c.hold.ensures.same, sending_calls-le (sender_buffer c.args.w.now)),
+    )
