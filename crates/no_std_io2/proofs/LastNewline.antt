@@ -1,11 +1,11 @@
 -- The lines of a list of bytes, and what follows them.
 use Rattle.std.proofs.Common.{◌≡◌, ◌≢◌, ℕ, ◌+◌, ◌-◌, ◌<◌, ◌≤◌, ◌==◌, not, true, false, List, [], ◌++◌, length, take, drop, get_or, slice_index, refl, sym, ap, ◌∙◌, subst, append-nil, arith, min, length-drop, length-take}
 use Rattle.std.proofs.lemmas.Bool.Decides.{nat_tests}
-use Rattle.std.proofs.lemmas.List.{get_or-drop, get_or-take, drop_all, take_min, take-take}
+use Rattle.std.proofs.lemmas.List.{get_or-drop, get_or-take, drop_all, take_min, take-take, get_or_default}
 use Rattle.std.proofs.lemmas.List.Sums.{suffix_len_is}
 use Rattle.no_std_io2.specs.LineState.{HasNoNewline, IsLineState}
 use Rattle.std.specs.List.{slice_range}
-use Rattle.no_std_io2.specs.Lines.{IsLinesLen, WritesLines, unfinished_line, lines_len, lines_or_all, held_tail}
+use Rattle.no_std_io2.specs.Lines.{HasNewline, IsLinesLen, WritesLines, unfinished_line, lines_len, lines_or_all, held_tail}
 use Rattle.no_std_io2_base.specs.declared.error.ErrorKind.{ErrorKind}
 use Rattle.no_std_io2_base.specs.Writes.{Told, Moves}
 use Rattle.no_std_io2_base.proofs.MovesLemmas.{Moves-then, Moves-quiet}
@@ -32,6 +32,12 @@ lines_len-is xs n h = omega (arith, ap length (unfinished_line-is xs n h), lengt
 
 pub IsLinesLen-none : (xs : List ℕ) → HasNoNewline xs → IsLinesLen xs 0
 IsLinesLen-none xs h = record { within = omega arith; ends = λ some. absurd (omega arith); none_after = h }
+
+pub none_or_some : (xs : List ℕ) → HasNoNewline xs → HasNewline xs → ⊥
+none_or_some xs h has = h has.0 has.1 (get_or_default xs has.0 0 10 has.1 ∙ has.2)
+
+pub none_or_lines : (xs : List ℕ) (n : ℕ) → IsLinesLen xs n → 0 < n → HasNoNewline xs → ⊥
+none_or_lines xs n h some none = none (n - 1) (omega (arith, h.within)) (h.ends some)
 
 pub IsLinesLen-whole : (xs : List ℕ) → (0 < length xs → slice_index xs (length xs - 1) ≡ 10) → IsLinesLen xs (length xs)
 IsLinesLen-whole xs h = record { within = omega arith; ends = h; none_after = λ k lt. absurd (omega (arith, length-drop (length xs) xs)) }

@@ -1,0 +1,11 @@
+use Rattle.no_std_io2.proofs.LineLemmas.{IsLineState-end}
+use Rattle.no_std_io2.proofs.BufferLemmas.{Moves-sent_part}
+use Rattle.no_std_io2.proofs.buffered.lines.LineWriter.into_inner.Goals as goal
+
+pub invariant_of-self : goal.invariant_of-self
+invariant_of-self g c = record { line = IsLineState-end _ _ (c.send.ensures.sends.0, c.send.ensures.sends.1) c.args.self.core.line }
+
+pub returns-in-Err-clause-err : goal.returns-in-Err-clause-err
+returns-in-Err-clause-err g c =
+    let sent = c.in-Err.ensures.sends in
+    rw (c.new.ensures.writer, c.new.ensures.cause) (Moves-sent_part sent.0 _ _ sent.1 sent.2)
