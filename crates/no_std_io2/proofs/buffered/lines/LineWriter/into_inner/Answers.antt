@@ -1,3 +1,4 @@
+use Rattle.no_std_io2_base.proofs.MovesLemmas.{Moves-steady}
 use Rattle.no_std_io2.proofs.LineLemmas.{IsLineState-end}
 use Rattle.no_std_io2.proofs.BufferLemmas.{Moves-sent_part}
 use Rattle.no_std_io2.proofs.buffered.lines.LineWriter.into_inner.Goals as goal
@@ -9,3 +10,6 @@ pub returns-in-Err-clause-err : goal.returns-in-Err-clause-err
 returns-in-Err-clause-err g c =
     let sent = c.in-Err.ensures.sends in
     rw (c.new.ensures.writer, c.new.ensures.cause) (Moves-sent_part sent.0 _ _ sent.1 sent.2)
+
+pub returns-in-Err-clause-steady : goal.returns-in-Err-clause-steady
+returns-in-Err-clause-steady g c = λ none. absurd (Moves-steady none c.in-Err.ensures.sends.2)

@@ -25,10 +25,6 @@ returns-clause-moves g c =
     let sent = c.send.ensures.sends in
     MovesFront-ends c.args.x.now c.send.result (MovesFront-whole c.args.x.now tt c.in_ok-write_all.ensures.moves) (Moves-sent_part sent.0 _ _ sent.1 sent.2)
 
-pub returns-then-is_empty-clause-all : goal.returns-then-is_empty-clause-all
-returns-then-is_empty-clause-all g c = λ t.
-    (c.write_all_through.ensures.all t, MovesFront-steady c.args.x.now c.write_all_through.result (g.met.W.Write.steady _ t) c.write_all_through.ensures.moves)
-
 pub returns-in_err-write_all-clause-all : goal.returns-in_err-write_all-clause-all
 returns-in_err-write_all-clause-all g c = λ t.
     absurd (MovesFront-no_fault c.args.x.now c.in_err-write_all.field-0.0 (g.met.W.Write.steady _ t) c.in_err-write_all.ensures.moves)
