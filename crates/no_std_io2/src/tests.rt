@@ -1,2 +1,3 @@
+mod lines;
 mod seeking_writers;
 mod writers;
