@@ -126,6 +126,6 @@ lines_taken S x len n end new h e held tail le within =
     let all : n ≡ len = omega (arith, h.within) in
     let rest = unfinished_line-is x len h in
     let is : new ≡ take S (unfinished_line x) = held ∙ tail ∙ held_tail-all S x len n (lines_len-is x len h) (omega arith)
-        ∙ ap (take S) (ap (λ m. drop m x) all ∙ sym rest) in
+    ∙ ap (take S) (ap (λ m. drop m x) all ∙ sym rest) in
     let count = length-take (end - n) (drop n x) in
     (is, omega (arith, ap length held, length-drop n x, ap length is, length-take S (unfinished_line x), ap length rest, length-drop len x, h.within))

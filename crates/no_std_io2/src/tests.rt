@@ -1,1 +1,3 @@
+mod lines;
+mod seeking_writers;
 mod writers;

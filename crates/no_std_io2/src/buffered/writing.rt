@@ -71,7 +71,7 @@ impl<W: Write + Drop, const S: usize> BufWriter<W, S> {
     pub fn capacity(&self) -> usize
         ensures { result ≡ S }
     {
-        S
+        self.core.capacity()
     }
 
     /// Sends what is held and gives the inner writer, which isn't flushed. With nothing held it makes
@@ -231,10 +231,10 @@ impl<W: Write + Drop, const S: usize> Write for BufWriter<W, S> {
             → W.is_metered (writer_inner self.new) × (W.cost (writer_inner self.new)
             ≡ W.cost (writer_inner self.old) + writing_calls S (writer_buffer self.old) buf.now) }
     {
-        if self.core.hold_if_room(buf) {
-            return Ok(buf.len());
+        if !self.core.hold_if_room(buf) {
+            return self.core.write(buf);
         }
-        self.core.write(buf)
+        Ok(buf.len())
     }
 
     /// Sends what is held, then flushes the inner writer.

@@ -3,13 +3,13 @@ use Rattle.no_std_io2_base.proofs.MovesLemmas.{zero_write-whole}
 use Rattle.no_std_io2.proofs.BufferLemmas.{Moves-kept, IsEnd-held}
 use Rattle.no_std_io2.proofs.buffered.writing.BufWriterWrite.write.Goals as goal
 
-pub returns-then-hold_if_room-clause-moves : goal.returns-then-hold_if_room-clause-moves
-returns-then-hold_if_room-clause-moves g c =
+pub returns-clause-moves : goal.returns-clause-moves
+returns-clause-moves g c =
     let x = c.args.buf.now in
-    let held = c.if-hold_if_room.ensures.held in
+    let held = c.if-not-hold_if_room.ensures.held in
     rw (take_all _ x (le_refl _), zero_write-whole x) (Moves-kept g.W.Write.told _ _ _ _ x held.2 held.3)
 
-pub returns-then-hold_if_room-clause-rest : goal.returns-then-hold_if_room-clause-rest
-returns-then-hold_if_room-clause-rest g c =
+pub returns-clause-rest : goal.returns-clause-rest
+returns-clause-rest g c =
     let x = c.args.buf.now in
-    rw (take_all _ x (le_refl _)) (IsEnd-held _ _ _ x ([], refl) c.if-hold_if_room.ensures.held.3)
+    rw (take_all _ x (le_refl _)) (IsEnd-held _ _ _ x ([], refl) c.if-not-hold_if_room.ensures.held.3)
