@@ -1,0 +1,21 @@
+-- What one read into the whole of a buffer holds afterwards.
+use Rattle.std.proofs.Common.{◌≡◌, ℕ, ◌+◌, ◌-◌, ◌*◌, ◌<◌, ◌≤◌, List, [], ◌++◌, length, take, drop, Ok, sym, ap, subst, ◌∙◌, arith, length-take-le}
+use Rattle.std.proofs.Math.Nat.{mul-le-mul_left}
+use Rattle.no_std_io2_base.specs.Events.{Event, events_of, Reads}
+
+-- a buffer read from its start
+pub held_read : (n : ℕ) (buf : List ℕ) → take (n - 0) buf ≡ take n buf
+held_read n buf = let same : n - 0 ≡ n = omega arith in ap (λ k. take k buf) same
+
+pub read_length : (n : ℕ) (buf : List ℕ) → n ≤ length buf → length (take (n - 0) buf) ≡ n
+read_length n buf fits = ap length (held_read n buf) ∙ length-take-le n buf fits
+
+-- what was read is held, and is nothing only at the end
+pub read_held : (n : ℕ) (buf : List ℕ) (E E' : List Event) (room : ℕ) → n ≤ length buf → length buf ≡ room → 0 < room → Reads E (Ok n) buf E'
+    → (E ≡ events_of (take (n - 0) buf) ++ E') × (take (n - 0) buf ≡ [] → E ≡ [])
+read_held n buf E E' room fits long some read =
+    (read.0 ∙ ap (λ l. events_of l ++ E') (sym (held_read n buf)), λ none. read.1 (sym (read_length n buf fits) ∙ ap length none) (omega arith))
+
+-- a fill spends a turn for what it holds, at most a full buffer
+pub turns_read : (room held held' t t' : ℕ) → held' ≤ room → t' ≤ t → (0 < held' → t' < t) → held' + (room + 1) * t' ≤ held + (room + 1) * t
+turns_read room held held' t t' fits less spent = grind (arith, mul-le-mul_left)

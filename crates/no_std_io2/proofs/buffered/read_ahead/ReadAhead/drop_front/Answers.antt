@@ -1,0 +1,9 @@
+use Rattle.std.proofs.Common.{◌+◌, ◌-◌, ◌≤◌, length, drop, arith, length-take}
+use Rattle.no_std_io2.proofs.Sounds.{held_rest}
+use Rattle.no_std_io2.proofs.buffered.read_ahead.ReadAhead.drop_front.Goals as goal
+
+pub returns : goal.returns
+returns g c =
+    let self = c.args.self.now in
+    let n = c.args.n in
+    held_rest self.bytes self.start self.end n (omega (arith, c.requires, length-take (self.end - self.start) (drop self.start self.bytes)))

@@ -1,0 +1,15 @@
+use Rattle.std.proofs.Common.{◌≤◌, length, arith}
+use Rattle.no_std_io2.specs.ReadAhead.{ahead_held}
+use Rattle.no_std_io2.specs.Reading.{reader_held}
+use Rattle.no_std_io2.proofs.Sounds.{give_events, give_sound}
+use Rattle.no_std_io2.proofs.buffered.reading.BufReader.give.Goals as goal
+
+pub returns-clause-told : goal.returns-clause-told
+returns-clause-told g c =
+    give_events (reader_held c.args.self.now) (ahead_held c.give.new.self) _ _ c.give.result c.give.ensures.held c.give.ensures.gave
+
+pub returns-clause-store : goal.returns-clause-store
+returns-clause-store g c = λ s.
+    let most : c.give.result ≤ length (reader_held c.args.self.now) = omega arith in
+    let sound = give_sound (reader_held c.args.self.now) (ahead_held c.give.new.self) _ _ c.give.result c.give.ensures.held most s.1 in
+    ((s.0, sound.0), sound.1)

@@ -1,0 +1,114 @@
+// Bytes that were read and not yet given, inside an array.
+ghost use Rattle.std.specs.Prelude.{◌≡◌, ◌+◌, ◌<◌, ◌≤◌, ◌^◌, [], ◌++◌, min, length, take, drop, IsOk, OnErr};
+
+use no_std_io2_base::error::Result;
+use no_std_io2_base::traits::Read;
+
+#[derive(Drop)]
+pub(super) struct ReadAhead<const S: usize> {
+    bytes: [u8; S],
+    start: usize,
+    end: usize,
+    ghost ordered: { start ≤ end },
+    ghost in_range: { end ≤ S },
+    ghost some_room: { 0 < S },
+    ghost in_memory: { S < 2 ^ 63 },
+}
+
+impl<const S: usize> ReadAhead<S> {
+    ghost use Rattle.no_std_io2.specs.ReadAhead.{ahead_held, ReadsAhead};
+
+    pub(super) fn new() -> Self
+        requires some_room { 0 < S }
+        requires in_memory { S < 2 ^ 63 }
+        ensures { ahead_held result ≡ [] }
+    {
+        ReadAhead {
+            bytes: [0; S],
+            start: 0,
+            end: 0,
+        }
+    }
+
+    pub(super) fn len(&self) -> usize
+        ensures len { result ≡ length (ahead_held self.now) }
+        ensures bound { result ≤ S }
+        ensures in_memory { result < 2 ^ 63 }
+    {
+        self.end - self.start
+    }
+
+    pub(super) fn as_slice(&self) -> &[u8]
+        ensures value { result.now ≡ ahead_held self.now }
+        ensures bound { length result.now ≤ S }
+    {
+        let all = &self.bytes[..];
+        &all[self.start..self.end]
+    }
+
+    pub(super) fn clear(&mut self)
+        ensures { ahead_held self.new ≡ [] }
+    {
+        self.start = 0;
+        self.end = 0;
+    }
+
+    // No byte moves.
+    pub(super) fn drop_front(&mut self, n: usize)
+        requires { n ≤ length (ahead_held self.old) }
+        ensures { ahead_held self.new ≡ drop n (ahead_held self.old) }
+    {
+        self.start += n;
+    }
+
+    // Moves the first bytes, as many as fill `buf`.
+    #[inline(always)]
+    pub(super) fn give_whole(&mut self, buf: &mut [u8])
+        requires { length buf.old ≤ length (ahead_held self.old) }
+        ensures gave { buf.new ≡ take (length buf.old) (ahead_held self.old) }
+        ensures held { ahead_held self.new ≡ drop (length buf.old) (ahead_held self.old) }
+    {
+        let end = self.start + buf.len();
+        let all = &self.bytes[..];
+        buf.copy_from_slice(&all[self.start..end]);
+        self.start = end;
+    }
+
+    // Moves as many bytes as both have.
+    #[inline(always)]
+    pub(super) fn give(&mut self, buf: &mut [u8]) -> usize
+        ensures count { result ≡ min (length (ahead_held self.old)) (length buf.old) }
+        ensures gave { take result buf.new ≡ take result (ahead_held self.old) }
+        ensures held { ahead_held self.new ≡ drop result (ahead_held self.old) }
+    {
+        let n = self.len().min(buf.len());
+        self.give_whole(&mut buf[..n]);
+        n
+    }
+
+    // Reads once. What was held before is lost.
+    #[cold]
+    #[inline(never)]
+    pub(super) fn fill<R: Read>(&mut self, from: &mut R) -> Result<()>
+        ensures err { OnErr result (ahead_held self.new ≡ []) }
+        ensures bound { length (ahead_held self.new) ≤ S }
+        ensures told { R.tells from.old → R.tells from.new
+            × ReadsAhead (R.events from.old) result (ahead_held self.new) (R.events from.new) }
+        ensures turns { R.turns from.new ≤ R.turns from.old }
+        ensures turn { 0 < length (ahead_held self.new) → R.turns from.new < R.turns from.old }
+        ensures fault_turn { OnErr result (R.turns from.new < R.turns from.old) }
+        ensures cost { R.is_metered from.old → R.is_metered from.new
+            × (R.cost from.new ≡ R.cost from.old + 1) }
+        ensures fills { R.is_filling from.old → R.is_filling from.new × IsOk result
+            × (length (ahead_held self.new) ≡ min S (length (R.events from.old))) }
+        ensures store { R.has_store from.old → R.has_store from.new
+            × (R.content from.new ≡ R.content from.old)
+            × (R.position from.new ≡ R.position from.old + length (ahead_held self.new)) }
+    {
+        self.start = 0;
+        self.end = 0;
+        let n = from.read(&mut self.bytes[..])?;
+        self.end = n;
+        Ok(())
+    }
+}

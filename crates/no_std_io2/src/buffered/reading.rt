@@ -1,0 +1,124 @@
+// A buffer in front of a reader.
+ghost use Rattle.std.specs.Prelude.{◌≡◌, ◌+◌, ◌-◌, ◌<◌, ◌≤◌, ◌^◌, [], ◌++◌, min, length, take, drop, IsOk, OnOk, OnErr};
+ghost use Rattle.std.specs.Borrow.{Lends, sem};
+ghost use Rattle.no_std_io2_base.specs.Events.{events_of};
+ghost use Rattle.no_std_io2_base.specs.Lending.{IsNotEmpty, reads_needed};
+ghost use Rattle.no_std_io2.specs.contracts.buffered.reading.BufReader.{the_row as reader-row};
+ghost use Rattle.no_std_io2.specs.Reading.{reader_held, reader_inner, reader_events, reader_turns, reader_has_store, reader_position, reader_lent_length, reader_with_inner, FillsFrom};
+
+use super::read_ahead::ReadAhead;
+use no_std_io2_base::error::Result;
+use no_std_io2_base::traits::{Read, Stored};
+
+mod lends;
+mod reads;
+
+#[derive(Drop)]
+pub struct BufReader<R, const S: usize> {
+    inner: R,
+    ahead: ReadAhead<S>,
+}
+
+impl<R: Read, const S: usize> BufReader<R, S> {
+    pub fn new(inner: R) -> BufReader<R, S>
+        requires some_room { 0 < S }
+        requires in_memory { S < 2 ^ 63 }
+        ensures inner { reader_inner result ≡ inner }
+        ensures empty { reader_held result ≡ [] }
+        ensures events { reader_events R.events result ≡ R.events inner }
+    {
+        BufReader {
+            inner,
+            ahead: ReadAhead::new(),
+        }
+    }
+}
+
+impl<R, const S: usize> BufReader<R, S> {
+    pub fn get_ref(&self) -> &R
+        ensures { result.now ≡ reader_inner self.now }
+    {
+        &self.inner
+    }
+
+    pub fn get_mut(&mut self) -> &mut R
+        ensures value { result.now ≡ reader_inner self.old }
+        ensures* writes_back { sem 𝓛 (Lends (reader-row R.row S.row) R.row self.entry result
+            (reader_with_inner self.old)) }
+    {
+        &mut self.inner
+    }
+
+    pub fn buffer(&self) -> &[u8]
+        ensures value { result.now ≡ reader_held self.now }
+        ensures bound { length result.now ≤ S }
+    {
+        self.ahead.as_slice()
+    }
+
+    pub fn capacity(&self) -> usize
+        ensures { result ≡ S }
+    {
+        S
+    }
+
+    pub fn into_inner(self) -> R
+        ensures { result ≡ reader_inner self }
+    {
+        self.inner
+    }
+}
+
+impl<R: Read, const S: usize> BufReader<R, S> {
+    // Moves as many of the held bytes as fit in `buf`.
+    #[inline(always)]
+    fn give(&mut self, buf: &mut [u8]) -> usize
+        ensures count { result ≡ min (length (reader_held self.old)) (length buf.old) }
+        ensures gave { take result buf.new ≡ take result (reader_held self.old) }
+        ensures held { reader_held self.new ≡ drop result (reader_held self.old) }
+        ensures inner { reader_inner self.new ≡ reader_inner self.old }
+        ensures told { reader_events R.events self.old
+            ≡ events_of (take result buf.new) ++ reader_events R.events self.new }
+        ensures store { reader_has_store R.has_store R.position R.content self.old
+            → reader_has_store R.has_store R.position R.content self.new
+            × (reader_position R.position self.new ≡ reader_position R.position self.old + result) }
+    {
+        self.ahead.give(buf)
+    }
+
+    // Where nothing is held, reads once.
+    #[inline(always)]
+    fn fill(&mut self) -> Result<()>
+        ensures kept { IsNotEmpty (reader_held self.old) → IsOk result × (self.new ≡ self.old) }
+        ensures held { OnErr result (reader_held self.new ≡ []) }
+        ensures told { R.tells (reader_inner self.old) → R.tells (reader_inner self.new)
+            × FillsFrom (reader_events R.events self.old) result (reader_events R.events self.new) }
+        ensures end { R.tells (reader_inner self.old)
+            → OnOk result (reader_held self.new ≡ [] → reader_events R.events self.old ≡ []) }
+        ensures turns { reader_turns R.turns self.new ≤ reader_turns R.turns self.old }
+        ensures turn { OnErr result (reader_turns R.turns self.new < reader_turns R.turns self.old) }
+        ensures cost { R.is_metered (reader_inner self.old) → R.is_metered (reader_inner self.new)
+            × (R.cost (reader_inner self.new)
+            ≡ R.cost (reader_inner self.old) + reads_needed (reader_held self.old)) }
+        ensures fills { R.is_filling (reader_inner self.old) → R.is_filling (reader_inner self.new)
+            × IsOk result × (length (reader_held self.new) ≡ reader_lent_length R.events self.old) }
+        ensures store { reader_has_store R.has_store R.position R.content self.old
+            → reader_has_store R.has_store R.position R.content self.new
+            × (R.content (reader_inner self.new) ≡ R.content (reader_inner self.old))
+            × (reader_position R.position self.new ≡ reader_position R.position self.old) }
+    {
+        if self.ahead.len() > 0 {
+            return Ok(());
+        }
+        self.ahead.fill(&mut self.inner)
+    }
+}
+
+// The inner's store, less what is held.
+impl<R: Stored, const S: usize> Stored for BufReader<R, S> {
+    ghost has_store = { reader_has_store R.has_store R.position R.content };
+
+    ghost content = { λ r. R.content (reader_inner r) };
+
+    ghost position = { reader_position R.position };
+}

@@ -1,0 +1,113 @@
+// A `BufReader` as a reader.
+ghost use Rattle.std.specs.Prelude.{◌≡◌, ◌+◌, ◌-◌, ◌<◌, ◌≤◌, [], ◌++◌, min, length, take, drop, IsOk, IsOkAnd, IfOk, IfErr, OnErr};
+ghost use Rattle.no_std_io2_base.specs.Errors.{IsFault};
+ghost use Rattle.no_std_io2_base.specs.Events.{events_of, given, Reads, ReadsExact, SpendsTurn};
+ghost use Rattle.no_std_io2_base.specs.Lending.{IsNotEmpty, reads_needed};
+ghost use Rattle.no_std_io2.specs.Reading.{reader_held, reader_inner, reader_events, reader_turns, reader_has_store, reader_position, exact_reads, exact_left};
+ghost use Rattle.no_std_io2.specs.Sound.{sound_tells, sound_fits};
+
+use super::BufReader;
+use no_std_io2_base::error::{Error, ErrorKind, Result};
+use no_std_io2_base::traits::Read;
+
+impl<R: Read, const S: usize> BufReader<R, S> {
+    // A read where nothing is held: one inner read, into `buf` where that has room for a full
+    // buffer, else into the own buffer.
+    #[cold]
+    #[inline(never)]
+    fn read_anew(&mut self, buf: &mut [u8]) -> Result<usize>
+        requires { length (reader_held self.old) ≡ 0 }
+        ensures bound { IfOk result (λ n. n ≤ length buf.new) }
+        ensures told { R.tells (reader_inner self.old) → R.tells (reader_inner self.new)
+            × Reads (reader_events R.events self.old) result buf.new (reader_events R.events self.new) }
+        ensures turns { reader_turns R.turns self.new ≤ reader_turns R.turns self.old }
+        ensures turn { SpendsTurn result (reader_turns R.turns self.old) (reader_turns R.turns self.new) }
+        ensures store { reader_has_store R.has_store R.position R.content self.old
+            → reader_has_store R.has_store R.position R.content self.new
+            × (R.content (reader_inner self.new) ≡ R.content (reader_inner self.old))
+            × (reader_position R.position self.new ≡ reader_position R.position self.old + given result) }
+        ensures asks { R.is_metered (reader_inner self.old) → R.is_metered (reader_inner self.new)
+            × (R.cost (reader_inner self.new) ≡ R.cost (reader_inner self.old) + 1) }
+        ensures direct { R.is_filling (reader_inner self.old) → S ≤ length buf.old
+            → (reader_held self.new ≡ [])
+            × IsOkAnd result (λ n. n ≡ min (length buf.old) (length (R.events (reader_inner self.old)))) }
+        ensures filled { R.is_filling (reader_inner self.old) → length buf.old < S
+            → IsOkAnd result (λ n. (n ≡ min (length buf.old) (length (R.events (reader_inner self.old))))
+            × (length (reader_held self.new) + n ≡ min S (length (R.events (reader_inner self.old))))) }
+        ensures stays_filling { R.is_filling (reader_inner self.old) → R.is_filling (reader_inner self.new) }
+    {
+        if buf.len() >= S {
+            self.ahead.clear();
+            return self.inner.read(buf);
+        }
+        self.fill()?;
+        Ok(self.give(buf))
+    }
+}
+
+impl<R: Read, const S: usize> Read for BufReader<R, S> {
+    ghost tells = { λ r. R.tells (reader_inner r) };
+
+    ghost events = { reader_events R.events };
+
+    ghost turns = { reader_turns R.turns };
+
+    ghost cost = { λ r. R.cost (reader_inner r) };
+
+    ghost is_metered = { λ _. ⊥ };
+
+    ghost is_filling = { λ _. ⊥ };
+
+    ghost may_take_none = { λ _. ⊥ };
+
+    fn read(&mut self, buf: &mut [u8]) -> Result<usize>
+        // The trait's.
+        ensures bound { IfOk result (λ n. n ≤ length buf.new) }
+        ensures told { R.tells (reader_inner self.old) → R.tells (reader_inner self.new)
+            × Reads (reader_events R.events self.old) result buf.new (reader_events R.events self.new) }
+        ensures turns { reader_turns R.turns self.new ≤ reader_turns R.turns self.old }
+        ensures turn { SpendsTurn result (reader_turns R.turns self.old) (reader_turns R.turns self.new) }
+        ensures store { reader_has_store R.has_store R.position R.content self.old
+            → reader_has_store R.has_store R.position R.content self.new
+            × (R.content (reader_inner self.new) ≡ R.content (reader_inner self.old))
+            × (reader_position R.position self.new ≡ reader_position R.position self.old + given result) }
+
+        // It is neither metered nor filling itself.
+        ensures cost { ⊥ → ⊥ × (R.cost (reader_inner self.new)
+            ≡ R.cost (reader_inner self.old) + min 1 (length buf.old)) }
+        ensures fills { ⊥ → ⊥ × IsOkAnd result
+            (λ n. n ≡ min (length buf.old) (length (reader_events R.events self.old))) }
+
+        // With bytes held, it gives of them alone.
+        ensures held { IsNotEmpty (reader_held self.old)
+            → IsOkAnd result (λ n. n ≡ min (length (reader_held self.old)) (length buf.old))
+            × (take (given result) buf.new ≡ take (given result) (reader_held self.old))
+            × (reader_held self.new ≡ drop (given result) (reader_held self.old))
+            × (reader_inner self.new ≡ reader_inner self.old) }
+
+        // With none, it is one inner read, into the caller's buffer or into its own.
+        ensures asks { R.is_metered (reader_inner self.old) → R.is_metered (reader_inner self.new)
+            × (R.cost (reader_inner self.new)
+            ≡ R.cost (reader_inner self.old) + reads_needed (reader_held self.old)) }
+        ensures direct { R.is_filling (reader_inner self.old) → reader_held self.old ≡ []
+            → S ≤ length buf.old → (reader_held self.new ≡ [])
+            × IsOkAnd result (λ n. n ≡ min (length buf.old) (length (R.events (reader_inner self.old)))) }
+        ensures filled { R.is_filling (reader_inner self.old) → reader_held self.old ≡ []
+            → length buf.old < S
+            → IsOkAnd result (λ n. (n ≡ min (length buf.old) (length (R.events (reader_inner self.old))))
+            × (length (reader_held self.new) + n ≡ min S (length (R.events (reader_inner self.old))))) }
+        ensures stays_filling { R.is_filling (reader_inner self.old) → R.is_filling (reader_inner self.new) }
+    {
+        if self.ahead.len() == 0 {
+            return self.read_anew(buf);
+        }
+        Ok(self.give(buf))
+    }
+
+    ghost filling_tells = { λ r h. absurd h };
+
+    ghost store_tells = { λ r h. let inner = R.store_tells (reader_inner r) h.0 in
+        (inner.0, sound_tells (reader_held r) (R.position (reader_inner r)) (R.content (reader_inner r)) _ h.1 inner.1) };
+
+    ghost store_fits = { λ r h. sound_fits _ (reader_held r) _ (R.store_fits (reader_inner r) h.0) };
+}
