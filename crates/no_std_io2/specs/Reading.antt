@@ -36,6 +36,10 @@ abbrev pub FillsFrom : {A : Type 0} → List Event → Result A Error → List E
 FillsFrom E (Ok _) after = after ≡ E
 FillsFrom E (Err e) after = E ≡ fails e ∷ after
 
+-- how many bytes a read gives of over a filling reader: those held, else those to come
+abbrev pub held_or_to_come : ℕ → ℕ → ℕ
+held_or_to_come held to_come = if nat_lt 0 held then held else to_come
+
 -- how many bytes a fill of this much room holds afterwards, with this many held before and to come
 abbrev pub filled_length : ℕ → ℕ → ℕ → ℕ
 filled_length room held to_come = if nat_lt 0 held then held else min room to_come

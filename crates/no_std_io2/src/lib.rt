@@ -2,3 +2,4 @@
 #![tactic(auto)]
 
 pub mod buffered;
+pub mod util;

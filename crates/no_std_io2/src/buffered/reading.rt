@@ -79,6 +79,7 @@ impl<R: Read, const S: usize> BufReader<R, S> {
         ensures inner { reader_inner self.new ≡ reader_inner self.old }
         ensures told { reader_events R.events self.old
             ≡ events_of (take result buf.new) ++ reader_events R.events self.new }
+        ensures turns { reader_turns R.turns self.new + result ≡ reader_turns R.turns self.old }
         ensures store { reader_has_store R.has_store R.position R.content self.old
             → reader_has_store R.has_store R.position R.content self.new
             × (reader_position R.position self.new ≡ reader_position R.position self.old + result) }

@@ -3,10 +3,11 @@ ghost use Rattle.std.specs.Prelude.{◌≡◌, ◌+◌, ◌-◌, ◌<◌, ◌≤
 ghost use Rattle.no_std_io2_base.specs.Errors.{IsFault};
 ghost use Rattle.no_std_io2_base.specs.Events.{events_of, given, Reads, ReadsExact, SpendsTurn};
 ghost use Rattle.no_std_io2_base.specs.Lending.{IsNotEmpty, reads_needed};
-ghost use Rattle.no_std_io2.specs.Reading.{reader_held, reader_inner, reader_events, reader_turns, reader_has_store, reader_position, exact_reads, exact_left};
+ghost use Rattle.no_std_io2.specs.Reading.{reader_held, reader_inner, reader_events, reader_turns, reader_has_store, reader_position, held_or_to_come, exact_reads, exact_left};
 ghost use Rattle.no_std_io2.specs.Sound.{sound_tells, sound_fits};
 
 use super::BufReader;
+use crate::util::is_interruption;
 use no_std_io2_base::error::{Error, ErrorKind, Result};
 use no_std_io2_base::traits::Read;
 
@@ -28,13 +29,12 @@ impl<R: Read, const S: usize> BufReader<R, S> {
             × (reader_position R.position self.new ≡ reader_position R.position self.old + given result) }
         ensures asks { R.is_metered (reader_inner self.old) → R.is_metered (reader_inner self.new)
             × (R.cost (reader_inner self.new) ≡ R.cost (reader_inner self.old) + 1) }
-        ensures direct { R.is_filling (reader_inner self.old) → S ≤ length buf.old
-            → (reader_held self.new ≡ [])
+        ensures gives { R.is_filling (reader_inner self.old) → R.is_filling (reader_inner self.new)
             × IsOkAnd result (λ n. n ≡ min (length buf.old) (length (R.events (reader_inner self.old)))) }
+        ensures direct { R.is_filling (reader_inner self.old) → S ≤ length buf.old
+            → reader_held self.new ≡ [] }
         ensures filled { R.is_filling (reader_inner self.old) → length buf.old < S
-            → IsOkAnd result (λ n. (n ≡ min (length buf.old) (length (R.events (reader_inner self.old))))
-            × (length (reader_held self.new) + n ≡ min S (length (R.events (reader_inner self.old))))) }
-        ensures stays_filling { R.is_filling (reader_inner self.old) → R.is_filling (reader_inner self.new) }
+            → length (reader_held self.new) + given result ≡ min S (length (R.events (reader_inner self.old))) }
     {
         if buf.len() >= S {
             self.ahead.clear();
@@ -42,6 +42,48 @@ impl<R: Read, const S: usize> BufReader<R, S> {
         }
         self.fill()?;
         Ok(self.give(buf))
+    }
+
+    // Fills more room than there are bytes held.
+    #[cold]
+    #[inline(never)]
+    fn read_exact_anew(&mut self, buf: &mut [u8]) -> Result<()>
+        requires { length (reader_held self.old) < length buf.old }
+        ensures told { R.tells (reader_inner self.old) → R.tells (reader_inner self.new)
+            × ReadsExact ⊥ (reader_events R.events self.old) result buf.new (reader_events R.events self.new) }
+        ensures fault { IfErr result IsFault }
+        ensures turns { reader_turns R.turns self.new ≤ reader_turns R.turns self.old }
+        ensures store { reader_has_store R.has_store R.position R.content self.old
+            → reader_has_store R.has_store R.position R.content self.new
+            × (R.content (reader_inner self.new) ≡ R.content (reader_inner self.old))
+            × (reader_position R.position self.new + length (reader_events R.events self.new)
+            ≡ reader_position R.position self.old + length (reader_events R.events self.old)) }
+        ensures asks { R.is_metered (reader_inner self.old) → R.is_filling (reader_inner self.old)
+            → R.is_metered (reader_inner self.new) × (R.cost (reader_inner self.new)
+            ≡ R.cost (reader_inner self.old) + exact_reads (length buf.old)
+            (length (reader_held self.old)) (length (reader_events R.events self.old))) }
+        ensures left { R.is_filling (reader_inner self.old) → R.is_filling (reader_inner self.new)
+            × (length (reader_held self.new) ≡ exact_left S (length buf.old)
+            (length (reader_held self.old)) (length (reader_events R.events self.old)))
+            × (length (reader_events R.events self.new)
+            ≡ length (reader_events R.events self.old) - length buf.old) }
+    {
+        let mut at = self.give(buf);
+        'reads: while at < buf.len() {
+            match self.read(&mut buf[at..]) {
+                Ok(0) => {
+                    let message = "failed to fill whole buffer";
+                    return Err(Error::new(ErrorKind::UnexpectedEof, message));
+                }
+                Ok(n) => at += n,
+                Err(e) => {
+                    if !is_interruption(&e) {
+                        return Err(e);
+                    }
+                }
+            }
+        }
+        Ok(())
     }
 }
 
@@ -89,19 +131,57 @@ impl<R: Read, const S: usize> Read for BufReader<R, S> {
         ensures asks { R.is_metered (reader_inner self.old) → R.is_metered (reader_inner self.new)
             × (R.cost (reader_inner self.new)
             ≡ R.cost (reader_inner self.old) + reads_needed (reader_held self.old)) }
+        ensures gives { R.is_filling (reader_inner self.old) → R.is_filling (reader_inner self.new)
+            × IsOkAnd result (λ n. n ≡ min (length buf.old) (held_or_to_come
+            (length (reader_held self.old)) (length (R.events (reader_inner self.old))))) }
         ensures direct { R.is_filling (reader_inner self.old) → reader_held self.old ≡ []
-            → S ≤ length buf.old → (reader_held self.new ≡ [])
-            × IsOkAnd result (λ n. n ≡ min (length buf.old) (length (R.events (reader_inner self.old)))) }
+            → S ≤ length buf.old → reader_held self.new ≡ [] }
         ensures filled { R.is_filling (reader_inner self.old) → reader_held self.old ≡ []
             → length buf.old < S
-            → IsOkAnd result (λ n. (n ≡ min (length buf.old) (length (R.events (reader_inner self.old))))
-            × (length (reader_held self.new) + n ≡ min S (length (R.events (reader_inner self.old))))) }
-        ensures stays_filling { R.is_filling (reader_inner self.old) → R.is_filling (reader_inner self.new) }
+            → length (reader_held self.new) + given result ≡ min S (length (R.events (reader_inner self.old))) }
     {
         if self.ahead.len() == 0 {
             return self.read_anew(buf);
         }
         Ok(self.give(buf))
+    }
+
+    fn read_exact(&mut self, buf: &mut [u8]) -> Result<()>
+        // The trait's. Where the bytes end too early, all of them are taken.
+        ensures told { R.tells (reader_inner self.old) → R.tells (reader_inner self.new)
+            × ReadsExact ⊥ (reader_events R.events self.old) result buf.new (reader_events R.events self.new) }
+        ensures fault { IfErr result IsFault }
+        ensures turns { reader_turns R.turns self.new ≤ reader_turns R.turns self.old }
+        ensures metered { ⊥ → ⊥ }
+        ensures filling { ⊥ → ⊥ }
+        ensures store { reader_has_store R.has_store R.position R.content self.old
+            → reader_has_store R.has_store R.position R.content self.new
+            × (R.content (reader_inner self.new) ≡ R.content (reader_inner self.old))
+            × (reader_position R.position self.new + length (reader_events R.events self.new)
+            ≡ reader_position R.position self.old + length (reader_events R.events self.old)) }
+
+        // With enough bytes held, it gives of them alone.
+        ensures held { length buf.old ≤ length (reader_held self.old) → IsOk result
+            × (buf.new ≡ take (length buf.old) (reader_held self.old))
+            × (reader_held self.new ≡ drop (length buf.old) (reader_held self.old))
+            × (reader_inner self.new ≡ reader_inner self.old) }
+
+        // How often it reads over a filling reader, and what it then holds and has taken.
+        ensures asks { R.is_metered (reader_inner self.old) → R.is_filling (reader_inner self.old)
+            → R.is_metered (reader_inner self.new) × (R.cost (reader_inner self.new)
+            ≡ R.cost (reader_inner self.old) + exact_reads (length buf.old)
+            (length (reader_held self.old)) (length (reader_events R.events self.old))) }
+        ensures left { R.is_filling (reader_inner self.old) → R.is_filling (reader_inner self.new)
+            × (length (reader_held self.new) ≡ exact_left S (length buf.old)
+            (length (reader_held self.old)) (length (reader_events R.events self.old)))
+            × (length (reader_events R.events self.new)
+            ≡ length (reader_events R.events self.old) - length buf.old) }
+    {
+        if buf.len() > self.ahead.len() {
+            return self.read_exact_anew(buf);
+        }
+        self.ahead.give_whole(buf);
+        Ok(())
     }
 
     ghost filling_tells = { λ r h. absurd h };

@@ -1,0 +1,152 @@
+-- How far an exact read has come.
+use Rattle.std.proofs.Common.{◌≡◌, ℕ, ◌+◌, ◌-◌, ◌<◌, ◌≤◌, List, [], ◌∷◌, ◌++◌, length, take, drop, min, Ok, Err, refl, sym, ap, ◌∙◌, arith, length-append, append-nil, inl, subst, drop_of_length-le, take_all}
+use Rattle.std.proofs.lemmas.Bool.Decides.{nat_tests}
+use Rattle.no_std_io2_base.specs.declared.error.Error.{Error}
+use Rattle.no_std_io2_base.specs.declared.error.ErrorKind.TheVariants.{UnexpectedEof}
+use Rattle.no_std_io2_base.specs.Errors.{error_kind}
+use Rattle.no_std_io2_base.specs.Events.{Event, fails, events_of, bytes, HasNoFault, Reads, Fills, FallsShort}
+use Rattle.no_std_io2_base.proofs.Events.{length-events_of, events_of-append, bytes-events_of, HasNoFault-events_of}
+use Rattle.no_std_io2_base.proofs.Taken.{Taken, taken_fills, no_error}
+use Rattle.no_std_io2.specs.Reading.{held_or_to_come, exact_reads, exact_left}
+
+-- Over a filling reader: `all` bytes were to come, `held` of them held, and `len` are asked for; `at` of them were given.
+pub record Exact (room len held all at now_held now_inner : ℕ) : Type 0 where
+  pub begun : held ≤ at
+  pub total : now_held + now_inner + at ≡ all
+  pub none : at ≡ held → now_held ≡ 0
+  pub read : held < at → at ≡ min len all
+  pub left : held < at → now_held ≡ exact_left room len held all
+
+-- the held bytes were given first
+pub exact_begins : (room len held all at now_held now_inner : ℕ) → at ≡ held → now_held ≡ 0 → now_held + now_inner + at ≡ all → Exact room len held all at now_held now_inner
+exact_begins room len held all at now_held now_inner begun none total = record {
+  begun = omega arith;
+  total = total;
+  none = λ _. none;
+  read = λ h. absurd (omega arith);
+  left = λ h. absurd (omega arith);
+}
+
+-- while room is left, nothing is held
+pub exact_none : (room len held all at now_held now_inner : ℕ) → Exact room len held all at now_held now_inner → at < len → now_held ≡ 0
+exact_none room len held all at now_held now_inner t more =
+    let begun = t.begun in
+    let total = t.total in
+    let none = t.none in
+    let read = t.read in
+    grind arith
+
+-- where bytes still come, none were read yet
+pub exact_first : (room len held all at now_held now_inner n : ℕ) → Exact room len held all at now_held now_inner → at < len → n ≡ min (len - at) now_inner → 0 < n → held < len → at ≡ held
+exact_first room len held all at now_held now_inner n t more is some short =
+    let zero : now_held ≡ 0 = exact_none room len held all at now_held now_inner t more in
+    let begun = t.begun in
+    let total = t.total in
+    let read = t.read in
+    grind arith
+
+-- one read, straight into the buffer or over the own one
+pub exact_read : (room len held all at now_held now_inner n next_held next_inner : ℕ) → Exact room len held all at now_held now_inner → at < len
+    → n ≡ min (len - at) now_inner → (room ≤ len - at → next_held ≡ 0) → (len - at < room → next_held + n ≡ min room now_inner)
+    → next_held + next_inner + n ≡ now_held + now_inner → 0 < n → held < len → Exact room len held all (at + n) next_held next_inner
+exact_read room len held all at now_held now_inner n next_held next_inner t more is direct filled moved some short =
+    let zero : now_held ≡ 0 = exact_none room len held all at now_held now_inner t more in
+    let first : at ≡ held = exact_first room len held all at now_held now_inner n t more is some short in
+    let whole : at + n ≡ min len all = omega (arith, t.total) in record {
+      begun = omega arith;
+      total = omega (arith, t.total);
+      none = λ h. absurd (omega arith);
+      read = λ _. whole;
+      left = λ _. grind (arith, nat_tests);
+    }
+
+-- how many inner reads it took
+pub exact_end : (room len held all at now_held now_inner : ℕ) → Exact room len held all at now_held now_inner → len ≤ at → held < len → exact_reads len held all ≡ min 1 (at - held)
+exact_end room len held all at now_held now_inner t done short =
+    let whole : at ≡ min len all = t.read (omega arith) in
+    grind (arith, nat_tests)
+
+pub exact_short : (room len held all at now_held now_inner : ℕ) → Exact room len held all at now_held now_inner → at < len → now_inner ≡ 0 → held < len → exact_reads len held all ≡ min 1 (at - held) + 1
+exact_short room len held all at now_held now_inner t more end short =
+    let zero : now_held ≡ 0 = exact_none room len held all at now_held now_inner t more in
+    let whole : at ≡ all = omega (arith, t.total) in
+    let begun = t.begun in
+    grind (arith, nat_tests)
+
+-- nothing is held then
+pub exact_left-short : (room len held all : ℕ) → all < len → held ≤ all → exact_left room len held all ≡ 0
+exact_left-short room len held all short within = grind (arith, nat_tests)
+
+-- the first bytes that were taken, fewer than there is room
+pub taken_first : (E : List Event) (room : ℕ) (more : List ℕ) (rest : List Event) → E ≡ events_of more ++ rest → length more < room → Taken E room more rest
+taken_first E room more rest is short = record {
+  front = events_of more;
+  split = is;
+  no_fault = HasNoFault-events_of more;
+  gave = bytes-events_of more;
+  full = λ h. absurd (omega arith);
+}
+
+pub length-events : (held : List ℕ) (E : List Event) → length (events_of held ++ E) ≡ length held + length E
+length-events held E = length-append (events_of held) E ∙ ap (λ n. n + length E) (length-events_of held)
+
+-- as many fewer are held and to come as were given
+pub moved_length : (held held' got : List ℕ) (E E' : List Event) (n : ℕ) → events_of held ++ E ≡ events_of got ++ (events_of held' ++ E') → length got ≡ n
+    → length held' + length E' + n ≡ length held + length E
+moved_length held held' got E E' n is long =
+    let all : length held + length E ≡ length got + (length held' + length E') =
+    sym (length-events held E) ∙ ap length is ∙ length-events got (events_of held' ++ E') ∙ ap (λ k. length got + k) (length-events held' E') in
+    omega arith
+
+pub no_bytes : (xs : List ℕ) → length xs ≡ 0 → xs ≡ []
+no_bytes xs h = drop_of_length-le xs {i = 0} (omega arith)
+
+-- with nothing held, a read gives of what is to come
+pub gives_to_come : (held to_come : ℕ) → held ≡ 0 → held_or_to_come held to_come ≡ to_come
+gives_to_come held to_come h = ap (λ k. held_or_to_come k to_come) h
+
+-- held bytes before the bytes of a store hold no error
+pub no_error_behind : (held bs : List ℕ) (E E' : List Event) (e : Error) → E ≡ events_of bs → events_of held ++ E ≡ fails e ∷ E' → ⊥
+no_error_behind held bs E E' e is read =
+    no_error (held ++ bs) (events_of held ++ E) E' e (ap (λ l. events_of held ++ l) is ∙ sym (events_of-append held bs)) read
+
+-- a read of no byte took nothing
+pub nothing_read : (E E' : List Event) (n : ℕ) (buf : List ℕ) → Reads E (Ok n) buf E' → n ≡ 0 → E ≡ E'
+nothing_read E E' n buf read zero = read.0 ∙ ap (λ m. events_of (take m buf) ++ E') zero
+
+-- the end came before the buffer was full
+pub taken_end : (E : List Event) (room most : ℕ) (got : List ℕ) (after : List Event) (e : Error) (rest : List Event) (n : ℕ) (buf : List ℕ)
+    → Taken E room got after → Reads after (Ok n) buf rest → n ≡ 0 → 0 < length buf → error_kind e ≡ UnexpectedEof → length got < most → FallsShort ⊥ E most e rest
+taken_end E room most got after e rest n buf t read zero some kind short =
+    let end : after ≡ [] = read.1 zero some in
+    let whole : E ≡ t.front = t.split ∙ ap (λ l. t.front ++ l) end ∙ append-nil t.front in (
+      subst HasNoFault (sym whole) t.no_fault,
+      subst (λ l. length l < most) (sym (ap bytes whole ∙ t.gave)) short,
+      kind,
+      inl (sym (nothing_read after rest n buf read zero) ∙ end),
+    )
+
+-- the whole buffer was filled
+pub taken_whole : (E : List Event) (room at : ℕ) (buf : List ℕ) (after : List Event) → Taken E room (take at buf) after → length buf ≤ at → length buf ≡ room → Fills E buf after
+taken_whole E room at buf after t full long =
+    let whole : take at buf ≡ buf = take_all at buf full in
+    subst (λ l. Fills E l after) whole (taken_fills E room (take at buf) after t (ap length whole ∙ long))
+
+-- what is left after a read of no byte over a filling reader
+pub exact_left-end : (room len held all at now_held now_inner next_held rest : ℕ) → Exact room len held all at now_held now_inner → at < len → now_inner ≡ 0
+    → (room ≤ rest → next_held ≡ 0) → (rest < room → next_held + 0 ≡ min room now_inner) → held < len
+    → (next_held ≡ exact_left room len held all) × (0 ≡ all - len)
+exact_left-end room len held all at now_held now_inner next_held rest t more end direct filled short =
+    let zero : now_held ≡ 0 = exact_none room len held all at now_held now_inner t more in
+    let begun = t.begun in
+    let whole : at ≡ all = omega (arith, t.total) in
+    let left : exact_left room len held all ≡ 0 = exact_left-short room len held all (omega arith) (omega arith) in
+    let none : next_held ≡ 0 = grind arith in
+    (none ∙ sym left, omega arith)
+
+-- what is left once the buffer is full
+pub exact_left-full : (room len held all at now_held now_inner next : ℕ) → Exact room len held all at now_held now_inner → len ≤ at → held < len → next ≡ now_held + now_inner
+    → (now_held ≡ exact_left room len held all) × (next ≡ all - len)
+exact_left-full room len held all at now_held now_inner next t full short is =
+    let whole : at ≡ min len all = t.read (omega arith) in
+    (t.left (omega arith), omega (arith, t.total))
