@@ -4,8 +4,8 @@ use Rattle.std.proofs.lemmas.Bool.Decides.{nat_tests}
 use Rattle.no_std_io2_base.specs.declared.error.Error.{Error}
 use Rattle.no_std_io2_base.specs.declared.error.ErrorKind.TheVariants.{UnexpectedEof}
 use Rattle.no_std_io2_base.specs.Errors.{error_kind}
-use Rattle.no_std_io2_base.specs.Events.{Event, fails, events_of, bytes, HasNoFault, Reads, Fills, FallsShort}
-use Rattle.no_std_io2_base.proofs.Events.{length-events_of, events_of-append, bytes-events_of, HasNoFault-events_of}
+use Rattle.no_std_io2_base.specs.Events.{Event, fails, events_of, bytes, HasNoFault, cut, Reads, Fills, FallsShort}
+use Rattle.no_std_io2_base.proofs.Events.{length-events_of, events_of-append, bytes-events_of, HasNoFault-events_of, cut-bytes}
 use Rattle.no_std_io2_base.proofs.Taken.{Taken, taken_fills, no_error}
 use Rattle.no_std_io2.specs.Reading.{held_or_to_come, exact_reads, exact_left}
 
@@ -150,3 +150,15 @@ pub exact_left-full : (room len held all at now_held now_inner next : ℕ) → E
 exact_left-full room len held all at now_held now_inner next t full short is =
     let whole : at ≡ min len all = t.read (omega arith) in
     (t.left (omega arith), omega (arith, t.total))
+
+-- a front of bytes fills a buffer of its length
+pub fills_front : (E rest : List Event) (got : List ℕ) → E ≡ events_of got ++ rest → Fills E got rest
+fills_front E rest got is =
+    let none : length got - length got ≡ 0 = omega arith in
+    let front : cut (length got) E ≡ events_of got =
+    ap (cut (length got)) is ∙ cut-bytes got rest (length got) (omega arith) ∙ ap (λ n. events_of got ++ cut n rest) none ∙ append-nil (events_of got) in
+    (is ∙ ap (λ l. l ++ rest) (sym front), subst HasNoFault (sym front) (HasNoFault-events_of got), ap bytes front ∙ bytes-events_of got)
+
+-- where enough is held, that many bytes less are held
+pub exact_left-held : (room len held all next : ℕ) → len ≤ held → next ≡ held - len → next ≡ exact_left room len held all
+exact_left-held room len held all next fits is = grind (arith, nat_tests)
