@@ -1,6 +1,8 @@
 -- What a clause reads of a `BufReader`.
-use Rattle.std.specs.Prelude.{◌≡◌, ℕ, ◌+◌, ◌-◌, ◌≤◌, ◌*◌, ◌&&◌, min, nat_lt, nat_le, if◌then◌else◌, List, [], ◌∷◌, ◌++◌, Ok, Err, Result, length, take, drop}
+use Rattle.std.specs.Prelude.{◌≡◌, ℕ, ◌^◌, ◌<◌, negsuc, ◌+◌, ◌-◌, ◌≤◌, ◌*◌, ◌&&◌, min, nat_lt, nat_le, if◌then◌else◌, List, [], ◌∷◌, ◌++◌, Ok, Err, Result, length, take, drop}
 use Rattle.no_std_io2_base.specs.declared.error.Error.{Error}
+use Rattle.no_std_io2_base.specs.declared.traits.seeking.SeekFrom.{SeekFrom}
+use Rattle.no_std_io2_base.specs.declared.traits.seeking.SeekFrom.TheVariants.{Current}
 use Rattle.no_std_io2_base.specs.Events.{Event, events_of, fails}
 use Rattle.no_std_io2.specs.declared.buffered.reading.BufReader.{BufReader}
 use Rattle.no_std_io2.specs.ReadAhead.{ahead_held}
@@ -59,6 +61,11 @@ exact_left room len held all =
     if nat_le len held then held - len
     else if nat_le room (len - held) then 0
     else min room (all - held) - (len - held)
+
+-- `target` is so far back that one seek of the inner reader, which is `held` bytes ahead, can't say it
+abbrev pub IsTooFarBack : SeekFrom → ℕ → Type 0
+IsTooFarBack (Current (negsuc k)) held = 2 ^ 63 < held + (k + 1)
+IsTooFarBack _ held = ⊥
 
 -- r after `*r.get_mut() = x`
 abbrev pub reader_with_inner : {R : Type 0} {S : ℕ} → BufReader R S → R → BufReader R S

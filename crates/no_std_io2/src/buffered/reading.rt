@@ -12,6 +12,7 @@ use no_std_io2_base::traits::{Read, Stored};
 
 mod lends;
 mod reads;
+mod seeks;
 
 #[derive(Drop)]
 pub struct BufReader<R, const S: usize> {

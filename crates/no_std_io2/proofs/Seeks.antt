@@ -1,0 +1,85 @@
+-- A seek of a buffered reader, by one or two seeks of its inner reader.
+use Rattle.std.proofs.Common.{◌≡◌, ℕ, zero, suc, ◌+◌, ◌-◌, ◌^◌, ◌<◌, ◌≤◌, ℤ, pos, negsuc, ◌+ℤ◌, ◌-ℤ◌, IsOk, List, [], length, Ok, Err, Result, OnOk, OnErr, FitsSigned, refl, sym, ap, ◌∙◌, subst, arith, rules}
+use Rattle.std.proofs.lemmas.Int.{ints}
+use Rattle.std.specs.Int.{w64}
+use Rattle.no_std_io2_base.specs.declared.error.Error.{Error}
+use Rattle.no_std_io2_base.specs.declared.traits.seeking.SeekFrom.{SeekFrom}
+use Rattle.no_std_io2_base.specs.declared.traits.seeking.SeekFrom.TheVariants.{Start, End, Current}
+use Rattle.no_std_io2_base.specs.Seek.{IsAtOffset, IsTarget, Seeks}
+use Rattle.no_std_io2.specs.Reading.{IsTooFarBack}
+use Rattle.no_std_io2.specs.Sound.{IsSound}
+
+-- targets as sums of integers
+pub sum_at_offset : (base : ℕ) (o : ℤ) (n : ℕ) → IsAtOffset base o n → pos n ≡ pos base +ℤ o
+sum_at_offset base (pos k) n h = ap pos h
+sum_at_offset base (negsuc k) n h = omega (arith, ints)
+
+pub at_offset_sum : (base : ℕ) (o : ℤ) (n : ℕ) → pos n ≡ pos base +ℤ o → IsAtOffset base o n
+at_offset_sum base (pos k) n h = omega (arith, ints)
+at_offset_sum base (negsuc k) n h = omega (arith, ints)
+
+-- the inner reader is ahead by `held` bytes, and seeks by as many fewer
+pub at_offset_ahead : (at held n : ℕ) (o rest : ℤ) → held ≤ at → rest ≡ o -ℤ pos held → IsAtOffset at rest n → IsAtOffset (at - held) o n
+at_offset_ahead at held n o rest fits is h =
+    let sum = sum_at_offset at rest n h in
+    at_offset_sum (at - held) o n (omega (arith, ints))
+
+pub at_offset_behind : (at held n : ℕ) (o rest : ℤ) → held ≤ at → rest ≡ o -ℤ pos held → IsAtOffset (at - held) o n → IsAtOffset at rest n
+at_offset_behind at held n o rest fits is h =
+    let sum = sum_at_offset (at - held) o n h in
+    at_offset_sum at rest n (omega (arith, ints))
+
+-- an offset that one seek can't say is too far back
+pub far_unless_fits : (o : ℤ) (held : ℕ) → FitsSigned w64 o → held < 2 ^ 63 → (FitsSigned w64 (o -ℤ pos held) → ⊥) → IsTooFarBack (Current o) held
+far_unless_fits (pos k) held fits small not_fits = absurd (not_fits (search rules))
+far_unless_fits (negsuc k) held fits small not_fits = grind (arith, ints, not_fits)
+
+pub fits_not_far : (o : ℤ) (held : ℕ) → FitsSigned w64 (o -ℤ pos held) → IsTooFarBack (Current o) held → ⊥
+fits_not_far (pos k) held fits far = far
+fits_not_far (negsuc k) held fits far = omega (arith, ints)
+
+-- one seek of the inner reader
+pub sought : (from inner : SeekFrom) (r : Result ℕ Error) (held held' content content' : List ℕ) (at at' : ℕ)
+    → ((n : ℕ) → IsTarget (length content) at inner n → IsTarget (length content) (at - length held) from n)
+    → ((n : ℕ) → IsTarget (length content) (at - length held) from n → IsTarget (length content) at inner n)
+    → IsSound held at content → content' ≡ content → Seeks (length content) at inner r at' → OnOk r (held' ≡ []) → OnErr r (held' ≡ held)
+    → IsSound held' at' content' × Seeks (length content) (at - length held) from r (at' - length held')
+sought from inner (Ok n) held held' content content' at at' there back sound same seeks empty kept =
+    (subst (λ l. IsSound l at' content') (sym empty) (omega arith, refl), (there n seeks.0, omega (arith, seeks.1, ap length empty)))
+sought from inner (Err e) held held' content content' at at' there back sound same seeks empty kept =
+    (subst (λ l. IsSound l at' content') (sym kept) (subst (λ c. IsSound held at' c) (sym same) (subst (λ p. IsSound held p content) (sym seeks.2) sound)),
+     (λ n t. seeks.0 n (back n t), seeks.1, omega (arith, seeks.2, ap length kept)))
+
+-- one seek by `Current`, of an inner reader that is ahead
+pub sought_current : (o rest : ℤ) (r : Result ℕ Error) (held held' content content' : List ℕ) (at at' : ℕ) → rest ≡ o -ℤ pos (length held)
+    → IsSound held at content → content' ≡ content → Seeks (length content) at (Current rest) r at' → OnOk r (held' ≡ []) → OnErr r (held' ≡ held)
+    → IsSound held' at' content' × Seeks (length content) (at - length held) (Current o) r (at' - length held')
+sought_current o rest r held held' content content' at at' is sound same seeks empty kept =
+    sought (Current o) (Current rest) r held held' content content' at at'
+    (λ n t. (at_offset_ahead at (length held) n o rest sound.0 is t.0, t.1)) (λ n t. (at_offset_behind at (length held) n o rest sound.0 is t.0, t.1))
+    sound same seeks empty kept
+
+-- a seek back to where the held bytes begin arrives
+pub back_arrives : (o : ℤ) (r : Result ℕ Error) (len at at' held : ℕ) → o ≡ pos 0 -ℤ pos held → held ≤ at → at < 2 ^ 64 → Seeks len at (Current o) r at' → IsOk r × (at' ≡ at - held)
+back_arrives o (Ok n) len at at' held is fits small seeks =
+    let sum = sum_at_offset at o n seeks.0.0 in
+    (refl, omega (arith, ints, seeks.1))
+back_arrives o (Err e) len at at' held is fits small seeks =
+    let target : IsAtOffset at o (at - held) = at_offset_sum at o (at - held) (omega (arith, ints)) in
+    absurd (seeks.0 (at - held) (target, omega arith))
+
+-- the second, with nothing held any more
+pub sought_again : (o shown : ℤ) (r : Result ℕ Error) (held held' old content content' : List ℕ) (at at' place : ℕ) → held ≡ [] → shown ≡ o → content ≡ old → at ≡ place
+    → Seeks (length content) at (Current shown) r at' → OnOk r (held' ≡ []) → OnErr r (held' ≡ held) → IsSound held' at' content' × Seeks (length old) place (Current o) r (at' - length held')
+sought_again o shown r held held' old content content' at at' place none same kept_content here seeks empty kept =
+    let still : held' ≡ [] = still_none r empty kept in
+    let ends : at' ≡ at' - length held' = omega (arith, ap length still) in
+    let asked : Seeks (length content) at (Current o) r at' = subst (λ z. Seeks (length content) at (Current z) r at') same seeks in
+    let inside : Seeks (length old) at (Current o) r at' = subst (λ c. Seeks (length c) at (Current o) r at') kept_content asked in (
+      subst (λ l. IsSound l at' content') (sym still) (omega arith, refl),
+      subst (Seeks (length old) place (Current o) r) ends (subst (λ p. Seeks (length old) p (Current o) r at') here inside),
+    )
+  where
+    still_none : (answer : Result ℕ Error) → OnOk answer (held' ≡ []) → OnErr answer (held' ≡ held) → held' ≡ []
+    still_none (Ok n) e k = e
+    still_none (Err f) e k = k ∙ none
