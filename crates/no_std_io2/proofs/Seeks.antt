@@ -1,5 +1,5 @@
 -- A seek of a buffered reader, by one or two seeks of its inner reader.
-use Rattle.std.proofs.Common.{◌≡◌, ℕ, zero, suc, ◌+◌, ◌-◌, ◌^◌, ◌<◌, ◌≤◌, ℤ, pos, negsuc, ◌+ℤ◌, ◌-ℤ◌, IsOk, List, [], length, Ok, Err, Result, OnOk, OnErr, FitsSigned, refl, sym, ap, ◌∙◌, subst, arith, rules}
+use Rattle.std.proofs.Common.{◌≡◌, ℕ, zero, suc, ◌+◌, ◌-◌, ◌^◌, ◌<◌, ◌≤◌, ℤ, pos, negsuc, ◌+ℤ◌, ◌-ℤ◌, IsOk, ◌⊎◌, inl, inr, List, [], length, Ok, Err, Result, OnOk, OnErr, FitsSigned, refl, sym, ap, ◌∙◌, subst, arith, rules}
 use Rattle.std.proofs.lemmas.Int.{ints}
 use Rattle.std.specs.Int.{w64}
 use Rattle.no_std_io2_base.specs.declared.error.Error.{Error}
@@ -83,3 +83,20 @@ sought_again o shown r held held' old content content' at at' place none same ke
     still_none : (answer : Result ℕ Error) → OnOk answer (held' ≡ []) → OnErr answer (held' ≡ held) → held' ≡ []
     still_none (Ok n) e k = e
     still_none (Err f) e k = k ∙ none
+
+-- `Start` and `End` go to the same place from everywhere
+pub elsewhere : (target : SeekFrom) → ((k : ℕ) × (target ≡ Start k)) ⊎ ((o : ℤ) × (target ≡ End o)) → (len at at' n : ℕ) → IsTarget len at target n → IsTarget len at' target n
+elsewhere (Start k) is len at at' n h = h
+elsewhere (End o) is len at at' n h = h
+elsewhere (Current o) (inl is) len at at' n h = absurd (current_not_start o is.0 is.1)
+  where
+    current_not_start : (o : ℤ) (k : ℕ) → Current o ≡ Start k → ⊥
+    current_not_start o k e = cc
+elsewhere (Current o) (inr is) len at at' n h = absurd (current_not_end o is.0 is.1)
+  where
+    current_not_end : (o k : ℤ) → Current o ≡ End k → ⊥
+    current_not_end o k e = cc
+
+pub not_far : (target : SeekFrom) (held : ℕ) → ((k : ℕ) × (target ≡ Start k)) ⊎ ((o : ℤ) × (target ≡ End o)) → IsTooFarBack target held → ⊥
+not_far target held (inl is) far = subst (λ t. IsTooFarBack t held) is.1 far
+not_far target held (inr is) far = subst (λ t. IsTooFarBack t held) is.1 far
