@@ -1,5 +1,5 @@
 -- A seek of a buffered reader, by one or two seeks of its inner reader.
-use Rattle.std.proofs.Common.{◌≡◌, ℕ, zero, suc, ◌+◌, ◌-◌, ◌^◌, ◌<◌, ◌≤◌, ℤ, pos, negsuc, ◌+ℤ◌, ◌-ℤ◌, IsOk, ◌⊎◌, inl, inr, List, [], length, Ok, Err, Result, OnOk, OnErr, FitsSigned, refl, sym, ap, ◌∙◌, subst, arith, rules}
+use Rattle.std.proofs.Common.{◌≡◌, ℕ, zero, suc, ◌+◌, ◌-◌, ◌^◌, ◌<◌, ◌≤◌, ℤ, pos, negsuc, ◌+ℤ◌, ◌-ℤ◌, IsOk, IsOkAnd, ◌⊎◌, inl, inr, List, [], length, Ok, Err, Result, OnOk, OnErr, FitsSigned, refl, sym, ap, ◌∙◌, subst, arith, rules}
 use Rattle.std.proofs.lemmas.Int.{ints}
 use Rattle.std.specs.Int.{w64}
 use Rattle.no_std_io2_base.specs.declared.error.Error.{Error}
@@ -100,3 +100,12 @@ elsewhere (Current o) (inr is) len at at' n h = absurd (current_not_end o is.0 i
 pub not_far : (target : SeekFrom) (held : ℕ) → ((k : ℕ) × (target ≡ Start k)) ⊎ ((o : ℤ) × (target ≡ End o)) → IsTooFarBack target held → ⊥
 not_far target held (inl is) far = subst (λ t. IsTooFarBack t held) is.1 far
 not_far target held (inr is) far = subst (λ t. IsTooFarBack t held) is.1 far
+
+-- a seek by nothing stays, and answers where
+pub stays : (r : Result ℕ Error) (len at at' : ℕ) → at < 2 ^ 64 → Seeks len at (Current (pos 0)) r at' → (at' ≡ at) × IsOkAnd r (λ n. n ≡ at)
+stays (Ok n) len at at' small seeks = (omega (arith, seeks.0.0, seeks.1), omega (arith, seeks.0.0))
+stays (Err e) len at at' small seeks = absurd (seeks.0 at (omega arith, small))
+
+-- a seek to the start is not refused
+pub start_not_refused : (e : Error) (len at at' : ℕ) → Seeks len at (Start 0) (Err e) at' → ⊥
+start_not_refused e len at at' seeks = seeks.0 0 refl

@@ -100,5 +100,32 @@ impl<R: Seek, const S: usize> Seek for BufReader<R, S> {
         }
     }
 
+    // Both drop what is held, as `seek` does.
+    fn stream_position(&mut self) -> Result<u64>
+        ensures store { reader_has_store R.has_store R.position R.content self.old
+            → reader_has_store R.has_store R.position R.content self.new
+            × (R.content (reader_inner self.new) ≡ R.content (reader_inner self.old))
+            × (reader_position R.position self.new ≡ reader_position R.position self.old)
+            × IsOkAnd result (λ n. n ≡ reader_position R.position self.old) }
+        ensures position { IfOk result (λ n. reader_has_store R.has_store R.position R.content self.new
+            → reader_position R.position self.new ≡ n) }
+        ensures empty { OnOk result (reader_held self.new ≡ []) }
+        ensures kept { OnErr result (reader_held self.new ≡ reader_held self.old) }
+    {
+        self.seek(SeekFrom::Current(0))
+    }
+
+    fn rewind(&mut self) -> Result<()>
+        ensures store { reader_has_store R.has_store R.position R.content self.old
+            → reader_has_store R.has_store R.position R.content self.new
+            × (R.content (reader_inner self.new) ≡ R.content (reader_inner self.old))
+            × (reader_position R.position self.new ≡ 0) × IsOk result }
+        ensures empty { OnOk result (reader_held self.new ≡ []) }
+        ensures kept { OnErr result (reader_held self.new ≡ reader_held self.old) }
+    {
+        self.seek(SeekFrom::Start(0))?;
+        Ok(())
+    }
+
     ghost seek_fits = { λ r h. sound_fits _ (reader_held r) _ (R.seek_fits (reader_inner r) h.0) };
 }
