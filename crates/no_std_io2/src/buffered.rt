@@ -1,6 +1,7 @@
 //! Buffers in front of readers and writers.
 mod lines;
 mod read_ahead;
+mod reader_tells;
 mod reading;
 mod sender;
 mod window;

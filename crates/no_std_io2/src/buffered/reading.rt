@@ -9,6 +9,7 @@ ghost use Rattle.no_std_io2.specs.Reading.{reader_held, reader_inner, reader_eve
 use super::read_ahead::ReadAhead;
 use no_std_io2_base::error::Result;
 use no_std_io2_base::traits::{Read, Stored};
+use std::fmt::{self, Debug, Formatter};
 
 mod lends;
 mod reads;
@@ -123,4 +124,15 @@ impl<R: Stored, const S: usize> Stored for BufReader<R, S> {
     ghost content = { λ r. R.content (reader_inner r) };
 
     ghost position = { reader_position R.position };
+}
+
+// Of the buffer it shows how much is held, and how much could be.
+impl<R: Debug, const S: usize> Debug for BufReader<R, S> {
+    fn fmt<W: fmt::Write>(&self, f: &mut Formatter<W>) -> fmt::Result {
+        let held = self.ahead.len();
+        f.debug_struct("BufReader")
+            .field("reader", &self.inner)
+            .field("buffer", &format_args!("{held}/{S}"))
+            .finish()
+    }
 }
