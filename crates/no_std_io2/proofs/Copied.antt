@@ -99,11 +99,14 @@ copied_refused room E old mid new m n buf after rest e t read some fits long w =
       λ zero. absurd (omega arith),
       inr (
         HasNoFault-append t.front (events_of got) t.no_fault (HasNoFault-events_of got),
-        (omega arith, (
-          bytes t.front ++ accepted,
-          ((lost, front), omega (arith, ap length whole ∙ length-append (bytes t.front) got, length-append (bytes t.front) accepted, short)),
-          Moves-then t.moves w.3,
-        )),
+        (
+          omega arith,
+          (
+            bytes t.front ++ accepted,
+            ((lost, front), omega (arith, ap length whole ∙ length-append (bytes t.front) got, length-append (bytes t.front) accepted, short)),
+            Moves-then t.moves w.3,
+          ),
+        ),
       ),
     )
 
