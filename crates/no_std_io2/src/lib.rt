@@ -2,4 +2,6 @@
 #![tactic(auto)]
 
 pub mod buffered;
+#[cfg(test)]
+mod tests;
 pub mod util;

@@ -73,7 +73,7 @@ impl<R, const S: usize> BufReader<R, S> {
     pub fn capacity(&self) -> usize
         ensures { result ≡ S }
     {
-        S
+        self.ahead.capacity()
     }
 
     /// The inner reader. The bytes held are lost. Follows `BufReader::into_inner`.
