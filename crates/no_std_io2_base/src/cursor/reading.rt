@@ -1,4 +1,4 @@
-ghost use Rattle.std.specs.Prelude.{◌≡◌, ◌+◌, ◌≤◌, ◌<◌, ◌^◌, ◌↔◌, min, length, take, codes, Some, IsOk, IsOkAnd, IfOk, IfErr, OnErr};
+ghost use Rattle.std.specs.Prelude.{◌≡◌, ◌+◌, ◌++◌, ◌≤◌, ◌<◌, ◌^◌, ◌↔◌, min, length, take, codes, Some, IsOk, IsOkAnd, IfOk, IfErr, OnErr};
 ghost use Rattle.no_std_io2_base.specs.Cursor.{cursor_place, cursor_inner, cursor_left, cursor_stores};
 ghost use Rattle.no_std_io2_base.specs.Errors.{error_kind, error_text};
 ghost use Rattle.no_std_io2_base.specs.Events.{events_of, given, Reads, ReadsExact, SpendsTurn};
@@ -107,15 +107,17 @@ impl<T: AsSlice<u8>> BufRead for Cursor<T> {
     ghost lent_length = { λ c. length (cursor_left T.slice c) };
 
     #[tactic(auto, using(crate::proofs::Held::begins_whole))]
-    fn fill_buf(&mut self) -> Result<&[u8]>
-        // It never fails, and lends all that is left.
-        ensures all { IsOkAnd result (λ s. s.now ≡ cursor_left T.slice self.old) }
-    {
+    fn fill_buf(&mut self) -> Result<&[u8]> {
         Ok(self.left())
     }
 
     fn consume(&mut self, amount: usize)
         requires { amount ≤ length (cursor_left T.slice self.old) }
+        // The trait's.
+        ensures told { events_of (cursor_left T.slice self.old)
+            ≡ events_of (take amount (cursor_left T.slice self.old)) ++ events_of (cursor_left T.slice self.new) }
+
+        // It moves the position.
         ensures position { cursor_place self.new ≡ cursor_place self.old + amount }
         ensures inner { cursor_inner self.new ≡ cursor_inner self.old }
     {

@@ -1,5 +1,5 @@
 //! What cursors and their contents tell, one function a type: so no implementation can tell less.
-ghost use Rattle.std.specs.Prelude.{◌≡◌, ◌+◌, ◌-◌, ◌++◌, length, take, drop, replicate, [], None, IfOk, IsOk};
+ghost use Rattle.std.specs.Prelude.{◌≡◌, ◌+◌, ◌-◌, ◌++◌, length, take, drop, replicate, [], None, IfOk, IsOk, IsOkAnd};
 ghost use Rattle.no_std_io2_base.specs.Cursor.{cursor_place, cursor_inner};
 ghost use Rattle.no_std_io2_base.specs.Events.{events_of};
 
@@ -48,6 +48,13 @@ fn cursor_lends<T: AsSlice<u8>>(c: &Cursor<T>)
     ensures lent_length { ⟦<Cursor<T> as BufRead>⟧.lent_length c.now
         ≡ length (T.slice (cursor_inner c.now)) - cursor_place c.now }
 {}
+
+// Lending never fails.
+fn cursor_lends_all<T: AsSlice<u8>>(c: &mut Cursor<T>) -> Result<usize>
+    ensures { IsOkAnd result (λ n. n ≡ length (T.slice (cursor_inner c.old)) - cursor_place c.old) }
+{
+    Ok(c.fill_buf()?.len())
+}
 
 fn vector_cursor_writes<A: Allocator>(c: &Cursor<Vec<u8, A>>)
     ensures { let content = (cursor_inner c.now).items in
