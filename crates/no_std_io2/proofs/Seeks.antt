@@ -46,9 +46,10 @@ pub sought : (from inner : SeekFrom) (r : Result ℕ Error) (held held' content 
     → IsSound held' at' content' × Seeks (length content) (at - length held) from r (at' - length held')
 sought from inner (Ok n) held held' content content' at at' there back sound same seeks empty kept =
     (subst (λ l. IsSound l at' content') (sym empty) (omega arith, refl), (there n seeks.0, omega (arith, seeks.1, ap length empty)))
-sought from inner (Err e) held held' content content' at at' there back sound same seeks empty kept =
-    (subst (λ l. IsSound l at' content') (sym kept) (subst (λ c. IsSound held at' c) (sym same) (subst (λ p. IsSound held p content) (sym seeks.2) sound)),
-     (λ n t. seeks.0 n (back n t), seeks.1, omega (arith, seeks.2, ap length kept)))
+sought from inner (Err e) held held' content content' at at' there back sound same seeks empty kept = (
+  subst (λ l. IsSound l at' content') (sym kept) (subst (λ c. IsSound held at' c) (sym same) (subst (λ p. IsSound held p content) (sym seeks.2) sound)),
+  (λ n t. seeks.0 n (back n t), seeks.1, omega (arith, seeks.2, ap length kept)),
+)
 
 -- one seek by `Current`, of an inner reader that is ahead
 pub sought_current : (o rest : ℤ) (r : Result ℕ Error) (held held' content content' : List ℕ) (at at' : ℕ) → rest ≡ o -ℤ pos (length held)

@@ -15,6 +15,7 @@ pub mod error {
 /// The whole surface, as Rust's `std::io`.
 pub mod io {
     pub use super::buffered::{BufReader, BufWriter, IntoInnerError, LineWriter};
+    pub use super::util::copy;
     pub use no_std_io2_base::cursor::{AsSlice, Cursor};
     pub use no_std_io2_base::error::{Error, ErrorKind, Result};
     pub use no_std_io2_base::traits::{

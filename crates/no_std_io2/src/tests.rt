@@ -1,3 +1,4 @@
 mod lines;
 mod seeking_writers;
 mod writers;
+mod readers;

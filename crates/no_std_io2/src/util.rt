@@ -1,12 +1,59 @@
 //! Whole copies from a reader to a writer.
-ghost use Rattle.std.specs.Prelude.{◌≡◌};
-ghost use Rattle.no_std_io2_base.specs.Errors.{error_kind, is_interruption};
+ghost use Rattle.std.specs.Prelude.{◌≡◌, ◌+◌, ◌≤◌, ◌<◌, ◌^◌, length, IfErr};
+ghost use Rattle.no_std_io2_base.specs.Errors.{error_kind, is_interruption, IsFault};
+ghost use Rattle.no_std_io2.specs.Copy.{Copies, CopyMoves};
 
-use no_std_io2_base::error::{Error, ErrorKind};
+use no_std_io2_base::error::{Error, ErrorKind, Result};
+use no_std_io2_base::traits::{Read, Write};
 
 // The call did nothing and may be made again.
 pub(crate) fn is_interruption(error: &Error) -> bool
     ensures { result ≡ is_interruption (error_kind error.now) }
 {
     matches!(error.kind(), ErrorKind::Interrupted)
+}
+
+/// Copies all bytes to come of `reader` to `writer`, through a buffer of `S` bytes on the stack,
+/// and answers their number, or the greatest `u64` where there are more. It passes over the
+/// reader's interruptions, and doesn't flush `writer`. Follows `std::io::copy`.
+///
+/// `S` is from 0 to 2^63 - 1. With `S` 0 nothing is copied and the answer is 0, or the reader's
+/// fault where it answers one.
+///
+/// # Errors
+/// The reader's first fault: the writer has accepted all bytes before it. Or the writer's fault:
+/// up to `S` of the bytes that were read aren't accepted, and are lost. Never `Interrupted`.
+pub fn copy<R: Read, W: Write, const S: usize>(reader: &mut R, writer: &mut W) -> Result<u64>
+    requires { S < 2 ^ 63 }
+    ensures told { R.tells reader.old → R.tells reader.new
+        × Copies S (R.events reader.old) result (R.events reader.new)
+        (W.told writer.old) (W.told writer.new) }
+    ensures moves { CopyMoves result (W.told writer.old) (W.told writer.new) }
+    ensures unchanged { S ≡ 0 → writer.new ≡ writer.old }
+    ensures all { W.takes_all writer.old → W.takes_all writer.new }
+    ensures fault { IfErr result IsFault }
+    ensures turns { R.turns reader.new ≤ R.turns reader.old }
+    ensures metered { R.is_metered reader.old → R.is_metered reader.new }
+    ensures filling { R.is_filling reader.old → R.is_filling reader.new }
+    ensures store { R.has_store reader.old → R.has_store reader.new
+        × (R.content reader.new ≡ R.content reader.old)
+        × (R.position reader.new + length (R.events reader.new)
+        ≡ R.position reader.old + length (R.events reader.old)) }
+{
+    let mut buf = [0u8; S];
+    let mut copied = 0u64;
+    'reads: loop {
+        match reader.read(&mut buf[..]) {
+            Ok(0) => return Ok(copied),
+            Ok(n) => {
+                writer.write_all(&buf[..n])?;
+                copied = copied.saturating_add(n as u64);
+            }
+            Err(e) => {
+                if !is_interruption(&e) {
+                    return Err(e);
+                }
+            }
+        }
+    }
 }

@@ -30,6 +30,12 @@ impl<const S: usize> ReadAhead<S> {
         }
     }
 
+    pub(super) fn capacity(&self) -> usize
+        ensures { result ≡ S }
+    {
+        self.bytes.len()
+    }
+
     pub(super) fn len(&self) -> usize
         ensures len { result ≡ length (ahead_held self.now) }
         ensures bound { result ≤ S }

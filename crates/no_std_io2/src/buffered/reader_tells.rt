@@ -18,8 +18,7 @@ fn reader_tells<R: Read, const S: usize>(r: &BufReader<R, S>)
     ensures cost { ⟦<BufReader<R, S> as Read>⟧.cost r.now ≡ R.cost (reader_inner r.now) }
     ensures unmetered { ⟦<BufReader<R, S> as Read>⟧.is_metered r.now → ⊥ }
     ensures takes_all { ⟦<BufReader<R, S> as Read>⟧.may_take_none r.now → ⊥ }
-{
-}
+{}
 
 // Its position is the inner's less what is held, where that is what the store has there.
 fn reader_stores<R: Stored, const S: usize>(r: &BufReader<R, S>)
@@ -29,8 +28,7 @@ fn reader_stores<R: Stored, const S: usize>(r: &BufReader<R, S>)
     ensures content { ⟦<BufReader<R, S> as Stored>⟧.content r.now ≡ R.content (reader_inner r.now) }
     ensures position { ⟦<BufReader<R, S> as Stored>⟧.position r.now
         ≡ R.position (reader_inner r.now) - length (reader_held r.now) }
-{
-}
+{}
 
 // Over a metered reader its fills are counted, and over a filling one their lengths are known.
 fn reader_lends<R: Read, const S: usize>(r: &BufReader<R, S>)
@@ -41,8 +39,7 @@ fn reader_lends<R: Read, const S: usize>(r: &BufReader<R, S>)
     ensures length { ⟦<BufReader<R, S> as BufRead>⟧.lent_length r.now
         ≡ (if nat_lt 0 (length (reader_held r.now)) then length (reader_held r.now)
         else min S (length (R.events (reader_inner r.now)))) }
-{
-}
+{}
 
 // Lends once. Where nothing is held that is one inner read, else none.
 fn lend_counted<R: Read, const S: usize>(r: &mut BufReader<R, S>) -> Result<usize>

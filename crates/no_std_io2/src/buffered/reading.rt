@@ -15,6 +15,12 @@ mod lends;
 mod reads;
 mod seeks;
 
+/// A reader with a buffer of `S` bytes in front of another one, so that small reads ask that one
+/// seldom. Follows Rust's `std::io::BufReader`, with its buffer in the value itself.
+///
+/// A call of `read` or `fill_buf` makes one inner read at most, and none while bytes are held.
+/// A read into at least `S` bytes with none held goes straight to the inner reader. An empty read
+/// with none held fills the buffer, and may answer the inner reader's error.
 #[derive(Drop)]
 pub struct BufReader<R, const S: usize> {
     inner: R,
@@ -22,6 +28,8 @@ pub struct BufReader<R, const S: usize> {
 }
 
 impl<R: Read, const S: usize> BufReader<R, S> {
+    /// A reader of `inner` that holds nothing yet. `S` is from 1 to 2^63 - 1. Follows
+    /// `BufReader::new`.
     pub fn new(inner: R) -> BufReader<R, S>
         requires some_room { 0 < S }
         requires in_memory { S < 2 ^ 63 }
@@ -37,12 +45,14 @@ impl<R: Read, const S: usize> BufReader<R, S> {
 }
 
 impl<R, const S: usize> BufReader<R, S> {
+    /// The inner reader. It is ahead of this one by the bytes held. Follows `BufReader::get_ref`.
     pub fn get_ref(&self) -> &R
         ensures { result.now ≡ reader_inner self.now }
     {
         &self.inner
     }
 
+    /// The inner reader, to change it: the bytes held stay. Follows `BufReader::get_mut`.
     pub fn get_mut(&mut self) -> &mut R
         ensures value { result.now ≡ reader_inner self.old }
         ensures* writes_back { sem 𝓛 (Lends (reader-row R.row S.row) R.row self.entry result
@@ -51,6 +61,7 @@ impl<R, const S: usize> BufReader<R, S> {
         &mut self.inner
     }
 
+    /// The bytes held: read and not yet given, at most `S`. Follows `BufReader::buffer`.
     pub fn buffer(&self) -> &[u8]
         ensures value { result.now ≡ reader_held self.now }
         ensures bound { length result.now ≤ S }
@@ -58,12 +69,14 @@ impl<R, const S: usize> BufReader<R, S> {
         self.ahead.as_slice()
     }
 
+    /// The buffer's size in bytes, `S`. Follows `BufReader::capacity`.
     pub fn capacity(&self) -> usize
         ensures { result ≡ S }
     {
-        S
+        self.ahead.capacity()
     }
 
+    /// The inner reader. The bytes held are lost. Follows `BufReader::into_inner`.
     pub fn into_inner(self) -> R
         ensures { result ≡ reader_inner self }
     {
@@ -126,7 +139,7 @@ impl<R: Stored, const S: usize> Stored for BufReader<R, S> {
     ghost position = { reader_position R.position };
 }
 
-// Of the buffer it shows how much is held, and how much could be.
+/// Of the buffer it shows how much is held, and how much could be.
 impl<R: Debug, const S: usize> Debug for BufReader<R, S> {
     fn fmt<W: fmt::Write>(&self, f: &mut Formatter<W>) -> fmt::Result {
         let held = self.ahead.len();

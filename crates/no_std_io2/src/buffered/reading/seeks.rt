@@ -76,6 +76,10 @@ impl<R: Seek, const S: usize> BufReader<R, S> {
     }
 }
 
+/// `Current(n)` counts from the next byte that this reader would give, and so seeks the inner
+/// reader by `n` less the bytes held. Where that is no `i64`, the inner reader first goes back by
+/// the bytes held, which are dropped, and then by `n`. `Start` and `End` go to the inner reader.
+/// Success drops the bytes held; a refusal of the first or only inner seek keeps them.
 impl<R: Seek, const S: usize> Seek for BufReader<R, S> {
     fn seek(&mut self, target: SeekFrom) -> Result<u64>
         // The trait's.

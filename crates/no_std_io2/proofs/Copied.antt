@@ -1,0 +1,114 @@
+-- What a loop of reads and writes has moved so far.
+use Rattle.std.proofs.Common.{◌≡◌, ℕ, ◌+◌, ◌-◌, ◌^◌, ◌<◌, ◌≤◌, min, List, [], ◌∷◌, ◌++◌, length, take, refl, sym, ap, ◌∙◌, subst, arith, Ok, Err, append_assoc, append-nil, inl, inr, length-append, length-take-le, drop_of_length-le}
+use Rattle.no_std_io2_base.specs.declared.error.Error.{Error}
+use Rattle.no_std_io2_base.specs.Errors.{error_kind, IsInterruption, IsFault}
+use Rattle.no_std_io2_base.specs.Events.{Event, byte, fails, events_of, bytes, HasNoFault, Reads, EndsInFault}
+use Rattle.no_std_io2_base.specs.Writes.{Told, Moves, MovesFront, IsFront}
+use Rattle.no_std_io2_base.proofs.Events.{bytes-append, bytes-events_of, HasNoFault-append, HasNoFault-events_of}
+use Rattle.no_std_io2_base.proofs.MovesLemmas.{Moves-refl, Moves-then}
+use Rattle.no_std_io2.specs.Copy.{counted, Copies, CopyMoves}
+
+-- the writer accepted these bytes, which are counted
+pub record Written (old new : Told) (copied : ℕ) : Type 0 where
+  pub accepted : List ℕ
+  pub moves : Moves old accepted [] new
+  pub count : copied ≡ counted accepted
+
+-- `front`, which has no fault, is gone from E, and the writer accepted its bytes, which are counted
+pub record Copied (E : List Event) (old new : Told) (copied : ℕ) (after : List Event) : Type 0 where
+  pub front : List Event
+  pub split : E ≡ front ++ after
+  pub no_fault : HasNoFault front
+  pub moves : Moves old (bytes front) [] new
+  pub count : copied ≡ counted (bytes front)
+
+pub written_none : (old : Told) → Written old old 0
+written_none old = record { accepted = []; moves = Moves-refl old; count = refl }
+
+pub copied_none : (E : List Event) (old : Told) → Copied E old old 0 E
+copied_none E old = record { front = []; split = refl; no_fault = tt; moves = Moves-refl old; count = refl }
+
+count_more : (n m k : ℕ) (b got : List ℕ) → m ≡ counted b → length got ≡ n → k ≡ min (m + n) (2 ^ 64 - 1) → k ≡ counted (b ++ got)
+count_more n m k b got count long is = omega (arith, length-append b got)
+
+-- a whole piece was written
+whole_piece : (mid new : Told) (piece : List ℕ) → MovesFront mid piece (Ok tt) new → Moves mid piece [] new
+whole_piece mid new piece w = subst (λ l. Moves mid l [] new) w.2 w.3
+
+pub written_more : (old mid new : Told) (n m k : ℕ) (buf : List ℕ) → Written old mid m → MovesFront mid (take n buf) (Ok tt) new → n ≤ length buf → k ≡ min (m + n) (2 ^ 64 - 1) → Written old new k
+written_more old mid new n m k buf t w fits is = record {
+  accepted = t.accepted ++ take n buf;
+  moves = Moves-then t.moves (whole_piece mid new (take n buf) w);
+  count = count_more n m k t.accepted (take n buf) t.count (length-take-le n buf fits) is;
+}
+
+pub copied_more : (E : List Event) (old mid new : Told) (n m k : ℕ) (buf : List ℕ) (after rest : List Event) → Copied E old mid m after → Reads after (Ok n) buf rest
+    → MovesFront mid (take n buf) (Ok tt) new → n ≤ length buf → k ≡ min (m + n) (2 ^ 64 - 1) → Copied E old new k rest
+copied_more E old mid new n m k buf after rest t read w fits is =
+    let got = take n buf in
+    let whole : bytes (t.front ++ events_of got) ≡ bytes t.front ++ got = bytes-append t.front (events_of got) ∙ ap (λ l. bytes t.front ++ l) (bytes-events_of got) in
+    record {
+      front = t.front ++ events_of got;
+      split = t.split ∙ ap (λ l. t.front ++ l) read.0 ∙ sym (append_assoc t.front (events_of got) rest);
+      no_fault = HasNoFault-append t.front (events_of got) t.no_fault (HasNoFault-events_of got);
+      moves = subst (λ l. Moves old l [] new) (sym whole) (Moves-then t.moves (whole_piece mid new got w));
+      count = count_more n m k (bytes t.front) got t.count (length-take-le n buf fits) is ∙ ap counted (sym whole);
+    }
+
+-- a front that ends in an error has its bytes
+bytes-fails : (P : List Event) (e : Error) → bytes (P ++ fails e ∷ []) ≡ bytes P
+bytes-fails P e = bytes-append P (fails e ∷ []) ∙ append-nil (bytes P)
+
+pub copied_interruption : (E : List Event) (old mid : Told) (m : ℕ) (after : List Event) (e : Error) (rest : List Event)
+    → Copied E old mid m after → after ≡ fails e ∷ rest → IsInterruption e → Copied E old mid m rest
+copied_interruption E old mid m after e rest t read again = record {
+  front = t.front ++ fails e ∷ [];
+  split = t.split ∙ ap (λ l. t.front ++ l) read ∙ sym (append_assoc t.front (fails e ∷ []) rest);
+  no_fault = HasNoFault-append t.front (fails e ∷ []) t.no_fault (again, tt);
+  moves = subst (λ l. Moves old l [] mid) (sym (bytes-fails t.front e)) t.moves;
+  count = t.count ∙ ap counted (sym (bytes-fails t.front e));
+}
+
+-- no byte was counted
+none_counted : (m : ℕ) (bs : List ℕ) → m ≡ counted bs → m ≡ 0 → bs ≡ []
+none_counted m bs is zero = drop_of_length-le bs {i = 0} (omega arith)
+
+-- the reader's fault ends the copy
+pub copied_fault : (room : ℕ) (E : List Event) (old mid : Told) (m : ℕ) (after : List Event) (e : Error) (rest : List Event)
+    → Copied E old mid m after → after ≡ fails e ∷ rest → IsFault e → (room ≡ 0 → m ≡ 0) → Copies room E (Err e) rest old mid
+copied_fault room E old mid m after e rest t read fault none =
+    let gave = bytes-fails t.front e in (
+      t.front ++ fails e ∷ [],
+      t.split ∙ ap (λ l. t.front ++ l) read ∙ sym (append_assoc t.front (fails e ∷ []) rest),
+      λ zero. gave ∙ none_counted m (bytes t.front) t.count (none zero),
+      inl ((t.front, refl, t.no_fault, fault), subst (λ l. Moves old l [] mid) (sym gave) t.moves),
+    )
+
+-- the writer's fault ends it, in the middle of a piece
+pub copied_refused : (room : ℕ) (E : List Event) (old mid new : Told) (m n : ℕ) (buf : List ℕ) (after rest : List Event) (e : Error)
+    → Copied E old mid m after → Reads after (Ok n) buf rest → 0 < n → n ≤ length buf → length buf ≡ room → MovesFront mid (take n buf) (Err e) new → Copies room E (Err e) rest old new
+copied_refused room E old mid new m n buf after rest e t read some fits long w =
+    let got = take n buf in
+    let accepted = w.0 in
+    let lost = w.1.0 in
+    let whole : bytes (t.front ++ events_of got) ≡ bytes t.front ++ got = bytes-append t.front (events_of got) ∙ ap (λ l. bytes t.front ++ l) (bytes-events_of got) in
+    let front : bytes (t.front ++ events_of got) ≡ (bytes t.front ++ accepted) ++ lost = whole ∙ ap (λ l. bytes t.front ++ l) w.1.1 ∙ sym (append_assoc (bytes t.front) accepted lost) in
+    let short = length-take-le n buf fits in (
+      t.front ++ events_of got,
+      t.split ∙ ap (λ l. t.front ++ l) read.0 ∙ sym (append_assoc t.front (events_of got) rest),
+      λ zero. absurd (omega arith),
+      inr (
+        HasNoFault-append t.front (events_of got) t.no_fault (HasNoFault-events_of got),
+        (
+          omega arith,
+          (
+            bytes t.front ++ accepted,
+            ((lost, front), omega (arith, ap length whole ∙ length-append (bytes t.front) got, length-append (bytes t.front) accepted, short)),
+            Moves-then t.moves w.3,
+          ),
+        ),
+      ),
+    )
+
+pub written_refused : (old mid new : Told) (m : ℕ) (x : List ℕ) (e : Error) → Written old mid m → MovesFront mid x (Err e) new → CopyMoves (Err e) old new
+written_refused old mid new m x e t w = (t.accepted ++ w.0, inr (Moves-then t.moves w.3))
