@@ -4,7 +4,7 @@ use Rattle.std.proofs.lemmas.Bool.Decides.{nat_tests}
 use Rattle.no_std_io2_base.specs.declared.error.Error.{Error}
 use Rattle.no_std_io2_base.specs.declared.error.ErrorKind.TheVariants.{UnexpectedEof}
 use Rattle.no_std_io2_base.specs.Errors.{error_kind}
-use Rattle.no_std_io2_base.specs.Events.{Event, fails, events_of, bytes, HasNoFault, cut, Reads, Fills, FallsShort}
+use Rattle.no_std_io2_base.specs.Events.{IsUnexpectedEnd, Event, fails, events_of, bytes, HasNoFault, cut, Reads, Fills, FallsShort}
 use Rattle.no_std_io2_base.proofs.Events.{length-events_of, events_of-append, bytes-events_of, HasNoFault-events_of, cut-bytes}
 use Rattle.no_std_io2_base.proofs.Taken.{Taken, taken_fills, no_error}
 use Rattle.no_std_io2.specs.Reading.{held_or_to_come, exact_reads, exact_left}
@@ -116,7 +116,7 @@ nothing_read E E' n buf read zero = read.0 ∙ ap (λ m. events_of (take m buf) 
 
 -- the end came before the buffer was full
 pub taken_end : (E : List Event) (room most : ℕ) (got : List ℕ) (after : List Event) (e : Error) (rest : List Event) (n : ℕ) (buf : List ℕ)
-    → Taken E room got after → Reads after (Ok n) buf rest → n ≡ 0 → 0 < length buf → error_kind e ≡ UnexpectedEof → length got < most → FallsShort ⊥ E most e rest
+    → Taken E room got after → Reads after (Ok n) buf rest → n ≡ 0 → 0 < length buf → IsUnexpectedEnd e → length got < most → FallsShort ⊥ E most e rest
 taken_end E room most got after e rest n buf t read zero some kind short =
     let end : after ≡ [] = read.1 zero some in
     let whole : E ≡ t.front = t.split ∙ ap (λ l. t.front ++ l) end ∙ append-nil t.front in (

@@ -115,7 +115,7 @@ impl<W: Write + Drop, const S: usize> Sender<W, S> {
         ensures same { sender_buffer self.new ≡ sender_buffer self.old }
         ensures all { W.takes_all (sender_inner self.old)
             → W.takes_all (sender_inner self.new) × (result ≡ Ok (length buf.now)) }
-        ensures cost { W.is_metered (sender_inner self.old) → W.takes_all (sender_inner self.old)
+        ensures calls { W.is_metered (sender_inner self.old) → W.takes_all (sender_inner self.old)
             → W.is_metered (sender_inner self.new)
             × (W.cost (sender_inner self.new) ≡ W.cost (sender_inner self.old) + 1) }
     {
@@ -128,8 +128,9 @@ impl<W: Write + Drop, const S: usize> Sender<W, S> {
         ensures moves { MovesFront (W.told (sender_inner self.old)) buf.now result
             (W.told (sender_inner self.new)) }
         ensures same { sender_buffer self.new ≡ sender_buffer self.old }
-        ensures all { W.takes_all (sender_inner self.old) → W.takes_all (sender_inner self.new) × IsOk result }
-        ensures cost { W.is_metered (sender_inner self.old) → W.takes_all (sender_inner self.old)
+        ensures all { W.takes_all (sender_inner self.old) → W.takes_all (sender_inner self.new) }
+        ensures ok { W.takes_all (sender_inner self.old) → IsOk result }
+        ensures calls { W.is_metered (sender_inner self.old) → W.takes_all (sender_inner self.old)
             → W.is_metered (sender_inner self.new)
             × (W.cost (sender_inner self.new) ≡ W.cost (sender_inner self.old) + sending_calls buf.now) }
     {

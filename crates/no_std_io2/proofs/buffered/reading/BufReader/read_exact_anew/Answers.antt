@@ -128,7 +128,7 @@ returns-in-Ok-eq0-clause-told g c = λ t.
     let before = c.reads.invariant.told t in
     let now = c.in-Ok-eq0.ensures.told before.0 in
     let long = length-take-le c.reads.at c.reads.buf (omega arith) in
-    (now.0, inr (taken_end _ _ _ _ _ c.new.result _ c.in-Ok-eq0.field-0 _ before.1 now.1 (search rules) (omega arith) c.new.ensures.kind (search (rules, long))))
+    (now.0, inr (taken_end _ _ _ _ _ c.new.result _ c.in-Ok-eq0.field-0 _ before.1 now.1 (search rules) (omega arith) (c.new.ensures.kind, search rules) (search (rules, long))))
 
 pub returns-in-Ok-eq0-clause-store : goal.returns-in-Ok-eq0-clause-store
 returns-in-Ok-eq0-clause-store g c = λ t.
