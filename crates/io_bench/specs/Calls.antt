@@ -1,7 +1,13 @@
--- What one call of a writer does, by the laws of `Write`, for a device that hands a call on.
-use Rattle.std.specs.Prelude.{◌≡◌, ℕ, ◌+◌, ◌≤◌, List, [], length, Result, Ok, IfOk, OnOk}
+-- What one call does: fails, or is handed on, by the laws of `Write`.
+use Rattle.std.specs.Prelude.{◌≡◌, ℕ, ◌+◌, ◌≤◌, List, [], length, None, Result, Ok, IfOk, OnOk, IsErrAnd}
 use Rattle.no_std_io2_base.specs.declared.error.Error.{Error}
+use Rattle.no_std_io2_base.specs.declared.error.ErrorKind.{ErrorKind}
+use Rattle.no_std_io2_base.specs.Errors.{error_kind, error_text}
 use Rattle.no_std_io2_base.specs.Writes.{Told, Moves, taken, write_mishap, call_mishap}
+
+-- an error of this kind, without a text
+abbrev pub FailsWith : {T : Type 0} → ErrorKind → Result T Error → Type 0
+FailsWith kind reply = IsErrAnd reply (λ e. (error_kind e ≡ kind) × (error_text e ≡ None))
 
 -- a `write(x)` of a writer with these ghost members, from old to new
 pub record IsWrite {W : Type 0} (told : W → Told) (takes_all : W → Type 0) (cost : W → ℕ) (is_metered : W → Type 0)

@@ -1,9 +1,8 @@
 -- What a clause reads of a `Faulty`.
 use Rattle.std.proofs.Common.{ap, ◌∙◌}
-use Rattle.std.specs.Prelude.{◌≡◌, ◌<◌, Some, None, Option, ℕ, List, [], ◌∷◌, ◌++◌, drop, take, if◌then◌else◌, ◌==◌, ◌+◌, count_by, ⊤, Result, Ok, IsErrAnd}
-use Rattle.no_std_io2_base.specs.Errors.{is_interruption, error_kind, error_text}
+use Rattle.std.specs.Prelude.{◌≡◌, ◌<◌, Some, None, Option, ℕ, List, [], ◌∷◌, ◌++◌, drop, take, if◌then◌else◌, ◌==◌, ◌+◌, count_by, ⊤}
+use Rattle.no_std_io2_base.specs.Errors.{is_interruption}
 use Rattle.std.specs.Option.{option_map}
-use Rattle.no_std_io2_base.specs.declared.error.Error.{Error}
 use Rattle.no_std_io2_base.specs.declared.error.ErrorKind.{ErrorKind}
 use Rattle.no_std_io2_base.specs.declared.error.ErrorKind.TheVariants.{WriteZero}
 use Rattle.no_std_io2_base.specs.Writes.{Told}
@@ -27,10 +26,6 @@ first_act (act ∷ acts) = Some act
 -- the next act, if one is left
 abbrev pub next_act : {W : Type 0} → Faulty W → Option Act
 next_act f = first_act (acts_left f)
-
--- an error of this kind, without a text
-abbrev pub FailsWith : {T : Type 0} → ErrorKind → Result T Error → Type 0
-FailsWith kind reply = IsErrAnd reply (λ e. (error_kind e ≡ kind) × (error_text e ≡ None))
 
 -- a flush is handed on
 abbrev pub LetsFlush : Option Act → Type 0

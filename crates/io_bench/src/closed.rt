@@ -4,7 +4,7 @@ ghost use Rattle.no_std_io2_base.specs.Errors.{error_kind};
 ghost use Rattle.no_std_io2_base.specs.Writes.{Moves};
 ghost use Rattle.no_std_io2.specs.Buffered.{writer_inner, writer_buffer, writer_told};
 ghost use Rattle.io_bench.specs.Runs.{appended, Answers, AreWhole, IsWhole};
-ghost use Rattle.io_bench.specs.Tally.{tally_inner, tally_calls};
+ghost use Rattle.io_bench.specs.Tally.{tally_inner, tally_writes};
 ghost use Rattle.io_bench.specs.Closed.{given_bytes, flushes, op_calls, op_buffer, CountedWriterFits};
 
 use crate::runs::{Op, Reply};
@@ -22,8 +22,8 @@ fn make_counted_call<W: Write + Drop, const S: usize>(
     ensures answers { Answers (writer_told (λ t. W.told (tally_inner t)) w.old) op.entry result
         (writer_told (λ t. W.told (tally_inner t)) w.new) }
     ensures all { W.takes_all (tally_inner (writer_inner w.new)) × IsWhole op.entry result }
-    ensures calls { tally_calls (writer_inner w.new)
-        ≡ tally_calls (writer_inner w.old) + op_calls S (writer_buffer w.old) op.entry }
+    ensures calls { tally_writes (writer_inner w.new)
+        ≡ tally_writes (writer_inner w.old) + op_calls S (writer_buffer w.old) op.entry }
     ensures buffer { writer_buffer w.new ≡ op_buffer S (writer_buffer w.old) op.entry }
 {
     match op {
@@ -67,7 +67,7 @@ pub fn run_closed<W: Write + Drop, const S: usize>(
     ensures all { IfOk result (λ t. W.takes_all (tally_inner t)) }
     ensures bytes { IfOk result (λ t. Moves (W.told (tally_inner w)) (given_bytes ops.now) []
         (W.told (tally_inner t))) }
-    ensures bound { IfOk result (λ t. tally_calls t ≤ tally_calls w
+    ensures bound { IfOk result (λ t. tally_writes t ≤ tally_writes w
         + (2 * (length (given_bytes ops.now) / (S + 1)) + flushes ops.now + 1)) }
     ensures kind { IfErr result (λ e. error_kind e ≡ ErrorKind.OutOfMemory) }
     ensures err { OnErr result (replies.new.items ≡ replies.old.items) }

@@ -2,7 +2,7 @@
 ghost use Rattle.std.specs.Prelude.{◌≡◌, ℕ, ◌+◌, ◌<◌, ◌≤◌, [], ◌∷◌, Some, None, Ok, IfOk, OnOk, IsErrAnd, MatchOption, length, take, drop, vec_len};
 ghost use Rattle.no_std_io2_base.specs.declared.error.ErrorKind.{ErrorKind};
 ghost use Rattle.no_std_io2_base.specs.Writes.{Moves, taken, write_mishap, call_mishap};
-ghost use Rattle.io_bench.specs.Calls.{IsWrite, IsFlush};
+ghost use Rattle.io_bench.specs.Calls.{FailsWith, IsWrite, IsFlush};
 
 use no_std_io2::io::{Error, ErrorKind, Result, Write};
 
@@ -73,7 +73,7 @@ impl<W> Faulty<W> {
 /// that are left. It takes all where the inner writer does and no act is left. Its cost is the
 /// inner writer's, and it is not metered.
 impl<W: Write> Write for Faulty<W> {
-    ghost use Rattle.io_bench.specs.Faulty.{faulty_inner, faulty_told, faulty_steady, acts_left, next_act, FailsWith, LetsFlush};
+    ghost use Rattle.io_bench.specs.Faulty.{faulty_inner, faulty_told, faulty_steady, acts_left, next_act, LetsFlush};
 
     ghost told = { faulty_told W.told };
 

@@ -8,6 +8,7 @@
 
 mod closed;
 mod faulty;
+mod feed;
 mod runs;
 mod sink;
 mod tally;
@@ -19,6 +20,7 @@ mod trace;
 
 pub use closed::run_closed;
 pub use faulty::{Act, Faulty};
+pub use feed::{Event, Feed};
 pub use runs::{Op, Reply, run_writes};
 pub use sink::Sink;
 pub use tally::Tally;

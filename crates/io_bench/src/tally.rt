@@ -1,35 +1,43 @@
-// A writer that counts.
-ghost use Rattle.std.specs.Prelude.{◌≡◌, ◌+◌, ◌-◌, ◌^◌, ◌≤◌, [], Ok, IfOk, OnOk, ⊤, length, min};
+// A stream that counts.
+ghost use Rattle.std.specs.Prelude.{◌≡◌, ◌+◌, ◌-◌, ◌^◌, ◌≤◌, [], Ok, IfOk, OnOk, IsOkAnd, ⊤, length, min};
+ghost use Rattle.no_std_io2_base.specs.Events.{given, Reads, SpendsTurn};
 ghost use Rattle.no_std_io2_base.specs.Writes.{Moves, taken, write_mishap, call_mishap};
 
 use crate::trace::Trace;
-use no_std_io2::io::{Result, Write};
+use no_std_io2::io::{Read, Result, Stored, Write};
 use std::fmt;
 
-/// Hands each call on to an inner stream, and counts the calls of `write`, whatever they answer.
+/// Hands each call on to an inner stream, and counts the calls of `write`, and those of `read` with
+/// some room, whatever they answer.
 ///
-/// The exact count is seen by contracts alone. The number that [`writes`](Tally::writes) gives
-/// stays at the greatest `u64` once reached.
+/// The exact counts are seen by contracts alone. The numbers that [`writes`](Tally::writes) and
+/// [`reads`](Tally::reads) give stay at the greatest `u64` once reached.
 #[derive(Drop)]
 pub struct Tally<T> {
     inner: T,
-    calls: Trace,
+    write_calls: Trace,
+    read_calls: Trace,
     writes: u64,
-    ghost counted: { writes ≡ min (length calls.bytes) (2 ^ 64 - 1) },
+    reads: u64,
+    ghost writes_counted: { writes ≡ min (length write_calls.bytes) (2 ^ 64 - 1) },
+    ghost reads_counted: { reads ≡ min (length read_calls.bytes) (2 ^ 64 - 1) },
 }
 
 impl<T> Tally<T> {
-    ghost use Rattle.io_bench.specs.Tally.{tally_inner, tally_calls};
+    ghost use Rattle.io_bench.specs.Tally.{tally_inner, tally_writes, tally_reads};
 
     /// Counts from 0 over this inner stream.
     pub fn new(inner: T) -> Tally<T>
         ensures inner { tally_inner result ≡ inner }
-        ensures calls { tally_calls result ≡ 0 }
+        ensures writes { tally_writes result ≡ 0 }
+        ensures reads { tally_reads result ≡ 0 }
     {
         Tally {
             inner,
-            calls: Trace::new(),
+            write_calls: Trace::new(),
+            read_calls: Trace::new(),
             writes: 0,
+            reads: 0,
         }
     }
 
@@ -42,12 +50,20 @@ impl<T> Tally<T> {
 
     /// How many calls of `write` there were. It stays at the greatest `u64` once reached.
     pub fn writes(&self) -> u64
-        ensures { result ≡ min (tally_calls self.now) (2 ^ 64 - 1) }
+        ensures { result ≡ min (tally_writes self.now) (2 ^ 64 - 1) }
     {
         self.writes
     }
 
-    /// The inner stream, back. The count is lost.
+    /// How many calls of `read` with some room there were. It stays at the greatest `u64` once
+    /// reached.
+    pub fn reads(&self) -> u64
+        ensures { result ≡ min (tally_reads self.now) (2 ^ 64 - 1) }
+    {
+        self.reads
+    }
+
+    /// The inner stream, back. The counts are lost.
     pub fn into_inner(self) -> T
         ensures { result ≡ tally_inner self }
     {
@@ -55,25 +71,36 @@ impl<T> Tally<T> {
     }
 
     // One more call of `write`.
-    fn count(&mut self)
+    fn count_write(&mut self)
         ensures inner { tally_inner self.new ≡ tally_inner self.old }
-        ensures calls { tally_calls self.new ≡ tally_calls self.old + 1 }
+        ensures writes { tally_writes self.new ≡ tally_writes self.old + 1 }
+        ensures reads { tally_reads self.new ≡ tally_reads self.old }
     {
-        self.calls.add(&[0]);
+        self.write_calls.add(&[0]);
         self.writes = self.writes.saturating_add(1);
+    }
+
+    // One more call of `read`.
+    fn count_read(&mut self)
+        ensures inner { tally_inner self.new ≡ tally_inner self.old }
+        ensures writes { tally_writes self.new ≡ tally_writes self.old }
+        ensures reads { tally_reads self.new ≡ tally_reads self.old + 1 }
+    {
+        self.read_calls.add(&[0]);
+        self.reads = self.reads.saturating_add(1);
     }
 }
 
 /// As the inner writer, and metered: its cost is the exact count. `write_all` is the trait's own,
 /// so each of its writes counts.
 impl<T: Write> Write for Tally<T> {
-    ghost use Rattle.io_bench.specs.Tally.{tally_inner, tally_calls};
+    ghost use Rattle.io_bench.specs.Tally.{tally_inner, tally_writes, tally_reads};
 
     ghost told = { λ t. T.told (tally_inner t) };
 
     ghost takes_all = { λ t. T.takes_all (tally_inner t) };
 
-    ghost cost = { tally_calls };
+    ghost cost = { tally_writes };
 
     ghost is_metered = { λ _. ⊤ };
 
@@ -85,12 +112,13 @@ impl<T: Write> Write for Tally<T> {
         ensures all { T.takes_all (tally_inner self.old)
             → T.takes_all (tally_inner self.new) × (result ≡ Ok (length buf.now)) }
         ensures cost { ⊤ → T.takes_all (tally_inner self.old)
-            → ⊤ × (tally_calls self.new ≡ tally_calls self.old + 1) }
+            → ⊤ × (tally_writes self.new ≡ tally_writes self.old + 1) }
 
         // One more, whatever the answer.
-        ensures calls { tally_calls self.new ≡ tally_calls self.old + 1 }
+        ensures writes { tally_writes self.new ≡ tally_writes self.old + 1 }
+        ensures reads { tally_reads self.new ≡ tally_reads self.old }
     {
-        self.count();
+        self.count_write();
         self.inner.write(buf)
     }
 
@@ -101,15 +129,82 @@ impl<T: Write> Write for Tally<T> {
             (T.told (tally_inner self.new)) }
         ensures all { T.takes_all (tally_inner self.old) → T.takes_all (tally_inner self.new) }
         ensures cost { ⊤ → T.takes_all (tally_inner self.old)
-            → ⊤ × (tally_calls self.new ≡ tally_calls self.old) }
+            → ⊤ × (tally_writes self.new ≡ tally_writes self.old) }
 
         // A flush counts for nothing.
-        ensures calls { tally_calls self.new ≡ tally_calls self.old }
+        ensures writes { tally_writes self.new ≡ tally_writes self.old }
+        ensures reads { tally_reads self.new ≡ tally_reads self.old }
     {
         self.inner.flush()
     }
 
-    ghost steady = { λ w h. T.steady (tally_inner w) h };
+    ghost steady = { λ t h. T.steady (tally_inner t) h };
+}
+
+/// The inner stream's store.
+impl<T: Stored> Stored for Tally<T> {
+    ghost use Rattle.io_bench.specs.Tally.{tally_inner};
+
+    ghost has_store = { λ t. T.has_store (tally_inner t) };
+
+    ghost content = { λ t. T.content (tally_inner t) };
+
+    ghost position = { λ t. T.position (tally_inner t) };
+}
+
+/// As the inner reader, and metered: its cost is the exact count. `read_exact` and `read_to_end` are
+/// the trait's own, so each of their reads counts.
+impl<T: Read> Read for Tally<T> {
+    ghost use Rattle.io_bench.specs.Tally.{tally_inner, tally_writes, tally_reads};
+
+    ghost tells = { λ t. T.tells (tally_inner t) };
+
+    ghost events = { λ t. T.events (tally_inner t) };
+
+    ghost turns = { λ t. T.turns (tally_inner t) };
+
+    ghost cost = { tally_reads };
+
+    ghost is_metered = { λ _. ⊤ };
+
+    ghost is_filling = { λ t. T.is_filling (tally_inner t) };
+
+    ghost may_take_none = { λ _. ⊥ };
+
+    fn read(&mut self, buf: &mut [u8]) -> Result<usize>
+        // The trait's.
+        ensures bound { IfOk result (λ n. n ≤ length buf.new) }
+        ensures told { T.tells (tally_inner self.old) → T.tells (tally_inner self.new)
+            × Reads (T.events (tally_inner self.old)) result buf.new
+            (T.events (tally_inner self.new)) }
+        ensures turns { T.turns (tally_inner self.new) ≤ T.turns (tally_inner self.old) }
+        ensures turn { SpendsTurn result (T.turns (tally_inner self.old))
+            (T.turns (tally_inner self.new)) }
+        ensures cost { ⊤ → ⊤
+            × (tally_reads self.new ≡ tally_reads self.old + min 1 (length buf.old)) }
+        ensures fills { T.is_filling (tally_inner self.old) → T.is_filling (tally_inner self.new)
+            × IsOkAnd result
+            (λ n. n ≡ min (length buf.old) (length (T.events (tally_inner self.old)))) }
+        ensures store { T.has_store (tally_inner self.old) → T.has_store (tally_inner self.new)
+            × (T.content (tally_inner self.new) ≡ T.content (tally_inner self.old))
+            × (T.position (tally_inner self.new)
+            ≡ T.position (tally_inner self.old) + given result) }
+
+        // One more where there is some room, whatever the answer.
+        ensures writes { tally_writes self.new ≡ tally_writes self.old }
+        ensures reads { tally_reads self.new ≡ tally_reads self.old + min 1 (length buf.old) }
+    {
+        if !buf.is_empty() {
+            self.count_read();
+        }
+        self.inner.read(buf)
+    }
+
+    ghost filling_tells = { λ t h. T.filling_tells (tally_inner t) h };
+
+    ghost store_tells = { λ t h. T.store_tells (tally_inner t) h };
+
+    ghost store_fits = { λ t h. T.store_fits (tally_inner t) h };
 }
 
 impl<T: fmt::Debug> fmt::Debug for Tally<T> {
@@ -117,6 +212,7 @@ impl<T: fmt::Debug> fmt::Debug for Tally<T> {
         f.debug_struct("Tally")
             .field("inner", &self.inner)
             .field("writes", &self.writes)
+            .field("reads", &self.reads)
             .finish()
     }
 }

@@ -3,6 +3,7 @@ mod buffered;
 mod counts;
 mod devices;
 mod drops;
+mod feeds;
 mod lines;
 mod runs;
 mod towers;

@@ -19,15 +19,21 @@ fn a_drop_sends(rt: HostRuntime) -> Answer {
     Ok(())
 }
 
+// The writer below, where all could be sent.
+fn sent<W: Write + Drop, const S: usize>(w: BufWriter<W, S>) -> Option<W> {
+    match w.into_inner() {
+        Ok(inner) => Some(inner),
+        Err(_e) => None,
+    }
+}
+
 #[test]
 fn into_inner_sends_once(rt: HostRuntime) -> Answer {
     let mut v = Vec::new(rt.alloc());
     {
         let mut w = BufWriter::<&mut Vec<u8>, 8>::new(&mut v);
         assert_eq!(rt; w.write(b"abc")?, 3);
-        let Ok(_v) = w.into_inner() else {
-            panic!(rt; "not sent");
-        };
+        assert!(rt; sent(w).is_some());
     }
     assert_eq!(rt; v.as_slice(), b"abc".as_slice());
     Ok(())

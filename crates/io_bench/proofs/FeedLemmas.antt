@@ -1,0 +1,67 @@
+-- What a feed's events give to a reader.
+use Rattle.std.proofs.Common.{◌≡◌, ℕ, zero, suc, ◌+◌, ◌-◌, ◌<◌, ◌≤◌, min, List, [], ◌∷◌, ◌++◌, length, take, drop, set, Option, None, Some, Ok, refl, sym, ap, ◌∙◌, subst, arith, add-one, length-drop}
+use Rattle.std.proofs.Math.Seq.{take-add}
+use Rattle.std.proofs.lemmas.List.{take_more_set}
+use Rattle.std.specs.Option.{option_map}
+use Rattle.no_std_io2_base.specs.declared.error.Error.{Error}
+use Rattle.no_std_io2_base.specs.declared.error.ErrorKind.{ErrorKind}
+use Rattle.no_std_io2_base.specs.Errors.{error_kind, error_text}
+use Rattle.no_std_io2_base.specs.Events.{byte, events_of, Reads}
+use Rattle.io_bench.specs.declared.feed.Event.{Event}
+use Rattle.io_bench.specs.declared.feed.Event.TheVariants.{Byte, Fail}
+use Rattle.io_bench.specs.Feed.{error_of, all_to_come, leading_bytes, first_failure}
+
+-- the first n bytes are given, and what stands behind them is left
+pub given_first : (n : ℕ) (left : List Event) → n ≤ length (leading_bytes left) → all_to_come left ≡ events_of (take n (leading_bytes left)) ++ all_to_come (drop n left)
+given_first zero left h = refl
+given_first (suc n) [] h = absurd (omega arith)
+given_first (suc n) (Byte b ∷ left) h = ap (λ E. byte b ∷ E) (given_first n left (omega arith))
+given_first (suc n) (Fail kind ∷ left) h = absurd (omega arith)
+
+leading-drop : (n : ℕ) (left : List Event) → n ≤ length (leading_bytes left) → leading_bytes (drop n left) ≡ drop n (leading_bytes left)
+leading-drop zero left h = refl
+leading-drop (suc n) [] h = absurd (omega arith)
+leading-drop (suc n) (Byte b ∷ left) h = leading-drop n left (omega arith)
+leading-drop (suc n) (Fail kind ∷ left) h = absurd (omega arith)
+
+-- where no byte and no failure stands first, nothing is left
+pub nothing_left : (left : List Event) → length (leading_bytes left) ≡ 0 → first_failure left ≡ None → left ≡ []
+nothing_left [] h f = refl
+nothing_left (Byte b ∷ left) h f = absurd (omega arith)
+nothing_left (Fail kind ∷ left) h f = absurd (cc)
+
+drop_next : {A : Type 0} (n : ℕ) (xs : List A) (x : A) (rest : List A) → drop n xs ≡ x ∷ rest → drop (suc n) xs ≡ rest
+drop_next zero xs x rest e = ap (drop 1) e
+drop_next (suc n) [] x rest e = absurd (cc)
+drop_next (suc n) (y ∷ xs) x rest e = drop_next n xs x rest e
+
+-- one more byte was given
+pub given_next : (n b : ℕ) (left rest : List Event) (buf : List ℕ) → n < length buf → n ≤ length (leading_bytes left) → take n buf ≡ take n (leading_bytes left) → drop n left ≡ Byte b ∷ rest
+    → (n + 1 ≤ length (leading_bytes left)) × (take (n + 1) (set buf n b) ≡ take (n + 1) (leading_bytes left)) × (rest ≡ drop (n + 1) left)
+given_next n b left rest buf room enough same e =
+    let tail : drop n (leading_bytes left) ≡ b ∷ leading_bytes rest = sym (leading-drop n left enough) ∙ ap leading_bytes e in
+    (omega (arith, ap length tail, length-drop n (leading_bytes left)),
+    take_more_set buf n b room ∙ ap (λ l. l ++ b ∷ []) same ∙ ap (λ l. take n (leading_bytes left) ++ take 1 l) (sym tail) ∙ sym (take-add n 1 (leading_bytes left)),
+    sym (ap (λ m. drop m left) (add-one n) ∙ drop_next n left (Byte b) rest e))
+
+-- no byte stands first any more
+pub given_all : (n : ℕ) (left rest : List Event) → n ≤ length (leading_bytes left) → rest ≡ drop n left → leading_bytes rest ≡ [] → n ≡ length (leading_bytes left)
+given_all n left rest enough e none =
+    omega (arith, ap length none, ap (λ l. length (leading_bytes l)) e, ap length (leading-drop n left enough), length-drop n (leading_bytes left))
+
+no_text : {A B : Type 0} (f : A → B) (text : Option A) → option_map f text ≡ None → text ≡ None
+no_text f None h = refl
+no_text f (Some x) h = absurd (cc)
+
+-- an error of this kind without a text is this one
+pub is_error_of : (kind : ErrorKind) (e : Error) → error_kind e ≡ kind → error_text e ≡ None → e ≡ error_of kind
+is_error_of kind e k t =
+    ap (λ text. record { kind = e.kind; text = text }) (no_text _ e.text t) ∙ ap error_of k
+
+-- a read that gives bytes
+pub feed_reads : (n room piece : ℕ) (old left new : List Event) (buf : List ℕ) → 0 < piece → length buf ≡ room → left ≡ old → first_failure old ≡ None
+    → n ≡ min (min piece room) (length (leading_bytes left)) → take n buf ≡ take n (leading_bytes left) → new ≡ drop n left → Reads (all_to_come old) (Ok n) buf (all_to_come new)
+feed_reads n room piece old left new buf some fits e none count same rest =
+    let len : length (leading_bytes left) ≡ length (leading_bytes old) = ap (λ l. length (leading_bytes l)) e in
+    (ap all_to_come (sym e) ∙ given_first n left (omega arith) ∙ ap (λ l. events_of l ++ all_to_come (drop n left)) (sym same) ∙ ap (λ l. events_of (take n buf) ++ all_to_come l) (sym rest),
+    λ z r. ap all_to_come (nothing_left old (omega (arith, z, r, len, count, some, fits)) none))

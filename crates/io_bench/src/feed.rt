@@ -1,0 +1,176 @@
+// A reader that gives what its script says.
+ghost use Rattle.std.specs.Prelude.{◌≡◌, ◌<◌, ◌≤◌, ◌+◌, ◌∷◌, [], Some, None, Ok, IfOk, IfErr, IsOkAnd, MatchOption, length, take, drop, min, vec_len};
+ghost use Rattle.no_std_io2_base.specs.declared.error.ErrorKind.{ErrorKind};
+ghost use Rattle.io_bench.specs.Calls.{FailsWith};
+ghost use Rattle.no_std_io2_base.specs.Events.{given, Reads, SpendsTurn};
+
+use no_std_io2::io::{Error, ErrorKind, Read, Result, Stored};
+
+/// What a [`Feed`] has to give.
+#[derive(Clone, Copy, Debug, PartialEq, Eq)]
+pub enum Event {
+    /// A byte.
+    Byte(u8),
+    /// A read answers an error of this kind.
+    Fail(ErrorKind),
+}
+
+/// A reader that gives these events in order, at most a piece of so many bytes a read.
+///
+/// A read gives the bytes that stand first, as many as there are, up to the piece and the buffer;
+/// or, where a failure stands first, that error. A read into an empty buffer takes nothing.
+#[derive(Debug, Drop)]
+pub struct Feed {
+    events: Vec<Event>,
+    at: usize,
+    piece: usize,
+    ghost within: { at ≤ vec_len events },
+    ghost some: { 0 < piece },
+}
+
+impl Feed {
+    ghost use Rattle.io_bench.specs.Feed.{feed_left, feed_piece, feed_gives, leading_bytes, first_failure};
+
+    /// Gives these events, the first one first, and at most `piece` bytes a read. The piece is
+    /// above 0.
+    pub fn new(events: Vec<Event>, piece: usize) -> Feed
+        requires { 0 < piece }
+        ensures left { feed_left result ≡ events.items }
+        ensures piece { feed_piece result ≡ piece }
+    {
+        Feed {
+            events,
+            at: 0,
+            piece,
+        }
+    }
+
+    /// The events that are left.
+    pub fn left(&self) -> &[Event]
+        ensures { result.now ≡ feed_left self.now }
+    {
+        &self.events[self.at..]
+    }
+
+    // Takes the first event, where it is a byte.
+    fn take_byte(&mut self) -> Option<u8>
+        ensures byte { MatchOption result
+            ((leading_bytes (feed_left self.old) ≡ []) × (feed_left self.new ≡ feed_left self.old))
+            (λ b. feed_left self.old ≡ Event.Byte b ∷ feed_left self.new) }
+        ensures piece { feed_piece self.new ≡ feed_piece self.old }
+    {
+        if self.at == self.events.len() {
+            return None;
+        }
+        match self.events[self.at] {
+            Event::Byte(byte) => {
+                self.at += 1;
+                Some(byte)
+            }
+            Event::Fail(_) => None,
+        }
+    }
+
+    // Takes the first event, where it is a failure.
+    fn take_failure(&mut self) -> Option<ErrorKind>
+        ensures kind { result ≡ first_failure (feed_left self.old) }
+        ensures left { MatchOption result (feed_left self.new ≡ feed_left self.old)
+            (λ kind. feed_left self.old ≡ Event.Fail kind ∷ feed_left self.new) }
+        ensures piece { feed_piece self.new ≡ feed_piece self.old }
+    {
+        if self.at == self.events.len() {
+            return None;
+        }
+        match self.events[self.at] {
+            Event::Byte(_) => None,
+            Event::Fail(kind) => {
+                self.at += 1;
+                Some(kind)
+            }
+        }
+    }
+
+    // Gives the bytes that stand first, and returns how many.
+    fn give(&mut self, buf: &mut [u8]) -> usize
+        ensures count { result ≡ feed_gives self.old (length buf.old) }
+        ensures bytes { take result buf.new ≡ take result (leading_bytes (feed_left self.old)) }
+        ensures left { feed_left self.new ≡ drop result (feed_left self.old) }
+        ensures piece { feed_piece self.new ≡ feed_piece self.old }
+    {
+        let most = self.piece.min(buf.len());
+        let mut n = 0;
+        'bytes: while n < most {
+            match self.take_byte() {
+                Some(byte) => {
+                    buf[n] = byte;
+                    n += 1;
+                }
+                None => return n,
+            }
+        }
+        n
+    }
+}
+
+/// A feed has no store.
+impl Stored for Feed {
+    ghost has_store = { λ _. ⊥ };
+
+    ghost content = { λ _. [] };
+
+    ghost position = { λ _. 0 };
+}
+
+/// Tells the events that are left. Each byte and each failure is a turn. It isn't metered, and a
+/// read may give less than there is.
+impl Read for Feed {
+    ghost use Rattle.io_bench.specs.Feed.{feed_left, feed_piece, feed_gives, leading_bytes, first_failure, all_to_come};
+
+    ghost tells = { λ _. Unit {0} };
+
+    ghost events = { λ f. all_to_come (feed_left f) };
+
+    ghost turns = { λ f. length (feed_left f) };
+
+    ghost cost = { λ _. 0 };
+
+    ghost is_metered = { λ _. ⊥ };
+
+    ghost is_filling = { λ _. ⊥ };
+
+    ghost may_take_none = { λ _. ⊥ };
+
+    fn read(&mut self, buf: &mut [u8]) -> Result<usize>
+        // The trait's.
+        ensures bound { IfOk result (λ n. n ≤ length buf.new) }
+        ensures told { Unit {0} → Unit {0} × Reads (all_to_come (feed_left self.old)) result buf.new
+            (all_to_come (feed_left self.new)) }
+        ensures turns { length (feed_left self.new) ≤ length (feed_left self.old) }
+        ensures turn { SpendsTurn result (length (feed_left self.old)) (length (feed_left self.new)) }
+
+        // Exactly what is given and taken.
+        ensures empty { length buf.old ≡ 0
+            → (result ≡ Ok 0) × (feed_left self.new ≡ feed_left self.old) }
+        ensures gives { 0 < length buf.old → first_failure (feed_left self.old) ≡ None
+            → (result ≡ Ok (feed_gives self.old (length buf.old)))
+            × (feed_left self.new ≡ drop (feed_gives self.old (length buf.old)) (feed_left self.old)) }
+        ensures fails { (kind : ErrorKind) → 0 < length buf.old
+            → first_failure (feed_left self.old) ≡ Some kind
+            → FailsWith kind result × (feed_left self.old ≡ Event.Fail kind ∷ feed_left self.new) }
+        ensures piece { feed_piece self.new ≡ feed_piece self.old }
+    {
+        if buf.is_empty() {
+            return Ok(0);
+        }
+        match self.take_failure() {
+            Some(kind) => Err(Error::from(kind)),
+            None => Ok(self.give(buf)),
+        }
+    }
+
+    ghost filling_tells = { λ f h. absurd h };
+
+    ghost store_tells = { λ f h. absurd h };
+
+    ghost store_fits = { λ f h. absurd h };
+}
