@@ -63,4 +63,4 @@ pub returns-in_err-reserve_room-clause-told :
     goal.returns-in_err-reserve_room-clause-told
 returns-in_err-reserve_room-clause-told g c = λ t.
     let p = err_from_is_err_and c.from_residual.result c.from_residual.ensures.1 in
-    (t, rw (p.1, p.2) (gathered_memory _ _ _ _ _ (gathered_none _ _ _ c.reserve_room.ensures.items) c.in_err-reserve_room.ensures.kind))
+    (t, rw (p.1, p.2) (gathered_memory _ _ _ _ _ (gathered_none _ _ _ c.reserve_room.ensures.items) c.in_err-reserve_room.ensures.refused))
