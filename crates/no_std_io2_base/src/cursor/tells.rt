@@ -63,7 +63,7 @@ fn vector_cursor_writes<A: Allocator>(c: &Cursor<Vec<u8, A>>)
           out = take place content ++ replicate (place - length content) 0;
           held = [];
           mishaps = None;
-          turns = 0
+          turns = 0;
         } }
 {}
 
@@ -74,7 +74,7 @@ fn lent_vector_cursor_writes<'a, A: Allocator>(c: &Cursor<&'a mut Vec<u8, A>>)
           out = take place content ++ replicate (place - length content) 0;
           held = [];
           mishaps = None;
-          turns = 0
+          turns = 0;
         } }
 {}
 
@@ -85,7 +85,7 @@ fn slice_cursor_writes<'a>(c: &Cursor<&'a mut [u8]>)
           out = take place content ++ replicate (place - length content) 0;
           held = [];
           mishaps = None;
-          turns = 0
+          turns = 0;
         } }
 {}
 

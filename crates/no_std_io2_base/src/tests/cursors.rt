@@ -77,7 +77,10 @@ fn a_gap_is_filled_with_zeros(rt: HostRuntime) -> std::result::Result<(), Fail> 
     assert_eq!(rt; c.get_ref().as_slice(), [1, 2, 3, 0, 5, 6].as_slice());
     c.set_position(8);
     c.write_all(&[7])?;
-    assert_eq!(rt; c.into_inner().as_slice(), [1, 2, 3, 0, 5, 6, 0, 0, 7].as_slice());
+    assert_eq!(rt;
+        c.into_inner().as_slice(),
+        [1, 2, 3, 0, 5, 6, 0, 0, 7].as_slice()
+    );
     Ok(())
 }
 
@@ -245,7 +248,10 @@ fn a_seek_outside_the_range_stays(rt: HostRuntime) -> std::result::Result<(), Fa
     assert_eq!(rt; c.position(), 0);
     assert_eq!(rt; c.seek(SeekFrom::Start(u64::MAX))?, 18446744073709551615);
     assert_eq!(rt; refusal(c.seek(SeekFrom::Current(1))), NO_TARGET);
-    assert_eq!(rt; position_twice(&mut c)?, (18446744073709551615, 18446744073709551615));
+    assert_eq!(rt;
+        position_twice(&mut c)?,
+        (18446744073709551615, 18446744073709551615)
+    );
     assert_eq!(rt; c.seek(SeekFrom::Current(i64::MIN))?, 9223372036854775807);
     Ok(())
 }
