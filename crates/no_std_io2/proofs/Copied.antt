@@ -1,11 +1,13 @@
 -- What a loop of reads and writes has moved so far.
-use Rattle.std.proofs.Common.{◌≡◌, ℕ, ◌+◌, ◌-◌, ◌^◌, ◌<◌, ◌≤◌, min, List, [], ◌∷◌, ◌++◌, length, take, refl, sym, ap, ◌∙◌, subst, arith, Ok, Err, append_assoc, append-nil, inl, inr, length-append, length-take-le, drop_of_length-le}
+use Rattle.std.proofs.Common.{◌≡◌, Option, None, Some, true, ℕ, ◌+◌, ◌-◌, ◌^◌, ◌<◌, ◌≤◌, min, List, [], ◌∷◌, ◌++◌, length, take, refl, sym, ap, ◌∙◌, subst, arith, Ok, Err, append_assoc, append-nil, inl, inr, length-append, length-take-le, drop_of_length-le}
+use Rattle.std.proofs.lemmas.List.Sums.{sum_by-cons}
 use Rattle.no_std_io2_base.specs.declared.error.Error.{Error}
+use Rattle.no_std_io2_base.specs.declared.error.ErrorKind.{ErrorKind}
 use Rattle.no_std_io2_base.specs.Errors.{error_kind, IsInterruption, IsFault}
 use Rattle.no_std_io2_base.specs.Events.{Event, byte, fails, events_of, bytes, HasNoFault, Reads, EndsInFault}
-use Rattle.no_std_io2_base.specs.Writes.{Told, Moves, MovesFront, IsFront}
+use Rattle.no_std_io2_base.specs.Writes.{Told, Moves, MovesFront, HasSpent, IsFront}
 use Rattle.no_std_io2_base.proofs.Events.{bytes-append, bytes-events_of, HasNoFault-append, HasNoFault-events_of}
-use Rattle.no_std_io2_base.proofs.MovesLemmas.{Moves-refl, Moves-then}
+use Rattle.no_std_io2_base.proofs.MovesLemmas.{Moves-refl, Moves-then, Moves-steady}
 use Rattle.no_std_io2.specs.Copy.{counted, Copies, CopyMoves}
 
 -- the writer accepted these bytes, which are counted
@@ -112,3 +114,35 @@ copied_refused room E old mid new m n buf after rest e t read some fits long w =
 
 pub written_refused : (old mid new : Told) (m : ℕ) (x : List ℕ) (e : Error) → Written old mid m → MovesFront mid x (Err e) new → CopyMoves (Err e) old new
 written_refused old mid new m x e t w = (t.accepted ++ w.0, inr (Moves-then t.moves w.3))
+
+-- all of a list without faults has none in front
+HasNoFault-front : (P Q : List Event) → HasNoFault (P ++ Q) → HasNoFault P
+HasNoFault-front [] Q h = tt
+HasNoFault-front (byte b ∷ P) Q h = HasNoFault-front P Q h
+HasNoFault-front (fails e ∷ P) Q h = (h.0, HasNoFault-front P Q h.1)
+
+no_fault_at_end : (Q : List Event) (e : Error) → HasNoFault (Q ++ fails e ∷ []) → IsFault e → ⊥
+no_fault_at_end [] e h fault = cc (h.0, fault)
+no_fault_at_end (byte b ∷ Q) e h fault = no_fault_at_end Q e h fault
+no_fault_at_end (fails f ∷ Q) e h fault = no_fault_at_end Q e h.1 fault
+
+-- a copy fails for a fault of the reader, or a mishap of the writer
+pub copies_steadily : (room : ℕ) (E : List Event) (e : Error) (after : List Event) (old new : Told) → Copies room E (Err e) after old new → HasNoFault E → old.mishaps ≡ Some [] → ⊥
+copies_steadily room E e after old new (P, split, none, inl at_fault) whole steady =
+    let is : P ≡ at_fault.0.0 ++ fails e ∷ [] = at_fault.0.1 in
+    no_fault_at_end at_fault.0.0 e (subst HasNoFault is (HasNoFault-front P after (subst HasNoFault split whole))) at_fault.0.3
+copies_steadily room E e after old new (P, split, none, inr refused) whole steady = Moves-steady steady refused.1.1.2
+
+-- a steady writer is steady afterwards
+pub stays_steady : {a c : Told} {x : List ℕ} → a.mishaps ≡ Some [] → Moves a x [] c → c.mishaps ≡ Some []
+stays_steady {a} {c} {x} steady m = none_left c.mishaps (subst (λ k. HasSpent k [] c.mishaps) steady m.mishaps)
+  where
+    none_left : (left : Option (List ErrorKind)) → HasSpent (Some []) [] left → left ≡ Some []
+    none_left None h = absurd h
+    none_left (Some []) h = refl
+    none_left (Some (k ∷ ks)) h = absurd (omega (arith, h (λ _. true), sum_by-cons (λ _. 1) k ks))
+
+-- what is out after a flush
+pub flushed : (a b c : Told) (x : List ℕ) → Moves a x [] b → Moves b [] [] c → c.held ≡ [] → c.out ≡ a.out ++ a.held ++ x
+flushed a b c x m n empty =
+    sym (append-nil c.out) ∙ ap (λ l. c.out ++ l) (sym empty) ∙ n.bytes ∙ append-nil (b.out ++ b.held) ∙ m.bytes

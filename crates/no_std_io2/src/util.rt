@@ -6,6 +6,8 @@ ghost use Rattle.no_std_io2.specs.Copy.{Copies, CopyMoves};
 use no_std_io2_base::error::{Error, ErrorKind, Result};
 use no_std_io2_base::traits::{Read, Write};
 
+mod steady;
+
 // The call did nothing and may be made again.
 pub(crate) fn is_interruption(error: &Error) -> bool
     ensures { result ≡ is_interruption (error_kind error.now) }

@@ -213,7 +213,10 @@ fn an_exact_read_passes_over_an_interruption(rt: HostRuntime) {
     let script = Script::new(b"ab", Some(ErrorKind::Interrupted));
     let mut r: BufReader<Script, 4> = BufReader::new(script);
     let mut buf = [0u8; 3];
-    assert_eq!(rt; refusal(r.read_exact(&mut buf)), Some(ErrorKind::UnexpectedEof));
+    assert_eq!(rt;
+        refusal(r.read_exact(&mut buf)),
+        Some(ErrorKind::UnexpectedEof)
+    );
     assert_eq!(rt; r.get_ref().fault, None);
     let script = Script::new(b"ab", Some(ErrorKind::TimedOut));
     let mut r: BufReader<Script, 4> = BufReader::new(script);
@@ -269,7 +272,10 @@ fn a_seek_counts_from_the_next_byte(rt: HostRuntime) -> std::result::Result<(), 
 #[test]
 fn a_refused_seek_keeps_what_is_held(rt: HostRuntime) -> std::result::Result<(), Fail> {
     let mut r = after_one()?;
-    assert_eq!(rt; refusal(r.seek(SeekFrom::Current(-2))), Some(ErrorKind::InvalidInput));
+    assert_eq!(rt;
+        refusal(r.seek(SeekFrom::Current(-2))),
+        Some(ErrorKind::InvalidInput)
+    );
     assert_eq!(rt; r.buffer(), b"bcd".as_slice());
     let far = SeekFrom::Current(-9223372036854775805);
     assert_eq!(rt; refusal(r.seek(far)), Some(ErrorKind::InvalidInput));
@@ -320,9 +326,15 @@ fn a_copy_stops_at_the_writers_fault(rt: HostRuntime) -> std::result::Result<(),
 
 #[test]
 fn a_copy_is_whole(rt: HostRuntime) -> std::result::Result<(), Fail> {
-    let mut from: BufReader<Script, 3> = BufReader::new(Script::new(b"abcdefgh", Some(ErrorKind::Interrupted)));
+    let mut from: BufReader<Script, 3> = BufReader::new(Script::new(
+        b"abcdefgh",
+        Some(ErrorKind::Interrupted),
+    ));
     let mut to: Vec<u8> = Vec::new(rt.alloc());
-    assert_eq!(rt; copy::<BufReader<Script, 3>, Vec<u8>, 2>(&mut from, &mut to)?, 8);
+    assert_eq!(rt;
+        copy::<BufReader<Script, 3>, Vec<u8>, 2>(&mut from, &mut to)?,
+        8
+    );
     assert_eq!(rt; to.as_slice(), b"abcdefgh".as_slice());
     Ok(())
 }
@@ -341,10 +353,19 @@ fn a_copy_without_room_moves_nothing(rt: HostRuntime) -> std::result::Result<(),
     let mut to: Vec<u8> = Vec::new(rt.alloc());
     let mut slice = b"abc".as_slice();
     assert_eq!(rt; copy::<&[u8], Vec<u8>, 0>(&mut slice, &mut to)?, 0);
-    let mut bytes: BufReader<Script, 1> = BufReader::new(Script::new(b"a", Some(ErrorKind::BrokenPipe)));
-    assert_eq!(rt; copy::<BufReader<Script, 1>, Vec<u8>, 0>(&mut bytes, &mut to)?, 0);
+    let mut bytes: BufReader<Script, 1> = BufReader::new(Script::new(
+        b"a",
+        Some(ErrorKind::BrokenPipe),
+    ));
+    assert_eq!(rt;
+        copy::<BufReader<Script, 1>, Vec<u8>, 0>(&mut bytes, &mut to)?,
+        0
+    );
     assert_eq!(rt; bytes.buffer(), b"a".as_slice());
-    let mut fault: BufReader<Script, 1> = BufReader::new(Script::new(b"", Some(ErrorKind::BrokenPipe)));
+    let mut fault: BufReader<Script, 1> = BufReader::new(Script::new(
+        b"",
+        Some(ErrorKind::BrokenPipe),
+    ));
     let answer = copy::<BufReader<Script, 1>, Vec<u8>, 0>(&mut fault, &mut to);
     assert_eq!(rt; refusal(answer), Some(ErrorKind::BrokenPipe));
     assert_eq!(rt; to.len(), 0);

@@ -1,0 +1,25 @@
+// What a caller of `copy` knows over a writer that has no mishap to come. Nothing calls this: its
+// contract holds that of `copy` to what such a caller needs.
+ghost use Rattle.std.specs.Prelude.{◌≡◌, ◌<◌, ◌^◌, ◌++◌, length, [], Some, IsOk, IsOkAnd};
+ghost use Rattle.no_std_io2_base.specs.Events.{bytes, HasNoFault};
+ghost use Rattle.no_std_io2.specs.Copy.{counted};
+
+use super::copy;
+use no_std_io2_base::error::Result;
+use no_std_io2_base::traits::{Read, Write};
+
+// Where no fault comes from the reader, all is copied and sent, and the writer is steady still.
+fn copy_and_flush<R: Read, W: Write, const S: usize>(reader: &mut R, writer: &mut W) -> Result<u64>
+    requires { S < 2 ^ 63 }
+    ensures { 0 < S → R.tells reader.old → HasNoFault (R.events reader.old)
+        → (W.told writer.old).mishaps ≡ Some []
+        → IsOkAnd result (λ n. n ≡ counted (bytes (R.events reader.old)))
+        × (R.events reader.new ≡ [])
+        × ((W.told writer.new).mishaps ≡ Some []) × ((W.told writer.new).held ≡ [])
+        × ((W.told writer.new).out ≡ (W.told writer.old).out ++ (W.told writer.old).held
+        ++ bytes (R.events reader.old)) }
+{
+    let n = copy::<R, W, S>(reader, writer)?;
+    writer.flush()?;
+    Ok(n)
+}
