@@ -29,6 +29,10 @@ IsLineState-end whole end f line = IsLineState-append f.0 end (subst IsLineState
 pub IsLineState-plain : (xs : List ℕ) → HasNoNewline xs → IsLineState xs
 IsLineState-plain xs plain k h e = absurd (plain k h e)
 
+-- a line state that does not end in a newline
+pub HasNoNewline-unended : (xs : List ℕ) → IsLineState xs → (0 < length xs → slice_index xs (length xs - 1) ≢ 10) → HasNoNewline xs
+HasNoNewline-unended xs line last k h e = last (omega arith) (line k h e)
+
 pub HasNoNewline-append : (xs ys : List ℕ) → HasNoNewline xs → HasNoNewline ys → HasNoNewline (xs ++ ys)
 HasNoNewline-append xs ys p q k h e = ⊎_elim
     (λ left. p k left (sym (get_or_append_left xs ys 0 k left) ∙ e))

@@ -1,8 +1,9 @@
 // The steps of a line writer's calls.
-ghost use Rattle.std.specs.Prelude.{◌≡◌, ◌+◌, ◌-◌, ◌<◌, ◌≤◌, ◌++◌, [], length, Ok, IsOk, IfOk, IsOkAnd, OnOk, drop, take, slice_range};
+ghost use Rattle.std.specs.Bool.{OnTrue, OnFalse};
+ghost use Rattle.std.specs.Prelude.{◌≡◌, ◌≢◌, ◌+◌, ◌-◌, ◌<◌, ◌≤◌, ◌⊎◌, ◌++◌, [], length, Ok, IsOk, IfOk, IsOkAnd, OnOk, drop, take, slice_index, slice_range};
 ghost use Rattle.no_std_io2.specs.LineState.{IsLineState, HasNoNewline};
 ghost use Rattle.no_std_io2.specs.Lines.{IsLinesLen, WritesLines, unfinished_line, held_tail, whole_if_short};
-ghost use Rattle.no_std_io2.specs.Buffered.{sender_inner, sender_buffer, sender_told, buffer_after};
+ghost use Rattle.no_std_io2.specs.Buffered.{sender_inner, sender_buffer, sender_told, sending_calls, buffer_after, IsEnd};
 ghost use Rattle.no_std_io2_base.specs.Errors.{IsNoInterruption};
 ghost use Rattle.no_std_io2_base.specs.Writes.{Moves, MovesFront, taken, write_mishap, call_mishap};
 
@@ -41,6 +42,62 @@ fn tail_end(x: &[u8], len: usize, sent: usize, room: usize) -> usize
     if part == 0 { sent + room } else { sent + part }
 }
 
+// The sender's `write`, with its hot path in place: a short piece is held where there is room.
+fn write_buffered<W: Write + Drop, const S: usize>(w: &mut Sender<W, S>, x: &[u8]) -> Result<usize>
+    ensures bound { IfOk result (λ n. n ≤ length x.now) }
+    ensures moves { Moves (sender_told W.told w.old) (taken result x.now) (write_mishap result x.now)
+        (sender_told W.told w.new) }
+    ensures rest { IsEnd (sender_buffer w.old ++ taken result x.now) (sender_buffer w.new) }
+    ensures fits { length x.now < S → length (sender_buffer w.old) + length x.now ≤ S
+        → IsOk result × (sender_inner w.new ≡ sender_inner w.old)
+        × (sender_buffer w.new ≡ sender_buffer w.old ++ x.now) }
+    ensures whole { length x.now < S → IfOk result (λ n. n ≡ length x.now) }
+    ensures all { W.takes_all (sender_inner w.old)
+        → W.takes_all (sender_inner w.new) × (result ≡ Ok (length x.now)) }
+    ensures after { W.takes_all (sender_inner w.old)
+        → sender_buffer w.new ≡ buffer_after S (sender_buffer w.old) x.now }
+    ensures calls { W.is_metered (sender_inner w.old) → W.takes_all (sender_inner w.old)
+        → W.is_metered (sender_inner w.new)
+        × (W.cost (sender_inner w.new) ≤ W.cost (sender_inner w.old) + 2) }
+{
+    if !w.hold_if_room(x) {
+        return w.write(x);
+    }
+    Ok(x.len())
+}
+
+// The sender's `write_all`, likewise.
+fn write_all_buffered<W: Write + Drop, const S: usize>(w: &mut Sender<W, S>, x: &[u8]) -> Result<()>
+    ensures fault { IsNoInterruption result }
+    ensures moves { MovesFront (sender_told W.told w.old) x.now result (sender_told W.told w.new) }
+    ensures rest { IsEnd (sender_buffer w.old ++ x.now) (sender_buffer w.new)
+        ⊎ IsEnd (sender_buffer w.old) (sender_buffer w.new) }
+    ensures fits { length x.now < S → length (sender_buffer w.old) + length x.now ≤ S
+        → IsOk result × (sender_inner w.new ≡ sender_inner w.old)
+        × (sender_buffer w.new ≡ sender_buffer w.old ++ x.now) }
+    ensures all { W.takes_all (sender_inner w.old) → W.takes_all (sender_inner w.new) × IsOk result }
+    ensures after { W.takes_all (sender_inner w.old)
+        → sender_buffer w.new ≡ buffer_after S (sender_buffer w.old) x.now }
+    ensures few { W.is_metered (sender_inner w.old) → W.takes_all (sender_inner w.old)
+        → W.is_metered (sender_inner w.new) × (W.cost (sender_inner w.new)
+        ≤ W.cost (sender_inner w.old) + sending_calls (sender_buffer w.old) + 1) }
+{
+    if w.hold_if_room(x) {
+        return Ok(());
+    }
+    w.write_all(x)
+}
+
+// Whether the last byte is a newline.
+fn ends_in_newline(bytes: &[u8]) -> bool
+    ensures yes { OnTrue result ((0 < length bytes.now)
+        × (slice_index bytes.now (length bytes.now - 1) ≡ 10)) }
+    ensures no { OnFalse result (0 < length bytes.now
+        → slice_index bytes.now (length bytes.now - 1) ≢ 10) }
+{
+    bytes.last() == Some(&b'\n')
+}
+
 // Held bytes that end in a newline are sent.
 fn send_line<W: Write + Drop, const S: usize>(w: &mut Sender<W, S>) -> Result<()>
     requires line { IsLineState (sender_buffer w.old) }
@@ -57,7 +114,7 @@ fn send_line<W: Write + Drop, const S: usize>(w: &mut Sender<W, S>) -> Result<()
         → W.is_metered (sender_inner w.new)
         × (W.cost (sender_inner w.new) ≤ W.cost (sender_inner w.old) + 1) }
 {
-    if w.buffer().last() == Some(&b'\n') {
+    if ends_in_newline(w.buffer()) {
         return w.send();
     }
     Ok(())
@@ -88,7 +145,7 @@ pub(super) fn write_plain<W: Write + Drop, const S: usize>(
         × (W.cost (sender_inner w.new) ≤ W.cost (sender_inner w.old) + 3) }
 {
     send_line(w)?;
-    w.write(x)
+    write_buffered(w, x)
 }
 
 // A write of x, whose first `len` bytes are lines.
@@ -147,7 +204,7 @@ pub(super) fn write_all_plain<W: Write + Drop, const S: usize>(
         × (W.cost (sender_inner w.new) ≤ W.cost (sender_inner w.old) + 3) }
 {
     send_line(w)?;
-    w.write_all(x)
+    write_all_buffered(w, x)
 }
 
 // Writes all of x, which is lines: through, or behind what is held, to be sent with it.
@@ -192,5 +249,5 @@ pub(super) fn write_all_lines<W: Write + Drop, const S: usize>(
         × (W.cost (sender_inner w.new) ≤ W.cost (sender_inner w.old) + 3) }
 {
     send_lines(w, &x[..len])?;
-    w.write_all(&x[len..])
+    write_all_buffered(w, &x[len..])
 }

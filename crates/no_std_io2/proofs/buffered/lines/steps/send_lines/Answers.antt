@@ -1,7 +1,6 @@
 use Rattle.std.proofs.Common.{◌≡◌, ◌<◌, [], rules, arith, ap, sym, ◌∙◌}
 use Rattle.no_std_io2.specs.Buffered.{sender_buffer, sending_calls}
 use Rattle.no_std_io2.proofs.CountLemmas.{writing_then_sending}
-use Rattle.no_std_io2.proofs.SteadyLemmas.{MovesFront-steady, MovesFront-no_fault}
 use Rattle.no_std_io2.proofs.BufferLemmas.{Moves-sent_part, none_of_length}
 use Rattle.no_std_io2.proofs.LineLemmas.{IsLineState-end, IsLineState-after, IsLineState-ended, MovesFront-passed, MovesFront-ends, MovesFront-whole}
 use Rattle.no_std_io2.proofs.buffered.lines.steps.send_lines.Goals as goal
@@ -24,10 +23,6 @@ pub returns-clause-moves : goal.returns-clause-moves
 returns-clause-moves g c =
     let sent = c.send.ensures.sends in
     MovesFront-ends c.args.x.now c.send.result (MovesFront-whole c.args.x.now tt c.in_ok-write_all.ensures.moves) (Moves-sent_part sent.0 _ _ sent.1 sent.2)
-
-pub returns-in_err-write_all-clause-all : goal.returns-in_err-write_all-clause-all
-returns-in_err-write_all-clause-all g c = λ t.
-    absurd (MovesFront-no_fault c.args.x.now c.in_err-write_all.field-0.0 (g.met.W.Write.steady _ t) c.in_err-write_all.ensures.moves)
 
 pub returns-clause-calls : goal.returns-clause-calls
 returns-clause-calls g c = λ m t.

@@ -82,7 +82,7 @@ returns-clause-after g c = λ t. (taken_whole g c t).0
 pub returns-clause-calls : goal.returns-clause-calls
 returns-clause-calls g c = λ m t.
     let first = c.in_ok-send.ensures.cost m t in
-    let then = c.in_ok-n.ensures.cost first.0 (c.in_ok-send.ensures.all t).0 in (
+    let then = c.in_ok-n.ensures.calls first.0 (c.in_ok-send.ensures.all t).0 in (
       subst g.W.Write.is_metered (sym c.hold.ensures.same) then.0,
       omega (arith, first.1, then.1, ap g.W.Write.cost c.hold.ensures.same, sending_calls-le (sender_buffer c.args.w.now)),
     )
