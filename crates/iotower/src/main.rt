@@ -1,6 +1,7 @@
 //! Copies standard input through a buffered writer, or plays a script on one.
 #![tactic(auto)]
 
+mod copy;
 mod patient;
 mod tells;
 
