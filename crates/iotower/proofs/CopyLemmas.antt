@@ -1,11 +1,11 @@
 -- A copy, piece by piece.
-use Rattle.std.proofs.Common.{◌≡◌, ℕ, ◌+◌, ◌-◌, ◌^◌, ◌≤◌, ◌<◌, min, List, [], ◌∷◌, ◌++◌, length, take, refl, sym, ap, ◌∙◌, subst, arith, Ok, Err, append-nil, append_assoc, length-append, length-take-le, inl, inr, ◌⊎◌}
+use Rattle.std.proofs.Common.{◌≡◌, ℕ, ◌+◌, ◌-◌, ◌^◌, ◌≤◌, ◌<◌, min, List, [], ◌∷◌, ◌++◌, length, take, refl, sym, ap, ◌∙◌, subst, arith, rules, Ok, Err, Result, Some, IsOk, IfErr, append-nil, append_assoc, length-append, length-take-le, inl, inr, ◌⊎◌}
 use Rattle.no_std_io2_base.specs.declared.error.Error.{Error}
 use Rattle.no_std_io2_base.specs.declared.error.ErrorKind.{ErrorKind}
-use Rattle.no_std_io2_base.specs.Errors.{error_kind, IsFault}
-use Rattle.no_std_io2_base.specs.Events.{Event, fails, bytes, HasNoFault, Reads}
+use Rattle.no_std_io2_base.specs.Errors.{error_kind, IsInterruption, IsFault}
+use Rattle.no_std_io2_base.specs.Events.{Event, byte, fails, bytes, HasNoFault, Reads}
 use Rattle.no_std_io2_base.specs.Writes.{Told, Moves, MovesFront}
-use Rattle.no_std_io2_base.proofs.MovesLemmas.{Moves-refl, Moves-then, Moves-more, Moves-ends}
+use Rattle.no_std_io2_base.proofs.MovesLemmas.{Moves-refl, Moves-then, Moves-more, Moves-ends, Moves-steady}
 use Rattle.no_std_io2_base.proofs.Gathered.{Gathered}
 use Rattle.no_std_io2.specs.Buffered.{with_buffer}
 use Rattle.no_std_io2.proofs.BufferLemmas.{Moves-bare}
@@ -51,3 +51,27 @@ gathered_first_fault E b after rest e t read fault = record {
   split = t.split ∙ ap (λ l. t.front ++ l) read ∙ sym (append_assoc t.front (fails e ∷ []) rest);
   ends = (t.front, refl, t.no_fault, fault);
 }
+
+-- past a front, an error of events without a fault is an interruption
+no_fault_at : (front rest : List Event) (e : Error) → HasNoFault (front ++ fails e ∷ rest) → IsInterruption e
+no_fault_at [] rest e h = h.0
+no_fault_at (byte b ∷ front) rest e h = no_fault_at front rest e h
+no_fault_at (fails x ∷ front) rest e h = no_fault_at front rest e h.1
+
+-- events without a fault have no first one
+pub no_first_fault : (E : List Event) (e : Error) → HasNoFault E → HasFirstFault E e → ⊥
+no_first_fault E e none f =
+    let split : E ≡ f.ends.0 ++ fails e ∷ f.rest = f.split ∙ ap (λ l. l ++ f.rest) f.ends.1 ∙ append_assoc f.ends.0 (fails e ∷ []) f.rest in
+    let again : IsInterruption e = no_fault_at f.ends.0 f.rest e (subst HasNoFault split none) in
+    let fault : IsFault e = f.ends.3 in
+    cc
+
+-- what has no error is `Ok`
+pub ok_unless : {A : Type 0} (r : Result A Error) (P : Error → Type 0) → IfErr r P → ((e : Error) → P e → ⊥) → IsOk r
+ok_unless (Ok x) P h never = search rules
+ok_unless (Err e) P h never = absurd (never e h)
+
+-- a reader without a fault and a writer without a mishap leave no failure
+pub no_failure : (E : List Event) (old : Told) → HasNoFault E → old.mishaps ≡ Some [] → (e : Error) → HasFirstFault E e ⊎ HasFailed old e → ⊥
+no_failure E old none steady e (inl f) = no_first_fault E e none f
+no_failure E old none steady e (inr f) = Moves-steady steady f.moves

@@ -1,3 +1,4 @@
 pub mod Turns
 pub mod Patient
 pub mod Copies
+pub mod Script

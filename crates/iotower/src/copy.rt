@@ -48,3 +48,28 @@ fn through_buffer<R: Read, W: Write + Drop>(input: &mut R, output: W) -> Result<
     let output = tower.into_inner()?;
     Ok((count, output))
 }
+
+/// Copies all of `input` to `output` through a buffer of 64 bytes, sends and flushes it, and answers
+/// how many bytes these were, at most the greatest `u64`, with the output. With `line`, each line is
+/// sent as it ends. The reader's interruptions are passed over.
+///
+/// # Errors
+/// The first fault of `input`, or the first failure of `output`, an interruption of its flush too.
+/// The output is dropped then, with what its buffer had left sent once more.
+pub fn copy_through<R: Read + Drop, W: Write + Drop>(
+    mut input: R,
+    output: W,
+    _line: bool,
+) -> Result<(u64, W)>
+    requires fits { BufferFits W.row }
+    ensures some { IfOk result (λ r. PassesSome (W.told output) r.0 (W.told r.1)) }
+    ensures all { R.tells input → IfOk result (λ r. HasNoFault (R.events input)
+        × Passes (W.told output) (bytes (R.events input)) r.0 (W.told r.1)) }
+    ensures empty { IfOk result (λ r. (W.told r.1).held ≡ []) }
+    ensures err { R.tells input → IfErr result (λ e. HasFirstFault (R.events input) e
+        ⊎ HasFailed (W.told output) e) }
+    ensures steady { R.tells input → HasNoFault (R.events input) → (W.told output).mishaps ≡ Some []
+        → IsOk result }
+{
+    through_buffer(&mut input, output)
+}

@@ -18,10 +18,14 @@ reads-preserved-in-Ok g c =
     let wrote = c.in_ok-write_all-in-Ok.ensures.moves in
     record {
       long = search rules;
-      poured = (before.0 ++ got, passes_more before.1 wrote (search rules), λ t.
-          let told = before.2 t in
-          let now = c.in-Ok.ensures.told told.0 in
-          (now.0, gathered_read _ _ _ _ _ _ _ _ told.1 now.1 refl));
+      poured = (
+        before.0 ++ got,
+        passes_more before.1 wrote (search rules),
+        λ t.
+            let told = before.2 t in
+            let now = c.in-Ok.ensures.told told.0 in
+            (now.0, gathered_read _ _ _ _ _ _ _ _ told.1 now.1 refl),
+      );
     }
 
 pub returns-then-ne-clause-err : goal.returns-then-ne-clause-err
@@ -35,8 +39,12 @@ reads-preserved g c =
     let before = c.reads.invariant.poured in
     record {
       long = search rules;
-      poured = (before.0, before.1, λ t.
-          let told = before.2 t in
-          let now = c.in-Err.ensures.told told.0 in
-          (now.0, gathered_interruption _ _ _ _ _ _ told.1 now.1 (search rules)));
+      poured = (
+        before.0,
+        before.1,
+        λ t.
+            let told = before.2 t in
+            let now = c.in-Err.ensures.told told.0 in
+            (now.0, gathered_interruption _ _ _ _ _ _ told.1 now.1 (search rules)),
+      );
     }
