@@ -2,3 +2,5 @@ pub mod Turns
 pub mod Patient
 pub mod Copies
 pub mod Script
+pub mod Report
+pub mod Play

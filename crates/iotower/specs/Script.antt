@@ -1,5 +1,6 @@
 -- The lines of a script.
 use Rattle.std.specs.Prelude.{◌≡◌, ℕ, ◌==◌, ◌≤◌, ◌<◌, ◌^◌, if◌then◌else◌, codes, List, [], ◌∷◌, ◌++◌, length, ◌⊎◌}
+use Rattle.std.specs.List.{flat_map}
 use Rattle.std.specs.Str.Parse.{IsNumeral, digits_value}
 use Rattle.no_std_io2_base.specs.declared.error.ErrorKind.{ErrorKind}
 use Rattle.no_std_io2_base.specs.declared.error.ErrorKind.TheVariants.{NotFound, PermissionDenied, ConnectionRefused, ConnectionReset, ConnectionAborted, NotConnected, AddrInUse, AddrNotAvailable, BrokenPipe, AlreadyExists, WouldBlock, InvalidInput, InvalidData, TimedOut, WriteZero, Interrupted, Other, UnexpectedEof, Unsupported, OutOfMemory, Uncategorized}
@@ -10,8 +11,7 @@ escaped_byte b = if b == 10 then codes "\\n" else (if b == 92 then codes "\\\\" 
 
 -- these bytes as a text shows them
 abbrev pub escaped : List ℕ → List ℕ
-escaped [] = []
-escaped (b ∷ bs) = escaped_byte b ++ escaped bs
+escaped bytes = flat_map escaped_byte bytes
 
 -- the name of a kind
 abbrev pub kind_name : ErrorKind → List ℕ

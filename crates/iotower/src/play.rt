@@ -1,7 +1,10 @@
 // Plays a script on a tower of buffered writers.
-ghost use Rattle.std.specs.Prelude.{◌≡◌, ◌++◌};
+ghost use Rattle.std.specs.Prelude.{◌≡◌, ◌++◌, IfOk, IfErr};
+ghost use Rattle.no_std_io2_base.specs.declared.error.ErrorKind.TheVariants.{OutOfMemory};
+ghost use Rattle.no_std_io2_base.specs.Errors.{error_kind};
+ghost use Rattle.iotower.specs.Play.{Shows, IsPlay, Writes, fresh_told};
 
-use crate::report::{push, push_escaped, push_reply};
+use crate::report::report_of;
 use crate::script::Script;
 use io_bench::{Act, Faulty, Op, run_writes};
 use no_std_io2::buffered::{BufWriter, LineWriter};
@@ -55,10 +58,12 @@ const ROOM: usize = 8;
 // What is shown of a tower.
 trait Tower: Write {
     // The bytes that are out.
-    fn out(&self) -> &[u8];
+    fn out(&self) -> &[u8]
+        ensures { result.now ≡ (Self.told self.now).out };
 
     // The bytes that are held: the inner level's, and then the outer level's.
-    fn held(&self) -> (&[u8], &[u8]);
+    fn held(&self) -> (&[u8], &[u8])
+        ensures { result.0.now ++ result.1.now ≡ (Self.told self.now).held };
 }
 
 impl Tower for BufWriter<Base, ROOM> {
@@ -113,7 +118,9 @@ pub fn play<R: Read + Drop, W: Write + Drop>(
     mut input: R,
     mut output: W,
     shape: Shape,
-) -> std::result::Result<W, Fault> {
+) -> std::result::Result<W, Fault>
+    ensures ok { IfOk result (λ w. Writes IsPlay (W.told output) (W.told w)) }
+{
     let mut text = Vec::new(alloc);
     input.read_to_end(&mut text)?;
     let Script { acts, calls } = Script::parse(alloc, &text)?;
@@ -124,7 +131,10 @@ pub fn play<R: Read + Drop, W: Write + Drop>(
     Ok(output)
 }
 
-fn play_ops(alloc: Global, acts: Vec<Act>, ops: &[Op<'_>], shape: Shape) -> Result<Vec<u8>> {
+fn play_ops(alloc: Global, acts: Vec<Act>, ops: &[Op<'_>], shape: Shape) -> Result<Vec<u8>>
+    ensures ok { IfOk result (λ text. Shows (fresh_told acts.items) ops.now text.items) }
+    ensures kind { IfErr result (λ e. error_kind e ≡ OutOfMemory) }
+{
     let base = Faulty::new(Vec::new(alloc), acts);
     match shape {
         Shape::Buf => play_on(alloc, BufWriter::<Base, ROOM>::new(base), ops),
@@ -149,19 +159,12 @@ fn play_ops(alloc: Global, acts: Vec<Act>, ops: &[Op<'_>], shape: Shape) -> Resu
 }
 
 // Makes the calls, and then the text, before the tower is dropped.
-fn play_on<T: Tower + Drop>(alloc: Global, mut tower: T, ops: &[Op<'_>]) -> Result<Vec<u8>> {
+fn play_on<T: Tower + Drop>(alloc: Global, mut tower: T, ops: &[Op<'_>]) -> Result<Vec<u8>>
+    ensures ok { IfOk result (λ text. Shows (T.Write.told tower) ops.now text.items) }
+    ensures kind { IfErr result (λ e. error_kind e ≡ OutOfMemory) }
+{
     let mut replies = Vec::new(alloc);
     run_writes(&mut tower, ops, &mut replies)?;
-    let mut text = Vec::new(alloc);
-    for reply in &replies {
-        push_reply(&mut text, reply)?;
-    }
-    push(&mut text, b"out=")?;
-    push_escaped(&mut text, tower.out())?;
-    push(&mut text, b"\nheld=")?;
     let (inner, outer) = tower.held();
-    push_escaped(&mut text, inner)?;
-    push_escaped(&mut text, outer)?;
-    push(&mut text, b"\n")?;
-    Ok(text)
+    report_of(alloc, &replies, tower.out(), inner, outer)
 }

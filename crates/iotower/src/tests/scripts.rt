@@ -37,7 +37,7 @@ fn the_first_bad_line_is_named(rt: HostRuntime) -> Result<(), Fail> {
     ];
     for (script, want) in cases {
         match play(rt.alloc(), script, Vec::<u8>::new(rt.alloc()), Shape::Buf) {
-            Ok(_text) => assert!(rt; false, "{want}"),
+            Ok(_text) => assert!(rt; false),
             Err(fault) => {
                 let text = format!(in rt.alloc(); "{fault}")?;
                 assert_eq!(rt; text.as_str(), want);
