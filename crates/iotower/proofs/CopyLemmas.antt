@@ -9,14 +9,26 @@ use Rattle.no_std_io2_base.proofs.MovesLemmas.{Moves-refl, Moves-then, Moves-mor
 use Rattle.no_std_io2_base.proofs.Gathered.{Gathered}
 use Rattle.no_std_io2.specs.Buffered.{with_buffer}
 use Rattle.no_std_io2.proofs.BufferLemmas.{Moves-bare}
-use Rattle.iotower.specs.Copies.{counted, Passes, PassesSome, HasFirstFault, HasFailed}
+use Rattle.no_std_io2.specs.Copy.{Copies, CopyEnds, CopyMoves}
+use Rattle.iotower.specs.Copies.{Passes, PassesSome, HasFirstFault, HasFailed}
 
--- one more piece is accepted
-pub passes_more : {a b c : Told} {x y : List ℕ} {n m : ℕ} → Passes a x n b → MovesFront b y (Ok tt) c → m ≡ min (n + length y) (2 ^ 64 - 1) → Passes a (x ++ y) m c
-passes_more {a} {c = c} {x} {y} {n} {m} p w count = record {
-  moves = Moves-more p.moves (subst (λ l. Moves _ l [] c) w.2 w.3);
-  count = omega (arith, p.count, count, length-append x y);
-}
+-- a copy to the end took all, and had no fault
+pub copies_all : {E after : List Event} {old new : Told} {n : ℕ} → Copies 64 E (Ok n) after old new → HasNoFault E × Passes old (bytes E) n new
+copies_all {E} {after} {old} {new} {n} c =
+    let whole : E ≡ c.0 = c.1 ∙ ap (λ l. c.0 ++ l) (c.3.1 (omega arith)) ∙ append-nil c.0 in
+    subst (λ l. HasNoFault l × Passes old (bytes l) n new) (sym whole) (c.3.0, record { moves = c.3.3; count = c.3.2 })
+
+-- whatever the reader, the bytes that the writer accepted are counted
+pub copies_some : {old new : Told} {n : ℕ} → CopyMoves (Ok n) old new → PassesSome old n new
+copies_some c = record { accepted = c.0; passes = record { moves = c.2; count = c.1 } }
+
+-- a copy that failed met the reader's first fault, or a mishap of the writer's
+pub copies_err : {E after : List Event} {old new : Told} {e : Error} → Copies 64 E (Err e) after old new → HasFirstFault E e ⊎ HasFailed old e
+copies_err {E} {after} {old} {new} {e} c = ends c.3
+  where
+    ends : CopyEnds 64 (Err e) c.0 after old new → HasFirstFault E e ⊎ HasFailed old e
+    ends (inl f) = inl (record { front = c.0; rest = after; split = c.1; ends = f.0 })
+    ends (inr f) = inr (record { accepted = f.1.1.0; new = new; moves = f.1.1.2 })
 
 -- nothing more is accepted
 pub passes_then : {a b c : Told} {x : List ℕ} {n : ℕ} → Passes a x n b → Moves b [] [] c → Passes a x n c
@@ -34,23 +46,6 @@ has_failed {c} {x} {y} f g = record { accepted = x ++ y; new = c; moves = Moves-
 pub failed_bare : {a inner : Told} {e : Error} (buffer : List ℕ) → inner ≡ a → buffer ≡ [] → HasFailed (with_buffer inner buffer) e → HasFailed a e
 failed_bare {e = e} buffer same empty f =
     subst (λ t. HasFailed t e) same (record { accepted = f.accepted; new = f.new; moves = Moves-bare buffer empty f.moves })
-
--- a reader at its end gave all of its bytes, and had no fault
-pub gathered_all : (E : List Event) (b : List ℕ) (after rest : List Event) (n : ℕ) (buf : List ℕ)
-    → Gathered E [] b after → Reads after (Ok n) buf rest → n ≡ 0 → 0 < length buf → HasNoFault E × (b ≡ bytes E)
-gathered_all E b after rest n buf t read zero some =
-    let whole : E ≡ t.front = t.split ∙ ap (λ l. t.front ++ l) (read.1 zero some) ∙ append-nil t.front in
-    (subst HasNoFault (sym whole) t.no_fault, t.gave ∙ ap bytes (sym whole))
-
--- a reader's fault after some bytes is its first
-pub gathered_first_fault : (E : List Event) (b : List ℕ) (after rest : List Event) (e : Error)
-    → Gathered E [] b after → after ≡ fails e ∷ rest → IsFault e → HasFirstFault E e
-gathered_first_fault E b after rest e t read fault = record {
-  front = t.front ++ fails e ∷ [];
-  rest = rest;
-  split = t.split ∙ ap (λ l. t.front ++ l) read ∙ sym (append_assoc t.front (fails e ∷ []) rest);
-  ends = (t.front, refl, t.no_fault, fault);
-}
 
 -- past a front, an error of events without a fault is an interruption
 no_fault_at : (front rest : List Event) (e : Error) → HasNoFault (front ++ fails e ∷ rest) → IsInterruption e

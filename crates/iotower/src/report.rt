@@ -6,7 +6,7 @@ ghost use Rattle.iotower.specs.Script.{escaped};
 ghost use Rattle.iotower.specs.Report.{reply_line, report};
 
 use io_bench::Reply;
-use no_std_io2_base::error::{Error, ErrorKind, Result};
+use no_std_io2::io::{Error, ErrorKind, Result};
 use std::alloc::Allocator;
 use std::io::Write;
 

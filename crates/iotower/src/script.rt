@@ -6,7 +6,7 @@ ghost use Rattle.no_std_io2_base.specs.declared.error.ErrorKind.{ErrorKind as Ki
 
 use crate::play::Fault;
 use io_bench::{Act, Op};
-use no_std_io2_base::error::{Error, ErrorKind, Result};
+use no_std_io2::io::{Error, ErrorKind, Result};
 use std::alloc::Global;
 
 /// What a line of a script says. Its text is still escaped.

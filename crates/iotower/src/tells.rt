@@ -3,7 +3,7 @@ ghost use Rattle.std.specs.Prelude.{◌≡◌};
 ghost use Rattle.iotower.specs.Patient.{patient_turns, patient_told};
 
 use crate::patient::Patient;
-use no_std_io2_base::traits::{Read, Stored, Write};
+use no_std_io2::io::{Read, Stored, Write};
 use std::io;
 
 /// No events and no store, but its turns. No read of it is counted.

@@ -1,7 +1,7 @@
 // Scripts that are played.
 use crate::play::{Fault, Shape, play};
 use io_bench::{Act, Faulty};
-use no_std_io2_base::error::ErrorKind;
+use no_std_io2::io::ErrorKind;
 use std::alloc::Global;
 use std::test::Fail;
 

@@ -2,7 +2,7 @@
 use super::Broken;
 use crate::patient::Patient;
 use crate::play::{Fault, Shape, play};
-use no_std_io2_base::error::ErrorKind;
+use no_std_io2::io::ErrorKind;
 use std::test::Fail;
 
 #[test]
