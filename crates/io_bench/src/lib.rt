@@ -16,7 +16,7 @@ mod tells;
 #[cfg(test)]
 mod tests;
 mod towers;
-mod trace;
+pub mod trace;
 
 pub use closed::run_closed;
 pub use faulty::{Act, Faulty};

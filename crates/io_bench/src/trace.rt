@@ -1,11 +1,12 @@
-// Bytes that only contracts read. They take no memory.
+//! Bytes that only contracts read. They take no memory.
 ghost use Rattle.std.specs.Prelude.{◌≡◌, ℕ, List, [], ◌++◌};
 ghost use Rattle.std.specs.Borrow.{ftrue};
 
 use std::marker::{Model, PhantomData};
 
+/// A list of bytes that is seen by contracts alone.
 #[derive(Drop)]
-pub(crate) struct Trace {
+pub struct Trace {
     marker: PhantomData<u8>,
     pub ghost bytes: { List ℕ },
 }
@@ -15,7 +16,8 @@ impl Model for Trace {
 }
 
 impl Trace {
-    pub(crate) fn new() -> Trace
+    /// No bytes.
+    pub fn new() -> Trace
         ensures { result.bytes ≡ [] }
     {
         Trace {
@@ -23,7 +25,8 @@ impl Trace {
         }
     }
 
-    pub(crate) fn add(&mut self, _more: &[u8])
+    /// These bytes come after the others.
+    pub fn add(&mut self, _more: &[u8])
         ensures { self.new.bytes ≡ self.old.bytes ++ _more.now }
     {}
 }

@@ -1,0 +1,10 @@
+use Rattle.std.proofs.Common.{◌≡◌, ◌+◌, ◌≤◌, vec_len, vec_capacity}
+use Rattle.iotower.proofs.script.unescape.Given as goal
+
+abbrev pub invariant-bytes : goal.invariant-bytes
+invariant-bytes l =
+    record {
+      room : vec_capacity l.bytes ≡ vec_capacity l.initial.bytes;
+      short : vec_len l.bytes ≤ vec_len l.initial.bytes + l.b-index;
+      grows : vec_len l.initial.bytes ≤ vec_len l.bytes;
+    }

@@ -1,0 +1,6 @@
+pub mod Turns
+pub mod Patient
+pub mod Copies
+pub mod Script
+pub mod Report
+pub mod Play

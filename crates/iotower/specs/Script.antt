@@ -1,0 +1,53 @@
+-- The lines of a script.
+use Rattle.std.specs.Prelude.{◌≡◌, ℕ, ◌==◌, ◌≤◌, ◌<◌, ◌^◌, if◌then◌else◌, codes, List, [], ◌∷◌, ◌++◌, length, ◌⊎◌}
+use Rattle.std.specs.List.{flat_map}
+use Rattle.std.specs.Str.Parse.{IsNumeral, digits_value}
+use Rattle.no_std_io2_base.specs.declared.error.ErrorKind.{ErrorKind}
+use Rattle.no_std_io2_base.specs.declared.error.ErrorKind.TheVariants.{NotFound, PermissionDenied, ConnectionRefused, ConnectionReset, ConnectionAborted, NotConnected, AddrInUse, AddrNotAvailable, BrokenPipe, AlreadyExists, WouldBlock, InvalidInput, InvalidData, TimedOut, WriteZero, Interrupted, Other, UnexpectedEof, Unsupported, OutOfMemory, Uncategorized}
+
+-- a byte as a text shows it: a newline is a backslash and `n`, a backslash two backslashes
+abbrev pub escaped_byte : ℕ → List ℕ
+escaped_byte b = if b == 10 then codes "\\n" else (if b == 92 then codes "\\\\" else b ∷ [])
+
+-- these bytes as a text shows them
+abbrev pub escaped : List ℕ → List ℕ
+escaped bytes = flat_map escaped_byte bytes
+
+-- the name of a kind
+abbrev pub kind_name : ErrorKind → List ℕ
+kind_name NotFound = codes "NotFound"
+kind_name PermissionDenied = codes "PermissionDenied"
+kind_name ConnectionRefused = codes "ConnectionRefused"
+kind_name ConnectionReset = codes "ConnectionReset"
+kind_name ConnectionAborted = codes "ConnectionAborted"
+kind_name NotConnected = codes "NotConnected"
+kind_name AddrInUse = codes "AddrInUse"
+kind_name AddrNotAvailable = codes "AddrNotAvailable"
+kind_name BrokenPipe = codes "BrokenPipe"
+kind_name AlreadyExists = codes "AlreadyExists"
+kind_name WouldBlock = codes "WouldBlock"
+kind_name InvalidInput = codes "InvalidInput"
+kind_name InvalidData = codes "InvalidData"
+kind_name TimedOut = codes "TimedOut"
+kind_name WriteZero = codes "WriteZero"
+kind_name Interrupted = codes "Interrupted"
+kind_name Other = codes "Other"
+kind_name UnexpectedEof = codes "UnexpectedEof"
+kind_name Unsupported = codes "Unsupported"
+kind_name OutOfMemory = codes "OutOfMemory"
+kind_name Uncategorized = codes "Uncategorized"
+
+-- one to five digits that write n, which is below 2 ^ 16
+pub record IsCount (digits : List ℕ) (n : ℕ) : Type 0 where
+  pub numeral : IsNumeral 10 digits
+  pub value : digits_value 10 digits ≡ n
+  pub short : length digits ≤ 5
+  pub fits : n < 2 ^ 16
+
+-- the text is this line, its newline and the rest, or the line alone
+abbrev pub SplitsLine : List ℕ → List ℕ → List ℕ → Type 0
+SplitsLine text line rest = (text ≡ line ++ 10 ∷ rest) ⊎ ((text ≡ line) × (rest ≡ []))
+
+-- what follows a letter is a space and this text, or nothing, which is the empty text
+abbrev pub IsTextArgument : List ℕ → List ℕ → Type 0
+IsTextArgument rest text = (rest ≡ 32 ∷ text) ⊎ ((rest ≡ []) × (text ≡ []))

@@ -1,0 +1,79 @@
+//! `iotower copy` copies standard input to standard output through a buffered writer, and
+//! `iotower play` plays a script of writes on a tower of them.
+//!
+//! The status is 0 where all was done, 1 for a fault, with its text on standard error, and 2 for
+//! words that are no command.
+#![tactic(auto)]
+
+mod copy;
+mod patient;
+mod play;
+mod report;
+mod script;
+mod tells;
+#[cfg(test)]
+mod tests;
+
+use copy::copy_through;
+use patient::Patient;
+use play::{Fault, Shape, play};
+use std::process::ExitCode;
+use std::rt::Env;
+use std::{env, io};
+
+const USAGE: &str = "usage: iotower copy buf|line, iotower play buf|line|buf-buf|line-buf";
+
+// What the words ask for.
+enum Command {
+    // With `true`, lines are sent as they end.
+    Copy(bool),
+    Play(Shape),
+}
+
+// `None` where the words are no command, or no text.
+fn parse_words<R: Env + Alloc>(rt: &R) -> Option<Command> {
+    let mut words = env::args(rt).ok()?;
+    let _program = words.next();
+    let verb = words.next()?;
+    let mode = words.next()?;
+    if words.next().is_some() {
+        return None;
+    }
+    match (verb.as_str(), mode.as_str()) {
+        ("copy", "buf") => Some(Command::Copy(false)),
+        ("copy", "line") => Some(Command::Copy(true)),
+        ("play", "buf") => Some(Command::Play(Shape::Buf)),
+        ("play", "line") => Some(Command::Play(Shape::Line)),
+        ("play", "buf-buf") => Some(Command::Play(Shape::BufBuf)),
+        ("play", "line-buf") => Some(Command::Play(Shape::LineBuf)),
+        _ => None,
+    }
+}
+
+fn run<R: Input + Print + AllocGlobal>(rt: &R, command: Command) -> Result<(), Fault> {
+    let input = Patient::new(rt.reader(), u64::MAX);
+    let output = Patient::new(io::writer(rt), u64::MAX);
+    match command {
+        Command::Copy(line) => {
+            copy_through(input, output, line)?;
+        }
+        Command::Play(shape) => {
+            play(rt.alloc(), input, output, shape)?;
+        }
+    }
+    Ok(())
+}
+
+fn main(rt: HostRuntime) -> ExitCode {
+    let Some(command) = parse_words(&rt) else {
+        let _ = eprintln!(rt; "{USAGE}");
+        return ExitCode::from(2);
+    };
+    match run(&rt, command) {
+        Ok(()) => ExitCode::SUCCESS,
+        Err(fault) => {
+            let _ = eprintln!(rt; "iotower: {fault}");
+            ExitCode::FAILURE
+        }
+    }
+}

@@ -1,0 +1,170 @@
+// Plays a script on a tower of buffered writers.
+ghost use Rattle.std.specs.Prelude.{◌≡◌, ◌++◌, IfOk, IfErr};
+ghost use Rattle.no_std_io2_base.specs.declared.error.ErrorKind.TheVariants.{OutOfMemory};
+ghost use Rattle.no_std_io2_base.specs.Errors.{error_kind};
+ghost use Rattle.iotower.specs.Play.{Shows, IsPlay, Writes, fresh_told};
+
+use crate::report::report_of;
+use crate::script::Script;
+use io_bench::{Act, Faulty, Op, run_writes};
+use no_std_io2::io::{BufWriter, LineWriter};
+use no_std_io2::io::{Error, Result};
+use no_std_io2::io::{Read, Write};
+use std::alloc::Global;
+use std::fmt;
+
+/// Which tower a script is played on: the first word is the outer level.
+#[derive(Clone, Copy, Debug, PartialEq, Eq)]
+pub enum Shape {
+    /// A `BufWriter`.
+    Buf,
+    /// A `LineWriter`.
+    Line,
+    /// A `BufWriter` over a `BufWriter`.
+    BufBuf,
+    /// A `LineWriter` over a `BufWriter`.
+    LineBuf,
+}
+
+/// Why a script was not played.
+#[derive(Debug, Drop)]
+pub enum Fault {
+    /// A device's fault, or want of memory.
+    Io(Error),
+    /// The first bad line of the script, by its number from 1.
+    Line(u64),
+}
+
+impl From<Error> for Fault {
+    fn from(error: Error) -> Fault {
+        Fault::Io(error)
+    }
+}
+
+impl fmt::Display for Fault {
+    fn fmt<W: fmt::Write>(&self, f: &mut fmt::Formatter<W>) -> fmt::Result {
+        match self {
+            Fault::Io(error) => write!(f, "{error}"),
+            Fault::Line(number) => write!(f, "bad line {number}"),
+        }
+    }
+}
+
+// The device at the bottom of each tower, and the room of each level.
+type Base = Faulty<Vec<u8>>;
+
+const ROOM: usize = 8;
+
+// What is shown of a tower.
+trait Tower: Write {
+    // The bytes that are out.
+    fn out(&self) -> &[u8]
+        ensures { result.now ≡ (Self.told self.now).out };
+
+    // The bytes that are held: the inner level's, and then the outer level's.
+    fn held(&self) -> (&[u8], &[u8])
+        ensures { result.0.now ++ result.1.now ≡ (Self.told self.now).held };
+}
+
+impl Tower for BufWriter<Base, ROOM> {
+    fn out(&self) -> &[u8] {
+        self.get_ref().get_ref().as_slice()
+    }
+
+    fn held(&self) -> (&[u8], &[u8]) {
+        (b"", self.buffer())
+    }
+}
+
+impl Tower for LineWriter<Base, ROOM> {
+    fn out(&self) -> &[u8] {
+        self.get_ref().get_ref().as_slice()
+    }
+
+    fn held(&self) -> (&[u8], &[u8]) {
+        (b"", self.buffer())
+    }
+}
+
+impl Tower for BufWriter<BufWriter<Base, ROOM>, ROOM> {
+    fn out(&self) -> &[u8] {
+        self.get_ref().get_ref().get_ref().as_slice()
+    }
+
+    fn held(&self) -> (&[u8], &[u8]) {
+        (self.get_ref().buffer(), self.buffer())
+    }
+}
+
+impl Tower for LineWriter<BufWriter<Base, ROOM>, ROOM> {
+    fn out(&self) -> &[u8] {
+        self.get_ref().get_ref().get_ref().as_slice()
+    }
+
+    fn held(&self) -> (&[u8], &[u8]) {
+        (self.get_ref().buffer(), self.buffer())
+    }
+}
+
+/// Reads a script, plays it on a tower over a faulty vector, and writes what came of it: a line for
+/// each reply, what is out and what is held. The whole script is read first, and the text is made
+/// whole and then written by one `write_all` and flushed.
+///
+/// # Errors
+/// A fault of the input, of the output, or want of memory; else the first bad line, and then nothing
+/// was played. The output is dropped.
+pub fn play<R: Read + Drop, W: Write + Drop>(
+    alloc: Global,
+    mut input: R,
+    mut output: W,
+    shape: Shape,
+) -> std::result::Result<W, Fault>
+    ensures ok { IfOk result (λ w. Writes IsPlay (W.told output) (W.told w)) }
+{
+    let mut text = Vec::new(alloc);
+    input.read_to_end(&mut text)?;
+    let Script { acts, calls } = Script::parse(alloc, &text)?;
+    let ops = calls.ops(alloc)?;
+    let report = play_ops(alloc, acts, &ops, shape)?;
+    output.write_all(&report)?;
+    output.flush()?;
+    Ok(output)
+}
+
+fn play_ops(alloc: Global, acts: Vec<Act>, ops: &[Op<'_>], shape: Shape) -> Result<Vec<u8>>
+    ensures ok { IfOk result (λ text. Shows (fresh_told acts.items) ops.now text.items) }
+    ensures kind { IfErr result (λ e. error_kind e ≡ OutOfMemory) }
+{
+    let base = Faulty::new(Vec::new(alloc), acts);
+    match shape {
+        Shape::Buf => play_on(alloc, BufWriter::<Base, ROOM>::new(base), ops),
+        Shape::Line => play_on(alloc, LineWriter::<Base, ROOM>::new(base), ops),
+        Shape::BufBuf => {
+            let inner = BufWriter::<Base, ROOM>::new(base);
+            play_on(
+                alloc,
+                BufWriter::<BufWriter<Base, ROOM>, ROOM>::new(inner),
+                ops,
+            )
+        }
+        Shape::LineBuf => {
+            let inner = BufWriter::<Base, ROOM>::new(base);
+            play_on(
+                alloc,
+                LineWriter::<BufWriter<Base, ROOM>, ROOM>::new(inner),
+                ops,
+            )
+        }
+    }
+}
+
+// Makes the calls, and then the text, before the tower is dropped.
+fn play_on<T: Tower + Drop>(alloc: Global, mut tower: T, ops: &[Op<'_>]) -> Result<Vec<u8>>
+    ensures ok { IfOk result (λ text. Shows (T.Write.told tower) ops.now text.items) }
+    ensures kind { IfErr result (λ e. error_kind e ≡ OutOfMemory) }
+{
+    let mut replies = Vec::new(alloc);
+    run_writes(&mut tower, ops, &mut replies)?;
+    let (inner, outer) = tower.held();
+    report_of(alloc, &replies, tower.out(), inner, outer)
+}

@@ -1,0 +1,90 @@
+// What `play` prints: a line for each reply, and then what is out and what is held.
+ghost use Rattle.std.specs.Prelude.{◌≡◌, ◌++◌, OnOk, IfOk, IfErr};
+ghost use Rattle.no_std_io2_base.specs.declared.error.ErrorKind.TheVariants.{OutOfMemory};
+ghost use Rattle.no_std_io2_base.specs.Errors.{error_kind};
+ghost use Rattle.iotower.specs.Script.{escaped};
+ghost use Rattle.iotower.specs.Report.{reply_line, report};
+
+use io_bench::Reply;
+use no_std_io2::io::{Error, ErrorKind, Result};
+use std::alloc::Allocator;
+use std::io::Write;
+
+/// Appends the line of a reply.
+///
+/// # Errors
+/// `OutOfMemory`.
+pub fn push_reply<A: Allocator>(text: &mut Vec<u8, A>, reply: &Reply) -> Result<()>
+    ensures ok { OnOk result (text.new.items ≡ text.old.items ++ reply_line reply.now) }
+    ensures kind { IfErr result (λ e. error_kind e ≡ OutOfMemory) }
+{
+    let written = match reply {
+        Reply::Took(count) => writeln!(text, "took={count}"),
+        Reply::Done => writeln!(text, "done"),
+        Reply::Failed(error) => writeln!(text, "failed={error}"),
+    };
+    match written {
+        Ok(()) => Ok(()),
+        Err(_refused) => Err(Error::from(ErrorKind::OutOfMemory)),
+    }
+}
+
+/// Appends these bytes, a newline as a backslash and `n`, a backslash as two.
+///
+/// # Errors
+/// `OutOfMemory`.
+pub fn push_escaped<A: Allocator>(text: &mut Vec<u8, A>, bytes: &[u8]) -> Result<()>
+    ensures ok { OnOk result (text.new.items ≡ text.old.items ++ escaped bytes.now) }
+    ensures kind { IfErr result (λ e. error_kind e ≡ OutOfMemory) }
+{
+    'bytes: for b in bytes {
+        match *b {
+            b'\n' => push(text, b"\\n")?,
+            b'\\' => push(text, b"\\\\")?,
+            b => push(text, &[b])?,
+        }
+    }
+    Ok(())
+}
+
+/// The text of a play: the line of each reply, and then what is out and what is held, the inner
+/// level's bytes first.
+///
+/// # Errors
+/// `OutOfMemory`.
+pub fn report_of<A: Allocator>(
+    alloc: A,
+    replies: &[Reply],
+    out: &[u8],
+    inner: &[u8],
+    outer: &[u8],
+) -> Result<Vec<u8, A>>
+    ensures ok { IfOk result (λ text. text.items ≡ report replies.now out.now (inner.now ++ outer.now)) }
+    ensures kind { IfErr result (λ e. error_kind e ≡ OutOfMemory) }
+{
+    let mut text = Vec::new(alloc);
+    'replies: for reply in replies {
+        push_reply(&mut text, reply)?;
+    }
+    push(&mut text, b"out=")?;
+    push_escaped(&mut text, out)?;
+    push(&mut text, b"\nheld=")?;
+    push_escaped(&mut text, inner)?;
+    push_escaped(&mut text, outer)?;
+    push(&mut text, b"\n")?;
+    Ok(text)
+}
+
+/// Appends these bytes as they are.
+///
+/// # Errors
+/// `OutOfMemory`.
+pub fn push<A: Allocator>(text: &mut Vec<u8, A>, bytes: &[u8]) -> Result<()>
+    ensures ok { OnOk result (text.new.items ≡ text.old.items ++ bytes.now) }
+    ensures kind { IfErr result (λ e. error_kind e ≡ OutOfMemory) }
+{
+    match text.extend_from_slice(bytes) {
+        Ok(()) => Ok(()),
+        Err(_refused) => Err(Error::from(ErrorKind::OutOfMemory)),
+    }
+}

@@ -1,0 +1,305 @@
+// The script of `play`: acts of a faulty device, and then calls of a writer, a line each.
+ghost use Rattle.std.specs.Prelude.{◌≡◌, ◌≢◌, ℕ, ◌+◌, ◌≤◌, ◌<◌, List, ◌∷◌, All, take, drop, IfSome, IfNone, OnOk, IfErr, length, vec_len, vec_capacity};
+ghost use Rattle.no_std_io2_base.specs.Errors.{error_kind};
+ghost use Rattle.iotower.specs.Script.{kind_name, IsCount, SplitsLine, IsTextArgument};
+ghost use Rattle.no_std_io2_base.specs.declared.error.ErrorKind.{ErrorKind as Kind};
+
+use crate::play::Fault;
+use io_bench::{Act, Op};
+use no_std_io2::io::{Error, ErrorKind, Result};
+use std::alloc::Global;
+
+/// What a line of a script says. Its text is still escaped.
+#[derive(Clone, Copy)]
+enum Line<'a> {
+    Empty,
+    Act(Act),
+    Write(&'a [u8]),
+    WriteAll(&'a [u8]),
+    Flush,
+    Bad,
+}
+
+/// A call of the script. A text is the next so many bytes of the script's texts.
+#[derive(Clone, Copy)]
+enum Step {
+    Write(usize),
+    WriteAll(usize),
+    Flush,
+}
+
+/// A script whose lines are all good: what the device does, and the calls that are made.
+#[derive(Drop)]
+pub struct Script {
+    pub acts: Vec<Act>,
+    pub calls: Calls,
+}
+
+/// The calls of a script.
+#[derive(Drop)]
+pub struct Calls {
+    steps: Vec<Step>,
+    // The texts of all steps, one after another.
+    texts: Vec<u8>,
+}
+
+impl Script {
+    /// Reads a script: `text` is cut at each newline byte, and lines are numbered from 1.
+    ///
+    /// # Errors
+    /// The first bad line, by its number, or `OutOfMemory`.
+    pub fn parse(alloc: Global, text: &[u8]) -> std::result::Result<Script, Fault> {
+        let mut script = Script {
+            acts: Vec::new(alloc),
+            calls: Calls {
+                steps: Vec::new(alloc),
+                texts: Vec::new(alloc),
+            },
+        };
+        let mut number = 0u64;
+        let mut rest = text;
+        'lines: while !rest.is_empty() {
+            let (line, next) = split_line(rest);
+            number = number.saturating_add(1);
+            if !script.add_line(line)? {
+                return Err(Fault::Line(number));
+            }
+            rest = next;
+        }
+        Ok(script)
+    }
+
+    // `false` where the line is bad.
+    fn add_line(&mut self, line: &[u8]) -> Result<bool> {
+        match parse_line(line) {
+            Line::Empty => Ok(true),
+            Line::Act(act) => self.add_act(act),
+            Line::Write(text) => self.calls.add_text(text, false),
+            Line::WriteAll(text) => self.calls.add_text(text, true),
+            Line::Flush => {
+                self.calls.add_step(Step::Flush)?;
+                Ok(true)
+            }
+            Line::Bad => Ok(false),
+        }
+    }
+
+    // `false` where a call stands before it.
+    fn add_act(&mut self, act: Act) -> Result<bool> {
+        if !self.calls.steps.is_empty() {
+            return Ok(false);
+        }
+        reserve(&mut self.acts, 1)?;
+        self.acts.push_reserved(act);
+        Ok(true)
+    }
+}
+
+impl Calls {
+    /// The calls, in order.
+    ///
+    /// # Errors
+    /// `OutOfMemory`.
+    pub fn ops(&self, alloc: Global) -> Result<Vec<Op<'_>>> {
+        let mut ops = Vec::new(alloc);
+        reserve(&mut ops, self.steps.len())?;
+        let mut rest = self.texts.as_slice();
+        for step in &self.steps {
+            let (op, next) = next_op(*step, rest);
+            ops.push_reserved(op);
+            rest = next;
+        }
+        Ok(ops)
+    }
+
+    // `false` where the text stands for no bytes.
+    fn add_text(&mut self, text: &[u8], is_whole: bool) -> Result<bool> {
+        let start = self.texts.len();
+        reserve(&mut self.texts, text.len())?;
+        if !unescape(text, &mut self.texts) {
+            return Ok(false);
+        }
+        let length = self.texts.len() - start;
+        self.add_step(if is_whole {
+            Step::WriteAll(length)
+        } else {
+            Step::Write(length)
+        })?;
+        Ok(true)
+    }
+
+    fn add_step(&mut self, step: Step) -> Result<()> {
+        reserve(&mut self.steps, 1)?;
+        self.steps.push_reserved(step);
+        Ok(())
+    }
+}
+
+// Room for so many more.
+fn reserve<T>(list: &mut Vec<T>, more: usize) -> Result<()>
+    ensures items { list.new.items ≡ list.old.items }
+    ensures room { OnOk result (vec_len list.new + more ≤ vec_capacity list.new) }
+    ensures kind { IfErr result (λ e. error_kind e ≡ ErrorKind.OutOfMemory) }
+{
+    match list.reserve(more) {
+        Ok(()) => Ok(()),
+        Err(_refused) => Err(Error::from(ErrorKind::OutOfMemory)),
+    }
+}
+
+// The first line, without its newline, and what follows.
+fn split_line(text: &[u8]) -> (&[u8], &[u8])
+    ensures line { All (λ b. b ≢ 10) result.0.now }
+    ensures split { SplitsLine text.now result.0.now result.1.now }
+    ensures shorter { 0 < length text.now → length result.1.now < length text.now }
+{
+    match text.iter().position(|b| *b == b'\n') {
+        Some(at) => (&text[..at], &text[at + 1..]),
+        None => (text, b""),
+    }
+}
+
+// The call of a step whose text stands at the front of `texts`, and what follows that.
+fn next_op(step: Step, texts: &[u8]) -> (Op<'_>, &[u8]) {
+    match step {
+        Step::Write(length) => {
+            let (text, rest) = split_text(texts, length);
+            (Op::Write(text), rest)
+        }
+        Step::WriteAll(length) => {
+            let (text, rest) = split_text(texts, length);
+            (Op::WriteAll(text), rest)
+        }
+        Step::Flush => (Op::Flush, texts),
+    }
+}
+
+fn split_text(texts: &[u8], len: usize) -> (&[u8], &[u8])
+    ensures front { result.0.now ≡ take len texts.now }
+    ensures rest { result.1.now ≡ drop len texts.now }
+{
+    texts.split_at(len.min(texts.len()))
+}
+
+// Appends the bytes that an escaped text stands for; `false` where it stands for none.
+fn unescape(text: &[u8], bytes: &mut Vec<u8>) -> bool
+    requires { vec_len bytes.old + length text.now ≤ vec_capacity bytes.old }
+    ensures { vec_len bytes.old ≤ vec_len bytes.new }
+{
+    let mut is_escaped = false;
+    'bytes: for b in text {
+        if is_escaped {
+            match *b {
+                b'n' => bytes.push_reserved(b'\n'),
+                b'\\' => bytes.push_reserved(b'\\'),
+                _ => return false,
+            }
+            is_escaped = false;
+        } else if *b == b'\\' {
+            is_escaped = true;
+        } else {
+            bytes.push_reserved(*b);
+        }
+    }
+    !is_escaped
+}
+
+fn parse_line(line: &[u8]) -> Line<'_> {
+    let Some((letter, rest)) = line.split_first() else {
+        return Line::Empty;
+    };
+    match *letter {
+        b't' => match argument(rest).and_then(parse_count) {
+            Some(count) => Line::Act(Act::Take(count)),
+            None => Line::Bad,
+        },
+        b'z' if rest.is_empty() => Line::Act(Act::Zero),
+        b'e' => match argument(rest).and_then(parse_kind) {
+            Some(kind) => Line::Act(Act::Fail(kind)),
+            None => Line::Bad,
+        },
+        b'w' => match text_argument(rest) {
+            Some(text) => Line::Write(text),
+            None => Line::Bad,
+        },
+        b'a' => match text_argument(rest) {
+            Some(text) => Line::WriteAll(text),
+            None => Line::Bad,
+        },
+        b'f' if rest.is_empty() => Line::Flush,
+        _ => Line::Bad,
+    }
+}
+
+// What stands behind one space.
+fn argument(rest: &[u8]) -> Option<&[u8]>
+    ensures some { IfSome result (λ x. rest.now ≡ 32 ∷ x.now) }
+    ensures none { IfNone result ((x : List ℕ) → rest.now ≡ 32 ∷ x → ⊥) }
+{
+    match rest.split_first() {
+        Some((b' ', argument)) => Some(argument),
+        _ => None,
+    }
+}
+
+// The same, or nothing at all.
+fn text_argument(rest: &[u8]) -> Option<&[u8]>
+    ensures some { IfSome result (λ x. IsTextArgument rest.now x.now) }
+    ensures none { IfNone result ((x : List ℕ) → IsTextArgument rest.now x → ⊥) }
+{
+    if rest.is_empty() {
+        Some(rest)
+    } else {
+        argument(rest)
+    }
+}
+
+// The kind of this name.
+fn parse_kind(name: &[u8]) -> Option<ErrorKind>
+    ensures kind { IfSome result (λ kind. name.now ≡ kind_name kind) }
+    ensures none { IfNone result ((kind : Kind) → name.now ≡ kind_name kind → ⊥) }
+{
+    kind_of_name(std::str::from_utf8(name).ok()?)
+}
+
+fn kind_of_name(name: &str) -> Option<ErrorKind>
+    ensures kind { IfSome result (λ kind. name.now ≡ kind_name kind) }
+    ensures none { IfNone result ((kind : Kind) → name.now ≡ kind_name kind → ⊥) }
+{
+    match name {
+        "NotFound" => Some(ErrorKind::NotFound),
+        "PermissionDenied" => Some(ErrorKind::PermissionDenied),
+        "ConnectionRefused" => Some(ErrorKind::ConnectionRefused),
+        "ConnectionReset" => Some(ErrorKind::ConnectionReset),
+        "ConnectionAborted" => Some(ErrorKind::ConnectionAborted),
+        "NotConnected" => Some(ErrorKind::NotConnected),
+        "AddrInUse" => Some(ErrorKind::AddrInUse),
+        "AddrNotAvailable" => Some(ErrorKind::AddrNotAvailable),
+        "BrokenPipe" => Some(ErrorKind::BrokenPipe),
+        "AlreadyExists" => Some(ErrorKind::AlreadyExists),
+        "WouldBlock" => Some(ErrorKind::WouldBlock),
+        "InvalidInput" => Some(ErrorKind::InvalidInput),
+        "InvalidData" => Some(ErrorKind::InvalidData),
+        "TimedOut" => Some(ErrorKind::TimedOut),
+        "WriteZero" => Some(ErrorKind::WriteZero),
+        "Interrupted" => Some(ErrorKind::Interrupted),
+        "Other" => Some(ErrorKind::Other),
+        "UnexpectedEof" => Some(ErrorKind::UnexpectedEof),
+        "Unsupported" => Some(ErrorKind::Unsupported),
+        "OutOfMemory" => Some(ErrorKind::OutOfMemory),
+        "Uncategorized" => Some(ErrorKind::Uncategorized),
+        _ => None,
+    }
+}
+
+// The number that one to five digits write, where it is below 2^16.
+fn parse_count(digits: &[u8]) -> Option<usize>
+    ensures count { IfSome result (IsCount digits.now) }
+    ensures none { IfNone result ((n : ℕ) → IsCount digits.now n → ⊥) }
+{
+    if digits.len() > 5 || digits.first() == Some(&b'+') {
+        return None;
+    }
+    let text = std::str::from_utf8(digits).ok()?;
+    text.parse::<u16>().ok().map(usize::from)
+}

@@ -1,0 +1,119 @@
+// Copies through a buffered writer.
+use super::Shy;
+use crate::copy::copy_through;
+use crate::patient::Patient;
+use io_bench::{Act, Faulty};
+use no_std_io2::io::LineWriter;
+use no_std_io2::io::ErrorKind;
+use no_std_io2::io::Write;
+use std::alloc::{AllocError, Global};
+use std::test::Fail;
+
+fn faulty(alloc: Global, acts: &[Act]) -> Result<Faulty<Vec<u8>>, AllocError> {
+    Ok(Faulty::new(Vec::new(alloc), Vec::from_slice(alloc, acts)?))
+}
+
+#[test]
+fn nothing_is_copied_of_nothing(rt: HostRuntime) -> Result<(), Fail> {
+    for line in [false, true] {
+        let (count, v) = copy_through(&b""[..], Vec::<u8>::new(rt.alloc()), line)?;
+        assert_eq!(rt; count, 0);
+        assert!(rt; v.is_empty());
+    }
+    Ok(())
+}
+
+#[test]
+fn all_bytes_are_copied_and_counted(rt: HostRuntime) -> Result<(), Fail> {
+    let mut text = [0u8; 130];
+    for i in 0..130 {
+        text[i] = i as u8;
+    }
+    for line in [false, true] {
+        let (count, v) = copy_through(&text[..], Vec::<u8>::new(rt.alloc()), line)?;
+        assert_eq!(rt; count, 130);
+        assert_eq!(rt; v.as_slice(), text.as_slice());
+        let (count, v) = copy_through(&b"abc\nde"[..], v, line)?;
+        assert_eq!(rt; count, 6);
+        assert_eq!(rt; &v[130..], b"abc\nde".as_slice());
+    }
+    Ok(())
+}
+
+#[test]
+fn a_patient_reader_is_copied_while_it_has_turns(rt: HostRuntime) -> Result<(), Fail> {
+    let (count, v) = copy_through(
+        Patient::new(&b"abcdef"[..], 3),
+        Vec::<u8>::new(rt.alloc()),
+        false,
+    )?;
+    assert_eq!(rt; count, 6);
+    assert_eq!(rt; v.as_slice(), b"abcdef".as_slice());
+    let mut lent = Vec::<u8>::new(rt.alloc());
+    match copy_through(Patient::new(&b"abcdef"[..], 2), &mut lent, false) {
+        Ok((_count, _lent)) => assert!(rt; false),
+        Err(e) => {
+            assert_eq!(rt; e.kind(), ErrorKind::TimedOut);
+            assert_eq!(rt; e.into_inner(), Some("no turns left"));
+        }
+    }
+    assert_eq!(rt; lent.as_slice(), b"abcdef".as_slice());
+    Ok(())
+}
+
+#[test]
+fn a_readers_interruptions_are_passed_over(rt: HostRuntime) -> Result<(), Fail> {
+    let input = Patient::new(
+        Shy {
+            interruptions: 5,
+            rest: b"abcdef",
+        },
+        100,
+    );
+    let (count, v) = copy_through(input, Vec::<u8>::new(rt.alloc()), true)?;
+    assert_eq!(rt; count, 6);
+    assert_eq!(rt; v.as_slice(), b"abcdef".as_slice());
+    Ok(())
+}
+
+#[test]
+fn a_writers_failure_comes_out(rt: HostRuntime) -> Result<(), Fail> {
+    let acts = [
+        Act::Take(2),
+        Act::Fail(ErrorKind::Interrupted),
+        Act::Fail(ErrorKind::BrokenPipe),
+    ];
+    match copy_through(&b"abcdef"[..], faulty(rt.alloc(), &acts)?, false) {
+        Ok((_count, _output)) => assert!(rt; false),
+        Err(e) => assert_eq!(rt; e.kind(), ErrorKind::BrokenPipe),
+    }
+    let acts = [
+        Act::Take(2),
+        Act::Fail(ErrorKind::Interrupted),
+        Act::Take(1),
+    ];
+    let (count, output) = copy_through(&b"abcdef"[..], faulty(rt.alloc(), &acts)?, false)?;
+    assert_eq!(rt; count, 6);
+    assert_eq!(rt; output.get_ref().as_slice(), b"abcdef".as_slice());
+    match copy_through(&b"abcdef"[..], faulty(rt.alloc(), &[Act::Zero])?, true) {
+        Ok((_count, _output)) => assert!(rt; false),
+        Err(e) => {
+            assert_eq!(rt; e.kind(), ErrorKind::WriteZero);
+            assert_eq!(rt; e.into_inner(), Some("failed to write the buffered data"));
+        }
+    }
+    Ok(())
+}
+
+#[test]
+fn a_line_goes_out_when_it_ends(rt: HostRuntime) -> Result<(), Fail> {
+    let mut w = LineWriter::<Vec<u8>, 64>::new(Vec::new(rt.alloc()));
+    w.write_all(b"I shall be telling this with a sigh")?;
+    assert!(rt; w.get_ref().is_empty());
+    w.write_all(b"\n")?;
+    assert_eq!(rt;
+        w.get_ref().as_slice(),
+        b"I shall be telling this with a sigh\n".as_slice()
+    );
+    Ok(())
+}

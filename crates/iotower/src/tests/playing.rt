@@ -1,0 +1,217 @@
+// Scripts that are played.
+use crate::play::{Fault, Shape, play};
+use io_bench::{Act, Faulty};
+use no_std_io2::io::ErrorKind;
+use std::alloc::Global;
+use std::test::Fail;
+
+// What the play of this script writes.
+fn played(alloc: Global, shape: Shape, script: &[u8]) -> Result<Vec<u8>, Fault> {
+    play(alloc, script, Vec::<u8>::new(alloc), shape)
+}
+
+#[test]
+fn a_flush_that_fails_is_made_again(rt: HostRuntime) -> Result<(), Fail> {
+    let script = b"t 2\ne WouldBlock\nw abcdef\nf\nf\n";
+    let want = b"took=6\nfailed=operation would block\ndone\nout=abcdef\nheld=\n";
+    assert_eq!(rt;
+        played(rt.alloc(), Shape::Buf, script)?.as_slice(),
+        want.as_slice()
+    );
+    Ok(())
+}
+
+#[test]
+fn lines_are_sent_and_tails_are_held(rt: HostRuntime) -> Result<(), Fail> {
+    let want = b"took=2\ntook=1\nout=a\\n\nheld=b\n";
+    assert_eq!(rt;
+        played(rt.alloc(), Shape::Line, b"t 1\nw a\\nb\nw b\n")?.as_slice(),
+        want.as_slice()
+    );
+    let want = b"done\ndone\nout=\nheld=abc\\nd\n";
+    assert_eq!(rt;
+        played(rt.alloc(), Shape::LineBuf, b"a ab\na c\\nd\n")?.as_slice(),
+        want.as_slice()
+    );
+    Ok(())
+}
+
+#[test]
+fn two_buffers_hold_what_does_not_go_out(rt: HostRuntime) -> Result<(), Fail> {
+    let want = b"took=5\ntook=4\nfailed=broken pipe\nout=\nheld=123456789\n";
+    assert_eq!(rt;
+        played(
+            rt.alloc(),
+            Shape::BufBuf,
+            b"e BrokenPipe\nw 12345\nw 6789\nf\n"
+        )?
+        .as_slice(),
+        want.as_slice()
+    );
+    let want = b"took=5\ntook=4\ndone\nout=123456789\nheld=\n";
+    assert_eq!(rt;
+        played(rt.alloc(), Shape::BufBuf, b"w 12345\nw 6789\nf\n")?.as_slice(),
+        want.as_slice()
+    );
+    Ok(())
+}
+
+#[test]
+fn interruptions_are_passed_over_and_flushes_go_on(rt: HostRuntime) -> Result<(), Fail> {
+    let script = b"e Interrupted\nt 3\ne BrokenPipe\nw 1234567\nw 89\nf\nf\n";
+    let want = b"took=7\ntook=2\nfailed=broken pipe\ndone\nout=123456789\nheld=\n";
+    assert_eq!(rt;
+        played(rt.alloc(), Shape::BufBuf, script)?.as_slice(),
+        want.as_slice()
+    );
+    let script = b"e Interrupted\nt 3\ne BrokenPipe\nw 1234567\nw 89\nf\n";
+    let want = b"took=7\ntook=2\nfailed=broken pipe\nout=123\nheld=456789\n";
+    assert_eq!(rt;
+        played(rt.alloc(), Shape::BufBuf, script)?.as_slice(),
+        want.as_slice()
+    );
+    Ok(())
+}
+
+#[test]
+fn a_broken_device_keeps_lines_held(rt: HostRuntime) -> Result<(), Fail> {
+    let script = b"e BrokenPipe\na x\\n\nw y\\nz\nf\n";
+    let want = b"done\ntook=3\nfailed=broken pipe\nout=\nheld=x\\ny\\nz\n";
+    assert_eq!(rt;
+        played(rt.alloc(), Shape::LineBuf, script)?.as_slice(),
+        want.as_slice()
+    );
+    let want = b"failed=failed to write whole buffer\ndone\nout=\nheld=\n";
+    assert_eq!(rt;
+        played(rt.alloc(), Shape::Line, b"z\na ab\\n\nf\n")?.as_slice(),
+        want.as_slice()
+    );
+    Ok(())
+}
+
+#[test]
+fn an_empty_script_shows_an_empty_tower(rt: HostRuntime) -> Result<(), Fail> {
+    for shape in [Shape::Buf, Shape::Line, Shape::BufBuf, Shape::LineBuf] {
+        assert_eq!(rt;
+            played(rt.alloc(), shape, b"")?.as_slice(),
+            b"out=\nheld=\n".as_slice()
+        );
+        assert_eq!(rt;
+            played(rt.alloc(), shape, b"\n\n")?.as_slice(),
+            b"out=\nheld=\n".as_slice()
+        );
+    }
+    Ok(())
+}
+
+#[test]
+fn every_byte_but_two_stands_for_itself(rt: HostRuntime) -> Result<(), Fail> {
+    let want = b"took=6\ndone\nout=\xff\x80\r\\n\\\\ \nheld=\n";
+    assert_eq!(rt;
+        played(rt.alloc(), Shape::Buf, b"w \xff\x80\r\\n\\\\ \nf")?.as_slice(),
+        want.as_slice()
+    );
+    assert_eq!(rt;
+        played(rt.alloc(), Shape::Buf, b"w\nw \na")?.as_slice(),
+        b"took=0\ntook=0\ndone\nout=\nheld=\n".as_slice()
+    );
+    assert_eq!(rt;
+        played(rt.alloc(), Shape::Buf, b"a  x\n")?.as_slice(),
+        b"done\nout=\nheld= x\n".as_slice()
+    );
+    Ok(())
+}
+
+#[test]
+fn each_kind_fails_with_its_text(rt: HostRuntime) -> Result<(), Fail> {
+    let cases: [(&[u8], &[u8]); 21] = [
+        (b"e NotFound\nf", b"failed=entity not found\nout=\nheld=\n"),
+        (
+            b"e PermissionDenied\nf",
+            b"failed=permission denied\nout=\nheld=\n",
+        ),
+        (
+            b"e ConnectionRefused\nf",
+            b"failed=connection refused\nout=\nheld=\n",
+        ),
+        (
+            b"e ConnectionReset\nf",
+            b"failed=connection reset\nout=\nheld=\n",
+        ),
+        (
+            b"e ConnectionAborted\nf",
+            b"failed=connection aborted\nout=\nheld=\n",
+        ),
+        (b"e NotConnected\nf", b"failed=not connected\nout=\nheld=\n"),
+        (b"e AddrInUse\nf", b"failed=address in use\nout=\nheld=\n"),
+        (
+            b"e AddrNotAvailable\nf",
+            b"failed=address not available\nout=\nheld=\n",
+        ),
+        (b"e BrokenPipe\nf", b"failed=broken pipe\nout=\nheld=\n"),
+        (
+            b"e AlreadyExists\nf",
+            b"failed=entity already exists\nout=\nheld=\n",
+        ),
+        (
+            b"e WouldBlock\nf",
+            b"failed=operation would block\nout=\nheld=\n",
+        ),
+        (
+            b"e InvalidInput\nf",
+            b"failed=invalid input parameter\nout=\nheld=\n",
+        ),
+        (b"e InvalidData\nf", b"failed=invalid data\nout=\nheld=\n"),
+        (b"e TimedOut\nf", b"failed=timed out\nout=\nheld=\n"),
+        (b"e WriteZero\nf", b"failed=write zero\nout=\nheld=\n"),
+        (
+            b"e Interrupted\nf",
+            b"failed=operation interrupted\nout=\nheld=\n",
+        ),
+        (b"e Other\nf", b"failed=other os error\nout=\nheld=\n"),
+        (
+            b"e UnexpectedEof\nf",
+            b"failed=unexpected end of file\nout=\nheld=\n",
+        ),
+        (
+            b"e Unsupported\nf",
+            b"failed=unsupported I/O error\nout=\nheld=\n",
+        ),
+        (b"e OutOfMemory\nf", b"failed=out of memory\nout=\nheld=\n"),
+        (
+            b"e Uncategorized\nf",
+            b"failed=uncategorized\nout=\nheld=\n",
+        ),
+    ];
+    for (script, want) in cases {
+        assert_eq!(rt; played(rt.alloc(), Shape::Buf, script)?.as_slice(), want);
+    }
+    Ok(())
+}
+
+#[test]
+fn an_output_that_fails_is_the_fault(rt: HostRuntime) -> Result<(), Fail> {
+    let acts = Vec::from_slice(
+        rt.alloc(),
+        &[
+            Act::Fail(ErrorKind::Interrupted),
+            Act::Fail(ErrorKind::BrokenPipe),
+        ],
+    )?;
+    let output = Faulty::new(Vec::<u8>::new(rt.alloc()), acts);
+    match play(rt.alloc(), &b"f"[..], output, Shape::Buf) {
+        Err(Fault::Io(e)) => assert_eq!(rt; e.kind(), ErrorKind::BrokenPipe),
+        _ => assert!(rt; false),
+    }
+    // The text goes out by one write, and is then flushed.
+    let acts = Vec::from_slice(
+        rt.alloc(),
+        &[Act::Take(100), Act::Fail(ErrorKind::TimedOut)],
+    )?;
+    let output = Faulty::new(Vec::<u8>::new(rt.alloc()), acts);
+    match play(rt.alloc(), &b"f"[..], output, Shape::Buf) {
+        Err(Fault::Io(e)) => assert_eq!(rt; e.kind(), ErrorKind::TimedOut),
+        _ => assert!(rt; false),
+    }
+    Ok(())
+}
