@@ -129,3 +129,16 @@ lines_taken S x len n end new h e held tail le within =
     ∙ ap (take S) (ap (λ m. drop m x) all ∙ sym rest) in
     let count = length-take (end - n) (drop n x) in
     (is, omega (arith, ap length held, length-drop n x, ap length is, length-take S (unfinished_line x), ap length rest, length-drop len x, h.within))
+
+-- where it took nothing of the lines
+pub writes_none : {a b c : Told} {k : List ErrorKind} (S : ℕ) (old x y : List ℕ) (n : ℕ) (sent mid new : List ℕ) → n ≡ 0 → Moves a sent [] b → old ≡ sent ++ mid → mid ≡ [] → Moves b (take n y) k c → new ≡ mid → WritesLines S a old x 0 c new
+writes_none {a} {b} {c} S old x y n sent mid new e first gone none through same =
+    let is_sent : sent ≡ old = sym (append-nil sent) ∙ ap (λ l. sent ++ l) (sym none) ∙ sym gone in
+    record {
+      sent = 0;
+      within = omega arith;
+      moves = subst (λ l. Moves a l [] c) (ap (λ l. l ++ take n y) is_sent ∙ ap (λ m. old ++ take m y) e) (Moves-then first (Moves-quiet through));
+      none = λ h. same ∙ none;
+      some = λ h. absurd (omega arith);
+      count = omega (arith, ap length (same ∙ none));
+    }

@@ -14,7 +14,8 @@ use no_std_io2_base::traits::Write;
 
 // How long the lines at the front of x are.
 pub(super) fn lines_len(x: &[u8]) -> usize
-    ensures { IsLinesLen x.now result }
+    ensures lines { IsLinesLen x.now result }
+    ensures plain { result ≡ 0 → HasNoNewline x.now }
 {
     match memrchr(b'\n', x) {
         Some(at) => at + 1,

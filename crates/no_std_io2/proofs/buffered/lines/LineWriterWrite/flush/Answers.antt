@@ -1,10 +1,8 @@
 use Rattle.no_std_io2.proofs.LineLemmas.{IsLineState-end}
-use Rattle.no_std_io2.proofs.SteadyLemmas.{Moves-call_steady}
 use Rattle.no_std_io2.proofs.buffered.lines.LineWriterWrite.flush.Goals as goal
 
 pub invariant_of-self : goal.invariant_of-self
 invariant_of-self g c = record { line = IsLineState-end _ _ c.flush.ensures.rest c.args.self.now.core.line }
 
 pub returns-clause-lasts : goal.returns-clause-lasts
-returns-clause-lasts g c = λ t.
-    (c.flush.ensures.all t, Moves-call_steady _ c.flush.result (g.met.W.Write.steady _ t) c.flush.ensures.moves)
+returns-clause-lasts g c = λ t. (c.flush.ensures.all t, c.flush.ensures.ok t)

@@ -21,12 +21,12 @@ returns-then-len-sent-clause-line c =
 
 pub returns-then-part-eq0-clause-tail : goal.returns-then-part-eq0-clause-tail
 returns-then-part-eq0-clause-tail c =
-    (tail_part c.args.room c.args.x.now c.args.len c.args.sent _ c.requires.lines (omega arith) (omega arith) c.lines_len-part.ensures).0 c.if-part-eq0.true
+    (tail_part c.args.room c.args.x.now c.args.len c.args.sent _ c.requires.lines (omega arith) (omega arith) c.lines_len-part.ensures.lines).0 c.if-part-eq0.true
 
 pub returns-else-part-eq0-clause-tail : goal.returns-else-part-eq0-clause-tail
 returns-else-part-eq0-clause-tail c =
-    (tail_part c.args.room c.args.x.now c.args.len c.args.sent _ c.requires.lines (omega arith) (omega arith) c.lines_len-part.ensures).1 (omega arith)
+    (tail_part c.args.room c.args.x.now c.args.len c.args.sent _ c.requires.lines (omega arith) (omega arith) c.lines_len-part.ensures.lines).1 (omega arith)
 
 pub returns-else-part-eq0-clause-line : goal.returns-else-part-eq0-clause-line
 returns-else-part-eq0-clause-line c =
-    IsLineState-part c.args.room c.args.x.now c.args.sent _ c.lines_len-part.ensures (omega arith)
+    IsLineState-part c.args.room c.args.x.now c.args.sent _ c.lines_len-part.ensures.lines (omega arith)

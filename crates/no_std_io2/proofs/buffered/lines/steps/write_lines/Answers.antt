@@ -5,7 +5,8 @@ use Rattle.no_std_io2_base.specs.Writes.{Moves}
 use Rattle.no_std_io2_base.proofs.MovesLemmas.{Moves-then, Moves-quiet}
 use Rattle.no_std_io2.specs.Buffered.{sender_told, sender_inner, sender_buffer, with_buffer}
 use Rattle.no_std_io2.specs.Lines.{WritesLines, unfinished_line}
-use Rattle.no_std_io2.proofs.LastNewline.{writes_lines, lines_taken}
+use Rattle.no_std_io2.proofs.LastNewline.{writes_lines, writes_none, lines_taken}
+use Rattle.no_std_io2.specs.LineState.{IsLineState}
 use Rattle.no_std_io2.proofs.LineLemmas.{IsLineState-end, held_after, taken_then_held, zero_write-lines, zero_write-some}
 use Rattle.no_std_io2.proofs.BufferLemmas.{Moves-sent_part, Moves-buffered, ok_same}
 use Rattle.no_std_io2.proofs.CountLemmas.{sending_calls-le}
@@ -86,3 +87,13 @@ returns-clause-calls g c = λ m t.
       subst g.W.Write.is_metered (sym c.hold.ensures.same) then.0,
       omega (arith, first.1, then.1, ap g.W.Write.cost c.hold.ensures.same, sending_calls-le (sender_buffer c.args.w.now)),
     )
+
+pub returns-then-n-eq0-clause-tail : goal.returns-then-n-eq0-clause-tail
+returns-then-n-eq0-clause-tail g c =
+    let sent = c.in_ok-send.ensures.sends in
+    writes_none g.row.S (sender_buffer c.args.w.now) c.args.x.now (take c.args.len c.args.x.now) c.in_ok-n.n sent.0 (sender_buffer c.send.new.self) (sender_buffer c.write_through.new.self) c.if-n-eq0.true sent.2 sent.1 c.in_ok-send.ensures.empty c.in_ok-n.ensures.moves c.write_through.ensures.same
+
+pub returns-clause-line : goal.returns-clause-line
+returns-clause-line g c =
+    let held = c.hold.ensures.buffer ∙ ap (λ l. l ++ slice_range c.args.x.now c.in_ok-n.n c.tail_end-end.result) (c.write_through.ensures.same ∙ c.in_ok-send.ensures.empty) in
+    subst IsLineState (sym held) c.tail_end-end.ensures.line
