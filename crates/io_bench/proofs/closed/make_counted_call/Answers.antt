@@ -40,3 +40,7 @@ returns-in-Ok-flush-clause-calls g c = rw c.in-Flush.is (c.in-Ok-flush.ensures.c
 pub returns-in-Err-flush-clause-calls : goal.returns-in-Err-flush-clause-calls
 returns-in-Err-flush-clause-calls g c =
     absurd (Moves-steady (g.met.W.Write.steady _ c.requires.all) c.in-Err-flush.ensures.moves)
+
+pub returns-in-Err-clause-all : goal.returns-in-Err-clause-all
+returns-in-Err-clause-all g c =
+    absurd (Moves-steady (g.met.W.Write.steady _ c.requires.all) c.in-Err.ensures.moves)
