@@ -1,2 +1,3 @@
 mod CopyLemmas
 mod ScriptLemmas
+mod PlayLemmas
