@@ -13,6 +13,7 @@ fn through_buffer<R: Read, W: Write + Drop>(
     input: &mut BufReader<R, ROOM>,
     output: W,
 ) -> Result<(u64, W)>
+    requires reader_fits { ReaderFits R.row }
     requires fits { BufferFits W.row }
     ensures some { IfOk result (λ r. PassesSome (W.told output) r.0 (W.told r.1)) }
     ensures all { R.tells (reader_inner input.old) → IfOk result
@@ -34,6 +35,7 @@ fn through_lines<R: Read, W: Write + Drop>(
     input: &mut BufReader<R, ROOM>,
     output: W,
 ) -> Result<(u64, W)>
+    requires reader_fits { ReaderFits R.row }
     requires fits { LinesFit W.row }
     ensures some { IfOk result (λ r. PassesSome (W.told output) r.0 (W.told r.1)) }
     ensures all { R.tells (reader_inner input.old) → IfOk result

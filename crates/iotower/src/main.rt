@@ -50,7 +50,7 @@ fn parse_words<R: Env + Alloc>(rt: &R) -> Option<Command> {
     }
 }
 
-fn run<R: Input + Print + AllocGlobal>(rt: &R, command: Command) -> Result<(), Fault> {
+fn run(rt: &HostRuntime, command: Command) -> Result<(), Fault> {
     let input = Patient::new(rt.reader(), u64::MAX);
     let output = Patient::new(io::writer(rt), u64::MAX);
     match command {
