@@ -39,10 +39,11 @@ drop_next (suc n) (y ∷ xs) x rest e = drop_next n xs x rest e
 pub given_next : (n b : ℕ) (left rest : List Event) (buf : List ℕ) → n < length buf → n ≤ length (leading_bytes left) → take n buf ≡ take n (leading_bytes left) → drop n left ≡ Byte b ∷ rest
     → (n + 1 ≤ length (leading_bytes left)) × (take (n + 1) (set buf n b) ≡ take (n + 1) (leading_bytes left)) × (rest ≡ drop (n + 1) left)
 given_next n b left rest buf room enough same e =
-    let tail : drop n (leading_bytes left) ≡ b ∷ leading_bytes rest = sym (leading-drop n left enough) ∙ ap leading_bytes e in
-    (omega (arith, ap length tail, length-drop n (leading_bytes left)),
-    take_more_set buf n b room ∙ ap (λ l. l ++ b ∷ []) same ∙ ap (λ l. take n (leading_bytes left) ++ take 1 l) (sym tail) ∙ sym (take-add n 1 (leading_bytes left)),
-    sym (ap (λ m. drop m left) (add-one n) ∙ drop_next n left (Byte b) rest e))
+    let tail : drop n (leading_bytes left) ≡ b ∷ leading_bytes rest = sym (leading-drop n left enough) ∙ ap leading_bytes e in (
+      omega (arith, ap length tail, length-drop n (leading_bytes left)),
+      take_more_set buf n b room ∙ ap (λ l. l ++ b ∷ []) same ∙ ap (λ l. take n (leading_bytes left) ++ take 1 l) (sym tail) ∙ sym (take-add n 1 (leading_bytes left)),
+      sym (ap (λ m. drop m left) (add-one n) ∙ drop_next n left (Byte b) rest e),
+    )
 
 -- no byte stands first any more
 pub given_all : (n : ℕ) (left rest : List Event) → n ≤ length (leading_bytes left) → rest ≡ drop n left → leading_bytes rest ≡ [] → n ≡ length (leading_bytes left)
@@ -62,6 +63,7 @@ is_error_of kind e k t =
 pub feed_reads : (n room piece : ℕ) (old left new : List Event) (buf : List ℕ) → 0 < piece → length buf ≡ room → left ≡ old → first_failure old ≡ None
     → n ≡ min (min piece room) (length (leading_bytes left)) → take n buf ≡ take n (leading_bytes left) → new ≡ drop n left → Reads (all_to_come old) (Ok n) buf (all_to_come new)
 feed_reads n room piece old left new buf some fits e none count same rest =
-    let len : length (leading_bytes left) ≡ length (leading_bytes old) = ap (λ l. length (leading_bytes l)) e in
-    (ap all_to_come (sym e) ∙ given_first n left (omega arith) ∙ ap (λ l. events_of l ++ all_to_come (drop n left)) (sym same) ∙ ap (λ l. events_of (take n buf) ++ all_to_come l) (sym rest),
-    λ z r. ap all_to_come (nothing_left old (omega (arith, z, r, len, count, some, fits)) none))
+    let len : length (leading_bytes left) ≡ length (leading_bytes old) = ap (λ l. length (leading_bytes l)) e in (
+      ap all_to_come (sym e) ∙ given_first n left (omega arith) ∙ ap (λ l. events_of l ++ all_to_come (drop n left)) (sym same) ∙ ap (λ l. events_of (take n buf) ++ all_to_come l) (sym rest),
+      λ z r. ap all_to_come (nothing_left old (omega (arith, z, r, len, count, some, fits)) none),
+    )

@@ -6,8 +6,7 @@ ghost use Rattle.no_std_io2_base.specs.Writes.{Moves, taken, write_mishap, call_
 ghost use Rattle.iotower.specs.Turns.{IsOutOfTurns, IsPlainInterruption, IsDeviceFault, AnswersRead, AnswersWrite};
 
 use io_bench::trace::Trace;
-use no_std_io2::io::{Error, ErrorKind, Result};
-use no_std_io2::io::{Read, Stored, Write};
+use no_std_io2::io::{Error, ErrorKind, Read, Result, Stored, Write};
 use std::io;
 
 /// A reader or writer of Rust's `std::io` as one of this library's.

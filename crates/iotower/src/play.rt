@@ -7,9 +7,7 @@ ghost use Rattle.iotower.specs.Play.{Shows, IsPlay, Writes, fresh_told};
 use crate::report::report_of;
 use crate::script::Script;
 use io_bench::{Act, Faulty, Op, run_writes};
-use no_std_io2::io::{BufWriter, LineWriter};
-use no_std_io2::io::{Error, Result};
-use no_std_io2::io::{Read, Write};
+use no_std_io2::io::{BufWriter, Error, LineWriter, Read, Result, Write};
 use std::alloc::Global;
 use std::fmt;
 

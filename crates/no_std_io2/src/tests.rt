@@ -1,4 +1,4 @@
 mod lines;
+mod readers;
 mod seeking_writers;
 mod writers;
-mod readers;

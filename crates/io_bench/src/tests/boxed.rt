@@ -78,7 +78,10 @@ fn a_line_writer_over_a_boxed_sink(rt: HostRuntime) -> std::result::Result<(), F
     let mut replies = Vec::new(rt.alloc());
     run_writes(&mut w, &[Op::WriteAll(b"a\nb"), Op::Flush], &mut replies)?;
     let outcomes = outcomes(rt.alloc(), &replies)?;
-    assert_eq!(rt; outcomes.as_slice(), [Outcome::Done, Outcome::Done].as_slice());
+    assert_eq!(rt;
+        outcomes.as_slice(),
+        [Outcome::Done, Outcome::Done].as_slice()
+    );
     assert!(rt; w.buffer().is_empty());
     Ok(())
 }

@@ -110,10 +110,7 @@ fn a_limit_of_none_asks_nothing(rt: HostRuntime) -> Answer {
 
 #[test]
 fn a_chain_goes_on_after_a_fault(rt: HostRuntime) -> Answer {
-    let events = vec![in rt.alloc();
-        Event::Byte(b'a'),
-        Event::Fail(ErrorKind::BrokenPipe),
-    ]?;
+    let events = vec![in rt.alloc(); Event::Byte(b'a'), Event::Fail(ErrorKind::BrokenPipe)]?;
     let mut chain = Feed::new(events, 4).chain(b"b".as_slice());
     let mut v = Vec::new(rt.alloc());
     let Err(e) = chain.read_to_end(&mut v) else {

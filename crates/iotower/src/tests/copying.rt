@@ -3,9 +3,7 @@ use super::Shy;
 use crate::copy::copy_through;
 use crate::patient::Patient;
 use io_bench::{Act, Faulty};
-use no_std_io2::io::LineWriter;
-use no_std_io2::io::ErrorKind;
-use no_std_io2::io::Write;
+use no_std_io2::io::{ErrorKind, LineWriter, Write};
 use std::alloc::{AllocError, Global};
 use std::test::Fail;
 

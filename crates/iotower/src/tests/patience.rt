@@ -1,8 +1,7 @@
 // Turns of a patient reader and a patient writer.
 use super::{Broken, Shy};
 use crate::patient::Patient;
-use no_std_io2::io::{ErrorKind, Result};
-use no_std_io2::io::{Read, Write};
+use no_std_io2::io::{ErrorKind, Read, Result, Write};
 use std::test::Fail;
 
 // What a call answered: how much, or its error's kind and text.

@@ -38,7 +38,10 @@ fn a_refused_sending_makes_no_seek(rt: HostRuntime) -> std::result::Result<(), F
         panic!(rt; "sought");
     };
     assert_eq!(rt; e.kind(), ErrorKind::InvalidInput);
-    assert_eq!(rt; e.into_inner(), Some("vector position past the greatest usize"));
+    assert_eq!(rt;
+        e.into_inner(),
+        Some("vector position past the greatest usize")
+    );
     assert_eq!(rt; w.buffer(), b"a".as_slice());
     assert_eq!(rt; w.get_ref().position(), u64::MAX);
     Ok(())
