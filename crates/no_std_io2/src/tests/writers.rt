@@ -165,9 +165,9 @@ fn after_into_inner_nothing_more_is_sent(rt: HostRuntime) -> std::result::Result
     {
         let mut w = BufWriter::<&mut Vec<u8>, 8>::new(&mut v);
         w.write_all(b"abc")?;
-        if w.into_inner().is_err() {
+        let Ok(_inner) = w.into_inner() else {
             panic!(rt; "a vector refused");
-        }
+        };
     }
     assert_eq!(rt; v.as_slice(), b"abc".as_slice());
     Ok(())
