@@ -160,20 +160,6 @@ fn a_drop_sends_what_is_held(rt: HostRuntime) -> std::result::Result<(), Fail> {
 }
 
 #[test]
-fn after_into_inner_nothing_more_is_sent(rt: HostRuntime) -> std::result::Result<(), Fail> {
-    let mut v: Vec<u8> = Vec::new(rt.alloc());
-    {
-        let mut w = BufWriter::<&mut Vec<u8>, 8>::new(&mut v);
-        w.write_all(b"abc")?;
-        let Ok(_inner) = w.into_inner() else {
-            panic!(rt; "a vector refused");
-        };
-    }
-    assert_eq!(rt; v.as_slice(), b"abc".as_slice());
-    Ok(())
-}
-
-#[test]
 fn a_refused_into_inner_hands_back_the_writer(rt: HostRuntime) -> std::result::Result<(), Fail> {
     let jammed = Jammed {
         taken: Vec::new(rt.alloc()),
