@@ -1,9 +1,25 @@
-//! What each writer tells, one function a type: so no implementation can tell less, which would
-//! make every promise over it empty. The functions have no body; their contracts are proved.
-ghost use Rattle.std.specs.Prelude.{◌≡◌};
+//! What kinds, vectors, references, boxes and boxed objects tell, one function a type: so no
+//! implementation can tell less, which would make every promise over it empty. The functions have
+//! no body of their own; their contracts are proved.
+ghost use Rattle.std.specs.Prelude.{◌≡◌, ◌<◌, ◌↔◌, IsTrue};
+ghost use Rattle.no_std_io2_base.specs.Errors.{kind_number};
 ghost use Rattle.no_std_io2_base.specs.Writes.{told_out};
 
-use crate::traits::Write;
+use crate::error::ErrorKind;
+use crate::traits::{BufRead, Read, Stored, Write};
+
+// Kinds are ordered as they are declared.
+fn kind_is_before(a: ErrorKind, b: ErrorKind) -> bool
+    ensures { IsTrue result ↔ (kind_number a < kind_number b) }
+{
+    a < b
+}
+
+fn kind_is(a: ErrorKind, b: ErrorKind) -> bool
+    ensures { IsTrue result ↔ (a ≡ b) }
+{
+    a == b
+}
 
 fn vector_tells(v: &Vec<u8>)
     ensures { ⟦<Vec<u8> as Write>⟧.told v.now ≡ told_out v.now.items }
@@ -25,4 +41,52 @@ fn boxed_writer_tells<W: Write>(w: &Box<W>)
 
 fn boxed_object_tells(w: &Box<dyn Write + Drop>)
     ensures { ⟦<Box<dyn Write + Drop> as Write>⟧.told w.now ≡ told w.now }
+{}
+
+fn lent_store_tells<'a, T: Stored>(r: &&'a mut T)
+    ensures has_store { T.has_store r.now.now → ⟦<&'a mut T as Stored>⟧.has_store r.now }
+    ensures content { ⟦<&'a mut T as Stored>⟧.content r.now ≡ T.content r.now.now }
+    ensures position { ⟦<&'a mut T as Stored>⟧.position r.now ≡ T.position r.now.now }
+{}
+
+fn boxed_store_tells<T: Stored>(b: &Box<T>)
+    ensures has_store { T.has_store b.now.value → ⟦<Box<T> as Stored>⟧.has_store b.now }
+    ensures content { ⟦<Box<T> as Stored>⟧.content b.now ≡ T.content b.now.value }
+    ensures position { ⟦<Box<T> as Stored>⟧.position b.now ≡ T.position b.now.value }
+{}
+
+fn lent_reader_tells<'a, R: Read>(r: &&'a mut R)
+    ensures tells { R.tells r.now.now → ⟦<&'a mut R as Read>⟧.tells r.now }
+    ensures events { ⟦<&'a mut R as Read>⟧.events r.now ≡ R.events r.now.now }
+    ensures turns { ⟦<&'a mut R as Read>⟧.turns r.now ≡ R.turns r.now.now }
+    ensures cost { ⟦<&'a mut R as Read>⟧.cost r.now ≡ R.cost r.now.now }
+    ensures metered { R.is_metered r.now.now → ⟦<&'a mut R as Read>⟧.is_metered r.now }
+    ensures filling { R.is_filling r.now.now → ⟦<&'a mut R as Read>⟧.is_filling r.now }
+    ensures short { ⟦<&'a mut R as Read>⟧.may_take_none r.now → R.may_take_none r.now.now }
+{}
+
+fn boxed_reader_tells<R: Read>(r: &Box<R>)
+    ensures tells { R.tells r.now.value → ⟦<Box<R> as Read>⟧.tells r.now }
+    ensures events { ⟦<Box<R> as Read>⟧.events r.now ≡ R.events r.now.value }
+    ensures turns { ⟦<Box<R> as Read>⟧.turns r.now ≡ R.turns r.now.value }
+    ensures cost { ⟦<Box<R> as Read>⟧.cost r.now ≡ R.cost r.now.value }
+    ensures metered { R.is_metered r.now.value → ⟦<Box<R> as Read>⟧.is_metered r.now }
+    ensures filling { R.is_filling r.now.value → ⟦<Box<R> as Read>⟧.is_filling r.now }
+    ensures short { ⟦<Box<R> as Read>⟧.may_take_none r.now → R.may_take_none r.now.value }
+{}
+
+fn lent_lender_tells<'a, R: BufRead>(r: &&'a mut R)
+    ensures held { ⟦<&'a mut R as BufRead>⟧.held r.now ≡ R.held r.now.now }
+    ensures counts { R.counts_fills r.now.now → ⟦<&'a mut R as BufRead>⟧.counts_fills r.now }
+    ensures fills { ⟦<&'a mut R as BufRead>⟧.fills r.now ≡ R.fills r.now.now }
+    ensures surely { R.lends_surely r.now.now → ⟦<&'a mut R as BufRead>⟧.lends_surely r.now }
+    ensures length { ⟦<&'a mut R as BufRead>⟧.lent_length r.now ≡ R.lent_length r.now.now }
+{}
+
+fn boxed_lender_tells<R: BufRead>(r: &Box<R>)
+    ensures held { ⟦<Box<R> as BufRead>⟧.held r.now ≡ R.held r.now.value }
+    ensures counts { R.counts_fills r.now.value → ⟦<Box<R> as BufRead>⟧.counts_fills r.now }
+    ensures fills { ⟦<Box<R> as BufRead>⟧.fills r.now ≡ R.fills r.now.value }
+    ensures surely { R.lends_surely r.now.value → ⟦<Box<R> as BufRead>⟧.lends_surely r.now }
+    ensures length { ⟦<Box<R> as BufRead>⟧.lent_length r.now ≡ R.lent_length r.now.value }
 {}

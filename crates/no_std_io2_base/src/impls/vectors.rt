@@ -31,7 +31,7 @@ impl<A: Allocator> Write for Vec<u8, A> {
         ensures empty { length buf.now ≡ 0 → IsOk result }
     {
         match self.extend_from_slice(buf) {
-            Ok(()) => Ok(buf.len()),
+            Ok(_) => Ok(buf.len()),
             Err(_) => Err(Error::from(ErrorKind::OutOfMemory)),
         }
     }
