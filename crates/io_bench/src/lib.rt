@@ -6,6 +6,7 @@
 //! [`run_closed`] is a run through one `BufWriter` with a bound on the inner writes.
 #![tactic(auto)]
 
+mod asks;
 mod closed;
 mod faulty;
 mod feed;
@@ -18,6 +19,7 @@ mod tests;
 mod towers;
 pub mod trace;
 
+pub use asks::{Ask, ReadTotals, run_reads};
 pub use closed::run_closed;
 pub use faulty::{Act, Faulty};
 pub use feed::{Event, Feed};

@@ -1,4 +1,5 @@
 // Worked examples, with answers from outside.
+mod asks;
 mod boxed;
 mod buffered;
 mod counts;

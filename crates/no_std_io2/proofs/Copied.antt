@@ -116,12 +116,12 @@ pub written_refused : (old mid new : Told) (m : ℕ) (x : List ℕ) (e : Error) 
 written_refused old mid new m x e t w = (t.accepted ++ w.0, inr (Moves-then t.moves w.3))
 
 -- all of a list without faults has none in front
-HasNoFault-front : (P Q : List Event) → HasNoFault (P ++ Q) → HasNoFault P
+pub HasNoFault-front : (P Q : List Event) → HasNoFault (P ++ Q) → HasNoFault P
 HasNoFault-front [] Q h = tt
 HasNoFault-front (byte b ∷ P) Q h = HasNoFault-front P Q h
 HasNoFault-front (fails e ∷ P) Q h = (h.0, HasNoFault-front P Q h.1)
 
-no_fault_at_end : (Q : List Event) (e : Error) → HasNoFault (Q ++ fails e ∷ []) → IsFault e → ⊥
+pub no_fault_at_end : (Q : List Event) (e : Error) → HasNoFault (Q ++ fails e ∷ []) → IsFault e → ⊥
 no_fault_at_end [] e h fault = cc (h.0, fault)
 no_fault_at_end (byte b ∷ Q) e h fault = no_fault_at_end Q e h fault
 no_fault_at_end (fails f ∷ Q) e h fault = no_fault_at_end Q e h.1 fault

@@ -1,0 +1,41 @@
+use Rattle.std.proofs.Common.{◌≡◌, ◌<◌, ◌-◌, length, arith, ap, ◌∙◌}
+use Rattle.std.proofs.lemmas.Bool.Decides.{nat_tests}
+use Rattle.no_std_io2_base.specs.Events.{events_of, bytes, cut}
+use Rattle.no_std_io2.specs.Reading.{reader_held, reader_inner, reader_events}
+use Rattle.io_bench.proofs.AskLemmas.{exact_asked, failed_front, filled-le, falls_short, bytes_behind}
+use Rattle.io_bench.proofs.asks.ask_exact.Goals as goal
+
+pub returns-in-Ok-clause-asked : goal.returns-in-Ok-clause-asked
+returns-in-Ok-clause-asked g c = λ m f.
+    let done = c.in-Ok.ensures in
+    let filled = done.told (g.met.R.Read.filling_tells _ f).0 in
+    let counted = done.asks m f in
+    let left = done.left f in
+    let within = filled-le _ _ _ filled.1 in
+    (counted.0, left.0, exact_asked g.row.S (length c.args.buf.now) _ _ _ _ _ _ _ (cut _ _, filled.1.0) left.2 (grind (arith, nat_tests, within)) counted.1 left.1)
+
+pub returns-in-UnexpectedEof-clause-told : goal.returns-in-UnexpectedEof-clause-told
+returns-in-UnexpectedEof-clause-told g c = λ t. let failed = c.in-Err.ensures.told t in (failed.0, failed_front _ c.in-Err.e _ _ failed.1)
+
+pub returns-in-UnexpectedEof-clause-asked : goal.returns-in-UnexpectedEof-clause-asked
+returns-in-UnexpectedEof-clause-asked g c = λ m f.
+    let r = c.args.r.now in
+    let done = c.in-Err.ensures in
+    let tells = g.met.R.Read.filling_tells _ f in
+    let fell = done.told tells.0 in
+    let short = falls_short _ _ c.in-Err.e _ _ (bytes_behind (reader_held r) _ _ tells.1) fell.1 in
+    let counted = done.asks m f in
+    let left = done.left f in
+    (counted.0, left.0, exact_asked g.row.S (length c.args.buf.now) _ _ _ _ _ _ _ short.2 left.2 (grind (arith, nat_tests, short.1)) counted.1 left.1)
+
+pub returns-in_default : goal.returns-in_default
+returns-in_default g c =
+    let r = c.args.r.now in
+    let failed = c.in-Err.ensures.told in
+    record {
+      told = λ t. ((failed t).0, failed_front _ c.in-Err.e _ _ (failed t).1);
+      asked = λ m f.
+          let tells = g.met.R.Read.filling_tells _ f in
+          let short = falls_short _ _ c.in-Err.e _ _ (bytes_behind (reader_held r) _ _ tells.1) (failed tells.0).1 in
+          absurd (c.in_default.not-UnexpectedEof (c.kind.ensures ∙ short.0));
+    }
