@@ -58,6 +58,8 @@ pub fn count(cases: &[Case]) -> Result<Vec<Vec<Option<f64>>>, String> {
         .arg(format!("--callgrind-out-file={}/out", folder.display()))
         .arg(&program)
         .arg("count")
+        // Callgrind counts each byte of a `rep movsb` as an instruction, so no copy is to use it.
+        .env("GLIBC_TUNABLES", "glibc.cpu.hwcaps=-ERMS")
         .stderr(Stdio::null())
         .status()
         .map_err(|error| format!("valgrind: {error}"))?;

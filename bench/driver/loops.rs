@@ -5,20 +5,32 @@ use super::streams::{
 };
 use crate::cases::{FAILED, sample};
 
-/// A writer that counts the writes that reach it, and keeps nothing.
+/// Counts the writes that reach it, and sums the last byte of each, so that no compiler can leave
+/// the bytes out. It keeps nothing.
 struct Counter {
     writes: u64,
+    last_bytes: u64,
 }
 
 impl Counter {
     fn new() -> Counter {
-        Counter { writes: 0 }
+        Counter {
+            writes: 0,
+            last_bytes: 0,
+        }
+    }
+
+    fn sum(&self) -> u64 {
+        self.last_bytes.wrapping_mul(31).wrapping_add(self.writes)
     }
 }
 
 impl Write for Counter {
     fn write(&mut self, buf: &[u8]) -> Result<usize> {
         self.writes = self.writes.saturating_add(1);
+        if let Some(byte) = buf.last() {
+            self.last_bytes = self.last_bytes.wrapping_add(u64::from(*byte));
+        }
         Ok(buf.len())
     }
 
@@ -63,7 +75,7 @@ pub fn write_to_sink<const S: usize>(piece: &[u8], calls: u64) -> u64 {
     if w.flush().is_err() {
         return FAILED;
     }
-    sum.wrapping_add(w.get_ref().writes)
+    sum.wrapping_add(w.get_ref().sum())
 }
 
 #[inline(never)]
@@ -73,7 +85,7 @@ pub fn write_all_to_sink<const S: usize>(piece: &[u8], calls: u64) -> u64 {
     if w.flush().is_err() {
         return FAILED;
     }
-    sum.wrapping_add(w.get_ref().writes)
+    sum.wrapping_add(w.get_ref().sum())
 }
 
 #[inline(never)]
@@ -105,7 +117,7 @@ pub fn write_lines(line: &[u8], calls: u64) -> u64 {
     if w.flush().is_err() {
         return FAILED;
     }
-    sum.wrapping_add(w.get_ref().writes)
+    sum.wrapping_add(w.get_ref().sum())
 }
 
 #[inline(never)]
@@ -115,7 +127,7 @@ pub fn write_lines_apart(text: &[u8], end: &[u8], calls: u64) -> u64 {
     if w.flush().is_err() {
         return FAILED;
     }
-    sum.wrapping_add(w.get_ref().writes)
+    sum.wrapping_add(w.get_ref().sum())
 }
 
 #[inline(never)]
@@ -187,7 +199,7 @@ pub fn copy_to_sink<const S: usize>(source: &[u8], calls: u64) -> u64 {
         let mut r = Read::take(source, source.len() as u64);
         let mut w = Counter::new();
         match copy::<_, _, S>(&mut r, &mut w) {
-            Ok(n) => sum = sum.wrapping_add(n).wrapping_add(w.writes),
+            Ok(n) => sum = sum.wrapping_add(n).wrapping_add(w.sum()),
             Err(_) => return FAILED,
         }
     }

@@ -4,6 +4,7 @@
 //! A sum is the greatest `u64` where a call failed.
 #![tactic(auto)]
 
+mod counter;
 mod cursors;
 mod readers;
 mod towers;

@@ -2,19 +2,19 @@
 ghost use Rattle.std.specs.Prelude.{[]};
 
 use crate::FAILED;
+use crate::counter::Counter;
 use crate::writers::write_often;
-use io_bench::{Sink, Tally};
 use no_std_io2::io::{BufWriter, Result, Write};
 use std::alloc::Global;
 
 // A boxed object is made of a type without a const parameter, so this one is wrapped.
 #[derive(Drop)]
 struct Kilobyte {
-    inner: BufWriter<Tally<Sink>, 1024>,
+    inner: BufWriter<Counter, 1024>,
 }
 
 impl Write for Kilobyte {
-    ghost told = { λ w. ⟦<BufWriter<Tally<Sink>, 1024> as Write>⟧.told w.inner };
+    ghost told = { λ w. ⟦<BufWriter<Counter, 1024> as Write>⟧.told w.inner };
 
     ghost takes_all = { λ _. ⊥ };
 
@@ -41,7 +41,7 @@ impl Write for Kilobyte {
 #[unsafe(no_mangle)]
 pub extern "C" fn speed_boxed_tower(alloc: Global, piece: &[u8], calls: u64) -> u64 {
     let kilobyte = Kilobyte {
-        inner: BufWriter::new(Tally::new(Sink::new())),
+        inner: BufWriter::new(Counter::new()),
     };
     let Ok(boxed) = Box::new(alloc, kilobyte) else {
         return FAILED;

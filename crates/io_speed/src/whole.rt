@@ -1,6 +1,6 @@
 // Whole streams in one call.
+use crate::counter::Counter;
 use crate::{FAILED, sample};
-use io_bench::{Sink, Tally};
 use no_std_io2::io::{Read, Take, copy};
 use std::alloc::Global;
 
@@ -45,9 +45,9 @@ pub extern "C" fn speed_copy_64(source: &[u8], calls: u64) -> u64 {
     let mut sum = 0u64;
     for _ in 0..calls {
         let mut r = source.take(source.len() as u64);
-        let mut w = Tally::new(Sink::new());
-        match copy::<Take<&[u8]>, Tally<Sink>, 64>(&mut r, &mut w) {
-            Ok(n) => sum = sum.wrapping_add(n).wrapping_add(w.writes()),
+        let mut w = Counter::new();
+        match copy::<Take<&[u8]>, Counter, 64>(&mut r, &mut w) {
+            Ok(n) => sum = sum.wrapping_add(n).wrapping_add(w.sum()),
             Err(_e) => return FAILED,
         }
     }
@@ -60,9 +60,9 @@ pub extern "C" fn speed_copy_8192(source: &[u8], calls: u64) -> u64 {
     let mut sum = 0u64;
     for _ in 0..calls {
         let mut r = source.take(source.len() as u64);
-        let mut w = Tally::new(Sink::new());
-        match copy::<Take<&[u8]>, Tally<Sink>, 8192>(&mut r, &mut w) {
-            Ok(n) => sum = sum.wrapping_add(n).wrapping_add(w.writes()),
+        let mut w = Counter::new();
+        match copy::<Take<&[u8]>, Counter, 8192>(&mut r, &mut w) {
+            Ok(n) => sum = sum.wrapping_add(n).wrapping_add(w.sum()),
             Err(_e) => return FAILED,
         }
     }

@@ -1,11 +1,8 @@
 // Many small writes through a buffer.
+use crate::counter::Counter;
 use crate::{FAILED, sample};
-use io_bench::{Sink, Tally};
 use no_std_io2::io::{BufWriter, LineWriter, Write};
 use std::alloc::Global;
-
-// A writer that counts the writes that reach it, and keeps nothing.
-type Counter = Tally<Sink>;
 
 // Writes the piece so often by `write`, and sums the answers.
 pub(crate) fn write_often<W: Write>(w: &mut W, piece: &[u8], calls: u64) -> u64 {
@@ -39,19 +36,19 @@ fn write_apart_often<W: Write>(w: &mut W, text: &[u8], end: &[u8], calls: u64) -
     0
 }
 
-// Flushes, and adds how many writes reached the counter.
-fn add_writes<const S: usize>(sum: u64, w: &mut BufWriter<Counter, S>) -> u64 {
+// Flushes, and adds the counter's sum.
+fn add_count<const S: usize>(sum: u64, w: &mut BufWriter<Counter, S>) -> u64 {
     if w.flush().is_err() {
         return FAILED;
     }
-    sum.wrapping_add(w.get_ref().writes())
+    sum.wrapping_add(w.get_ref().sum())
 }
 
-fn add_line_writes<const S: usize>(sum: u64, w: &mut LineWriter<Counter, S>) -> u64 {
+fn add_line_count<const S: usize>(sum: u64, w: &mut LineWriter<Counter, S>) -> u64 {
     if w.flush().is_err() {
         return FAILED;
     }
-    sum.wrapping_add(w.get_ref().writes())
+    sum.wrapping_add(w.get_ref().sum())
 }
 
 // Flushes, and adds a sample of the vector.
@@ -65,17 +62,17 @@ fn add_sample<const S: usize>(sum: u64, w: &mut BufWriter<Vec<u8>, S>) -> u64 {
 /// `write` through 64 bytes to a counter.
 #[unsafe(no_mangle)]
 pub extern "C" fn speed_write_64_to_sink(piece: &[u8], calls: u64) -> u64 {
-    let mut w = BufWriter::<Counter, 64>::new(Tally::new(Sink::new()));
+    let mut w = BufWriter::<Counter, 64>::new(Counter::new());
     let sum = write_often(&mut w, piece, calls);
-    add_writes(sum, &mut w)
+    add_count(sum, &mut w)
 }
 
 /// `write_all` through 64 bytes to a counter.
 #[unsafe(no_mangle)]
 pub extern "C" fn speed_write_all_64_to_sink(piece: &[u8], calls: u64) -> u64 {
-    let mut w = BufWriter::<Counter, 64>::new(Tally::new(Sink::new()));
+    let mut w = BufWriter::<Counter, 64>::new(Counter::new());
     let sum = write_all_often(&mut w, piece, calls);
-    add_writes(sum, &mut w)
+    add_count(sum, &mut w)
 }
 
 /// `write` through 64 bytes to a vector with this room.
@@ -113,17 +110,17 @@ pub extern "C" fn speed_write_all_64_to_vec(
 /// `write` through 1024 bytes to a counter.
 #[unsafe(no_mangle)]
 pub extern "C" fn speed_write_1024_to_sink(piece: &[u8], calls: u64) -> u64 {
-    let mut w = BufWriter::<Counter, 1024>::new(Tally::new(Sink::new()));
+    let mut w = BufWriter::<Counter, 1024>::new(Counter::new());
     let sum = write_often(&mut w, piece, calls);
-    add_writes(sum, &mut w)
+    add_count(sum, &mut w)
 }
 
 /// `write_all` through 1024 bytes to a counter.
 #[unsafe(no_mangle)]
 pub extern "C" fn speed_write_all_1024_to_sink(piece: &[u8], calls: u64) -> u64 {
-    let mut w = BufWriter::<Counter, 1024>::new(Tally::new(Sink::new()));
+    let mut w = BufWriter::<Counter, 1024>::new(Counter::new());
     let sum = write_all_often(&mut w, piece, calls);
-    add_writes(sum, &mut w)
+    add_count(sum, &mut w)
 }
 
 /// `write` through 1024 bytes to a vector with this room.
@@ -161,17 +158,17 @@ pub extern "C" fn speed_write_all_1024_to_vec(
 /// `write` through 8192 bytes to a counter.
 #[unsafe(no_mangle)]
 pub extern "C" fn speed_write_8192_to_sink(piece: &[u8], calls: u64) -> u64 {
-    let mut w = BufWriter::<Counter, 8192>::new(Tally::new(Sink::new()));
+    let mut w = BufWriter::<Counter, 8192>::new(Counter::new());
     let sum = write_often(&mut w, piece, calls);
-    add_writes(sum, &mut w)
+    add_count(sum, &mut w)
 }
 
 /// `write_all` through 8192 bytes to a counter.
 #[unsafe(no_mangle)]
 pub extern "C" fn speed_write_all_8192_to_sink(piece: &[u8], calls: u64) -> u64 {
-    let mut w = BufWriter::<Counter, 8192>::new(Tally::new(Sink::new()));
+    let mut w = BufWriter::<Counter, 8192>::new(Counter::new());
     let sum = write_all_often(&mut w, piece, calls);
-    add_writes(sum, &mut w)
+    add_count(sum, &mut w)
 }
 
 /// `write` through 8192 bytes to a vector with this room.
@@ -209,15 +206,15 @@ pub extern "C" fn speed_write_all_8192_to_vec(
 /// Whole lines by `write_all` through a line writer of 1024 bytes.
 #[unsafe(no_mangle)]
 pub extern "C" fn speed_lines_1024(line: &[u8], calls: u64) -> u64 {
-    let mut w = LineWriter::<Counter, 1024>::new(Tally::new(Sink::new()));
+    let mut w = LineWriter::<Counter, 1024>::new(Counter::new());
     let sum = write_all_often(&mut w, line, calls);
-    add_line_writes(sum, &mut w)
+    add_line_count(sum, &mut w)
 }
 
 /// Lines by two `write_all`s each, through a line writer of 1024 bytes.
 #[unsafe(no_mangle)]
 pub extern "C" fn speed_lines_1024_apart(text: &[u8], end: &[u8], calls: u64) -> u64 {
-    let mut w = LineWriter::<Counter, 1024>::new(Tally::new(Sink::new()));
+    let mut w = LineWriter::<Counter, 1024>::new(Counter::new());
     let sum = write_apart_often(&mut w, text, end, calls);
-    add_line_writes(sum, &mut w)
+    add_line_count(sum, &mut w)
 }
