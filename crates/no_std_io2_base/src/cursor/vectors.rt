@@ -43,8 +43,10 @@ fn append_and_overwrite<A: Allocator>(content: &mut Vec<u8, A>, start: usize, bu
     true
 }
 
-// Writes `buf` into the vector at the position, and moves that behind it.
-fn write_at<A: Allocator>(content: &mut Vec<u8, A>, pos: &mut u64, buf: &[u8]) -> Result<usize>
+// Writes `buf` where it goes past the end and isn't only appended, or goes too far.
+#[cold]
+#[inline(never)]
+fn write_past<A: Allocator>(content: &mut Vec<u8, A>, pos: &mut u64, buf: &[u8]) -> Result<usize>
     ensures { PutsWhole content.old.items pos.old buf.now result content.new.items pos.new }
 {
     let start = *pos as usize;
@@ -69,6 +71,25 @@ fn write_at<A: Allocator>(content: &mut Vec<u8, A>, pos: &mut u64, buf: &[u8]) -
     Ok(buf.len())
 }
 
+// Writes `buf` into the vector at the position, and moves that behind it. Callers inline the two
+// hot paths, over other bytes and right behind the end.
+#[inline(always)]
+fn write_at<A: Allocator>(content: &mut Vec<u8, A>, pos: &mut u64, buf: &[u8]) -> Result<usize>
+    ensures { PutsWhole content.old.items pos.old buf.now result content.new.items pos.new }
+{
+    let start = *pos as usize;
+    let len = content.len();
+    if start <= len && buf.len() <= len - start {
+        overwrite(content, start, buf);
+    } else if start == len && buf.len() <= content.capacity() - len {
+        let _ = content.extend_from_slice(buf);
+    } else {
+        return write_past(content, pos, buf);
+    }
+    *pos += buf.len() as u64;
+    Ok(buf.len())
+}
+
 /// A vector takes a buffer whole, at the position: zeros fill the gap up to it, for an empty buffer
 /// of `write` too, and what stands before and behind the buffer stays. Follows
 /// `std::io::Write for Cursor<Vec<u8>>`.
@@ -85,6 +106,7 @@ impl<A: Allocator> Write for Cursor<Vec<u8, A>> {
 
     ghost is_metered = { λ _. ⊥ };
 
+    #[inline]
     fn write(&mut self, buf: &[u8]) -> Result<usize>
         // The trait's.
         ensures bound { IfOk result (λ n. n ≤ length buf.now) }
@@ -115,6 +137,7 @@ impl<A: Allocator> Write for Cursor<Vec<u8, A>> {
         Ok(())
     }
 
+    #[inline]
     fn write_all(&mut self, buf: &[u8]) -> Result<()>
         // The trait's.
         ensures fault { IsNoInterruption result }
@@ -151,6 +174,7 @@ impl<A: Allocator> Write for Cursor<&mut Vec<u8, A>> {
 
     ghost is_metered = { λ _. ⊥ };
 
+    #[inline]
     fn write(&mut self, buf: &[u8]) -> Result<usize>
         // The trait's.
         ensures bound { IfOk result (λ n. n ≤ length buf.now) }
@@ -182,6 +206,7 @@ impl<A: Allocator> Write for Cursor<&mut Vec<u8, A>> {
         Ok(())
     }
 
+    #[inline]
     fn write_all(&mut self, buf: &[u8]) -> Result<()>
         // The trait's.
         ensures fault { IsNoInterruption result }
