@@ -88,6 +88,12 @@ impl<const S: usize> ReadAhead<S> {
         ensures held { ahead_held self.new ≡ drop result (ahead_held self.old) }
     {
         let n = self.len().min(buf.len());
+        // A single byte needs no call of `memcpy`.
+        if n == 1 {
+            buf[0] = self.bytes[self.start];
+            self.start += 1;
+            return 1;
+        }
         self.give_whole(&mut buf[..n]);
         n
     }

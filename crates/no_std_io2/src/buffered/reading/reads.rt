@@ -13,9 +13,8 @@ use no_std_io2_base::traits::Read;
 
 impl<R: Read, const S: usize> BufReader<R, S> {
     // A read where nothing is held: one inner read, into `buf` where that has room for a full
-    // buffer, else into the own buffer.
-    #[cold]
-    #[inline(never)]
+    // buffer, else into the own buffer. The cold part is the filling below it.
+    #[inline(always)]
     fn read_anew(&mut self, buf: &mut [u8]) -> Result<usize>
         requires { length (reader_held self.old) ≡ 0 }
         ensures bound { IfOk result (λ n. n ≤ length buf.new) }
@@ -84,6 +83,32 @@ impl<R: Read, const S: usize> BufReader<R, S> {
             }
         }
         Ok(())
+    }
+
+    // The same. It stands between, so that the room for the answer is made on this way alone.
+    #[inline(always)]
+    fn read_exact_slowly(&mut self, buf: &mut [u8]) -> Result<()>
+        requires { length (reader_held self.old) < length buf.old }
+        ensures told { R.tells (reader_inner self.old) → R.tells (reader_inner self.new)
+            × ReadsExact ⊥ (reader_events R.events self.old) result buf.new (reader_events R.events self.new) }
+        ensures fault { IfErr result IsFault }
+        ensures turns { reader_turns R.turns self.new ≤ reader_turns R.turns self.old }
+        ensures store { reader_has_store R.has_store R.position R.content self.old
+            → reader_has_store R.has_store R.position R.content self.new
+            × (R.content (reader_inner self.new) ≡ R.content (reader_inner self.old))
+            × (reader_position R.position self.new + length (reader_events R.events self.new)
+            ≡ reader_position R.position self.old + length (reader_events R.events self.old)) }
+        ensures asks { R.is_metered (reader_inner self.old) → R.is_filling (reader_inner self.old)
+            → R.is_metered (reader_inner self.new) × (R.cost (reader_inner self.new)
+            ≡ R.cost (reader_inner self.old) + exact_reads (length buf.old)
+            (length (reader_held self.old)) (length (reader_events R.events self.old))) }
+        ensures left { R.is_filling (reader_inner self.old) → R.is_filling (reader_inner self.new)
+            × (length (reader_held self.new) ≡ exact_left S (length buf.old)
+            (length (reader_held self.old)) (length (reader_events R.events self.old)))
+            × (length (reader_events R.events self.new)
+            ≡ length (reader_events R.events self.old) - length buf.old) }
+    {
+        self.read_exact_anew(buf)
     }
 }
 
@@ -178,7 +203,7 @@ impl<R: Read, const S: usize> Read for BufReader<R, S> {
             ≡ length (reader_events R.events self.old) - length buf.old) }
     {
         if buf.len() > self.ahead.len() {
-            return self.read_exact_anew(buf);
+            return self.read_exact_slowly(buf);
         }
         self.ahead.give_whole(buf);
         Ok(())
