@@ -99,8 +99,7 @@ impl<const S: usize> ReadAhead<S> {
     }
 
     // Reads once. What was held before is lost.
-    #[cold]
-    #[inline(never)]
+    #[inline]
     pub(super) fn fill<R: Read>(&mut self, from: &mut R) -> Result<()>
         ensures err { OnErr result (ahead_held self.new ≡ []) }
         ensures bound { length (ahead_held self.new) ≤ S }
