@@ -88,8 +88,11 @@ impl<const S: usize> ReadAhead<S> {
         ensures held { ahead_held self.new ≡ drop result (ahead_held self.old) }
     {
         let n = self.len().min(buf.len());
-        // A single byte needs no call of `memcpy`.
-        if n == 1 {
+        // One byte or none needs no call of `memcpy`.
+        if n < 2 {
+            if n == 0 {
+                return 0;
+            }
             buf[0] = self.bytes[self.start];
             self.start += 1;
             return 1;

@@ -71,6 +71,18 @@ fn write_past<A: Allocator>(content: &mut Vec<u8, A>, pos: &mut u64, buf: &[u8])
     Ok(buf.len())
 }
 
+// The same. It stands between, so that the room for the answer is made on this way alone.
+#[inline(always)]
+fn write_past_slowly<A: Allocator>(
+    content: &mut Vec<u8, A>,
+    pos: &mut u64,
+    buf: &[u8],
+) -> Result<usize>
+    ensures { PutsWhole content.old.items pos.old buf.now result content.new.items pos.new }
+{
+    write_past(content, pos, buf)
+}
+
 // Writes `buf` into the vector at the position, and moves that behind it. Callers inline the two
 // hot paths, over other bytes and right behind the end.
 #[inline(always)]
@@ -78,15 +90,18 @@ fn write_at<A: Allocator>(content: &mut Vec<u8, A>, pos: &mut u64, buf: &[u8]) -
     ensures { PutsWhole content.old.items pos.old buf.now result content.new.items pos.new }
 {
     let start = *pos as usize;
+    let Some(end) = start.checked_add(buf.len()) else {
+        return write_past_slowly(content, pos, buf);
+    };
     let len = content.len();
-    if start <= len && buf.len() <= len - start {
+    if end <= len {
         overwrite(content, start, buf);
-    } else if start == len && buf.len() <= content.capacity() - len {
+    } else if start == len && end <= content.capacity() {
         let _ = content.extend_from_slice(buf);
     } else {
-        return write_past(content, pos, buf);
+        return write_past_slowly(content, pos, buf);
     }
-    *pos += buf.len() as u64;
+    *pos = end as u64;
     Ok(buf.len())
 }
 
