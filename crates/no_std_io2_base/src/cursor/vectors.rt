@@ -90,13 +90,11 @@ fn write_at<A: Allocator>(content: &mut Vec<u8, A>, pos: &mut u64, buf: &[u8]) -
     ensures { PutsWhole content.old.items pos.old buf.now result content.new.items pos.new }
 {
     let start = *pos as usize;
-    let Some(end) = start.checked_add(buf.len()) else {
-        return write_past_slowly(content, pos, buf);
-    };
+    let end = start.saturating_add(buf.len());
     let len = content.len();
     if end <= len {
         overwrite(content, start, buf);
-    } else if start == len && end <= content.capacity() {
+    } else if start == len && buf.len() <= content.capacity() - len {
         let _ = content.extend_from_slice(buf);
     } else {
         return write_past_slowly(content, pos, buf);
