@@ -39,9 +39,9 @@ impl<A: Allocator> Write for Vec<u8, A> {
 
     #[inline]
     fn write_all(&mut self, buf: &[u8]) -> Result<()> {
-        match self.extend_from_slice(buf) {
+        match self.write(buf) {
             Ok(_) => Ok(()),
-            Err(_) => Err(Error::from(ErrorKind::OutOfMemory)),
+            Err(e) => Err(e),
         }
     }
 
