@@ -38,7 +38,10 @@ impl Case {
         let runs = self.runs.iter().flatten();
         let sums: Vec<u64> = runs.map(|run| run(self.calls)).collect();
         if sums.iter().any(|sum| *sum != sums[0] || *sum == FAILED) {
-            return Err(format!("{}: the sums differ or failed: {sums:?}", self.name));
+            return Err(format!(
+                "{}: the sums differ or failed: {sums:?}",
+                self.name
+            ));
         }
         Ok(())
     }

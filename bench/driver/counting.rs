@@ -81,7 +81,10 @@ fn read_dumps(folder: &Path, cases: &[Case]) -> std::io::Result<Vec<Vec<Option<f
     for (case, totals) in cases.iter().zip(&totals) {
         let each = totals[..case.runs.len()].iter();
         let calls = case.calls as f64;
-        counts.push(each.map(|[once, twice]| Some(((*twice)? - (*once)?) / calls)).collect());
+        counts.push(
+            each.map(|[once, twice]| Some(((*twice)? - (*once)?) / calls))
+                .collect(),
+        );
     }
     Ok(counts)
 }

@@ -1,7 +1,7 @@
 //! The streams of the original crate.
 mod streams {
-    pub use no_std_io2::io::{Cursor, Read, Result, Write, copy};
     use no_std_io2::io::{BufReader, BufWriter, LineWriter};
+    pub use no_std_io2::io::{Cursor, Read, Result, Write, copy};
 
     pub fn buffered_writer<W: Write, const S: usize>(inner: W) -> BufWriter<W, S> {
         BufWriter::new(inner)

@@ -101,7 +101,15 @@ pub fn read<const S: usize>(source: &[u8], room: usize, calls: u64) -> u64 {
         _ => speed_read_8192,
     };
     let mut room = vec![0; room];
-    unsafe { run(source.as_ptr(), source.len(), room.as_mut_ptr(), room.len(), calls) }
+    unsafe {
+        run(
+            source.as_ptr(),
+            source.len(),
+            room.as_mut_ptr(),
+            room.len(),
+            calls,
+        )
+    }
 }
 
 pub fn read_exact<const S: usize>(source: &[u8], room: usize, calls: u64) -> u64 {
@@ -111,7 +119,15 @@ pub fn read_exact<const S: usize>(source: &[u8], room: usize, calls: u64) -> u64
         _ => speed_read_exact_8192,
     };
     let mut room = vec![0; room];
-    unsafe { run(source.as_ptr(), source.len(), room.as_mut_ptr(), room.len(), calls) }
+    unsafe {
+        run(
+            source.as_ptr(),
+            source.len(),
+            room.as_mut_ptr(),
+            room.len(),
+            calls,
+        )
+    }
 }
 
 pub fn take_to_end(source: &[u8], calls: u64) -> u64 {

@@ -1,7 +1,7 @@
 //! The streams of Rust's standard library.
 mod streams {
-    pub use std::io::{Cursor, Read, Result, Write};
     use std::io::{BufReader, BufWriter, LineWriter};
+    pub use std::io::{Cursor, Read, Result, Write};
 
     pub fn buffered_writer<W: Write, const S: usize>(inner: W) -> BufWriter<W> {
         BufWriter::with_capacity(S, inner)
