@@ -1,6 +1,7 @@
 -- A fill from a store.
-use Rattle.std.proofs.Common.{◌≡◌, ℕ, ◌+◌, ◌-◌, ◌<◌, ◌≤◌, List, [], ◌++◌, Ok, Err, Result, length, take, drop, sym, ap, subst, ◌∙◌, arith, refl, length-take-le, length-drop, take-append-drop, append_assoc}
+use Rattle.std.proofs.Common.{◌≡◌, ℕ, suc, ◌+◌, ◌-◌, ◌<◌, ◌≤◌, List, [], ◌∷◌, ◌++◌, Ok, Err, Result, length, take, drop, slice_index_or, sym, ap, subst, ◌∙◌, arith, refl, length-take-le, length-drop, take-append-drop, append_assoc}
 use Rattle.std.proofs.lemmas.List.{drop-drop, drop-take}
+use Rattle.std.proofs.Math.Seq.{drop-cons}
 use Rattle.no_std_io2_base.proofs.Events.{events_of-append}
 use Rattle.no_std_io2_base.specs.Events.{Event, events_of}
 use Rattle.no_std_io2_base.specs.declared.error.Error.{Error}
@@ -25,6 +26,13 @@ sound_ahead (Err e) held position position' content content' E E' is read moved 
 -- with nothing held, the position is the inner's
 pub position_none : (position : ℕ) (held : List ℕ) → length held ≡ 0 → position - length held ≡ position
 position_none position held h = omega arith
+
+-- the first of the bytes between two places
+pub held_first : (all : List ℕ) (start end : ℕ) → start < end → end ≤ length all → take 1 (take (end - start) (drop start all)) ≡ slice_index_or all start 0 ∷ []
+held_first all start end some within =
+    let k = end - (start + 1) in
+    let count : end - start ≡ suc k = omega arith in
+    ap (λ n. take 1 (take n (drop start all))) count ∙ ap (λ l. take 1 (take (suc k) l)) (drop-cons all start 0 (omega arith))
 
 -- what is left held behind the first n
 pub held_rest : (buf : List ℕ) (pos cap n : ℕ) → n ≤ cap - pos → take (cap - (pos + n)) (drop (pos + n) buf) ≡ drop n (take (cap - pos) (drop pos buf))

@@ -60,6 +60,32 @@ pub gathered_memory : (E : List Event) (old new : List ℕ) (after : List Event)
     → Gathered E old new after → IsOutOfMemory e → ReadsToEnd E (Err e) old new after
 gathered_memory E old new after e t kind = (t.front, t.split, t.gave, inr (t.no_fault, kind))
 
+-- a whole stream was read, before another one
+pub gathered_first : (E F : List Event) (n : ℕ) (old new : List ℕ) (after : List Event) → ReadsToEnd E (Ok n) old new after → Gathered (E ++ F) old new F
+gathered_first E F n old new after read = record { front = E; split = refl; no_fault = read.0; gave = read.1 }
+
+-- and then the rest, to its end
+pub gathered_all : (E : List Event) (old mid new : List ℕ) (after rest : List Event) (n k : ℕ)
+    → Gathered E old mid after → ReadsToEnd after (Ok n) mid new rest → k ≡ length new - length old → ReadsToEnd E (Ok k) old new rest
+gathered_all E old mid new after rest n k t read is =
+    let both : bytes E ≡ bytes t.front ++ bytes after = ap bytes t.split ∙ bytes-append t.front after in
+    let gave : new ≡ old ++ bytes E = read.1 ∙ ap (λ l. l ++ bytes after) t.gave ∙ append_assoc old (bytes t.front) (bytes after) ∙ ap (λ l. old ++ l) (sym both) in
+    let long = ap length gave ∙ length-append old (bytes E) in
+    (subst HasNoFault (sym t.split) (HasNoFault-append t.front after t.no_fault read.0), gave, omega (arith, long, is), read.3)
+
+-- or to an error
+pub gathered_stop : (E : List Event) (old mid new : List ℕ) (after : List Event) (e : Error) (rest : List Event)
+    → Gathered E old mid after → ReadsToEnd after (Err e) mid new rest → ReadsToEnd E (Err e) old new rest
+gathered_stop E old mid new after e rest t read = (
+  t.front ++ read.0,
+  t.split ∙ ap (λ l. t.front ++ l) read.1 ∙ sym (append_assoc t.front read.0 rest),
+  read.2 ∙ ap (λ l. l ++ bytes read.0) t.gave ∙ append_assoc old (bytes t.front) (bytes read.0) ∙ ap (λ l. old ++ l) (sym (bytes-append t.front read.0)),
+  elim read.3 [
+    | inl f ↦ inl (t.front ++ f.0, ap (λ l. t.front ++ l) f.1 ∙ sym (append_assoc t.front f.0 (fails e ∷ [])), HasNoFault-append t.front f.0 t.no_fault f.2, f.3)
+    | inr m ↦ inr (HasNoFault-append t.front read.0 t.no_fault m.0, m.1)
+  ],
+)
+
 -- a front stays where more is appended
 pub take-grown : (k : ℕ) (old mid new more : List ℕ) → take k mid ≡ old → k ≤ length mid → new ≡ mid ++ more → take k new ≡ old
 take-grown k old mid new more h fits is = ap (take k) is ∙ take-append-le k mid more fits ∙ h

@@ -88,13 +88,21 @@ impl<const S: usize> ReadAhead<S> {
         ensures held { ahead_held self.new ≡ drop result (ahead_held self.old) }
     {
         let n = self.len().min(buf.len());
+        // One byte or none needs no call of `memcpy`.
+        if n < 2 {
+            if n == 0 {
+                return 0;
+            }
+            buf[0] = self.bytes[self.start];
+            self.start += 1;
+            return 1;
+        }
         self.give_whole(&mut buf[..n]);
         n
     }
 
     // Reads once. What was held before is lost.
-    #[cold]
-    #[inline(never)]
+    #[inline]
     pub(super) fn fill<R: Read>(&mut self, from: &mut R) -> Result<()>
         ensures err { OnErr result (ahead_held self.new ≡ []) }
         ensures bound { length (ahead_held self.new) ≤ S }

@@ -1,5 +1,5 @@
-ghost use Rattle.std.specs.Prelude.{◌≡◌, ℕ, ◌+◌, nat_lt, ◌≤◌, ◌<◌, ◌^◌, ◌++◌, [], Ok, IsOk, OnOk, OnErr, IfOk, length, take, drop, vec_len, is_ok, if◌then◌else◌};
-ghost use Rattle.no_std_io2_base.specs.Cursor.{cursor_place, cursor_inner, cursor_out, put_at, PutsWhole, PutsAll};
+ghost use Rattle.std.specs.Prelude.{◌≡◌, ℕ, ◌+◌, nat_lt, ◌≤◌, ◌<◌, ◌^◌, ◌++◌, [], Ok, IsOk, OnOk, OnErr, IfOk, IfErr, length, take, drop, vec_len, is_ok, if◌then◌else◌};
+ghost use Rattle.no_std_io2_base.specs.Cursor.{cursor_place, cursor_inner, cursor_out, put_at, IsRefusal, PutsWhole, PutsAll};
 ghost use Rattle.no_std_io2_base.specs.Errors.{IsNoInterruption};
 ghost use Rattle.no_std_io2_base.specs.Writes.{Moves, MovesFront, taken, write_mishap, call_mishap, told_out};
 
@@ -43,27 +43,58 @@ fn append_and_overwrite<A: Allocator>(content: &mut Vec<u8, A>, start: usize, bu
     true
 }
 
-// Writes `buf` into the vector at the position, and moves that behind it.
+// Puts `buf` at `start`, where its end goes past the vector's.
+#[cold]
+#[inline(never)]
+fn put_past<A: Allocator>(content: &mut Vec<u8, A>, start: usize, buf: &[u8]) -> Result<()>
+    requires past { vec_len content.old < start + length buf.now }
+    ensures fits { OnOk result (start + length buf.now < 2 ^ 64) }
+    ensures puts { OnOk result (content.new.items ≡ put_at start buf.now content.old.items) }
+    ensures refused { IfErr result (IsRefusal start buf.now) }
+    ensures same { OnErr result (content.new.items ≡ content.old.items) }
+{
+    if start.checked_add(buf.len()).is_none() {
+        let message = "vector position past the greatest usize";
+        return Err(Error::new(ErrorKind::InvalidInput, message));
+    }
+    let is_done = if content.len() < start {
+        pad_and_append(content, start, buf)
+    } else {
+        append_and_overwrite(content, start, buf)
+    };
+    if !is_done {
+        return Err(Error::from(ErrorKind::OutOfMemory));
+    }
+    Ok(())
+}
+
+// The same. It stands between, so that the room for the answer is made on this way alone.
+#[inline(always)]
+fn put_past_slowly<A: Allocator>(content: &mut Vec<u8, A>, start: usize, buf: &[u8]) -> Result<()>
+    requires past { vec_len content.old < start + length buf.now }
+    ensures fits { OnOk result (start + length buf.now < 2 ^ 64) }
+    ensures puts { OnOk result (content.new.items ≡ put_at start buf.now content.old.items) }
+    ensures refused { IfErr result (IsRefusal start buf.now) }
+    ensures same { OnErr result (content.new.items ≡ content.old.items) }
+{
+    put_past(content, start, buf)
+}
+
+// Writes `buf` into the vector at the position, and moves that behind it. Callers inline the two
+// hot paths, over other bytes and right behind the end.
+#[inline(always)]
 fn write_at<A: Allocator>(content: &mut Vec<u8, A>, pos: &mut u64, buf: &[u8]) -> Result<usize>
     ensures { PutsWhole content.old.items pos.old buf.now result content.new.items pos.new }
 {
     let start = *pos as usize;
-    let Some(end) = start.checked_add(buf.len()) else {
-        let message = "vector position past the greatest usize";
-        return Err(Error::new(ErrorKind::InvalidInput, message));
-    };
+    let end = start.saturating_add(buf.len());
     let len = content.len();
     if end <= len {
         overwrite(content, start, buf);
+    } else if start == len && buf.len() <= content.capacity() - len {
+        let _ = content.extend_from_slice(buf);
     } else {
-        let is_done = if len < start {
-            pad_and_append(content, start, buf)
-        } else {
-            append_and_overwrite(content, start, buf)
-        };
-        if !is_done {
-            return Err(Error::from(ErrorKind::OutOfMemory));
-        }
+        put_past_slowly(content, start, buf)?;
     }
     *pos = end as u64;
     Ok(buf.len())
@@ -85,6 +116,7 @@ impl<A: Allocator> Write for Cursor<Vec<u8, A>> {
 
     ghost is_metered = { λ _. ⊥ };
 
+    #[inline]
     fn write(&mut self, buf: &[u8]) -> Result<usize>
         // The trait's.
         ensures bound { IfOk result (λ n. n ≤ length buf.now) }
@@ -115,6 +147,7 @@ impl<A: Allocator> Write for Cursor<Vec<u8, A>> {
         Ok(())
     }
 
+    #[inline]
     fn write_all(&mut self, buf: &[u8]) -> Result<()>
         // The trait's.
         ensures fault { IsNoInterruption result }
@@ -151,6 +184,7 @@ impl<A: Allocator> Write for Cursor<&mut Vec<u8, A>> {
 
     ghost is_metered = { λ _. ⊥ };
 
+    #[inline]
     fn write(&mut self, buf: &[u8]) -> Result<usize>
         // The trait's.
         ensures bound { IfOk result (λ n. n ≤ length buf.now) }
@@ -182,6 +216,7 @@ impl<A: Allocator> Write for Cursor<&mut Vec<u8, A>> {
         Ok(())
     }
 
+    #[inline]
     fn write_all(&mut self, buf: &[u8]) -> Result<()>
         // The trait's.
         ensures fault { IsNoInterruption result }

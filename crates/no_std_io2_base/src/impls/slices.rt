@@ -5,6 +5,7 @@ ghost use Rattle.no_std_io2_base.specs.Laws.{bytes_alone};
 
 use crate::error::{Error, ErrorKind, Result};
 use crate::traits::{BufRead, Read, Stored};
+use std::alloc::Allocator;
 
 // Copies as many bytes as both have, and returns how many.
 pub(crate) fn copy_prefix(from: &[u8], to: &mut [u8]) -> usize
@@ -66,6 +67,16 @@ impl Read for &[u8] {
         let n = copy_prefix(all, buf);
         *self = &all[n..];
         Ok(())
+    }
+
+    // One growth, for exactly the bytes that are left.
+    fn read_to_end<A: Allocator>(&mut self, buf: &mut Vec<u8, A>) -> Result<usize> {
+        let all: &[u8] = *self;
+        if buf.extend_from_slice(all).is_err() {
+            return Err(Error::from(ErrorKind::OutOfMemory));
+        }
+        *self = &all[all.len()..];
+        Ok(all.len())
     }
 
     ghost filling_tells = { λ s _. (tt, bytes_alone s.now) };

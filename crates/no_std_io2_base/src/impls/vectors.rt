@@ -17,6 +17,7 @@ impl<A: Allocator> Write for Vec<u8, A> {
 
     ghost is_metered = { λ _. ⊥ };
 
+    #[inline]
     fn write(&mut self, buf: &[u8]) -> Result<usize>
         // The trait's.
         ensures bound { IfOk result (λ n. n ≤ length buf.now) }
@@ -33,6 +34,14 @@ impl<A: Allocator> Write for Vec<u8, A> {
         match self.extend_from_slice(buf) {
             Ok(_) => Ok(buf.len()),
             Err(_) => Err(Error::from(ErrorKind::OutOfMemory)),
+        }
+    }
+
+    #[inline]
+    fn write_all(&mut self, buf: &[u8]) -> Result<()> {
+        match self.write(buf) {
+            Ok(_) => Ok(()),
+            Err(e) => Err(e),
         }
     }
 

@@ -1,5 +1,6 @@
 use super::refusing::Refusing;
 use super::scripts::Broken;
+use crate::cursor::Cursor;
 use crate::error::{Error, ErrorKind};
 use crate::traits::Read;
 use std::alloc::Global;
@@ -26,16 +27,27 @@ fn a_first_growth_refused_takes_nothing(rt: HostRuntime) {
 #[test]
 fn a_later_growth_refused_loses_nothing(rt: HostRuntime) {
     let heap = Refusing::new(rt.alloc(), 1);
-    let mut r: &[u8] = FORTY;
+    let mut r = Cursor::new(FORTY.as_slice());
     let mut v: Vec<u8, &Refusing<Global>> = Vec::new(&heap);
     match r.read_to_end(&mut v) {
         Ok(_) => panic!(rt; "read"),
         Err(e) => assert_eq!(rt; e.kind(), ErrorKind::OutOfMemory),
     }
     assert!(rt; v.len() >= 32);
-    assert_eq!(rt; v.len() + r.len(), 40);
+    assert!(rt; v.len() < 40);
+    assert_eq!(rt; r.position(), v.len() as u64);
     assert_eq!(rt; *v.as_slice(), FORTY[..v.len()]);
-    assert_eq!(rt; *r, FORTY[v.len()..]);
+}
+
+#[test]
+fn a_slice_grows_the_vector_once(rt: HostRuntime) -> std::result::Result<(), Fail> {
+    let heap = Refusing::new(rt.alloc(), 1);
+    let mut r: &[u8] = FORTY;
+    let mut v: Vec<u8, &Refusing<Global>> = Vec::new(&heap);
+    assert_eq!(rt; r.read_to_end(&mut v)?, 40);
+    assert_eq!(rt; *v.as_slice(), *FORTY.as_slice());
+    assert_eq!(rt; r.len(), 0);
+    Ok(())
 }
 
 #[test]

@@ -5,6 +5,7 @@ use super::lending::BufRead;
 use super::reading::Read;
 use super::store::Stored;
 use crate::error::Result;
+use std::alloc::Allocator;
 
 /// Two readers, one after the other. Made by [`Read::chain`]; follows Rust's `std::io::Chain`.
 ///
@@ -87,6 +88,18 @@ impl<T: Read, U: Read> Read for Chain<T, U> {
             }
         }
         self.second.read(buf)
+    }
+
+    // Each reader fills the vector in its own way.
+    fn read_to_end<A: Allocator>(&mut self, buf: &mut Vec<u8, A>) -> Result<usize> {
+        if self.done_first {
+            return self.second.read_to_end(buf);
+        }
+        let start = buf.len();
+        self.first.read_to_end(buf)?;
+        self.done_first = true;
+        self.second.read_to_end(buf)?;
+        Ok(buf.len() - start)
     }
 
     ghost filling_tells = { λ c h. absurd h };

@@ -144,8 +144,8 @@ pub trait Read: Stored {
     }
 
     /// Appends all bytes to come to `buf`, passing over interruptions, and answers their number.
-    /// Before its first read, and whenever no room is left, it makes room for at least 32 bytes.
-    /// Follows `std::io::Read::read_to_end`.
+    /// Before its first read, and whenever no room is left, it makes room for at least 32 bytes; a
+    /// slice makes room once, for the bytes that it has. Follows `std::io::Read::read_to_end`.
     ///
     /// # Errors
     /// The first fault: the reader stands right after it. `OutOfMemory` where a growth was refused,

@@ -44,6 +44,31 @@ impl<R: Read, const S: usize> BufReader<R, S> {
         Ok(self.give(buf))
     }
 
+    // The same. It stands between, so that the room for the answer is made on this way alone.
+    #[inline(always)]
+    fn read_slowly(&mut self, buf: &mut [u8]) -> Result<usize>
+        requires { length (reader_held self.old) ≡ 0 }
+        ensures bound { IfOk result (λ n. n ≤ length buf.new) }
+        ensures told { R.tells (reader_inner self.old) → R.tells (reader_inner self.new)
+            × Reads (reader_events R.events self.old) result buf.new (reader_events R.events self.new) }
+        ensures turns { reader_turns R.turns self.new ≤ reader_turns R.turns self.old }
+        ensures turn { SpendsTurn result (reader_turns R.turns self.old) (reader_turns R.turns self.new) }
+        ensures store { reader_has_store R.has_store R.position R.content self.old
+            → reader_has_store R.has_store R.position R.content self.new
+            × (R.content (reader_inner self.new) ≡ R.content (reader_inner self.old))
+            × (reader_position R.position self.new ≡ reader_position R.position self.old + given result) }
+        ensures asks { R.is_metered (reader_inner self.old) → R.is_metered (reader_inner self.new)
+            × (R.cost (reader_inner self.new) ≡ R.cost (reader_inner self.old) + 1) }
+        ensures gives { R.is_filling (reader_inner self.old) → R.is_filling (reader_inner self.new)
+            × IsOkAnd result (λ n. n ≡ min (length buf.old) (length (R.events (reader_inner self.old)))) }
+        ensures direct { R.is_filling (reader_inner self.old) → S ≤ length buf.old
+            → reader_held self.new ≡ [] }
+        ensures filled { R.is_filling (reader_inner self.old) → length buf.old < S
+            → length (reader_held self.new) + given result ≡ min S (length (R.events (reader_inner self.old))) }
+    {
+        self.read_anew(buf)
+    }
+
     // Fills more room than there are bytes held.
     #[cold]
     #[inline(never)]
@@ -85,6 +110,32 @@ impl<R: Read, const S: usize> BufReader<R, S> {
         }
         Ok(())
     }
+
+    // The same, as `read_slowly`.
+    #[inline(always)]
+    fn read_exact_slowly(&mut self, buf: &mut [u8]) -> Result<()>
+        requires { length (reader_held self.old) < length buf.old }
+        ensures told { R.tells (reader_inner self.old) → R.tells (reader_inner self.new)
+            × ReadsExact ⊥ (reader_events R.events self.old) result buf.new (reader_events R.events self.new) }
+        ensures fault { IfErr result IsFault }
+        ensures turns { reader_turns R.turns self.new ≤ reader_turns R.turns self.old }
+        ensures store { reader_has_store R.has_store R.position R.content self.old
+            → reader_has_store R.has_store R.position R.content self.new
+            × (R.content (reader_inner self.new) ≡ R.content (reader_inner self.old))
+            × (reader_position R.position self.new + length (reader_events R.events self.new)
+            ≡ reader_position R.position self.old + length (reader_events R.events self.old)) }
+        ensures asks { R.is_metered (reader_inner self.old) → R.is_filling (reader_inner self.old)
+            → R.is_metered (reader_inner self.new) × (R.cost (reader_inner self.new)
+            ≡ R.cost (reader_inner self.old) + exact_reads (length buf.old)
+            (length (reader_held self.old)) (length (reader_events R.events self.old))) }
+        ensures left { R.is_filling (reader_inner self.old) → R.is_filling (reader_inner self.new)
+            × (length (reader_held self.new) ≡ exact_left S (length buf.old)
+            (length (reader_held self.old)) (length (reader_events R.events self.old)))
+            × (length (reader_events R.events self.new)
+            ≡ length (reader_events R.events self.old) - length buf.old) }
+    {
+        self.read_exact_anew(buf)
+    }
 }
 
 impl<R: Read, const S: usize> Read for BufReader<R, S> {
@@ -102,6 +153,7 @@ impl<R: Read, const S: usize> Read for BufReader<R, S> {
 
     ghost may_take_none = { λ _. ⊥ };
 
+    #[inline]
     fn read(&mut self, buf: &mut [u8]) -> Result<usize>
         // The trait's.
         ensures bound { IfOk result (λ n. n ≤ length buf.new) }
@@ -141,11 +193,12 @@ impl<R: Read, const S: usize> Read for BufReader<R, S> {
             → length (reader_held self.new) + given result ≡ min S (length (R.events (reader_inner self.old))) }
     {
         if self.ahead.len() == 0 {
-            return self.read_anew(buf);
+            return self.read_slowly(buf);
         }
         Ok(self.give(buf))
     }
 
+    #[inline]
     fn read_exact(&mut self, buf: &mut [u8]) -> Result<()>
         // The trait's. Where the bytes end too early, all of them are taken.
         ensures told { R.tells (reader_inner self.old) → R.tells (reader_inner self.new)
@@ -178,7 +231,7 @@ impl<R: Read, const S: usize> Read for BufReader<R, S> {
             ≡ length (reader_events R.events self.old) - length buf.old) }
     {
         if buf.len() > self.ahead.len() {
-            return self.read_exact_anew(buf);
+            return self.read_exact_slowly(buf);
         }
         self.ahead.give_whole(buf);
         Ok(())

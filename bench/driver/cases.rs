@@ -1,0 +1,151 @@
+//! The cases, each on up to three sides.
+use std::sync::OnceLock;
+
+/// The sum of a run in which a call failed.
+pub const FAILED: u64 = u64::MAX;
+
+/// A sum of a slice's length and of some of its bytes, with the same work whatever the length.
+pub fn sample(bytes: &[u8]) -> u64 {
+    let mut sum = bytes.len() as u64;
+    for part in [7, 5, 3, 2, 1] {
+        if let Some(byte) = bytes.get(bytes.len() / part) {
+            sum = sum.wrapping_mul(31).wrapping_add(u64::from(*byte));
+        }
+    }
+    if let Some(byte) = bytes.last() {
+        sum = sum.wrapping_mul(31).wrapping_add(u64::from(*byte));
+    }
+    sum
+}
+
+/// So many calls on one side: the answer is a sum that each side must give.
+pub type Run = Box<dyn Fn(u64) -> u64>;
+
+/// Whose streams do the work.
+pub const SIDES: [&str; 3] = ["ours", "std", "original"];
+
+pub struct Case {
+    pub name: String,
+    /// How many calls a run makes; where instructions are counted, also twice as many.
+    pub calls: u64,
+    /// In the order of `SIDES`: the original crate may be missing, and std in a case that it lacks.
+    pub runs: Vec<Option<Run>>,
+}
+
+impl Case {
+    /// That all sides give the same sum, and none fails.
+    pub fn check(&self) -> Result<(), String> {
+        let runs = self.runs.iter().flatten();
+        let sums: Vec<u64> = runs.map(|run| run(self.calls)).collect();
+        if sums.iter().any(|sum| *sum != sums[0] || *sum == FAILED) {
+            return Err(format!(
+                "{}: the sums differ or failed: {sums:?}",
+                self.name
+            ));
+        }
+        Ok(())
+    }
+}
+
+// The same call on each side.
+macro_rules! case {
+    ($name:expr, $calls:expr, $function:ident $(::<$size:literal>)? ($($argument:expr),*)) => {
+        Case {
+            name: $name,
+            calls: $calls,
+            runs: vec![
+                Some(Box::new(move |calls| crate::ours::$function $(::<$size>)? ($($argument,)* calls))),
+                Some(Box::new(move |calls| crate::std_side::$function $(::<$size>)? ($($argument,)* calls))),
+                #[cfg(original)]
+                Some(Box::new(move |calls| crate::original_side::$function $(::<$size>)? ($($argument,)* calls))),
+            ],
+        }
+    };
+}
+
+const SMALL: u64 = 1 << 16;
+
+const MEBIBYTE: usize = 1 << 20;
+
+/// All cases, in the order of the table.
+pub fn all() -> Vec<Case> {
+    let mut cases = Vec::new();
+    add_writers(&mut cases);
+    add_lines(&mut cases);
+    add_readers(&mut cases);
+    add_whole(&mut cases);
+    add_rest(&mut cases);
+    cases
+}
+
+// Bytes that no compiler knows.
+fn source() -> &'static [u8] {
+    static SOURCE: OnceLock<Vec<u8>> = OnceLock::new();
+    SOURCE.get_or_init(|| {
+        let byte = |at: usize| (at.wrapping_mul(2_654_435_761) >> 13) as u8;
+        (0..64 * MEBIBYTE).map(byte).collect()
+    })
+}
+
+fn add_writers(cases: &mut Vec<Case>) {
+    macro_rules! add {
+        ($method:literal, $function:ident, $target:literal, $($size:literal)*) => {$(
+            for len in [1, 7, 16, 100] {
+                let piece = &source()[..len];
+                let name = format!("`BufWriter` {}, `{}` of {len} to a {}", $size, $method, $target);
+                cases.push(case!(name, SMALL, $function::<$size>(piece)));
+            }
+        )*};
+    }
+    add!("write_all", write_all_to_sink, "sink", 64 1024 8192);
+    add!("write", write_to_sink, "sink", 64 1024 8192);
+    add!("write_all", write_all_to_vec, "`Vec`", 64 1024 8192);
+    add!("write", write_to_vec, "`Vec`", 64 1024 8192);
+}
+
+fn add_lines(cases: &mut Vec<Case>) {
+    let line: &'static [u8] = b"a line of text, as a log may have them\n";
+    let (text, end) = line.split_at(line.len() - 1);
+    let name = String::from("`LineWriter` 1024, whole lines");
+    cases.push(case!(name, SMALL, write_lines(line)));
+    let name = String::from("`LineWriter` 1024, text and newline apart");
+    cases.push(case!(name, SMALL, write_lines_apart(text, end)));
+}
+
+fn add_readers(cases: &mut Vec<Case>) {
+    macro_rules! add {
+        ($method:literal, $function:ident, $($size:literal)*) => {$(
+            for room in [1, 7, 16] {
+                let name = format!("`BufReader` {}, `{}` of {room}", $size, $method);
+                cases.push(case!(name, SMALL, $function::<$size>(source(), room)));
+            }
+        )*};
+    }
+    add!("read", read, 64 1024 8192);
+    add!("read_exact", read_exact, 64 1024 8192);
+}
+
+fn add_whole(cases: &mut Vec<Case>) {
+    let part = &source()[..16 * MEBIBYTE];
+    let name = String::from("`read_to_end` of 16 MiB through `Take`");
+    cases.push(case!(name, 1, take_to_end(part)));
+    let name = String::from("`read_to_end` of 16 MiB through `Chain`");
+    cases.push(case!(name, 1, chain_to_end(part)));
+    let name = String::from("`copy` 64 of 64 MiB");
+    let mut small = case!(name, 1, copy_to_sink::<64>(source()));
+    // The standard one has always 8192 bytes.
+    small.runs[1] = None;
+    cases.push(small);
+    let name = String::from("`copy` 8192 of 64 MiB");
+    cases.push(case!(name, 1, copy_to_sink::<8192>(source())));
+}
+
+fn add_rest(cases: &mut Vec<Case>) {
+    let piece = &source()[..16];
+    let name = String::from("`Cursor<Vec>`, `write_all` of 16, growing");
+    cases.push(case!(name, SMALL, cursor_grows(piece)));
+    let name = String::from("`Cursor<Vec>`, `write_all` of 16, overwriting");
+    cases.push(case!(name, SMALL, cursor_overwrites(4096, piece)));
+    let name = String::from("a boxed tower, `write` of 16");
+    cases.push(case!(name, SMALL, boxed_tower(piece)));
+}

@@ -1,0 +1,42 @@
+//! Times this library's streams, Rust's standard ones and those of the original crate on the same
+//! work, and counts their instructions. Prints one table.
+//!
+//! `driver` alone runs everything; `driver count` is what it runs below `callgrind`.
+mod cases;
+mod counting;
+mod ours;
+mod table;
+mod timing;
+
+#[cfg(original)]
+#[path = "original.rs"]
+mod original_side;
+#[path = "std.rs"]
+mod std_side;
+
+use std::process::ExitCode;
+
+fn main() -> ExitCode {
+    let cases = cases::all();
+    if std::env::args().nth(1).as_deref() == Some("count") {
+        counting::count_below_callgrind(&cases);
+        return ExitCode::SUCCESS;
+    }
+    for case in &cases {
+        if let Err(text) = case.check() {
+            eprintln!("{text}");
+            return ExitCode::FAILURE;
+        }
+    }
+    let times = timing::time(&cases);
+    match counting::count(&cases) {
+        Ok(counts) => {
+            table::print(&cases, &times, &counts);
+            ExitCode::SUCCESS
+        }
+        Err(text) => {
+            eprintln!("{text}");
+            ExitCode::FAILURE
+        }
+    }
+}
