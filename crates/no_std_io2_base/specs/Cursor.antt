@@ -1,10 +1,9 @@
 -- What a clause reads of a `Cursor`.
-use Rattle.std.specs.Prelude.{◌≡◌, ℕ, ◌+◌, ◌-◌, ◌^◌, ◌<◌, ◌≤◌, ◌⊎◌, min, List, ◌++◌, length, take, drop, replicate, codes, None, Some, Ok, Err, Result}
+use Rattle.std.specs.Prelude.{◌≡◌, ℕ, ◌+◌, ◌-◌, ◌^◌, ◌<◌, ◌≤◌, ◌⊎◌, List, ◌++◌, length, take, drop, replicate, codes, None, Some, Ok, Err, Result}
 use Rattle.no_std_io2_base.specs.declared.cursor.Cursor.{Cursor}
 use Rattle.no_std_io2_base.specs.declared.error.Error.{Error}
 use Rattle.no_std_io2_base.specs.declared.error.ErrorKind.TheVariants.{InvalidInput, OutOfMemory}
 use Rattle.no_std_io2_base.specs.Errors.{error_kind, error_text}
-use Rattle.no_std_io2_base.specs.Events.{Event, events_of}
 
 abbrev pub cursor_place : {T : Type 0} → Cursor T → ℕ
 cursor_place c = c.pos

@@ -1,5 +1,5 @@
 -- Where a seek goes.
-use Rattle.std.specs.Prelude.{◌≡◌, ℕ, ℤ, pos, negsuc, ◌+◌, ◌^◌, ◌<◌, List, length, drop, Ok, Err, Result}
+use Rattle.std.specs.Prelude.{◌≡◌, ℕ, ℤ, pos, negsuc, ◌+◌, ◌^◌, ◌<◌, Ok, Err, Result}
 use Rattle.no_std_io2_base.specs.declared.error.Error.{Error}
 use Rattle.no_std_io2_base.specs.declared.error.ErrorKind.TheVariants.{InvalidInput}
 use Rattle.no_std_io2_base.specs.declared.traits.seeking.SeekFrom.{SeekFrom}

@@ -2,10 +2,29 @@
 use crate::faulty::{Act, Faulty};
 use crate::sink::Sink;
 use crate::tally::Tally;
-use no_std_io2::io::{BufWriter, ErrorKind, Write};
+use no_std_io2::io::{BufWriter, ErrorKind, Result, Write};
 use std::test::Fail;
 
 type Answer = std::result::Result<(), Fail>;
+
+// Writes a record through a buffer of 64 bytes, and gives the device back with every byte out: the
+// example of README.md.
+fn save(device: Vec<u8>, record: &[u8]) -> Result<Vec<u8>> {
+    let mut w = BufWriter::<Vec<u8>, 64>::new(device);
+    w.write_all(record)?;
+    w.flush()?;
+    match w.into_inner() {
+        Ok(device) => Ok(device),
+        Err(e) => Err(e.into()),
+    }
+}
+
+#[test]
+fn the_first_example(rt: HostRuntime) -> Answer {
+    let device = save(Vec::new(rt.alloc()), b"a record")?;
+    assert_eq!(rt; device.as_slice(), b"a record".as_slice());
+    Ok(())
+}
 
 #[test]
 fn small_writes_come_out_at_the_end(rt: HostRuntime) -> Answer {

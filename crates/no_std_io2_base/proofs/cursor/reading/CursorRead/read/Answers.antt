@@ -1,4 +1,4 @@
-use Rattle.std.proofs.Common.{◌≡◌, arith, length, take, drop, ap, ◌∙◌, take_at, length-take-le}
+use Rattle.std.proofs.Common.{◌≡◌, arith, length, take, ap, ◌∙◌, take_at, length-take-le}
 use Rattle.no_std_io2_base.specs.Cursor.{cursor_left}
 use Rattle.no_std_io2_base.proofs.Slices.{read_bytes}
 use Rattle.no_std_io2_base.proofs.Events.{length-events_of}

@@ -1,4 +1,4 @@
-use Rattle.std.proofs.Common.{◌≡◌, ◌+◌, ◌++◌, arith, rules, length, take, drop, sym, ap, ◌∙◌, inr, refl, append-nil, drop_of_length-le, length-drop}
+use Rattle.std.proofs.Common.{◌+◌, ◌++◌, arith, rules, length, take, drop, ap, ◌∙◌, inr, refl, append-nil, drop_of_length-le, length-drop}
 use Rattle.no_std_io2_base.specs.Cursor.{cursor_left}
 use Rattle.no_std_io2_base.specs.Laws.{bytes-events_of}
 use Rattle.no_std_io2_base.proofs.Slices.{fill_bytes}

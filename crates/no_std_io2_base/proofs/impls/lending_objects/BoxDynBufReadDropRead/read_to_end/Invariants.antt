@@ -1,5 +1,5 @@
 -- As the trait's: it ends with its reader's turns, and the bytes up to `filled` are what it took.
-use Rattle.std.proofs.Common.{◌≡◌, ◌≤◌, length, take, vec_len}
+use Rattle.std.proofs.Common.{◌≡◌, ◌≤◌, take, vec_len}
 use Rattle.no_std_io2_base.proofs.Gathered.{Gathered}
 use Rattle.no_std_io2_base.proofs.impls.lending_objects.BoxDynBufReadDropRead.read_to_end.Given as goal
 

@@ -14,7 +14,7 @@ use contract.BorrowLft.{◌⊑◌, ⊑_trans}
 use contract.Monad.{Fun, fact}
 use contract.Running.{tables, tables_of}
 use sound.WpLaws.{fm_of, WpFn-mono}
-use types.Run.{stop, fld, addr, first, branches, skips, exec, returns_within, lit, no_more, and_then, of_opd, returns, enter}
+use types.Run.{stop, fld, addr, first, branches, skips, exec, returns_within, lit, no_more, and_then, returns, enter}
 use denote.Exit.{yes}
 use denote.RattleType.{owns, RattleType}
 use denote.Ref.{shr_vals}

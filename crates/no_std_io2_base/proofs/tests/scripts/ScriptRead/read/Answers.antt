@@ -1,4 +1,4 @@
-use Rattle.std.proofs.Common.{◌≡◌, ℕ, ◌<◌, ◌++◌, map, List, [], ◌∷◌, length, take, slice_set, refl, ap, ◌∙◌, arith, rules}
+use Rattle.std.proofs.Common.{◌≡◌, ℕ, ◌<◌, map, List, [], ◌∷◌, length, take, slice_set, refl, ap, ◌∙◌, arith, rules}
 use Rattle.no_std_io2_base.proofs.tests.scripts.ScriptRead.read.Goals as goal
 
 one-take : (buf : List ℕ) (b : ℕ) → 0 < length buf → take 1 (slice_set buf 0 b) ≡ b ∷ []

@@ -1,4 +1,4 @@
-use Rattle.std.proofs.Common.{◌+◌, ◌≤◌, ◌++◌, take, rules, arith, sym, ap, subst, ◌∙◌, le_refl}
+use Rattle.std.proofs.Common.{◌+◌, ◌≤◌, ◌++◌, take, rules, arith, ap, ◌∙◌, le_refl}
 use Rattle.no_std_io2_base.proofs.Gathered.{gathered_same, gathered_read, gathered_interruption, gathered_fault}
 use Rattle.no_std_io2_base.proofs.Parts.{take-written, take-written_below, take-stays}
 use Rattle.no_std_io2_base.proofs.Taken.{moved_read, no_error}
