@@ -1,5 +1,5 @@
 -- A buffer in front of a writer.
-use Rattle.std.proofs.Common.{◌≡◌, ℕ, ◌+◌, ◌-◌, ◌<◌, ◌≤◌, subst, length-take, Result, Ok, Err, IsOk, Some, List, [], ◌∷◌, refl, ◌++◌, length, take, drop, length-drop, sym, ap, ◌∙◌, arith, length-append, append_assoc, append-nil, take-append-drop}
+use Rattle.std.proofs.Common.{◌≡◌, ℕ, ◌-◌, ◌<◌, ◌≤◌, subst, length-take, Result, Ok, Err, IsOk, Some, List, [], ◌∷◌, refl, ◌++◌, length, take, drop, length-drop, sym, ap, ◌∙◌, arith, length-append, append_assoc, append-nil, take-append-drop}
 use Rattle.std.proofs.lemmas.Bool.Decides.{nat_tests}
 use Rattle.no_std_io2_base.specs.declared.error.ErrorKind.{ErrorKind}
 use Rattle.no_std_io2_base.specs.declared.error.Error.{Error}

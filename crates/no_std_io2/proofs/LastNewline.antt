@@ -1,5 +1,5 @@
 -- The lines of a list of bytes, and what follows them.
-use Rattle.std.proofs.Common.{◌≡◌, ◌≢◌, ℕ, ◌+◌, ◌-◌, ◌<◌, ◌≤◌, ◌==◌, not, true, false, List, [], ◌++◌, length, take, drop, get_or, slice_index, refl, sym, ap, ◌∙◌, subst, append-nil, arith, min, length-drop, length-take}
+use Rattle.std.proofs.Common.{◌≡◌, ◌≢◌, ℕ, ◌+◌, ◌-◌, ◌<◌, ◌≤◌, ◌==◌, not, true, false, List, [], ◌++◌, length, take, drop, get_or, slice_index, sym, ap, ◌∙◌, subst, append-nil, arith, min, length-drop, length-take}
 use Rattle.std.proofs.lemmas.Bool.Decides.{nat_tests}
 use Rattle.std.proofs.lemmas.List.{get_or-drop, get_or-take, drop_all, take_min, take-take, get_or_default}
 use Rattle.std.proofs.lemmas.List.Sums.{suffix_len_is}

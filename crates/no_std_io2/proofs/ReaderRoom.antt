@@ -1,5 +1,5 @@
 -- How much a `BufReader` holds.
-use Rattle.std.proofs.Common.{ℕ, ◌-◌, ◌<◌, ◌≤◌, length, take, drop, arith, length-take}
+use Rattle.std.proofs.Common.{ℕ, ◌-◌, ◌<◌, ◌≤◌, length, drop, arith, length-take}
 use Rattle.no_std_io2.specs.declared.buffered.reading.BufReader.{BufReader}
 use Rattle.no_std_io2.specs.Reading.{reader_held}
 

@@ -1,5 +1,5 @@
 -- A seek of a buffered reader, by one or two seeks of its inner reader.
-use Rattle.std.proofs.Common.{◌≡◌, ℕ, zero, suc, ◌+◌, ◌-◌, ◌^◌, ◌<◌, ◌≤◌, ℤ, pos, negsuc, ◌+ℤ◌, ◌-ℤ◌, IsOk, IsOkAnd, ◌⊎◌, inl, inr, List, [], length, Ok, Err, Result, OnOk, OnErr, FitsSigned, refl, sym, ap, ◌∙◌, subst, arith, rules}
+use Rattle.std.proofs.Common.{◌≡◌, ℕ, ◌-◌, ◌^◌, ◌<◌, ◌≤◌, ℤ, pos, negsuc, ◌+ℤ◌, ◌-ℤ◌, IsOk, IsOkAnd, ◌⊎◌, inl, inr, List, [], length, Ok, Err, Result, OnOk, OnErr, FitsSigned, refl, sym, ap, ◌∙◌, subst, arith, rules}
 use Rattle.std.proofs.lemmas.Int.{ints}
 use Rattle.std.specs.Int.{w64}
 use Rattle.no_std_io2_base.specs.declared.error.Error.{Error}

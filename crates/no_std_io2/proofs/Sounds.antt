@@ -1,5 +1,5 @@
 -- A fill from a store.
-use Rattle.std.proofs.Common.{◌≡◌, ℕ, suc, ◌+◌, ◌-◌, ◌<◌, ◌≤◌, List, [], ◌∷◌, ◌++◌, Ok, Err, Result, length, take, drop, slice_index_or, sym, ap, subst, ◌∙◌, arith, refl, length-take-le, length-drop, take-append-drop, append_assoc}
+use Rattle.std.proofs.Common.{◌≡◌, ℕ, suc, ◌+◌, ◌-◌, ◌<◌, ◌≤◌, List, [], ◌∷◌, ◌++◌, Ok, Err, Result, length, take, drop, slice_index_or, sym, ap, subst, ◌∙◌, arith, refl, length-drop, take-append-drop, append_assoc}
 use Rattle.std.proofs.lemmas.List.{drop-drop, drop-take}
 use Rattle.std.proofs.Math.Seq.{drop-cons}
 use Rattle.no_std_io2_base.proofs.Events.{events_of-append}

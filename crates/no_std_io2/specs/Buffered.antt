@@ -1,5 +1,5 @@
 -- What a clause reads of a `BufWriter` and an `IntoInnerError`, and how a buffer is sent.
-use Rattle.std.specs.Prelude.{◌≡◌, ℕ, ◌+◌, List, [], ◌∷◌, ◌++◌, length, nat_lt, nat_le, ◌&&◌, if◌then◌else◌, Result}
+use Rattle.std.specs.Prelude.{◌≡◌, ℕ, ◌+◌, List, [], ◌++◌, length, nat_lt, nat_le, ◌&&◌, if◌then◌else◌, Result}
 use Rattle.no_std_io2_base.specs.declared.error.Error.{Error}
 use Rattle.no_std_io2_base.specs.Writes.{Told, Moves, call_mishap}
 use Rattle.no_std_io2.specs.Window.{window_bytes}

@@ -1,6 +1,6 @@
 -- Held bytes that are the store's own, right before the inner reader's position.
 use Rattle.std.specs.Prelude.{◌≡◌, ℕ, ◌+◌, ◌-◌, ◌^◌, ◌<◌, ◌≤◌, List, [], ◌∷◌, ◌++◌, length, take, drop, refl}
-use Rattle.std.proofs.Common.{ap, sym, ◌∙◌, subst, arith, zero-le, length-take, length-drop, length-append, take-append-drop}
+use Rattle.std.proofs.Common.{ap, sym, ◌∙◌, arith, length-drop, take-append-drop}
 use Rattle.std.proofs.lemmas.List.{drop-drop, drop-take}
 use lib.Seq.{take-append-le}
 use Rattle.no_std_io2_base.specs.Events.{Event, events_of, bytes}

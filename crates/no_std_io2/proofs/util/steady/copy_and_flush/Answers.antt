@@ -1,4 +1,4 @@
-use Rattle.std.proofs.Common.{◌≡◌, ◌++◌, [], refl, sym, ap, ◌∙◌, subst, append-nil}
+use Rattle.std.proofs.Common.{◌≡◌, ◌++◌, [], sym, ap, ◌∙◌, subst, append-nil}
 use Rattle.no_std_io2_base.specs.Events.{bytes}
 use Rattle.no_std_io2_base.specs.Writes.{Moves}
 use Rattle.no_std_io2_base.proofs.MovesLemmas.{Moves-steady}

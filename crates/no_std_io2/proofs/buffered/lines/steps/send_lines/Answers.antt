@@ -1,4 +1,4 @@
-use Rattle.std.proofs.Common.{◌≡◌, ◌<◌, [], rules, arith, ap, sym, ◌∙◌}
+use Rattle.std.proofs.Common.{◌≡◌, ◌<◌, [], rules, arith, ap}
 use Rattle.no_std_io2.specs.Buffered.{sender_buffer, sending_calls}
 use Rattle.no_std_io2.proofs.CountLemmas.{writing_then_sending}
 use Rattle.no_std_io2.proofs.BufferLemmas.{Moves-sent_part, none_of_length}

@@ -1,10 +1,10 @@
-use Rattle.std.proofs.Common.{◌≡◌, ◌-◌, [], take, drop, length, sym, ap, ◌∙◌, subst, arith, take-append-drop}
+use Rattle.std.proofs.Common.{◌-◌, [], take, drop, length, sym, ap, ◌∙◌, take-append-drop}
 use Rattle.std.proofs.lemmas.List.{take_rest}
 use Rattle.std.proofs.lemmas.Result.{err_from_is_err_and}
 use Rattle.no_std_io2.specs.LineState.{HasNoNewline}
-use Rattle.no_std_io2.specs.Buffered.{sender_buffer, sending_calls, buffer_after}
+use Rattle.no_std_io2.specs.Buffered.{sender_buffer, buffer_after}
 use Rattle.no_std_io2.proofs.LineLemmas.{MovesFront-part, MovesFront-whole, MovesFront-rest, HasNoNewline-none, HasNoNewline-take, HasNoNewline-after, IsLineState-plain, onok}
-use Rattle.no_std_io2.proofs.CountLemmas.{sending_calls-none, buffer_after-none}
+use Rattle.no_std_io2.proofs.CountLemmas.{buffer_after-none}
 use Rattle.no_std_io2.proofs.LastNewline.{unfinished_line-is}
 use Rattle.no_std_io2.proofs.buffered.lines.steps.write_all_lines.Goals as goal
 

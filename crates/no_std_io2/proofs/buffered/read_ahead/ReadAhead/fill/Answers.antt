@@ -1,4 +1,4 @@
-use Rattle.std.proofs.Common.{◌≡◌, ◌+◌, ◌≤◌, length, rules, arith}
+use Rattle.std.proofs.Common.{◌≡◌, length, rules, arith}
 use Rattle.no_std_io2.proofs.Turns.{read_length, read_held}
 use Rattle.no_std_io2.proofs.buffered.read_ahead.ReadAhead.fill.Goals as goal
 

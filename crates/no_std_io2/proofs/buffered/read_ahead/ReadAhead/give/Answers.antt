@@ -1,4 +1,4 @@
-use Rattle.std.proofs.Common.{◌≡◌, ◌+◌, ◌-◌, ◌<◌, ◌≤◌, [], ◌∷◌, length, take, drop, slice_index_or, rules, arith, sym, ◌∙◌, length-take}
+use Rattle.std.proofs.Common.{◌≡◌, ◌-◌, ◌<◌, length, drop, slice_index_or, rules, arith, sym, ◌∙◌, length-take}
 use Rattle.std.proofs.Math.Seq.{take-suc-set}
 use Rattle.no_std_io2.proofs.Sounds.{held_rest, held_first}
 use Rattle.no_std_io2.proofs.buffered.read_ahead.ReadAhead.give.Goals as goal

@@ -1,4 +1,4 @@
-use Rattle.std.proofs.Common.{◌+◌, ◌-◌, ◌≤◌, length, drop, arith, length-take}
+use Rattle.std.proofs.Common.{◌-◌, length, drop, arith, length-take}
 use Rattle.no_std_io2.proofs.Sounds.{held_rest}
 use Rattle.no_std_io2.proofs.buffered.read_ahead.ReadAhead.give_whole.Goals as goal
 

@@ -1,4 +1,4 @@
-use Rattle.std.proofs.Common.{◌≡◌, length, rules, arith, sym, ◌∙◌}
+use Rattle.std.proofs.Common.{length, arith, sym, ◌∙◌}
 use Rattle.no_std_io2.specs.ReadAhead.{ahead_held}
 use Rattle.no_std_io2.specs.Reading.{reader_held}
 use Rattle.no_std_io2.proofs.Sounds.{sound_ahead, position_none}

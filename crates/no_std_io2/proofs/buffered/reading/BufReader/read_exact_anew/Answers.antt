@@ -1,10 +1,9 @@
-use Rattle.std.proofs.Common.{◌≡◌, ◌+◌, ◌-◌, ◌<◌, ◌≤◌, ◌++◌, [], min, length, take, drop, rules, arith, sym, ap, subst, ◌∙◌, le_refl, inl, inr, length-take-le, length-drop}
+use Rattle.std.proofs.Common.{◌≡◌, ◌-◌, ◌≤◌, length, take, rules, arith, sym, ap, subst, ◌∙◌, le_refl, inl, inr, length-take-le, length-drop}
 use Rattle.std.proofs.lemmas.Slice.{take-put_mid_below}
-use borrow.Rule.Slice.PartMut.{put_mid}
 use Rattle.no_std_io2_base.proofs.Parts.{take-put_mid}
 use Rattle.no_std_io2_base.proofs.Taken.{taken_read, taken_interruption, taken_fault, moved_read}
 use Rattle.no_std_io2.specs.Reading.{reader_held, reader_inner, reader_events}
-use Rattle.no_std_io2.proofs.Exact.{exact_begins, exact_none, exact_first, exact_read, exact_end, exact_short, exact_left-end, exact_left-full, taken_first, taken_end, taken_whole, nothing_read, length-events, moved_length, no_bytes, gives_to_come, no_error_behind}
+use Rattle.no_std_io2.proofs.Exact.{exact_begins, exact_none, exact_first, exact_read, exact_short, exact_left-end, exact_left-full, taken_first, taken_end, taken_whole, nothing_read, length-events, moved_length, no_bytes, gives_to_come, no_error_behind}
 use Rattle.no_std_io2.proofs.buffered.reading.BufReader.read_exact_anew.Goals as goal
 
 pub reads-init : goal.reads-init

@@ -1,9 +1,9 @@
-use Rattle.std.proofs.Common.{◌≡◌, ◌-ℤ◌, ◌^◌, ◌<◌, ℤ, pos, length, FitsSigned, rules, arith, ap, sym, ◌∙◌, inl, inr, subst}
+use Rattle.std.proofs.Common.{◌≡◌, ◌-ℤ◌, ℤ, pos, length, FitsSigned, rules, arith, sym, ◌∙◌, subst}
 use Rattle.std.proofs.lemmas.Int.{ints, to_z-of_z}
 use Rattle.std.specs.Int.{w64}
 use mir.Val.{to_z, of_z}
-use Rattle.no_std_io2.specs.Reading.{reader_held, reader_inner}
-use Rattle.no_std_io2.proofs.Seeks.{sought_current, sought_again, far_unless_fits, fits_not_far}
+use Rattle.no_std_io2.specs.Reading.{reader_held}
+use Rattle.no_std_io2.proofs.Seeks.{sought_current, sought_again, fits_not_far}
 use Rattle.no_std_io2.proofs.buffered.reading.BufReader.seek_current.Goals as goal
 
 pub returns-in-Some-clause-store : goal.returns-in-Some-clause-store

@@ -1,5 +1,4 @@
-use Rattle.std.proofs.Common.{◌≡◌, ℕ, ◌<◌, ◌++◌, [], length, take, drop, rules, arith, sym, ap, ◌∙◌}
-use Rattle.std.proofs.lemmas.Grind.{common_steps}
+use Rattle.std.proofs.Common.{◌≡◌, ◌<◌, ◌++◌, length, take, drop, rules, arith, sym, ap, ◌∙◌}
 use Rattle.no_std_io2_base.proofs.MovesLemmas.{Moves-more, Moves-ends, Moves-quiet}
 use Rattle.no_std_io2.specs.Buffered.{sender_buffer}
 use Rattle.no_std_io2.proofs.BufferLemmas.{none_left, gone_more, drop_whole, sending_none, sending_some, ok_same}

@@ -1,4 +1,4 @@
-use Rattle.std.proofs.Common.{◌≡◌, [], length, refl, inl}
+use Rattle.std.proofs.Common.{[], refl, inl}
 use Rattle.no_std_io2_base.proofs.MovesLemmas.{IsFront-refl, Moves-then}
 use Rattle.no_std_io2.specs.Buffered.{sender_buffer}
 use Rattle.no_std_io2.proofs.BufferLemmas.{Moves-held, call_steady, IsEnd-held}

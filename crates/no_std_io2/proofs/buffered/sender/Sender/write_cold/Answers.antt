@@ -1,4 +1,4 @@
-use Rattle.std.proofs.Common.{◌≡◌, [], length, le_refl, take_all, refl, sym, arith, append-nil}
+use Rattle.std.proofs.Common.{[], le_refl, take_all, append-nil}
 use Rattle.std.proofs.lemmas.Result.{err_from_is_err_and}
 use Rattle.no_std_io2_base.proofs.MovesLemmas.{Moves-then, zero_write-whole}
 use Rattle.no_std_io2.specs.Buffered.{sender_buffer}

@@ -1,4 +1,4 @@
-use Rattle.std.proofs.Common.{◌≡◌, ◌+◌, ◌-◌, ◌≤◌, length, take, arith, sym, ap, refl, ◌∙◌, length-drop, length-take-le, take_all}
+use Rattle.std.proofs.Common.{◌≡◌, ◌-◌, ◌≤◌, length, arith, ap, refl, ◌∙◌, length-drop, length-take-le}
 use Rattle.no_std_io2.specs.ReadAhead.{ahead_held}
 use Rattle.no_std_io2.specs.Reading.{reader_held, reader_inner}
 use Rattle.no_std_io2.proofs.Exact.{length-events, moved_length, fills_front, exact_left-held}

@@ -1,4 +1,4 @@
-use Rattle.std.proofs.Common.{◌≡◌, ℤ, length, FitsSigned, rules, sym, ap, ◌∙◌, subst}
+use Rattle.std.proofs.Common.{length, FitsSigned, rules, sym, ap, ◌∙◌, subst}
 use Rattle.std.proofs.lemmas.Int.{to_z-of_z}
 use Rattle.std.specs.Int.{w64}
 use Rattle.no_std_io2_base.specs.declared.traits.seeking.SeekFrom.{SeekFrom}

@@ -1,5 +1,5 @@
-use Rattle.std.proofs.Common.{◌^◌, ◌<◌, length}
-use Rattle.no_std_io2.specs.Reading.{reader_held, reader_inner, reader_position}
+use Rattle.std.proofs.Common.{length}
+use Rattle.no_std_io2.specs.Reading.{reader_held, reader_inner}
 use Rattle.no_std_io2.specs.Sound.{sound_fits}
 use Rattle.no_std_io2.proofs.Seeks.{stays}
 use Rattle.no_std_io2.proofs.buffered.reading.seeks.BufReaderSeek.stream_position.Goals as goal
