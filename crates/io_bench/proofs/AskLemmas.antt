@@ -1,5 +1,5 @@
 -- Asks in a row.
-use Rattle.std.proofs.Common.{Bor, Result, Ok, ◌⊎◌, inl, inr, Err, append-nil, nat_eq, ◌≡◌, ℕ, zero, suc, ◌+◌, ◌-◌, ◌<◌, ◌≤◌, min, nat_lt, if◌then◌else◌, true, false, Bool, List, [], ◌∷◌, ◌++◌, length, take, drop, get_or, refl, sym, ap, subst, ◌∙◌, arith, ⊎_elim, drop_of_length-le, length-take-le, length-drop, add_assoc, append_assoc, take_all, length-append}
+use Rattle.std.proofs.Common.{Bor, Result, Ok, ◌⊎◌, inl, inr, Err, append-nil, nat_eq, ◌≡◌, ℕ, zero, suc, ◌+◌, ◌-◌, ◌<◌, ◌≤◌, min, nat_lt, if◌then◌else◌, false, Bool, List, [], ◌∷◌, ◌++◌, length, take, drop, get_or, refl, sym, ap, subst, ◌∙◌, arith, ⊎_elim, drop_of_length-le, length-take-le, length-drop, add_assoc, append_assoc, take_all, length-append}
 use Rattle.std.proofs.lemmas.List.{take_more}
 use Rattle.std.proofs.lemmas.Bool.Decides.{nat_tests}
 use Rattle.std.proofs.lemmas.Bool.{cases_lt}

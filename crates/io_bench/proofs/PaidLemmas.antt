@@ -1,5 +1,5 @@
 -- The count of inner writes: two in a row carry more than S bytes, unless a flush made the first.
-use Rattle.std.proofs.Common.{◌≡◌, ℕ, ◌+◌, ◌*◌, ◌/◌, ◌<◌, ◌≤◌, min, zero, suc, List, [], ◌∷◌, length, ◌⊎◌, inl, inr, sym, ⊎_elim, subst, Bool, true, false, cond, ◌&&◌, nat_lt, nat_le, refl, arith}
+use Rattle.std.proofs.Common.{◌≡◌, ℕ, ◌+◌, ◌*◌, ◌/◌, ◌<◌, ◌≤◌, min, zero, suc, List, [], length, sym, ⊎_elim, subst, refl, arith}
 use Rattle.std.proofs.Math.Nat.{le-div_iff_mul-le}
 use Rattle.std.proofs.lemmas.List.{length-append}
 use Rattle.no_std_io2.specs.Buffered.{writing_calls, sending_calls, buffer_after}

@@ -1,6 +1,6 @@
 -- What a clause reads of a `Faulty`.
 use Rattle.std.proofs.Common.{ap, ◌∙◌}
-use Rattle.std.specs.Prelude.{◌≡◌, ◌<◌, Some, None, Option, ℕ, List, [], ◌∷◌, ◌++◌, drop, take, if◌then◌else◌, ◌==◌, ◌+◌, count_by, ⊤}
+use Rattle.std.specs.Prelude.{◌≡◌, Some, None, Option, List, [], ◌∷◌, ◌++◌, drop, if◌then◌else◌, ◌==◌, ◌+◌, count_by, ⊤}
 use Rattle.no_std_io2_base.specs.Errors.{is_interruption}
 use Rattle.std.specs.Option.{option_map}
 use Rattle.no_std_io2_base.specs.declared.error.ErrorKind.{ErrorKind}

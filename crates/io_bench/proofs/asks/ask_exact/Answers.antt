@@ -1,7 +1,7 @@
-use Rattle.std.proofs.Common.{◌≡◌, ◌<◌, ◌-◌, length, arith, ap, ◌∙◌}
+use Rattle.std.proofs.Common.{length, arith, ◌∙◌}
 use Rattle.std.proofs.lemmas.Bool.Decides.{nat_tests}
-use Rattle.no_std_io2_base.specs.Events.{events_of, bytes, cut}
-use Rattle.no_std_io2.specs.Reading.{reader_held, reader_inner, reader_events}
+use Rattle.no_std_io2_base.specs.Events.{cut}
+use Rattle.no_std_io2.specs.Reading.{reader_held}
 use Rattle.io_bench.proofs.AskLemmas.{exact_asked, failed_front, filled-le, falls_short, bytes_behind}
 use Rattle.io_bench.proofs.asks.ask_exact.Goals as goal
 

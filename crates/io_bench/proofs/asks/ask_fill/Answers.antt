@@ -1,4 +1,4 @@
-use Rattle.std.proofs.Common.{◌≡◌, ◌+◌, ◌∷◌, [], length, take, min, arith, refl, sym, ap, ◌∙◌, length-take-le, length-drop}
+use Rattle.std.proofs.Common.{length, take, arith, refl, sym, ap, ◌∙◌, length-take-le, length-drop}
 use Rattle.no_std_io2_base.specs.Events.{events_of}
 use Rattle.no_std_io2.specs.Reading.{reader_held, reader_inner, reader_events}
 use Rattle.no_std_io2.proofs.ReaderRoom.{some_room}

@@ -1,4 +1,4 @@
-use Rattle.std.proofs.Common.{Bool, true, false, if◌then◌else◌, ◌≡◌, ◌+◌, ◌-◌, ◌<◌, ◌≤◌, ◌/◌, length, take, get_or, rules, arith, refl, sym, ap, subst, ◌∙◌}
+use Rattle.std.proofs.Common.{Bool, true, false, if◌then◌else◌, ◌≡◌, ◌+◌, ◌<◌, ◌≤◌, length, get_or, rules, arith, refl, sym, ap, subst, ◌∙◌}
 use Rattle.no_std_io2.specs.Reading.{reader_held, reader_inner, reader_events}
 use Rattle.no_std_io2.proofs.ReaderRoom.{some_room, held-le}
 use Rattle.no_std_io2.proofs.Exact.{length-events}

@@ -1,4 +1,3 @@
-use Rattle.std.proofs.Common.{refl}
 use Rattle.no_std_io2_base.proofs.MovesLemmas.{Moves-steady}
 use Rattle.no_std_io2.proofs.BufferLemmas.{ok_same}
 use Rattle.io_bench.proofs.closed.make_counted_call.Goals as goal

@@ -1,4 +1,4 @@
-use Rattle.std.proofs.Common.{◌≡◌, ◌+◌, ◌<◌, ◌≤◌, ◌++◌, ◌∷◌, [], length, rules, arith, ap, ◌∙◌, refl, sym, get_or, take, take_all, add_assoc, append_assoc, append-nil, subst}
+use Rattle.std.proofs.Common.{◌<◌, ◌++◌, ◌∷◌, [], length, rules, arith, ap, ◌∙◌, sym, append_assoc, append-nil, subst}
 use Rattle.no_std_io2_base.proofs.MovesLemmas.{Moves-ends}
 use Rattle.no_std_io2_base.specs.Writes.{Moves}
 use Rattle.io_bench.specs.Closed.{given_bytes}

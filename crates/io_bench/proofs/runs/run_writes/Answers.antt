@@ -1,4 +1,4 @@
-use Rattle.std.proofs.Common.{◌≡◌, ◌+◌, ◌<◌, ◌≤◌, ◌++◌, ◌∷◌, [], length, rules, arith, ap, ◌∙◌, sym, append-nil, append_assoc}
+use Rattle.std.proofs.Common.{◌≡◌, ◌<◌, ◌++◌, ◌∷◌, [], length, rules, arith, ap, ◌∙◌, sym, append-nil, append_assoc}
 use Rattle.io_bench.proofs.RunLemmas.{Ran-none, Ran-next, AreWhole-next, EndsFlushed-next, all_made}
 use Rattle.io_bench.specs.Runs.{failures, IsShorterBy}
 use Rattle.io_bench.proofs.FailureLemmas.{failures_told, failures_none}

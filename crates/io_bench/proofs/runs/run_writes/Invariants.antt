@@ -1,5 +1,5 @@
 -- The calls so far were a run, and there is room for the replies to the others.
-use Rattle.std.proofs.Common.{◌≡◌, ℕ, ◌+◌, ◌-◌, ◌≤◌, List, [], ◌++◌, length, take, vec_len}
+use Rattle.std.proofs.Common.{◌≡◌, ◌+◌, ◌-◌, ◌≤◌, List, [], ◌++◌, length, take, vec_len}
 use Rattle.std.specs.Vec.{vec_capacity}
 use Rattle.io_bench.specs.declared.runs.Reply.{Reply}
 use Rattle.io_bench.specs.Runs.{Ran, EndsFlushed, AreWhole}

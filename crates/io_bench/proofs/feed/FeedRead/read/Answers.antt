@@ -1,4 +1,4 @@
-use Rattle.std.proofs.Common.{arith, sym, ◌∙◌}
+use Rattle.std.proofs.Common.{arith, sym}
 use Rattle.io_bench.proofs.FeedLemmas.{feed_reads}
 use Rattle.io_bench.proofs.feed.FeedRead.read.Goals as goal
 
