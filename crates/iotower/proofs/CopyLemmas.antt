@@ -1,12 +1,10 @@
 -- A copy, piece by piece.
-use Rattle.std.proofs.Common.{◌≡◌, ℕ, ◌+◌, ◌-◌, ◌^◌, ◌≤◌, ◌<◌, min, List, [], ◌∷◌, ◌++◌, length, take, refl, sym, ap, ◌∙◌, subst, arith, rules, Ok, Err, Result, Some, IsOk, IfErr, append-nil, append_assoc, length-append, length-take-le, inl, inr, ◌⊎◌}
+use Rattle.std.proofs.Common.{◌≡◌, ℕ, List, [], ◌∷◌, ◌++◌, sym, ap, ◌∙◌, subst, arith, rules, Ok, Err, Result, Some, IsOk, IfErr, append-nil, append_assoc, inl, inr, ◌⊎◌}
 use Rattle.no_std_io2_base.specs.declared.error.Error.{Error}
-use Rattle.no_std_io2_base.specs.declared.error.ErrorKind.{ErrorKind}
 use Rattle.no_std_io2_base.specs.Errors.{error_kind, IsInterruption, IsFault}
-use Rattle.no_std_io2_base.specs.Events.{Event, byte, fails, bytes, HasNoFault, Reads}
-use Rattle.no_std_io2_base.specs.Writes.{Told, Moves, MovesFront}
-use Rattle.no_std_io2_base.proofs.MovesLemmas.{Moves-refl, Moves-then, Moves-more, Moves-ends, Moves-steady}
-use Rattle.no_std_io2_base.proofs.Gathered.{Gathered}
+use Rattle.no_std_io2_base.specs.Events.{Event, byte, fails, bytes, HasNoFault}
+use Rattle.no_std_io2_base.specs.Writes.{Told, Moves}
+use Rattle.no_std_io2_base.proofs.MovesLemmas.{Moves-then, Moves-ends, Moves-steady}
 use Rattle.no_std_io2.specs.Buffered.{with_buffer}
 use Rattle.no_std_io2.proofs.BufferLemmas.{Moves-bare}
 use Rattle.no_std_io2.specs.Copy.{Copies, CopyEnds, CopyMoves}

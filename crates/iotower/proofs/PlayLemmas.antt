@@ -1,5 +1,5 @@
 -- What a play writes.
-use Rattle.std.proofs.Common.{◌≡◌, ℕ, List, [], subst, Ok, sym, ◌∙◌}
+use Rattle.std.proofs.Common.{◌≡◌, ℕ, List, [], subst, Ok, ◌∙◌}
 use Rattle.no_std_io2_base.specs.Writes.{Told, Moves, MovesFront}
 use Rattle.no_std_io2_base.proofs.MovesLemmas.{Moves-ends}
 use Rattle.iotower.specs.Play.{Writes}

@@ -5,7 +5,7 @@ use denote.RattleType.{RattleType}
 use Rattle.std.specs.Mem.{FitsInMemory}
 use Rattle.no_std_io2_base.specs.declared.error.Error.{Error}
 use Rattle.no_std_io2_base.specs.Errors.{error_kind}
-use Rattle.no_std_io2_base.specs.Events.{Event, bytes, HasNoFault, EndsInFault}
+use Rattle.no_std_io2_base.specs.Events.{Event, EndsInFault}
 use Rattle.no_std_io2_base.specs.Writes.{Told, Moves}
 use Rattle.no_std_io2.specs.Copy.{counted}
 use Rattle.no_std_io2.specs.contracts.buffered.reading.BufReader.{the_row as reader-row}

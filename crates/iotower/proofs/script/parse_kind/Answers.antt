@@ -1,4 +1,4 @@
-use Rattle.std.proofs.Common.{◌≡◌, subst, sym, None, List, ℕ, rules}
+use Rattle.std.proofs.Common.{subst, sym, rules}
 use Rattle.std.specs.Str.{IsUtf8}
 use Rattle.iotower.proofs.ScriptLemmas.{kind_name-IsUtf8}
 use Rattle.iotower.proofs.script.parse_kind.Goals as goal

@@ -1,4 +1,4 @@
-use Rattle.std.proofs.Common.{◌≡◌, ◌≤◌, vec_len, vec_capacity}
+use Rattle.std.proofs.Common.{◌≡◌, vec_len, vec_capacity}
 use Rattle.iotower.proofs.script.Calls.ops.Given as goal
 
 abbrev pub invariant-loop-step : goal.invariant-loop-step
