@@ -90,3 +90,18 @@ fn boxed_lender_tells<R: BufRead>(r: &Box<R>)
     ensures surely { R.lends_surely r.now.value → ⟦<Box<R> as BufRead>⟧.lends_surely r.now }
     ensures length { ⟦<Box<R> as BufRead>⟧.lent_length r.now ≡ R.lent_length r.now.value }
 {}
+
+fn reading_object_tells(r: &Box<dyn Read + Drop>)
+    ensures tells { tells r.now → ⟦<Box<dyn Read + Drop> as Read>⟧.tells r.now }
+    ensures events { ⟦<Box<dyn Read + Drop> as Read>⟧.events r.now ≡ events r.now }
+    ensures turns { ⟦<Box<dyn Read + Drop> as Read>⟧.turns r.now ≡ turns r.now }
+    ensures short { ⟦<Box<dyn Read + Drop> as Read>⟧.may_take_none r.now → may_take_none r.now }
+{}
+
+fn lending_object_tells(r: &Box<dyn BufRead + Drop>)
+    ensures tells { tells r.now → ⟦<Box<dyn BufRead + Drop> as Read>⟧.tells r.now }
+    ensures events { ⟦<Box<dyn BufRead + Drop> as Read>⟧.events r.now ≡ events r.now }
+    ensures turns { ⟦<Box<dyn BufRead + Drop> as Read>⟧.turns r.now ≡ turns r.now }
+    ensures short { ⟦<Box<dyn BufRead + Drop> as Read>⟧.may_take_none r.now → may_take_none r.now }
+    ensures held { ⟦<Box<dyn BufRead + Drop> as BufRead>⟧.held r.now ≡ held r.now }
+{}
