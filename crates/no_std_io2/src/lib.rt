@@ -3,8 +3,6 @@
 #![tactic(auto)]
 
 pub mod buffered;
-#[cfg(test)]
-mod tests;
 pub mod util;
 
 /// The standard trait of errors.

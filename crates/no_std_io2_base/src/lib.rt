@@ -7,6 +7,4 @@ pub mod error;
 pub mod impls;
 mod reader_tells;
 mod tells;
-#[cfg(test)]
-mod tests;
 pub mod traits;

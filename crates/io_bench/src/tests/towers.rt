@@ -5,28 +5,38 @@ use crate::runs::{Op, run_writes};
 use crate::sink::Sink;
 use crate::tally::Tally;
 use no_std_io2::io::{BufWriter, ErrorKind, LineWriter, Write};
+use std::alloc::{AllocError, Global};
 use std::test::Fail;
 
 type Answer = std::result::Result<(), Fail>;
 
-#[test]
-fn a_tower_over_a_device_that_fails(rt: HostRuntime) -> Answer {
-    let acts = vec![in rt.alloc();
+// Two buffers over a counter over a device with faults to come.
+type Tower = BufWriter<BufWriter<Tally<Faulty<Vec<u8>>>, 3>, 8>;
+
+// The device's second and fourth write fail, and its third takes nothing.
+fn failing_tower(alloc: Global) -> Result<Tower, AllocError> {
+    let acts = vec![in alloc;
         Act::Take(1),
         Act::Fail(ErrorKind::Interrupted),
         Act::Zero,
         Act::Fail(ErrorKind::BrokenPipe),
     ]?;
-    let device = Tally::new(Faulty::new(Vec::new(rt.alloc()), acts));
-    let mut w = BufWriter::<BufWriter<Tally<Faulty<Vec<u8>>>, 3>, 8>::new(BufWriter::new(device));
+    let device = Tally::new(Faulty::new(Vec::new(alloc), acts));
+    Ok(BufWriter::new(BufWriter::new(device)))
+}
+
+const OPS: [Op<'static>; 4] = [
+    Op::Write(b"abcd"),
+    Op::WriteAll(b"efgh"),
+    Op::WriteAll(b"ijklm"),
+    Op::Flush,
+];
+
+#[test]
+fn a_tower_over_a_device_that_fails(rt: HostRuntime) -> Answer {
+    let mut w = failing_tower(rt.alloc())?;
     let mut replies = Vec::new(rt.alloc());
-    let ops = [
-        Op::Write(b"abcd"),
-        Op::WriteAll(b"efgh"),
-        Op::WriteAll(b"ijklm"),
-        Op::Flush,
-    ];
-    run_writes(&mut w, &ops, &mut replies)?;
+    run_writes(&mut w, &OPS, &mut replies)?;
     let want = [
         Outcome::Took(4),
         Outcome::Done,
@@ -40,13 +50,17 @@ fn a_tower_over_a_device_that_fails(rt: HostRuntime) -> Answer {
     );
     assert!(rt; w.get_ref().buffer().is_empty());
     assert_eq!(rt; w.buffer(), b"bcdefgh".as_slice());
+    Ok(())
+}
 
+#[test]
+fn a_tower_goes_on_where_its_device_failed(rt: HostRuntime) -> Answer {
+    let mut w = failing_tower(rt.alloc())?;
     let mut replies = Vec::new(rt.alloc());
-    run_writes(
-        &mut w,
-        &[Op::Flush, Op::Write(b"x"), Op::Flush],
-        &mut replies,
-    )?;
+    run_writes(&mut w, &OPS, &mut replies)?;
+    replies.clear();
+    let ops = [Op::Flush, Op::Write(b"x"), Op::Flush];
+    run_writes(&mut w, &ops, &mut replies)?;
     let want = [Outcome::Done, Outcome::Took(1), Outcome::Done];
     assert_eq!(rt; outcomes(rt.alloc(), &replies)?.as_slice(), want.as_slice());
     let device = w.get_ref().get_ref();

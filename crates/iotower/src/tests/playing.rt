@@ -2,7 +2,7 @@
 use crate::play::{Fault, Shape, play};
 use io_bench::{Act, Faulty};
 use no_std_io2::io::ErrorKind;
-use std::alloc::Global;
+use std::alloc::{AllocError, Global};
 use std::test::Fail;
 
 // What the play of this script writes.
@@ -122,69 +122,49 @@ fn every_byte_but_two_stands_for_itself(rt: HostRuntime) -> Result<(), Fail> {
     Ok(())
 }
 
+// Each kind and its text.
+const KINDS: [(&[u8], &[u8]); 21] = [
+    (b"NotFound", b"entity not found"),
+    (b"PermissionDenied", b"permission denied"),
+    (b"ConnectionRefused", b"connection refused"),
+    (b"ConnectionReset", b"connection reset"),
+    (b"ConnectionAborted", b"connection aborted"),
+    (b"NotConnected", b"not connected"),
+    (b"AddrInUse", b"address in use"),
+    (b"AddrNotAvailable", b"address not available"),
+    (b"BrokenPipe", b"broken pipe"),
+    (b"AlreadyExists", b"entity already exists"),
+    (b"WouldBlock", b"operation would block"),
+    (b"InvalidInput", b"invalid input parameter"),
+    (b"InvalidData", b"invalid data"),
+    (b"TimedOut", b"timed out"),
+    (b"WriteZero", b"write zero"),
+    (b"Interrupted", b"operation interrupted"),
+    (b"Other", b"other os error"),
+    (b"UnexpectedEof", b"unexpected end of file"),
+    (b"Unsupported", b"unsupported I/O error"),
+    (b"OutOfMemory", b"out of memory"),
+    (b"Uncategorized", b"uncategorized"),
+];
+
+// Three pieces in a row.
+fn joined(alloc: Global, pieces: [&[u8]; 3]) -> Result<Vec<u8>, AllocError> {
+    let mut all = Vec::new(alloc);
+    for piece in pieces {
+        all.extend_from_slice(piece)?;
+    }
+    Ok(all)
+}
+
 #[test]
 fn each_kind_fails_with_its_text(rt: HostRuntime) -> Result<(), Fail> {
-    let cases: [(&[u8], &[u8]); 21] = [
-        (b"e NotFound\nf", b"failed=entity not found\nout=\nheld=\n"),
-        (
-            b"e PermissionDenied\nf",
-            b"failed=permission denied\nout=\nheld=\n",
-        ),
-        (
-            b"e ConnectionRefused\nf",
-            b"failed=connection refused\nout=\nheld=\n",
-        ),
-        (
-            b"e ConnectionReset\nf",
-            b"failed=connection reset\nout=\nheld=\n",
-        ),
-        (
-            b"e ConnectionAborted\nf",
-            b"failed=connection aborted\nout=\nheld=\n",
-        ),
-        (b"e NotConnected\nf", b"failed=not connected\nout=\nheld=\n"),
-        (b"e AddrInUse\nf", b"failed=address in use\nout=\nheld=\n"),
-        (
-            b"e AddrNotAvailable\nf",
-            b"failed=address not available\nout=\nheld=\n",
-        ),
-        (b"e BrokenPipe\nf", b"failed=broken pipe\nout=\nheld=\n"),
-        (
-            b"e AlreadyExists\nf",
-            b"failed=entity already exists\nout=\nheld=\n",
-        ),
-        (
-            b"e WouldBlock\nf",
-            b"failed=operation would block\nout=\nheld=\n",
-        ),
-        (
-            b"e InvalidInput\nf",
-            b"failed=invalid input parameter\nout=\nheld=\n",
-        ),
-        (b"e InvalidData\nf", b"failed=invalid data\nout=\nheld=\n"),
-        (b"e TimedOut\nf", b"failed=timed out\nout=\nheld=\n"),
-        (b"e WriteZero\nf", b"failed=write zero\nout=\nheld=\n"),
-        (
-            b"e Interrupted\nf",
-            b"failed=operation interrupted\nout=\nheld=\n",
-        ),
-        (b"e Other\nf", b"failed=other os error\nout=\nheld=\n"),
-        (
-            b"e UnexpectedEof\nf",
-            b"failed=unexpected end of file\nout=\nheld=\n",
-        ),
-        (
-            b"e Unsupported\nf",
-            b"failed=unsupported I/O error\nout=\nheld=\n",
-        ),
-        (b"e OutOfMemory\nf", b"failed=out of memory\nout=\nheld=\n"),
-        (
-            b"e Uncategorized\nf",
-            b"failed=uncategorized\nout=\nheld=\n",
-        ),
-    ];
-    for (script, want) in cases {
-        assert_eq!(rt; played(rt.alloc(), Shape::Buf, script)?.as_slice(), want);
+    for (kind, text) in KINDS {
+        let script = joined(rt.alloc(), [b"e ", kind, b"\nf"])?;
+        let want = joined(rt.alloc(), [b"failed=", text, b"\nout=\nheld=\n"])?;
+        assert_eq!(rt;
+            played(rt.alloc(), Shape::Buf, &script)?.as_slice(),
+            want.as_slice()
+        );
     }
     Ok(())
 }

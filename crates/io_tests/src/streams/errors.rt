@@ -1,4 +1,4 @@
-use crate::error::{Error, ErrorKind};
+use no_std_io2_base::error::{Error, ErrorKind};
 use std::alloc::Global;
 use std::collections::BTreeSet;
 use std::test::Fail;

@@ -1,6 +1,6 @@
-use crate::cursor::{AsSlice, Cursor};
-use crate::error::{ErrorKind, Result};
-use crate::traits::{BufRead, Read, Seek, SeekFrom, Write};
+use no_std_io2_base::cursor::{AsSlice, Cursor};
+use no_std_io2_base::error::{ErrorKind, Result};
+use no_std_io2_base::traits::{BufRead, Read, Seek, SeekFrom, Write};
 use std::test::Fail;
 
 type Refusal = Option<(ErrorKind, Option<&'static str>)>;

@@ -1,5 +1,5 @@
 use Rattle.std.proofs.Common.{◌≡◌, ℕ, ◌<◌, map, List, [], ◌∷◌, length, take, slice_set, refl, ap, ◌∙◌, arith, rules}
-use Rattle.no_std_io2_base.proofs.tests.scripts.ScriptRead.read.Goals as goal
+use Rattle.io_tests.proofs.streams.scripts.ScriptRead.read.Goals as goal
 
 one-take : (buf : List ℕ) (b : ℕ) → 0 < length buf → take 1 (slice_set buf 0 b) ≡ b ∷ []
 one-take [] b some = absurd (omega arith)

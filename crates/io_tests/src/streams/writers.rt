@@ -1,5 +1,5 @@
-use crate::error::{ErrorKind, Result};
-use crate::traits::Write;
+use no_std_io2_base::error::{ErrorKind, Result};
+use no_std_io2_base::traits::Write;
 use std::test::Fail;
 
 #[test]

@@ -1,8 +1,8 @@
 ghost use Rattle.std.specs.Prelude.{[], length, ◌+◌, is_some, if◌then◌else◌};
 ghost use Rattle.no_std_io2_base.specs.Writes.{told_out};
 
-use crate::buffered::BufReader;
-use crate::util::copy;
+use no_std_io2::buffered::BufReader;
+use no_std_io2::util::copy;
 use no_std_io2_base::cursor::Cursor;
 use no_std_io2_base::error::{Error, ErrorKind, Result};
 use no_std_io2_base::traits::{BufRead, Read, Seek, SeekFrom, Stored, Write};

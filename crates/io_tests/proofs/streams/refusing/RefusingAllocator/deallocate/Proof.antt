@@ -38,11 +38,11 @@ use denote.RawPtr.{Ptr, block_ptr, null_ptr, ptr_val, rawptr_vals, rawptr_Tells}
 use denote.Builtin.{usize, RawPtr, RefOf}
 use denote.Triple.Call.{calls_at}
 use Rattle.std.proofs.alloc.Calls.{Al, α, seen, token, gives_key, Gives, at_gives, Gives-goes, Gives-Gives}
-use Rattle.no_std_io2_base.specs.contracts.tests.refusing.Refusing as wrapper
-use Rattle.no_std_io2_base.specs.contracts.tests.refusing.RefusingAllocator.deallocate as F
-use Rattle.no_std_io2_base.specs.contracts.tests.refusing.RefusingAllocator.deallocate.Key as key
-use Rattle.no_std_io2_base.proofs.tests.refusing.RefusingAllocator.deallocate.Statement as stated
-use Rattle.no_std_io2_base.proofs.tests.refusing.RefusingAllocator.deallocate.Code as code
+use Rattle.io_tests.specs.contracts.streams.refusing.Refusing as wrapper
+use Rattle.io_tests.specs.contracts.streams.refusing.RefusingAllocator.deallocate as F
+use Rattle.io_tests.specs.contracts.streams.refusing.RefusingAllocator.deallocate.Key as key
+use Rattle.io_tests.proofs.streams.refusing.RefusingAllocator.deallocate.Statement as stated
+use Rattle.io_tests.proofs.streams.refusing.RefusingAllocator.deallocate.Code as code
 
 module _ (Z : Al) where
   abbrev args : Args

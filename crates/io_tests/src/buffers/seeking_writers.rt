@@ -1,4 +1,4 @@
-use crate::buffered::BufWriter;
+use no_std_io2::buffered::BufWriter;
 use no_std_io2_base::cursor::Cursor;
 use no_std_io2_base::error::ErrorKind;
 use no_std_io2_base::traits::{Seek, SeekFrom, Write};

@@ -1,4 +1,4 @@
-use crate::buffered::BufWriter;
+use no_std_io2::buffered::BufWriter;
 use no_std_io2_base::error::{Error, ErrorKind, Result};
 use no_std_io2_base::traits::Write;
 use std::test::Fail;

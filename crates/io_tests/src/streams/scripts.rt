@@ -3,8 +3,8 @@ ghost use Rattle.std.specs.Prelude.{map, length, [], Ok, Err};
 ghost use Rattle.std.specs.Option.{option_to_list};
 ghost use Rattle.no_std_io2_base.specs.Events.{byte, fails};
 
-use crate::error::{Error, Result};
-use crate::traits::{BufRead, Read, Stored};
+use no_std_io2_base::error::{Error, Result};
+use no_std_io2_base::traits::{BufRead, Read, Stored};
 use std::collections::VecDeque;
 
 // Gives what is in the list, a byte or an error a read.

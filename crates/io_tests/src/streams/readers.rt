@@ -1,7 +1,7 @@
 use super::scripts::{Broken, Script};
-use crate::cursor::Cursor;
-use crate::error::{Error, ErrorKind, Result};
-use crate::traits::{BufRead, Read};
+use no_std_io2_base::cursor::Cursor;
+use no_std_io2_base::error::{Error, ErrorKind, Result};
+use no_std_io2_base::traits::{BufRead, Read};
 use std::alloc::{AllocError, Global};
 use std::collections::VecDeque;
 use std::test::Fail;

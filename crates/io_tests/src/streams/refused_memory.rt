@@ -1,8 +1,8 @@
 use super::refusing::Refusing;
 use super::scripts::Broken;
-use crate::cursor::Cursor;
-use crate::error::{Error, ErrorKind};
-use crate::traits::Read;
+use no_std_io2_base::cursor::Cursor;
+use no_std_io2_base::error::{Error, ErrorKind};
+use no_std_io2_base::traits::Read;
 use std::alloc::Global;
 use std::test::Fail;
 

@@ -1,4 +1,4 @@
-use crate::buffered::LineWriter;
+use no_std_io2::buffered::LineWriter;
 use no_std_io2_base::error::{Error, ErrorKind, Result};
 use no_std_io2_base::traits::Write;
 use std::test::Fail;
