@@ -2,6 +2,7 @@
 ghost use Rattle.std.specs.Prelude.{◌≡◌, ◌+◌, ◌-◌, ◌^◌, ◌≤◌, [], Ok, IfOk, OnOk, IsOkAnd, ⊤, length, min};
 ghost use Rattle.no_std_io2_base.specs.Events.{given, Reads, SpendsTurn};
 ghost use Rattle.no_std_io2_base.specs.Writes.{Moves, taken, write_mishap, call_mishap};
+ghost use Rattle.io_bench.specs.Calls.{IsWrite, IsFlush};
 
 use crate::trace::Trace;
 use no_std_io2::io::{Read, Result, Stored, Write};
@@ -114,7 +115,9 @@ impl<T: Write> Write for Tally<T> {
         ensures cost { ⊤ → T.takes_all (tally_inner self.old)
             → ⊤ × (tally_writes self.new ≡ tally_writes self.old + 1) }
 
-        // One more, whatever the answer.
+        // One write of the inner writer, and one more in the count, whatever the answer.
+        ensures handed { IsWrite T.told T.takes_all T.cost T.is_metered
+            (tally_inner self.old) buf.now result (tally_inner self.new) }
         ensures writes { tally_writes self.new ≡ tally_writes self.old + 1 }
         ensures reads { tally_reads self.new ≡ tally_reads self.old }
     {
@@ -131,7 +134,9 @@ impl<T: Write> Write for Tally<T> {
         ensures cost { ⊤ → T.takes_all (tally_inner self.old)
             → ⊤ × (tally_writes self.new ≡ tally_writes self.old) }
 
-        // A flush counts for nothing.
+        // One flush of the inner writer, which counts for nothing.
+        ensures handed { IsFlush T.told T.takes_all T.cost T.is_metered
+            (tally_inner self.old) result (tally_inner self.new) }
         ensures writes { tally_writes self.new ≡ tally_writes self.old }
         ensures reads { tally_reads self.new ≡ tally_reads self.old }
     {

@@ -3,7 +3,7 @@ ghost use Rattle.std.specs.Prelude.{◌≡◌, List, IsOk, IfOk, IfErr, ◌↔�
 ghost use types.Logic.{sem};
 ghost use Rattle.std.specs.Borrow.{Lends};
 ghost use Rattle.no_std_io2_base.specs.contracts.cursor.Cursor.{the_row as cursor-row};
-ghost use Rattle.no_std_io2_base.specs.Errors.{error_kind};
+ghost use Rattle.no_std_io2_base.specs.Events.{IsOutOfMemory};
 ghost use Rattle.no_std_io2_base.specs.Cursor.{cursor_place, cursor_inner, cursor_with_inner};
 
 mod reading;
@@ -132,7 +132,7 @@ impl<T> Cursor<T> {
         ensures inner { IfOk result (λ c. T.is_clone (cursor_inner self.now) (cursor_inner c)) }
         ensures equal { ((x : T) → T.is_clone (cursor_inner self.now) x → x ≡ cursor_inner self.now)
             → IfOk result (λ c. c ≡ self.now) }
-        ensures err { IfErr result (λ e. error_kind e ≡ ErrorKind.OutOfMemory) }
+        ensures err { IfErr result IsOutOfMemory }
         ensures succeeds { T.is_infallible (cursor_inner self.now) → IsOk result }
     {
         match self.inner.clone() {

@@ -5,8 +5,9 @@ ghost use Rattle.std.specs.Prelude.{◌≡◌, ◌<◌, ◌↔◌, IsTrue};
 ghost use Rattle.no_std_io2_base.specs.Errors.{kind_number};
 ghost use Rattle.no_std_io2_base.specs.Writes.{told_out};
 
+use crate::cursor::Cursor;
 use crate::error::ErrorKind;
-use crate::traits::{BufRead, Read, Stored, Write};
+use crate::traits::{BufRead, Read, SeekFrom, Stored, Write};
 
 // Kinds are ordered as they are declared.
 fn kind_is_before(a: ErrorKind, b: ErrorKind) -> bool
@@ -17,6 +18,20 @@ fn kind_is_before(a: ErrorKind, b: ErrorKind) -> bool
 
 fn kind_is(a: ErrorKind, b: ErrorKind) -> bool
     ensures { IsTrue result ↔ (a ≡ b) }
+{
+    a == b
+}
+
+// Places are equal where they are the same.
+fn place_is(a: SeekFrom, b: SeekFrom) -> bool
+    ensures { IsTrue result ↔ (a ≡ b) }
+{
+    a == b
+}
+
+// Cursors are equal where content and position are.
+fn cursor_is(a: &Cursor<u64>, b: &Cursor<u64>) -> bool
+    ensures { IsTrue result ↔ (a.now ≡ b.now) }
 {
     a == b
 }
@@ -40,7 +55,8 @@ fn boxed_writer_tells<W: Write>(w: &Box<W>)
 {}
 
 fn boxed_object_tells(w: &Box<dyn Write + Drop>)
-    ensures { ⟦<Box<dyn Write + Drop> as Write>⟧.told w.now ≡ told w.now }
+    ensures told { ⟦<Box<dyn Write + Drop> as Write>⟧.told w.now ≡ told w.now }
+    ensures cost { ⟦<Box<dyn Write + Drop> as Write>⟧.cost w.now ≡ 0 }
 {}
 
 fn lent_store_tells<'a, T: Stored>(r: &&'a mut T)

@@ -1,6 +1,7 @@
-ghost use Rattle.std.specs.Prelude.{◌≡◌, ℕ, ◌+◌, ◌≤◌, [], Ok, IsOk, OnOk, IfOk, IfErr, length};
-ghost use Rattle.no_std_io2_base.specs.Errors.{error_kind};
-ghost use Rattle.no_std_io2_base.specs.Writes.{Moves, taken, write_mishap, call_mishap, told_out};
+ghost use Rattle.std.specs.Prelude.{◌≡◌, ℕ, ◌+◌, ◌≤◌, nat_lt, if◌then◌else◌, [], Ok, IsOk, OnOk, OnErr, IfOk, IfErr, length};
+ghost use Rattle.no_std_io2_base.specs.Errors.{IsNoInterruption};
+ghost use Rattle.no_std_io2_base.specs.Events.{IsOutOfMemory};
+ghost use Rattle.no_std_io2_base.specs.Writes.{Moves, MovesFront, taken, write_mishap, call_mishap, told_out};
 
 use crate::error::{Error, ErrorKind, Result};
 use crate::traits::Write;
@@ -28,7 +29,8 @@ impl<A: Allocator> Write for Vec<u8, A> {
 
         // All of the buffer or nothing, and memory alone refuses.
         ensures whole { IfOk result (λ n. n ≡ length buf.now) }
-        ensures kind { IfErr result (λ e. error_kind e ≡ ErrorKind.OutOfMemory) }
+        ensures err { IfErr result IsOutOfMemory }
+        ensures same { OnErr result (self.new.items ≡ self.old.items) }
         ensures empty { length buf.now ≡ 0 → IsOk result }
     {
         match self.extend_from_slice(buf) {
@@ -38,7 +40,18 @@ impl<A: Allocator> Write for Vec<u8, A> {
     }
 
     #[inline]
-    fn write_all(&mut self, buf: &[u8]) -> Result<()> {
+    fn write_all(&mut self, buf: &[u8]) -> Result<()>
+        // The trait's.
+        ensures fault { IsNoInterruption result }
+        ensures moves { MovesFront (told_out self.old.items) buf.now result (told_out self.new.items) }
+        ensures all { ⊥ → ⊥ }
+        ensures cost { ⊥ → ⊥ → ⊥ × (0 ≡ 0 + (if nat_lt 0 (length buf.now) then 1 else 0)) }
+
+        // All of the buffer or nothing, and memory alone refuses.
+        ensures err { IfErr result IsOutOfMemory }
+        ensures same { OnErr result (self.new.items ≡ self.old.items) }
+        ensures empty { length buf.now ≡ 0 → IsOk result }
+    {
         match self.write(buf) {
             Ok(_) => Ok(()),
             Err(e) => Err(e),

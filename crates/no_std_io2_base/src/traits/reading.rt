@@ -1,7 +1,7 @@
-ghost use Rattle.std.specs.Prelude.{◌≡◌, ℕ, List, ◌++◌, take, drop, ◌+◌, ◌≤◌, ◌<◌, ◌^◌, min, length, IfOk, IfErr, OnOk, OnErr, IsOkAnd, vec_len, vec_capacity};
+ghost use Rattle.std.specs.Prelude.{◌≡◌, ℕ, false, List, ◌++◌, take, drop, ◌+◌, ◌≤◌, ◌<◌, ◌^◌, min, length, IfOk, IfErr, OnOk, OnErr, IsOkAnd, vec_len, vec_capacity};
 ghost use Rattle.no_std_io2_base.specs.Errors.{IsFault};
 ghost use Rattle.no_std_io2_base.specs.Events.{IsOutOfMemory, Event, cut, bytes, events_of, given, Reads, ReadsExact, ReadsToEnd, SpendsTurn};
-ghost use Rattle.no_std_io2_base.specs.Chain.{chain_first, chain_second, chain_tells, chain_events};
+ghost use Rattle.no_std_io2_base.specs.Chain.{chain_first, chain_second, chain_is_done, chain_tells, chain_events};
 ghost use Rattle.no_std_io2_base.specs.SingleBytes.{bytes_reader};
 ghost use Rattle.no_std_io2_base.specs.Take.{take_inner, take_limit, take_events};
 
@@ -214,6 +214,7 @@ pub trait Read: Stored {
         Self: Sized,
         ensures first { chain_first result ≡ self }
         ensures second { chain_second result ≡ next }
+        ensures fresh { chain_is_done result ≡ false }
         ensures tells { tells self → R.tells next → chain_tells tells R.tells result }
         ensures events { chain_events events R.events result ≡ events self ++ R.events next }
     {

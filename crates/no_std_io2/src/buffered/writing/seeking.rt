@@ -1,9 +1,9 @@
-ghost use Rattle.std.specs.Prelude.{◌≡◌, ◌<◌, [], ◌∷◌, length, IfOk, IfErr, OnOk};
+ghost use Rattle.std.specs.Prelude.{◌≡◌, ◌<◌, [], ◌∷◌, length, IsOk, IfOk, IfErr, OnOk, IsOkAnd};
 ghost use Rattle.no_std_io2_base.specs.Errors.{error_kind};
 ghost use Rattle.no_std_io2_base.specs.Seek.{Seeks};
 ghost use Rattle.no_std_io2_base.specs.Writes.{Moves};
 ghost use Rattle.no_std_io2.specs.Buffered.{writer_inner, writer_buffer, writer_told, IsEnd};
-ghost use Rattle.no_std_io2.specs.BufferedSeek.{SeeksAfterSending};
+ghost use Rattle.no_std_io2.specs.BufferedSeek.{SeeksAfterSending, here, at_start, as_seek};
 
 use super::BufWriter;
 use no_std_io2_base::error::Result;
@@ -47,6 +47,47 @@ impl<W: Write + Seek + Drop, const S: usize> Seek for BufWriter<W, S> {
     {
         self.core.send()?;
         self.core.get_mut().seek(pos)
+    }
+
+    // Both send what is held, as `seek` does.
+    fn stream_position(&mut self) -> Result<u64>
+        // The trait's.
+        ensures store { (writer_buffer self.old ≡ []) × W.has_store (writer_inner self.old)
+            → ((writer_buffer self.new ≡ []) × W.has_store (writer_inner self.new))
+            × (W.content (writer_inner self.new) ≡ W.content (writer_inner self.old))
+            × (W.position (writer_inner self.new) ≡ W.position (writer_inner self.old))
+            × IsOkAnd result (λ n. n ≡ W.position (writer_inner self.old)) }
+        ensures position { IfOk result (λ n. (writer_buffer self.new ≡ []) × W.has_store (writer_inner self.new)
+            → W.position (writer_inner self.new) ≡ n) }
+
+        // Those of `seek`.
+        ensures rest { IsEnd (writer_buffer self.old) (writer_buffer self.new) }
+        ensures refused { IfErr result (λ e. 0 < length (writer_buffer self.new)
+            → Moves (writer_told W.told self.old) [] (error_kind e ∷ []) (writer_told W.told self.new)) }
+        ensures empty { OnOk result (writer_buffer self.new ≡ []) }
+        ensures sent { writer_buffer self.new ≡ [] → SeeksAfterSending W.told W.has_store W.content
+            W.position (writer_told W.told self.old) here result (writer_inner self.new) }
+    {
+        self.seek(SeekFrom::Current(0))
+    }
+
+    fn rewind(&mut self) -> Result<()>
+        // The trait's.
+        ensures store { (writer_buffer self.old ≡ []) × W.has_store (writer_inner self.old)
+            → ((writer_buffer self.new ≡ []) × W.has_store (writer_inner self.new))
+            × (W.content (writer_inner self.new) ≡ W.content (writer_inner self.old))
+            × (W.position (writer_inner self.new) ≡ 0) × IsOk result }
+
+        // Those of `seek`.
+        ensures rest { IsEnd (writer_buffer self.old) (writer_buffer self.new) }
+        ensures refused { IfErr result (λ e. 0 < length (writer_buffer self.new)
+            → Moves (writer_told W.told self.old) [] (error_kind e ∷ []) (writer_told W.told self.new)) }
+        ensures empty { OnOk result (writer_buffer self.new ≡ []) }
+        ensures sent { writer_buffer self.new ≡ [] → SeeksAfterSending W.told W.has_store W.content
+            W.position (writer_told W.told self.old) at_start (as_seek result) (writer_inner self.new) }
+    {
+        self.seek(SeekFrom::Start(0))?;
+        Ok(())
     }
 
     ghost seek_fits = { λ w h. W.seek_fits (writer_inner w) h.1 };
