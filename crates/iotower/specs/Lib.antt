@@ -3,4 +3,5 @@ pub mod Patient
 pub mod Copies
 pub mod Script
 pub mod Report
+pub mod Faults
 pub mod Play

@@ -8,12 +8,18 @@ ghost use Rattle.iotower.specs.Turns.{IsOutOfTurns, IsPlainInterruption, IsDevic
 use io_bench::trace::Trace;
 use no_std_io2::io::{Error, ErrorKind, Read, Result, Stored, Write};
 use std::io;
+use std::io::ErrorKind as SystemKind;
 
 /// A reader or writer of Rust's `std::io` as one of this library's.
 ///
 /// What such a device does is not known, so a number of turns bounds how often it is asked again: a
 /// reader spends one with each answer but its end, a writer one with each interruption. As a
 /// writer, the bytes that the device answered for are out, as contracts see it.
+///
+/// # Errors
+/// Of a call: `Interrupted` where the device was interrupted; `TimedOut`, `no turns left`, at a
+/// reader's last turn, and where a writer without turns is interrupted; `Other`, `device fault`, for
+/// any other fault of the device. What the device took or gave before stands.
 #[derive(Drop)]
 pub struct Patient<D> {
     device: D,
@@ -46,14 +52,16 @@ impl<D> Patient<D> {
     }
 
     // What a writer answers in place of its device's error.
-    fn refuse(&mut self, kind: io::ErrorKind) -> Error
+    fn refuse(&mut self, kind: SystemKind) -> Error
         ensures taken { patient_taken self.new ≡ patient_taken self.old }
         ensures device { patient_device self.new ≡ patient_device self.old }
+        ensures fault { (kind ≡ SystemKind.Interrupted → ⊥) → IsDeviceFault result }
+        ensures interrupted { kind ≡ SystemKind.Interrupted → IsPlainInterruption result ⊎ IsOutOfTurns result }
         ensures answer { (IsPlainInterruption result × (patient_turns self.new + 1 ≡ patient_turns self.old))
             ⊎ (IsOutOfTurns result × (patient_turns self.old ≡ 0) × (patient_turns self.new ≡ 0))
             ⊎ (IsDeviceFault result × (patient_turns self.new ≡ patient_turns self.old)) }
     {
-        if kind != io::ErrorKind::Interrupted {
+        if kind != SystemKind::Interrupted {
             return device_fault();
         }
         if self.turns == 0 {
@@ -83,10 +91,11 @@ fn device_fault() -> Error
 }
 
 // What a reader answers in place of its device's error.
-fn device_error(kind: io::ErrorKind) -> Error
-    ensures { IsPlainInterruption result ⊎ IsDeviceFault result }
+fn device_error(kind: SystemKind) -> Error
+    ensures fault { (kind ≡ SystemKind.Interrupted → ⊥) → IsDeviceFault result }
+    ensures interrupted { kind ≡ SystemKind.Interrupted → IsPlainInterruption result }
 {
-    if kind == io::ErrorKind::Interrupted {
+    if kind == SystemKind::Interrupted {
         interruption()
     } else {
         device_fault()

@@ -1,7 +1,9 @@
 // Plays a script on a tower of buffered writers.
-ghost use Rattle.std.specs.Prelude.{◌≡◌, ◌++◌, IfOk, IfErr};
+ghost use Rattle.std.specs.Prelude.{◌≡◌, ◌++◌, Some, IfOk, IfErr};
 ghost use Rattle.no_std_io2_base.specs.declared.error.ErrorKind.TheVariants.{OutOfMemory};
 ghost use Rattle.no_std_io2_base.specs.Errors.{error_kind};
+ghost use Rattle.iotower.specs.declared.play.Fault.TheVariants.{Io};
+ghost use Rattle.iotower.specs.Faults.{fault_display};
 ghost use Rattle.iotower.specs.Play.{Shows, IsPlay, Writes, fresh_told};
 
 use crate::report::report_of;
@@ -34,12 +36,16 @@ pub enum Fault {
 }
 
 impl From<Error> for Fault {
+    ghost from_gives = { λ e fault. fault ≡ Io e };
+
     fn from(error: Error) -> Fault {
         Fault::Io(error)
     }
 }
 
 impl fmt::Display for Fault {
+    ghost output = { λ fault. Some (fault_display fault) };
+
     fn fmt<W: fmt::Write>(&self, f: &mut fmt::Formatter<W>) -> fmt::Result {
         match self {
             Fault::Io(error) => write!(f, "{error}"),

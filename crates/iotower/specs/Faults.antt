@@ -1,0 +1,11 @@
+-- What a fault prints.
+use Rattle.std.specs.Prelude.{ℕ, codes, List, ◌++◌}
+use Rattle.std.specs.Fmt.{decimal}
+use Rattle.no_std_io2_base.specs.Errors.{error_display}
+use Rattle.iotower.specs.declared.play.Fault.{Fault}
+use Rattle.iotower.specs.declared.play.Fault.TheVariants.{Io, Line}
+
+-- an error prints its own text
+abbrev pub fault_display : Fault → List ℕ
+fault_display (Io e) = error_display e
+fault_display (Line n) = codes "bad line " ++ decimal n
