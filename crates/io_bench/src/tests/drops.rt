@@ -1,4 +1,4 @@
-// What a lender finds after a buffer was dropped.
+// What a lender finds after a buffer was dropped, or was taken off by `into_inner`.
 use super::{Outcome, outcomes};
 use crate::faulty::{Act, Faulty};
 use crate::runs::{Op, run_writes};
@@ -60,5 +60,55 @@ fn lines_into_a_boxed_object(rt: HostRuntime) -> Answer {
     let want = [Outcome::Done, Outcome::Done];
     assert_eq!(rt; outcomes(rt.alloc(), &replies)?.as_slice(), want.as_slice());
     assert!(rt; w.buffer().is_empty());
+    Ok(())
+}
+
+#[test]
+fn a_drop_does_not_flush(rt: HostRuntime) -> Answer {
+    let mut inner = BufWriter::<Vec<u8>, 8>::new(Vec::new(rt.alloc()));
+    {
+        let mut w = BufWriter::<&mut BufWriter<Vec<u8>, 8>, 4>::new(&mut inner);
+        w.write_all(b"abc")?;
+    }
+    assert_eq!(rt; inner.buffer(), b"abc".as_slice());
+    assert!(rt; inner.get_ref().is_empty());
+    Ok(())
+}
+
+#[test]
+fn a_drop_of_lines_does_not_flush(rt: HostRuntime) -> Answer {
+    let mut inner = BufWriter::<Vec<u8>, 8>::new(Vec::new(rt.alloc()));
+    {
+        let mut w = LineWriter::<&mut BufWriter<Vec<u8>, 8>, 4>::new(&mut inner);
+        w.write_all(b"abc")?;
+    }
+    assert_eq!(rt; inner.buffer(), b"abc".as_slice());
+    assert!(rt; inner.get_ref().is_empty());
+    Ok(())
+}
+
+#[test]
+fn into_inner_does_not_flush(rt: HostRuntime) -> Answer {
+    let inner = BufWriter::<Vec<u8>, 8>::new(Vec::new(rt.alloc()));
+    let mut w = BufWriter::<BufWriter<Vec<u8>, 8>, 4>::new(inner);
+    w.write_all(b"abc")?;
+    let Ok(inner) = w.into_inner() else {
+        panic!(rt; "not sent");
+    };
+    assert_eq!(rt; inner.buffer(), b"abc".as_slice());
+    assert!(rt; inner.get_ref().is_empty());
+    Ok(())
+}
+
+#[test]
+fn into_inner_of_lines_does_not_flush(rt: HostRuntime) -> Answer {
+    let inner = BufWriter::<Vec<u8>, 8>::new(Vec::new(rt.alloc()));
+    let mut w = LineWriter::<BufWriter<Vec<u8>, 8>, 4>::new(inner);
+    w.write_all(b"abc")?;
+    let Ok(inner) = w.into_inner() else {
+        panic!(rt; "not sent");
+    };
+    assert_eq!(rt; inner.buffer(), b"abc".as_slice());
+    assert!(rt; inner.get_ref().is_empty());
     Ok(())
 }
