@@ -129,6 +129,19 @@ fn a_refused_into_inner_gives_the_writer_back(rt: HostRuntime) -> Answer {
 }
 
 #[test]
+fn a_refused_into_inner_prints_its_fault(rt: HostRuntime) -> Answer {
+    let acts = vec![in rt.alloc(); Act::Take(1), Act::Fail(ErrorKind::BrokenPipe)]?;
+    let mut w = BufWriter::<Faulty<Vec<u8>>, 8>::new(Faulty::new(Vec::new(rt.alloc()), acts));
+    assert_eq!(rt; w.write(b"abcd")?, 4);
+    let Err(e) = w.into_inner() else {
+        panic!(rt; "sent");
+    };
+    let text = format!(in rt.alloc(); "{e}")?;
+    assert_eq!(rt; text.as_str(), "broken pipe");
+    Ok(())
+}
+
+#[test]
 fn without_room_each_write_goes_on(rt: HostRuntime) -> Answer {
     let mut w = BufWriter::<Tally<Sink>, 0>::new(Tally::new(Sink::new()));
     assert_eq!(rt; w.write(b"ab")?, 2);
