@@ -7,6 +7,7 @@ mod devices;
 mod drops;
 mod feeds;
 mod lines;
+mod readers;
 mod runs;
 mod towers;
 mod writers;
