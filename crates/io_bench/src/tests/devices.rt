@@ -85,3 +85,12 @@ fn two_bytes_a_write(rt: HostRuntime) -> Answer {
     assert_eq!(rt; w.get_ref().as_slice(), [1, 1, 2, 2, 3].as_slice());
     Ok(())
 }
+
+#[test]
+fn the_debug_text_of_a_tally(rt: HostRuntime) -> Answer {
+    let mut w = Tally::new(Vec::new(rt.alloc()));
+    w.write_all(b"a")?;
+    let text = format!(in rt.alloc(); "{w:?}")?;
+    assert_eq!(rt; text.as_str(), "Tally { inner: [97], writes: 1, reads: 0 }");
+    Ok(())
+}

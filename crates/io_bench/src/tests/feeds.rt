@@ -140,3 +140,13 @@ fn a_tally_counts_reads_with_room(rt: HostRuntime) -> Answer {
     assert_eq!(rt; tally.writes(), 0);
     Ok(())
 }
+
+#[test]
+fn the_debug_text_of_a_feed(rt: HostRuntime) -> Answer {
+    let events = vec![in rt.alloc(); Event::Byte(b'a'), Event::Fail(ErrorKind::BrokenPipe)]?;
+    let feed = Feed::new(events, 4);
+    let text = format!(in rt.alloc(); "{feed:?}")?;
+    let want = "Feed { events: [Byte(97), Fail(BrokenPipe)], at: 0, piece: 4 }";
+    assert_eq!(rt; text.as_str(), want);
+    Ok(())
+}
