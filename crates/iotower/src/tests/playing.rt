@@ -1,6 +1,6 @@
 // Scripts that are played.
 use crate::play::{Fault, Shape, play};
-use io_bench::{Act, Faulty};
+use io_bench::{Act, Event, Faulty, Feed};
 use no_std_io2::io::ErrorKind;
 use std::alloc::{AllocError, Global};
 use std::test::Fail;
@@ -165,6 +165,20 @@ fn each_kind_fails_with_its_text(rt: HostRuntime) -> Result<(), Fail> {
             played(rt.alloc(), Shape::Buf, &script)?.as_slice(),
             want.as_slice()
         );
+    }
+    Ok(())
+}
+
+#[test]
+fn an_input_that_fails_is_the_fault(rt: HostRuntime) -> Result<(), Fail> {
+    let events = Vec::from_slice(rt.alloc(), &[Event::Fail(ErrorKind::BrokenPipe)])?;
+    let input = Feed::new(events, 1);
+    match play(rt.alloc(), input, Vec::<u8>::new(rt.alloc()), Shape::Buf) {
+        Ok(_text) => assert!(rt; false),
+        Err(fault) => {
+            let text = format!(in rt.alloc(); "{fault}")?;
+            assert_eq!(rt; text.as_str(), "broken pipe");
+        }
     }
     Ok(())
 }
