@@ -252,6 +252,16 @@ fn after_one() -> Result<BufReader<Cursor<&'static [u8]>, 4>> {
 }
 
 #[test]
+fn a_read_of_one_byte_leaves_the_others_held(rt: HostRuntime) -> std::result::Result<(), Fail> {
+    let mut r: BufReader<Cursor<&'static [u8]>, 4> = BufReader::new(on_letters());
+    let mut one = [0u8; 1];
+    assert_eq!(rt; r.read(&mut one)?, 1);
+    assert_eq!(rt; one[0], b'a');
+    assert_eq!(rt; r.buffer(), b"bcd".as_slice());
+    Ok(())
+}
+
+#[test]
 fn a_seek_counts_from_the_next_byte(rt: HostRuntime) -> std::result::Result<(), Fail> {
     let mut r = after_one()?;
     assert_eq!(rt; r.buffer(), b"bcd".as_slice());
