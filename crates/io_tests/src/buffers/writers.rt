@@ -41,7 +41,7 @@ impl Write for Jammed {
 }
 
 // Takes none: each write answers `Ok(0)`.
-#[derive(Drop)]
+#[derive(Debug, Drop)]
 struct Full;
 
 impl Write for Full {
@@ -192,6 +192,24 @@ fn a_refused_into_inner_is_its_error(rt: HostRuntime) -> std::result::Result<(),
     let e = Error::from(e);
     assert_eq!(rt; e.kind(), ErrorKind::WriteZero);
     assert_eq!(rt; e.into_inner(), Some("failed to write the buffered data"));
+    Ok(())
+}
+
+#[test]
+fn the_debug_text_of_a_refusal_shows_writer_and_error(
+    rt: HostRuntime,
+) -> std::result::Result<(), Fail> {
+    let mut w = BufWriter::<Full, 8>::new(Full);
+    w.write_all(b"ab")?;
+    let Err(e) = w.into_inner() else {
+        panic!(rt; "sent");
+    };
+    let text = format!(in rt.alloc(); "{e:?}")?;
+    let want = concat!(
+        "IntoInnerError { writer: BufWriter { writer: Full, buffer: 2/8 }, ",
+        "error: Error { kind: WriteZero, text: Some(\"failed to write the buffered data\") } }",
+    );
+    assert_eq!(rt; text.as_str(), want);
     Ok(())
 }
 
