@@ -1,6 +1,7 @@
 use no_std_io2_base::error::{Error, ErrorKind};
 use std::alloc::Global;
 use std::collections::BTreeSet;
+use std::hash::{DefaultHasher, Hash, Hasher};
 use std::test::Fail;
 
 fn kinds() -> [(ErrorKind, &'static str); 21] {
@@ -62,6 +63,20 @@ fn kinds_are_keys(rt: HostRuntime) -> std::result::Result<(), Fail> {
     }
     assert_eq!(rt; seen.len(), 21);
     Ok(())
+}
+
+fn hash_of(kind: ErrorKind) -> u64 {
+    let mut state = DefaultHasher::new();
+    kind.hash(&mut state);
+    state.finish()
+}
+
+#[test]
+fn equal_kinds_hash_equally(rt: HostRuntime) {
+    for (kind, _) in kinds() {
+        let again = Error::from(kind).kind();
+        assert_eq!(rt; hash_of(again), hash_of(kind));
+    }
 }
 
 #[test]
