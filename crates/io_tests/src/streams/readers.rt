@@ -352,3 +352,65 @@ fn a_slice_is_read_and_lent(rt: HostRuntime) -> std::result::Result<(), Fail> {
     assert_eq!(rt; two, *b"db");
     Ok(())
 }
+
+#[test]
+fn a_limit_over_a_cursor_can_be_set_anew(rt: HostRuntime) -> std::result::Result<(), Fail> {
+    let mut r = Cursor::new(b"abcdef".as_slice()).take(2);
+    let mut v: Vec<u8> = Vec::new(rt.alloc());
+    assert_eq!(rt; r.read_to_end(&mut v)?, 2);
+    assert_eq!(rt; v.as_slice(), b"ab".as_slice());
+    r.set_limit(3);
+    v.clear();
+    assert_eq!(rt; r.read_to_end(&mut v)?, 3);
+    assert_eq!(rt; v.as_slice(), b"cde".as_slice());
+    assert_eq!(rt; r.limit(), 0);
+    Ok(())
+}
+
+#[test]
+fn a_chain_does_not_go_back_to_its_first_reader(rt: HostRuntime) -> std::result::Result<(), Fail> {
+    let first: &[u8] = b"A";
+    let second: &[u8] = b"BC";
+    let mut r = first.chain(second);
+    let mut one = [0];
+    r.read_exact(&mut one)?;
+    assert_eq!(rt; one, *b"A");
+    r.read_exact(&mut one)?;
+    assert_eq!(rt; one, *b"B");
+    let (done, _) = r.get_mut();
+    *done = b"D";
+    r.read_exact(&mut one)?;
+    assert_eq!(rt; one, *b"C");
+    assert_eq!(rt; r.read(&mut one)?, 0);
+    assert_eq!(rt; *r.get_ref().0, b"D".as_slice());
+    Ok(())
+}
+
+#[test]
+fn the_debug_text_of_a_chain(rt: HostRuntime) -> std::result::Result<(), Fail> {
+    let first: &[u8] = b"A";
+    let second: &[u8] = b"B";
+    let r = first.chain(second);
+    let text = format!(in rt.alloc(); "{r:?}")?;
+    let want = "Chain { first: [65], second: [66], done_first: false }";
+    assert_eq!(rt; text.as_str(), want);
+    Ok(())
+}
+
+#[test]
+fn the_debug_text_of_a_limited_reader(rt: HostRuntime) -> std::result::Result<(), Fail> {
+    let all: &[u8] = b"A";
+    let r = all.take(2);
+    let text = format!(in rt.alloc(); "{r:?}")?;
+    assert_eq!(rt; text.as_str(), "Take { inner: [65], limit: 2 }");
+    Ok(())
+}
+
+#[test]
+fn the_debug_text_of_single_bytes(rt: HostRuntime) -> std::result::Result<(), Fail> {
+    let all: &[u8] = b"A";
+    let r = all.bytes();
+    let text = format!(in rt.alloc(); "{r:?}")?;
+    assert_eq!(rt; text.as_str(), "Bytes { inner: [65] }");
+    Ok(())
+}
