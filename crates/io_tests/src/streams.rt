@@ -1,3 +1,4 @@
+mod adaptors;
 mod cursors;
 mod errors;
 mod readers;

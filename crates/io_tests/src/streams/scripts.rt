@@ -3,8 +3,9 @@ ghost use Rattle.std.specs.Prelude.{map, length, [], Ok, Err};
 ghost use Rattle.std.specs.Option.{option_to_list};
 ghost use Rattle.no_std_io2_base.specs.Events.{byte, fails};
 
-use no_std_io2_base::error::{Error, Result};
+use no_std_io2_base::error::{Error, ErrorKind, Result};
 use no_std_io2_base::traits::{BufRead, Read, Stored};
+use std::alloc::{AllocError, Global};
 use std::collections::VecDeque;
 
 // Gives what is in the list, a byte or an error a read.
@@ -119,4 +120,22 @@ impl BufRead for Broken {
     }
 
     fn consume(&mut self, _amount: usize) {}
+}
+
+// x, an interruption, y, and then the far side is gone.
+pub fn broken_after_xy(alloc: Global) -> std::result::Result<Script, AllocError> {
+    let mut left: VecDeque<Result<u8>> = VecDeque::new(alloc);
+    left.push_back(Ok(b'x'))?;
+    left.push_back(Err(Error::from(ErrorKind::Interrupted)))?;
+    left.push_back(Ok(b'y'))?;
+    left.push_back(Err(Error::from(ErrorKind::BrokenPipe)))?;
+    Ok(Script { left })
+}
+
+// The kind of a call's error.
+pub fn kind_of<T: Drop>(reply: Result<T>) -> Option<ErrorKind> {
+    match reply {
+        Ok(_) => None,
+        Err(e) => Some(e.kind()),
+    }
 }
