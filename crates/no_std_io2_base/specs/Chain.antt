@@ -11,6 +11,10 @@ chain_first c = c.first
 abbrev pub chain_second : {T U : Type 0} → Chain T U → U
 chain_second c = c.second
 
+-- the same mark over other readers
+abbrev pub chain_with_readers : {T U : Type 0} → Chain T U → T → U → Chain T U
+chain_with_readers c x y = record c { first = x; second = y }
+
 -- that the first is at its end, and is read no more
 abbrev pub chain_is_done : {T U : Type 0} → Chain T U → Bool
 chain_is_done c = c.done_first

@@ -1,5 +1,8 @@
 ghost use Rattle.std.specs.Prelude.{◌≡◌, false, []};
-ghost use Rattle.no_std_io2_base.specs.Chain.{chain_first, chain_second, chain_tells, chain_events, chain_turns, chain_held};
+ghost use types.Logic.{sem};
+ghost use Rattle.std.specs.Borrow.{LendsBoth};
+ghost use Rattle.no_std_io2_base.specs.contracts.traits.chaining.Chain.{the_row as chain-row};
+ghost use Rattle.no_std_io2_base.specs.Chain.{chain_first, chain_second, chain_with_readers, chain_tells, chain_events, chain_turns, chain_held};
 
 use super::lending::BufRead;
 use super::reading::Read;
@@ -51,6 +54,7 @@ impl<T, U> Chain<T, U> {
     pub fn get_mut(&mut self) -> (&mut T, &mut U)
         ensures first { result.0.now ≡ chain_first self.old }
         ensures second { result.1.now ≡ chain_second self.old }
+        ensures* writes_back { sem 𝓛 (LendsBoth (chain-row T.row U.row) T.row U.row self.entry result (chain_with_readers self.old)) }
     {
         (&mut self.first, &mut self.second)
     }
