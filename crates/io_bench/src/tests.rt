@@ -12,9 +12,10 @@ mod runs;
 mod towers;
 mod writers;
 
-use crate::runs::Reply;
-use no_std_io2::io::ErrorKind;
+use crate::runs::{Op, Reply, run_writes};
+use no_std_io2::io::{ErrorKind, Write};
 use std::alloc::{AllocError, Global};
+use std::test::Fail;
 
 // A reply, with its error's kind alone, so that replies can be compared.
 #[derive(Clone, Copy, Debug, PartialEq, Eq)]
@@ -34,4 +35,11 @@ fn outcomes(alloc: Global, replies: &[Reply]) -> Result<Vec<Outcome>, AllocError
         })?;
     }
     Ok(all)
+}
+
+// The outcomes of a run.
+fn run<W: Write>(alloc: Global, w: &mut W, ops: &[Op<'_>]) -> Result<Vec<Outcome>, Fail> {
+    let mut replies = Vec::new(alloc);
+    run_writes(w, ops, &mut replies)?;
+    Ok(outcomes(alloc, &replies)?)
 }

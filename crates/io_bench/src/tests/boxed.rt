@@ -1,9 +1,9 @@
 // Towers with boxed objects and lent streams inside.
 ghost use Rattle.std.specs.Prelude.{[], ◌≡◌};
 
-use super::{Outcome, outcomes};
+use super::{Outcome, run};
 use crate::faulty::{Act, Faulty};
-use crate::runs::{Op, run_writes};
+use crate::runs::Op;
 use crate::sink::Sink;
 use no_std_io2::io::{
     BufRead, BufReader, BufWriter, Chain, Cursor, ErrorKind, LineWriter, Read, Result, Seek,
@@ -75,13 +75,8 @@ impl BufRead for Four {
 fn a_line_writer_over_a_boxed_sink(rt: HostRuntime) -> std::result::Result<(), Fail> {
     let inner: Box<dyn Write + Drop> = Box::new(rt.alloc(), Sink::new())?;
     let mut w = LineWriter::<Box<dyn Write + Drop>, 8>::new(inner);
-    let mut replies = Vec::new(rt.alloc());
-    run_writes(&mut w, &[Op::WriteAll(b"a\nb"), Op::Flush], &mut replies)?;
-    let outcomes = outcomes(rt.alloc(), &replies)?;
-    assert_eq!(rt;
-        outcomes.as_slice(),
-        [Outcome::Done, Outcome::Done].as_slice()
-    );
+    let got = run(rt.alloc(), &mut w, &[Op::WriteAll(b"a\nb"), Op::Flush])?;
+    assert_eq!(rt; got.as_slice(), [Outcome::Done, Outcome::Done].as_slice());
     assert!(rt; w.buffer().is_empty());
     Ok(())
 }
@@ -92,23 +87,15 @@ fn a_boxed_base_that_fails_once(rt: HostRuntime) -> std::result::Result<(), Fail
     let base = Faulty::new(Vec::<u8>::new(rt.alloc()), acts);
     let inner: Box<dyn Write + Drop> = Box::new(rt.alloc(), base)?;
     let mut w = LineWriter::<BufWriter<Box<dyn Write + Drop>, 8>, 8>::new(BufWriter::new(inner));
-    let mut replies = Vec::new(rt.alloc());
     let ops = [Op::Write(b"ab\n"), Op::Write(b"123456"), Op::Flush];
-    run_writes(&mut w, &ops, &mut replies)?;
+    let got = run(rt.alloc(), &mut w, &ops)?;
     let broken = Outcome::Failed(ErrorKind::BrokenPipe);
-    let first = outcomes(rt.alloc(), &replies)?;
-    assert_eq!(rt;
-        first.as_slice(),
-        [Outcome::Took(3), Outcome::Took(6), broken].as_slice()
-    );
+    let want = [Outcome::Took(3), Outcome::Took(6), broken];
+    assert_eq!(rt; got.as_slice(), want.as_slice());
     assert_eq!(rt; w.buffer(), b"123456".as_slice());
     assert_eq!(rt; w.get_ref().buffer(), b"ab\n".as_slice());
-    run_writes(&mut w, &[Op::Flush], &mut replies)?;
-    let all = outcomes(rt.alloc(), &replies)?;
-    assert_eq!(rt;
-        all.as_slice(),
-        [Outcome::Took(3), Outcome::Took(6), broken, Outcome::Done].as_slice()
-    );
+    let got = run(rt.alloc(), &mut w, &[Op::Flush])?;
+    assert_eq!(rt; got.as_slice(), [Outcome::Done].as_slice());
     assert!(rt; w.buffer().is_empty());
     assert!(rt; w.get_ref().buffer().is_empty());
     Ok(())

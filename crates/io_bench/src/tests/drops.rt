@@ -1,7 +1,7 @@
 // What a lender finds after a buffer was dropped, or was taken off by `into_inner`.
-use super::{Outcome, outcomes};
+use super::{Outcome, run};
 use crate::faulty::{Act, Faulty};
-use crate::runs::{Op, run_writes};
+use crate::runs::Op;
 use crate::sink::Sink;
 use no_std_io2::io::{BufWriter, ErrorKind, LineWriter, Write};
 use std::test::Fail;
@@ -55,10 +55,9 @@ fn a_drop_stops_at_a_fault(rt: HostRuntime) -> Answer {
 fn lines_into_a_boxed_object(rt: HostRuntime) -> Answer {
     let inner: Box<dyn Write + Drop> = Box::new(rt.alloc(), Sink::new())?;
     let mut w = LineWriter::<Box<dyn Write + Drop>, 8>::new(inner);
-    let mut replies = Vec::new(rt.alloc());
-    run_writes(&mut w, &[Op::WriteAll(b"a\nb"), Op::Flush], &mut replies)?;
+    let got = run(rt.alloc(), &mut w, &[Op::WriteAll(b"a\nb"), Op::Flush])?;
     let want = [Outcome::Done, Outcome::Done];
-    assert_eq!(rt; outcomes(rt.alloc(), &replies)?.as_slice(), want.as_slice());
+    assert_eq!(rt; got.as_slice(), want.as_slice());
     assert!(rt; w.buffer().is_empty());
     Ok(())
 }

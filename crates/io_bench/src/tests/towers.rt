@@ -1,10 +1,10 @@
 // Whole runs over towers.
-use super::{Outcome, outcomes};
+use super::{Outcome, run};
 use crate::faulty::{Act, Faulty};
-use crate::runs::{Op, run_writes};
+use crate::runs::Op;
 use crate::sink::Sink;
 use crate::tally::Tally;
-use no_std_io2::io::{BufWriter, ErrorKind, LineWriter, Write};
+use no_std_io2::io::{BufWriter, ErrorKind, LineWriter};
 use std::alloc::{AllocError, Global};
 use std::test::Fail;
 
@@ -35,15 +35,14 @@ const OPS: [Op<'static>; 4] = [
 #[test]
 fn a_tower_over_a_device_that_fails(rt: HostRuntime) -> Answer {
     let mut w = failing_tower(rt.alloc())?;
-    let mut replies = Vec::new(rt.alloc());
-    run_writes(&mut w, &OPS, &mut replies)?;
+    let got = run(rt.alloc(), &mut w, &OPS)?;
     let want = [
         Outcome::Took(4),
         Outcome::Done,
         Outcome::Failed(ErrorKind::WriteZero),
         Outcome::Failed(ErrorKind::BrokenPipe),
     ];
-    assert_eq!(rt; outcomes(rt.alloc(), &replies)?.as_slice(), want.as_slice());
+    assert_eq!(rt; got.as_slice(), want.as_slice());
     assert_eq!(rt;
         w.get_ref().get_ref().get_ref().get_ref().as_slice(),
         b"a".as_slice()
@@ -56,13 +55,11 @@ fn a_tower_over_a_device_that_fails(rt: HostRuntime) -> Answer {
 #[test]
 fn a_tower_goes_on_where_its_device_failed(rt: HostRuntime) -> Answer {
     let mut w = failing_tower(rt.alloc())?;
-    let mut replies = Vec::new(rt.alloc());
-    run_writes(&mut w, &OPS, &mut replies)?;
-    replies.clear();
+    run(rt.alloc(), &mut w, &OPS)?;
     let ops = [Op::Flush, Op::Write(b"x"), Op::Flush];
-    run_writes(&mut w, &ops, &mut replies)?;
+    let got = run(rt.alloc(), &mut w, &ops)?;
     let want = [Outcome::Done, Outcome::Took(1), Outcome::Done];
-    assert_eq!(rt; outcomes(rt.alloc(), &replies)?.as_slice(), want.as_slice());
+    assert_eq!(rt; got.as_slice(), want.as_slice());
     let device = w.get_ref().get_ref();
     assert_eq!(rt; device.writes(), 6);
     assert_eq!(rt;
@@ -77,15 +74,14 @@ fn lines_over_a_buffer_over_a_device_that_fails(rt: HostRuntime) -> Answer {
     let acts = vec![in rt.alloc(); Act::Fail(ErrorKind::BrokenPipe)]?;
     let device = Faulty::new(Vec::new(rt.alloc()), acts);
     let mut w = LineWriter::<BufWriter<Faulty<Vec<u8>>, 8>, 8>::new(BufWriter::new(device));
-    let mut replies = Vec::new(rt.alloc());
     let ops = [Op::WriteAll(b"x\n"), Op::Write(b"y\nz"), Op::Flush];
-    run_writes(&mut w, &ops, &mut replies)?;
+    let got = run(rt.alloc(), &mut w, &ops)?;
     let want = [
         Outcome::Done,
         Outcome::Took(3),
         Outcome::Failed(ErrorKind::BrokenPipe),
     ];
-    assert_eq!(rt; outcomes(rt.alloc(), &replies)?.as_slice(), want.as_slice());
+    assert_eq!(rt; got.as_slice(), want.as_slice());
     assert!(rt; w.get_ref().get_ref().get_ref().is_empty());
     assert_eq!(rt; w.get_ref().buffer(), b"x\ny\nz".as_slice());
     assert!(rt; w.buffer().is_empty());
@@ -93,37 +89,12 @@ fn lines_over_a_buffer_over_a_device_that_fails(rt: HostRuntime) -> Answer {
 }
 
 #[test]
-fn lines_over_a_buffer_over_a_boxed_object_that_fails(rt: HostRuntime) -> Answer {
-    let acts = vec![in rt.alloc(); Act::Fail(ErrorKind::BrokenPipe)]?;
-    let device = Faulty::new(Vec::new(rt.alloc()), acts);
-    let base: Box<dyn Write + Drop> = Box::new(rt.alloc(), device)?;
-    let mut w = LineWriter::<BufWriter<Box<dyn Write + Drop>, 8>, 8>::new(BufWriter::new(base));
-    let mut replies = Vec::new(rt.alloc());
-    let ops = [Op::Write(b"ab\n"), Op::Write(b"123456"), Op::Flush];
-    run_writes(&mut w, &ops, &mut replies)?;
-    assert_eq!(rt; w.buffer(), b"123456".as_slice());
-    assert_eq!(rt; w.get_ref().buffer(), b"ab\n".as_slice());
-    run_writes(&mut w, &[Op::Flush], &mut replies)?;
-    let want = [
-        Outcome::Took(3),
-        Outcome::Took(6),
-        Outcome::Failed(ErrorKind::BrokenPipe),
-        Outcome::Done,
-    ];
-    assert_eq!(rt; outcomes(rt.alloc(), &replies)?.as_slice(), want.as_slice());
-    assert!(rt; w.buffer().is_empty());
-    assert!(rt; w.get_ref().buffer().is_empty());
-    Ok(())
-}
-
-#[test]
 fn lines_over_a_boxed_buffer(rt: HostRuntime) -> Answer {
     let base = Box::new(rt.alloc(), BufWriter::<Sink, 8>::new(Sink::new()))?;
     let mut w = LineWriter::<Box<BufWriter<Sink, 8>>, 8>::new(base);
-    let mut replies = Vec::new(rt.alloc());
-    run_writes(&mut w, &[Op::WriteAll(b"a\nb"), Op::Flush], &mut replies)?;
+    let got = run(rt.alloc(), &mut w, &[Op::WriteAll(b"a\nb"), Op::Flush])?;
     let want = [Outcome::Done, Outcome::Done];
-    assert_eq!(rt; outcomes(rt.alloc(), &replies)?.as_slice(), want.as_slice());
+    assert_eq!(rt; got.as_slice(), want.as_slice());
     assert!(rt; w.buffer().is_empty());
     Ok(())
 }
@@ -133,10 +104,9 @@ fn lines_over_a_lent_vector(rt: HostRuntime) -> Answer {
     let mut v = Vec::new(rt.alloc());
     {
         let mut w = LineWriter::<&mut Vec<u8>, 8>::new(&mut v);
-        let mut replies = Vec::new(rt.alloc());
-        run_writes(&mut w, &[Op::WriteAll(b"a\nb"), Op::Flush], &mut replies)?;
+        let got = run(rt.alloc(), &mut w, &[Op::WriteAll(b"a\nb"), Op::Flush])?;
         let want = [Outcome::Done, Outcome::Done];
-        assert_eq!(rt; outcomes(rt.alloc(), &replies)?.as_slice(), want.as_slice());
+        assert_eq!(rt; got.as_slice(), want.as_slice());
     }
     assert_eq!(rt; v.as_slice(), b"a\nb".as_slice());
     Ok(())
