@@ -1,4 +1,4 @@
-//! The work of each case, over the streams of the module beside. It is what `crates/io_speed` does
+//! The work of each case, over the streams of the module beside. It is what `bench/io_speed` does
 //! over this library's.
 use super::streams::{
     Cursor, Read, Result, Write, buffered_reader, buffered_writer, copy, line_writer,

@@ -1,4 +1,4 @@
-//! This library's side: the functions of `crates/io_speed`.
+//! This library's side: the functions of `bench/io_speed`.
 unsafe extern "C" {
     fn speed_write_64_to_sink(piece: *const u8, len: usize, calls: u64) -> u64;
     fn speed_write_1024_to_sink(piece: *const u8, len: usize, calls: u64) -> u64;

@@ -1,7 +1,8 @@
 -- The bytes that a list of calls is given, and what the calls cost.
 use Rattle.std.proofs.Common.{◌≡◌, ℕ, ◌+◌, ◌<◌, ◌≤◌, ◌*◌, ◌/◌, min, le_of_eq, take_all, add-zero, add_assoc, arith, length, take, get_or, List, [], ◌∷◌, ◌++◌, refl, sym, ap, ◌∙◌, subst, append_assoc, append-nil}
 use Rattle.std.proofs.lemmas.List.{take_more, length-append}
-use Rattle.no_std_io2.specs.Buffered.{writing_calls, sending_calls, buffer_after}
+use Rattle.no_std_io2.specs.Buffered.{writing_calls, buffer_after}
+use Rattle.no_std_io2_base.specs.Writes.{calls_for}
 use Rattle.io_bench.specs.declared.runs.Op.{Op}
 use Rattle.io_bench.specs.declared.runs.Op.TheVariants.{Write, WriteAll, Flush}
 use Rattle.io_bench.specs.declared.runs.Reply.{Reply}
@@ -42,7 +43,7 @@ Paid-call : (S c f n : ℕ) (buffer : List ℕ) (op : Op) → 0 < S → length b
     → Paid S (c + op_calls S buffer op) (f + op_flushes op) (n + length (op_bytes op)) (length (op_buffer S buffer op))
 Paid-call S c f n buffer (Write x) some fits p = subst (λ m. Paid S (c + writing_calls S buffer x.now) m (n + length x.now) (length (buffer_after S buffer x.now))) (sym (add-zero f)) (Paid-write S c f n buffer x.now some fits p)
 Paid-call S c f n buffer (WriteAll x) some fits p = subst (λ m. Paid S (c + writing_calls S buffer x.now) m (n + length x.now) (length (buffer_after S buffer x.now))) (sym (add-zero f)) (Paid-write S c f n buffer x.now some fits p)
-Paid-call S c f n buffer Flush some fits p = subst (λ m. Paid S (c + sending_calls buffer) (f + 1) m 0) (sym (add-zero n)) (Paid-flush S c f n buffer p)
+Paid-call S c f n buffer Flush some fits p = subst (λ m. Paid S (c + calls_for buffer) (f + 1) m 0) (sym (add-zero n)) (Paid-flush S c f n buffer p)
 
 pub Paid-next : (S c d : ℕ) (ops : List Op) (i : ℕ) (o : Op) (buffer next : List ℕ) → 0 < S → length buffer ≤ S → i < length ops
     → Paid S c (flushes (take i ops)) (length (given_bytes (take i ops))) (length buffer)

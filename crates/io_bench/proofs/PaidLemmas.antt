@@ -2,7 +2,8 @@
 use Rattle.std.proofs.Common.{◌≡◌, ℕ, ◌+◌, ◌*◌, ◌/◌, ◌<◌, ◌≤◌, min, zero, suc, List, [], length, sym, ⊎_elim, subst, refl, arith}
 use Rattle.std.proofs.Math.Nat.{le-div_iff_mul-le}
 use Rattle.std.proofs.lemmas.List.{length-append}
-use Rattle.no_std_io2.specs.Buffered.{writing_calls, sending_calls, buffer_after}
+use Rattle.no_std_io2.specs.Buffered.{writing_calls, buffer_after}
+use Rattle.no_std_io2_base.specs.Writes.{calls_for}
 use Rattle.std.proofs.lemmas.Bool.Decides.{nat_tests}
 use Rattle.std.proofs.lemmas.Bool.{cases_lt}
 
@@ -73,7 +74,7 @@ Paid-write S c f n buffer x some fits paid = ⊎_elim short long (cases_lt (leng
         (λ held. Paid-same (grind (arith, nat_tests)) (grind (arith, nat_tests)) (Paid-both S c f n (length buffer) (length x) some held t paid))
         (cases_lt (length buffer) 1)
 
-pub Paid-flush : (S c f n : ℕ) (buffer : List ℕ) → Paid S c f n (length buffer) → Paid S (c + sending_calls buffer) (f + 1) n 0
+pub Paid-flush : (S c f n : ℕ) (buffer : List ℕ) → Paid S c f n (length buffer) → Paid S (c + calls_for buffer) (f + 1) n 0
 Paid-flush S c f n buffer paid = ⊎_elim
     (λ none. Paid-same (grind (arith, nat_tests)) refl (Paid-idle S c f n (Paid-same refl (omega arith) paid)))
     (λ held. Paid-same (grind (arith, nat_tests)) refl (Paid-flushed S c f n (length buffer) held paid))
@@ -82,5 +83,5 @@ Paid-flush S c f n buffer paid = ⊎_elim
 pub Paid-empty : (S : ℕ) (buffer : List ℕ) → buffer ≡ [] → Paid S 0 0 0 (length buffer)
 Paid-empty S buffer e = subst (λ l. Paid S 0 0 0 (length l)) (sym e) (Paid-start S)
 
-pub sending_calls-min : (buffer : List ℕ) → sending_calls buffer ≡ min (length buffer) 1
-sending_calls-min buffer = grind (arith, nat_tests)
+pub calls_for-min : (buffer : List ℕ) → calls_for buffer ≡ min (length buffer) 1
+calls_for-min buffer = grind (arith, nat_tests)

@@ -4,7 +4,8 @@ use denote.RattleType.{RattleType}
 use Rattle.std.specs.Mem.{FitsInMemory}
 use Rattle.no_std_io2.specs.contracts.buffered.writing.BufWriter.{the_row as writer-row}
 use Rattle.io_bench.specs.contracts.tally.Tally.{the_row as tally-row}
-use Rattle.no_std_io2.specs.Buffered.{sending_calls, writing_calls, buffer_after}
+use Rattle.no_std_io2.specs.Buffered.{writing_calls, buffer_after}
+use Rattle.no_std_io2_base.specs.Writes.{calls_for}
 use Rattle.io_bench.specs.declared.runs.Op.{Op}
 use Rattle.io_bench.specs.declared.runs.Op.TheVariants.{Write, WriteAll, Flush}
 
@@ -33,7 +34,7 @@ flushes (op ∷ ops) = op_flushes op + flushes ops
 abbrev pub op_calls : ℕ → List ℕ → Op → ℕ
 op_calls S buffer (Write x) = writing_calls S buffer x.now
 op_calls S buffer (WriteAll x) = writing_calls S buffer x.now
-op_calls S buffer Flush = sending_calls buffer
+op_calls S buffer Flush = calls_for buffer
 
 abbrev pub op_buffer : ℕ → List ℕ → Op → List ℕ
 op_buffer S buffer (Write x) = buffer_after S buffer x.now

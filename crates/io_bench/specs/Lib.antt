@@ -3,6 +3,7 @@ pub mod Calls
 pub mod Closed
 pub mod Faulty
 pub mod Feed
+pub mod PieceRuns
 pub mod Runs
 pub mod Sink
 pub mod Tally

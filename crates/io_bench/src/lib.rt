@@ -13,12 +13,11 @@ mod asks;
 mod closed;
 mod faulty;
 mod feed;
+mod pieces;
 mod runs;
 mod sink;
 mod tally;
 mod tells;
-#[cfg(test)]
-mod tests;
 mod towers;
 pub mod trace;
 
@@ -26,6 +25,7 @@ pub use asks::{Ask, ReadTotals, run_reads};
 pub use closed::run_closed;
 pub use faulty::{Act, Faulty};
 pub use feed::{Event, Feed};
+pub use pieces::{run_lines, run_split};
 pub use runs::{Op, Reply, run_writes};
 pub use sink::Sink;
 pub use tally::Tally;

@@ -1,4 +1,11 @@
+// Buffered writers and readers, and copies.
+mod boxed;
+mod copies;
+mod lent;
 mod lines;
+mod over_cursors;
 mod readers;
-mod seeking_writers;
+mod seeks;
+mod texts;
+mod towers;
 mod writers;

@@ -1,10 +1,15 @@
-//! The tests of `no_std_io2_base` (`streams`) and of `no_std_io2` (`buffers`).
+//! The tests of `no_std_io2_base` (`streams`), of `no_std_io2` (`buffers`) and of `io_bench` (`runs`).
 //!
 //! They stand in a crate of their own, as Rust's integration tests do, since a check with tests
-//! proves the crate that they stand in once more.
+//! proves the crate that they stand in once more. Most of them are rows of tables: a line of text is a
+//! call, its answer and what stands after it, and `kit` plays it. A row costs no proof.
 #![tactic(auto)]
 
 #[cfg(test)]
 mod buffers;
+#[cfg(test)]
+mod kit;
+#[cfg(test)]
+mod runs;
 #[cfg(test)]
 mod streams;

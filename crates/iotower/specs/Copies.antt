@@ -1,16 +1,10 @@
 -- What a copy through a buffered writer does.
 use Rattle.std.specs.Prelude.{◌≡◌, ℕ, List, [], ◌∷◌, ◌++◌}
-use denote.Param.{param, number}
-use denote.RattleType.{RattleType}
-use Rattle.std.specs.Mem.{FitsInMemory}
 use Rattle.no_std_io2_base.specs.declared.error.Error.{Error}
 use Rattle.no_std_io2_base.specs.Errors.{error_kind}
 use Rattle.no_std_io2_base.specs.Events.{Event, EndsInFault}
 use Rattle.no_std_io2_base.specs.Writes.{Told, Moves}
 use Rattle.no_std_io2.specs.Copy.{counted}
-use Rattle.no_std_io2.specs.contracts.buffered.reading.BufReader.{the_row as reader-row}
-use Rattle.no_std_io2.specs.contracts.buffered.writing.BufWriter.{the_row as buffer-row}
-use Rattle.no_std_io2.specs.contracts.buffered.lines.LineWriter.{the_row as lines-row}
 
 -- A writer accepted b without a mishap, and n counts it.
 pub record Passes (old : Told) (b : List ℕ) (n : ℕ) (new : Told) : Type 0 where
@@ -34,15 +28,3 @@ pub record HasFailed (old : Told) (e : Error) : Type 0 where
   pub accepted : List ℕ
   pub new : Told
   pub moves : Moves old accepted (error_kind e ∷ []) new
-
--- a `BufReader<R, 64>` fits in memory
-abbrev pub ReaderFits : RattleType → Type 0
-ReaderFits R = FitsInMemory (reader-row R (param 0 (number 64)))
-
--- a `BufWriter<W, 64>` fits in memory
-abbrev pub BufferFits : RattleType → Type 0
-BufferFits W = FitsInMemory (buffer-row W (param 0 (number 64)))
-
--- a `LineWriter<W, 64>` fits in memory
-abbrev pub LinesFit : RattleType → Type 0
-LinesFit W = FitsInMemory (lines-row W (param 0 (number 64)))

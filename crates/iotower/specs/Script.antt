@@ -44,10 +44,6 @@ pub record IsCount (digits : List ℕ) (n : ℕ) : Type 0 where
   pub short : length digits ≤ 5
   pub fits : n < 2 ^ 16
 
--- the text is this line, its newline and the rest, or the line alone
-abbrev pub SplitsLine : List ℕ → List ℕ → List ℕ → Type 0
-SplitsLine text line rest = (text ≡ line ++ 10 ∷ rest) ⊎ ((text ≡ line) × (rest ≡ []))
-
 -- what follows a letter is a space and this text, or nothing, which is the empty text
 abbrev pub IsTextArgument : List ℕ → List ℕ → Type 0
 IsTextArgument rest text = (rest ≡ 32 ∷ text) ⊎ ((rest ≡ []) × (text ≡ []))

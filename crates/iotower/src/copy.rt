@@ -2,7 +2,8 @@
 ghost use Rattle.std.specs.Prelude.{◌≡◌, ◌⊎◌, [], Some, IfOk, IsOk, IfErr};
 ghost use Rattle.no_std_io2_base.specs.Events.{bytes, HasNoFault};
 ghost use Rattle.no_std_io2.specs.Reading.{reader_inner, reader_events};
-ghost use Rattle.iotower.specs.Copies.{Passes, PassesSome, HasFirstFault, HasFailed, ReaderFits, BufferFits, LinesFit};
+ghost use Rattle.iotower.specs.Copies.{Passes, PassesSome, HasFirstFault, HasFailed};
+ghost use Rattle.no_std_io2.specs.Fits.{BufReaderFits, BufWriterFits, LineWriterFits};
 
 use no_std_io2::io::{BufReader, BufWriter, LineWriter, Read, Result, Write, copy};
 
@@ -13,8 +14,8 @@ fn through_buffer<R: Read, W: Write + Drop>(
     input: &mut BufReader<R, ROOM>,
     output: W,
 ) -> Result<(u64, W)>
-    requires reader_fits { ReaderFits R.row }
-    requires fits { BufferFits W.row }
+    requires reader_fits { BufReaderFits R.row 64 }
+    requires fits { BufWriterFits W.row 64 }
     ensures some { IfOk result (λ r. PassesSome (W.told output) r.0 (W.told r.1)) }
     ensures all { R.tells (reader_inner input.old) → IfOk result
         (λ r. HasNoFault (reader_events R.events input.old)
@@ -35,8 +36,8 @@ fn through_lines<R: Read, W: Write + Drop>(
     input: &mut BufReader<R, ROOM>,
     output: W,
 ) -> Result<(u64, W)>
-    requires reader_fits { ReaderFits R.row }
-    requires fits { LinesFit W.row }
+    requires reader_fits { BufReaderFits R.row 64 }
+    requires fits { LineWriterFits W.row 64 }
     ensures some { IfOk result (λ r. PassesSome (W.told output) r.0 (W.told r.1)) }
     ensures all { R.tells (reader_inner input.old) → IfOk result
         (λ r. HasNoFault (reader_events R.events input.old)
@@ -65,9 +66,9 @@ pub fn copy_through<R: Read + Drop, W: Write + Drop>(
     line: bool,
 ) -> Result<(u64, W)>
     // The language's: each buffer fits in memory.
-    requires reader_fits { ReaderFits R.row }
-    requires buffer_fits { BufferFits W.row }
-    requires lines_fit { LinesFit W.row }
+    requires reader_fits { BufReaderFits R.row 64 }
+    requires buffer_fits { BufWriterFits W.row 64 }
+    requires lines_fit { LineWriterFits W.row 64 }
     ensures some { IfOk result (λ r. PassesSome (W.told output) r.0 (W.told r.1)) }
     ensures all { R.tells input → IfOk result (λ r. HasNoFault (R.events input)
         × Passes (W.told output) (bytes (R.events input)) r.0 (W.told r.1)) }

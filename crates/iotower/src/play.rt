@@ -1,4 +1,5 @@
 // Plays a script on a tower of buffered writers.
+ghost use Rattle.no_std_io2.specs.Fits.{BufReaderFits};
 ghost use Rattle.std.specs.Prelude.{◌≡◌, ◌++◌, Some, IfOk, IfErr};
 ghost use Rattle.no_std_io2_base.specs.declared.error.ErrorKind.TheVariants.{OutOfMemory};
 ghost use Rattle.no_std_io2_base.specs.Errors.{error_kind};
@@ -8,8 +9,8 @@ ghost use Rattle.iotower.specs.Play.{Shows, IsPlay, Writes, fresh_told};
 
 use crate::report::report_of;
 use crate::script::Script;
-use io_bench::{Act, Faulty, Op, run_writes};
-use no_std_io2::io::{BufWriter, Error, LineWriter, Read, Result, Write};
+use io_bench::{Act, Faulty, Op, run_split, run_writes};
+use no_std_io2::io::{BufRead, BufReader, BufWriter, Error, LineWriter, Read, Result, Write};
 use std::alloc::Global;
 use std::fmt;
 
@@ -58,6 +59,9 @@ impl fmt::Display for Fault {
 type Base = Faulty<Vec<u8>>;
 
 const ROOM: usize = 8;
+
+// The room through which a script is read.
+const INPUT_ROOM: usize = 64;
 
 // What is shown of a tower.
 trait Tower: Write {
@@ -119,15 +123,17 @@ impl Tower for LineWriter<BufWriter<Base, ROOM>, ROOM> {
 /// was played. The output is dropped.
 pub fn play<R: Read + Drop, W: Write + Drop>(
     alloc: Global,
-    mut input: R,
+    input: R,
     mut output: W,
     shape: Shape,
 ) -> std::result::Result<W, Fault>
+    requires reader_fits { BufReaderFits R.row 64 }
     ensures ok { IfOk result (λ w. Writes IsPlay (W.told output) (W.told w)) }
 {
-    let mut text = Vec::new(alloc);
-    input.read_to_end(&mut text)?;
-    let Script { acts, calls } = Script::parse(alloc, &text)?;
+    let reader = BufReader::<R, INPUT_ROOM>::new(input);
+    let mut lines = Vec::new(alloc);
+    run_split(reader.split(alloc, b'\n'), &mut lines)?;
+    let Script { acts, calls } = Script::parse(alloc, &lines)?;
     let ops = calls.ops(alloc)?;
     let report = play_ops(alloc, acts, &ops, shape)?;
     output.write_all(&report)?;

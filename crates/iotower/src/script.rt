@@ -1,7 +1,7 @@
 // The script of `play`: acts of a faulty device, and then calls of a writer, a line each.
-ghost use Rattle.std.specs.Prelude.{◌≡◌, ◌≢◌, ℕ, ◌+◌, ◌≤◌, ◌<◌, List, ◌∷◌, All, take, drop, IfSome, IfNone, OnOk, IfErr, length, vec_len, vec_capacity};
+ghost use Rattle.std.specs.Prelude.{◌≡◌, ℕ, ◌+◌, ◌≤◌, List, ◌∷◌, take, drop, IfSome, IfNone, OnOk, IfErr, length, vec_len, vec_capacity};
 ghost use Rattle.no_std_io2_base.specs.Errors.{error_kind};
-ghost use Rattle.iotower.specs.Script.{kind_name, IsCount, SplitsLine, IsTextArgument};
+ghost use Rattle.iotower.specs.Script.{kind_name, IsCount, IsTextArgument};
 ghost use Rattle.no_std_io2_base.specs.declared.error.ErrorKind.{ErrorKind as Kind};
 
 use crate::play::Fault;
@@ -44,11 +44,11 @@ pub struct Calls {
 }
 
 impl Script {
-    /// Reads a script: `text` is cut at each newline byte, and lines are numbered from 1.
+    /// Reads a script by its lines, which are numbered from 1.
     ///
     /// # Errors
     /// The first bad line, by its number, or `OutOfMemory`.
-    pub fn parse(alloc: Global, text: &[u8]) -> std::result::Result<Script, Fault> {
+    pub fn parse(alloc: Global, lines: &[Vec<u8>]) -> std::result::Result<Script, Fault> {
         let mut script = Script {
             acts: Vec::new(alloc),
             calls: Calls {
@@ -57,14 +57,11 @@ impl Script {
             },
         };
         let mut number = 0u64;
-        let mut rest = text;
-        'lines: while !rest.is_empty() {
-            let (line, next) = split_line(rest);
+        'lines: for line in lines {
             number = number.saturating_add(1);
             if !script.add_line(line)? {
                 return Err(Fault::Line(number));
             }
-            rest = next;
         }
         Ok(script)
     }
@@ -144,18 +141,6 @@ fn reserve<T>(list: &mut Vec<T>, more: usize) -> Result<()>
     match list.reserve(more) {
         Ok(()) => Ok(()),
         Err(_refused) => Err(Error::from(ErrorKind::OutOfMemory)),
-    }
-}
-
-// The first line, without its newline, and what follows.
-fn split_line(text: &[u8]) -> (&[u8], &[u8])
-    ensures line { All (λ b. b ≢ 10) result.0.now }
-    ensures split { SplitsLine text.now result.0.now result.1.now }
-    ensures shorter { 0 < length text.now → length result.1.now < length text.now }
-{
-    match text.iter().position(|b| *b == b'\n') {
-        Some(at) => (&text[..at], &text[at + 1..]),
-        None => (text, b""),
     }
 }
 

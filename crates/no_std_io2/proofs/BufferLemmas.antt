@@ -3,10 +3,10 @@ use Rattle.std.proofs.Common.{◌≡◌, ℕ, ◌-◌, ◌<◌, ◌≤◌, subst
 use Rattle.std.proofs.lemmas.Bool.Decides.{nat_tests}
 use Rattle.no_std_io2_base.specs.declared.error.ErrorKind.{ErrorKind}
 use Rattle.no_std_io2_base.specs.declared.error.Error.{Error}
-use Rattle.no_std_io2_base.specs.Writes.{Told, Moves, call_mishap}
+use Rattle.no_std_io2_base.specs.Writes.{Told, Moves, call_mishap, calls_for}
 use Rattle.no_std_io2_base.proofs.MovesLemmas.{Moves-refl, Moves-steady}
 use Rattle.no_std_io2.specs.declared.buffered.writing.BufWriter.{BufWriter}
-use Rattle.no_std_io2.specs.Buffered.{with_buffer, sending_calls, writer_buffer, IsEnd}
+use Rattle.no_std_io2.specs.Buffered.{with_buffer, writer_buffer, IsEnd}
 
 -- nothing is left of nothing
 pub none_left : (xs ys zs : List ℕ) → xs ≡ ys ++ zs → xs ≡ [] → length zs ≡ 0
@@ -27,10 +27,10 @@ Moves-buffered {a} {b} {x} old new y f e = record {
   turns = f.turns;
 }
 
-pub sending_none : (xs : List ℕ) → length xs ≡ 0 → sending_calls xs ≡ 0
+pub sending_none : (xs : List ℕ) → length xs ≡ 0 → calls_for xs ≡ 0
 sending_none xs h = grind (arith, nat_tests)
 
-pub sending_some : (xs : List ℕ) → 0 < length xs → sending_calls xs ≡ 1
+pub sending_some : (xs : List ℕ) → 0 < length xs → calls_for xs ≡ 1
 sending_some xs h = grind (arith, nat_tests)
 
 pub drop_whole : (xs next : List ℕ) (n : ℕ) → n ≡ length xs → next ≡ drop n xs → length next ≡ 0

@@ -2,14 +2,15 @@
 use Rattle.std.proofs.Common.{◌≡◌, ℕ, ◌+◌, ◌<◌, ◌≤◌, List, [], length, arith, ⊎_elim}
 use Rattle.std.proofs.lemmas.Bool.{cases_lt}
 use Rattle.std.proofs.lemmas.Bool.Decides.{nat_tests}
-use Rattle.no_std_io2.specs.Buffered.{sending_calls, writing_calls, buffer_after}
+use Rattle.no_std_io2.specs.Buffered.{writing_calls, buffer_after}
+use Rattle.no_std_io2_base.specs.Writes.{calls_for}
 use Rattle.no_std_io2.specs.Lines.{whole_if_short}
 
-pub sending_calls-le : (xs : List ℕ) → sending_calls xs ≤ 1
-sending_calls-le xs = grind (arith, nat_tests)
+pub calls_for-le : (xs : List ℕ) → calls_for xs ≤ 1
+calls_for-le xs = grind (arith, nat_tests)
 
-pub sending_calls-none : (xs : List ℕ) → length xs ≡ 0 → sending_calls xs ≡ 0
-sending_calls-none xs h = grind (arith, nat_tests)
+pub calls_for-none : (xs : List ℕ) → length xs ≡ 0 → calls_for xs ≡ 0
+calls_for-none xs h = grind (arith, nat_tests)
 
 pub writing_calls-le : (S : ℕ) (held x : List ℕ) → writing_calls S held x ≤ 2
 writing_calls-le S held x = grind (arith, nat_tests)
@@ -21,10 +22,10 @@ calls_short : (S : ℕ) (held x : List ℕ) → length x < S → writing_calls S
 calls_short S held x h = grind (arith, nat_tests)
 
 -- a write behind held bytes, and the sending of what is then held
-pub writing_then_sending : (S : ℕ) (held x : List ℕ) → writing_calls S held x + sending_calls (buffer_after S held x) ≤ 2
+pub writing_then_sending : (S : ℕ) (held x : List ℕ) → writing_calls S held x + calls_for (buffer_after S held x) ≤ 2
 writing_then_sending S held x = ⊎_elim
-    (λ short. omega (arith, calls_short S held x short, sending_calls-le (buffer_after S held x)))
-    (λ long. omega (arith, writing_calls-le S held x, sending_calls-none _ (after_long S held x long)))
+    (λ short. omega (arith, calls_short S held x short, calls_for-le (buffer_after S held x)))
+    (λ long. omega (arith, writing_calls-le S held x, calls_for-none _ (after_long S held x long)))
     (cases_lt (length x) S)
 
 -- behind nothing

@@ -2,7 +2,8 @@
 use Rattle.std.proofs.Common.{◌≡◌, ℕ, ◌+◌, ◌-◌, ◌<◌, ◌≤◌, List, [], ◌∷◌, ◌++◌, length, take, min, Ok, sym, ap, ◌∙◌, arith, length-append, append-nil, inl, subst, drop_of_length-le, take_all}
 use Rattle.std.proofs.lemmas.Bool.Decides.{nat_tests}
 use Rattle.no_std_io2_base.specs.declared.error.Error.{Error}
-use Rattle.no_std_io2_base.specs.Events.{IsUnexpectedEnd, Event, fails, events_of, bytes, HasNoFault, cut, Reads, Fills, FallsShort}
+use Rattle.no_std_io2_base.specs.Errors.{IsUnexpectedEnd}
+use Rattle.no_std_io2_base.specs.Events.{Event, fails, events_of, bytes, HasNoFault, cut, Reads, Fills, FallsShort}
 use Rattle.no_std_io2_base.proofs.Events.{length-events_of, events_of-append, bytes-events_of, HasNoFault-events_of, cut-bytes}
 use Rattle.no_std_io2_base.proofs.Taken.{Taken, taken_fills, no_error}
 use Rattle.no_std_io2.specs.Reading.{held_or_to_come, exact_reads, exact_left}

@@ -1,7 +1,7 @@
 -- What a clause reads of a `BufWriter` and an `IntoInnerError`, and how a buffer is sent.
-use Rattle.std.specs.Prelude.{◌≡◌, ℕ, ◌+◌, List, [], ◌++◌, length, nat_lt, nat_le, ◌&&◌, if◌then◌else◌, Result}
+use Rattle.std.specs.Prelude.{◌≡◌, ℕ, ◌+◌, List, [], ◌++◌, length, nat_lt, nat_le, ◌&&◌, if◌then◌else◌}
 use Rattle.no_std_io2_base.specs.declared.error.Error.{Error}
-use Rattle.no_std_io2_base.specs.Writes.{Told, Moves, call_mishap}
+use Rattle.no_std_io2_base.specs.Writes.{Told}
 use Rattle.no_std_io2.specs.Window.{window_bytes}
 use Rattle.no_std_io2.specs.declared.buffered.sender.Sender.{Sender}
 use Rattle.no_std_io2.specs.declared.buffered.writing.BufWriter.{BufWriter}
@@ -42,15 +42,6 @@ sender_told told w = with_buffer (told w.inner) (sender_buffer w)
 -- what a `BufWriter` tells
 abbrev pub writer_told : {W : Type 0} {S : ℕ} → (W → Told) → BufWriter W S → Told
 writer_told told w = sender_told told w.core
-
--- Sending: the inner writer accepted some front of the buffer, and the rest is left.
-abbrev pub Sends : Told → List ℕ → Result (Unit {0}) Error → Told → List ℕ → Type 0
-Sends old buffer reply new rest =
-    (sent : List ℕ) × (buffer ≡ sent ++ rest) × Moves old sent (call_mishap reply) new
-
--- how many inner calls the sending of a buffer takes, where the inner writer takes all
-abbrev pub sending_calls : List ℕ → ℕ
-sending_calls buffer = if nat_lt 0 (length buffer) then 1 else 0
 
 -- how many inner calls it takes that n more bytes fit beside the buffer, where the inner writer takes all
 abbrev pub way_calls : ℕ → List ℕ → ℕ → ℕ

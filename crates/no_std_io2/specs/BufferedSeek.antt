@@ -1,5 +1,5 @@
 -- Seeking through a buffer.
-use Rattle.std.specs.Prelude.{◌≡◌, ℕ, pos, List, [], length, Result, Ok, Err}
+use Rattle.std.specs.Prelude.{◌≡◌, ℕ, pos, List, [], length, IsOkAnd, Result, Ok, Err}
 use Rattle.no_std_io2_base.specs.declared.error.Error.{Error}
 use Rattle.no_std_io2_base.specs.declared.traits.seeking.SeekFrom.{SeekFrom}
 use Rattle.no_std_io2_base.specs.declared.traits.seeking.SeekFrom.TheVariants.{Start, Current}
@@ -25,3 +25,10 @@ pub record SeeksAfterSending {W : Type 0} (told : W → Told) (has_store : W →
   pub moves : Moves old [] [] (told sent)
   -- a store that it told then was sought
   pub seeks : has_store sent → has_store new × (content new ≡ content sent) × Seeks (length (content sent)) (position sent) pos reply (position new)
+
+-- All was sent, which left the inner writer in some state; a store that it told then was measured, and stayed.
+pub record MeasuredAfterSending {W : Type 0} (told : W → Told) (has_store : W → Type 0) (content : W → List ℕ) (position : W → ℕ) (old : Told) (reply : Result ℕ Error) (new : W) : Type 0 where
+  pub sent : W
+  -- no byte is lost
+  pub moves : Moves old [] [] (told sent)
+  pub measured : has_store sent → has_store new × (content new ≡ content sent) × (position new ≡ position sent) × IsOkAnd reply (λ n. n ≡ length (content sent))

@@ -1,16 +1,20 @@
 -- What a clause reads of a `BufReader`.
-use Rattle.std.specs.Prelude.{◌≡◌, ℕ, ◌^◌, ◌<◌, negsuc, ◌+◌, ◌-◌, ◌*◌, ◌&&◌, min, nat_lt, nat_le, if◌then◌else◌, List, ◌∷◌, ◌++◌, Ok, Err, Result, length}
+use Rattle.std.specs.Prelude.{◌≡◌, ℕ, ◌^◌, ◌<◌, negsuc, ◌+◌, ◌-◌, ◌*◌, ◌&&◌, min, nat_lt, nat_le, if◌then◌else◌, List, [], ◌∷◌, ◌++◌, Ok, Err, Result, length}
 use Rattle.no_std_io2_base.specs.declared.error.Error.{Error}
 use Rattle.no_std_io2_base.specs.declared.traits.seeking.SeekFrom.{SeekFrom}
 use Rattle.no_std_io2_base.specs.declared.traits.seeking.SeekFrom.TheVariants.{Current}
 use Rattle.no_std_io2_base.specs.Events.{Event, events_of, fails}
 use Rattle.no_std_io2.specs.declared.buffered.reading.BufReader.{BufReader}
-use Rattle.no_std_io2.specs.ReadAhead.{ahead_held}
+use Rattle.no_std_io2.specs.ReadAhead.{ahead_held, ahead_behind}
 use Rattle.no_std_io2.specs.Sound.{IsSound}
 
 -- `r.buffer()`
 abbrev pub reader_held : {R : Type 0} {S : ℕ} → BufReader R S → List ℕ
 reader_held r = ahead_held r.ahead
+
+-- `r.behind()`
+abbrev pub reader_behind : {R : Type 0} {S : ℕ} → BufReader R S → List ℕ
+reader_behind r = ahead_behind r.ahead
 
 -- `r.get_ref()`
 abbrev pub reader_inner : {R : Type 0} {S : ℕ} → BufReader R S → R
@@ -28,6 +32,11 @@ reader_turns {S = room} turns r = length (reader_held r) + (room + 1) * turns (r
 abbrev pub reader_has_store : {R : Type 0} {S : ℕ} → (R → Type 0) → (R → ℕ) → (R → List ℕ) → BufReader R S → Type 0
 reader_has_store has_store position content r =
     has_store (reader_inner r) × IsSound (reader_held r) (position (reader_inner r)) (content (reader_inner r))
+
+-- the inner's store, where what lies behind and then the held bytes are its bytes that end at the inner's position
+abbrev pub reader_is_sound : {R : Type 0} {S : ℕ} → (R → Type 0) → (R → ℕ) → (R → List ℕ) → BufReader R S → Type 0
+reader_is_sound has_store position content r =
+    has_store (reader_inner r) × IsSound (reader_behind r ++ reader_held r) (position (reader_inner r)) (content (reader_inner r))
 
 -- the inner's position less the bytes held
 abbrev pub reader_position : {R : Type 0} {S : ℕ} → (R → ℕ) → BufReader R S → ℕ
@@ -55,6 +64,10 @@ abbrev pub exact_reads : ℕ → ℕ → ℕ → ℕ
 exact_reads len held all =
     (if nat_le len held then 0 else 1) + (if nat_lt held all && nat_lt all len then 1 else 0)
 
+-- what lies behind after a read with none held: what it gave of its own buffer, and none where that was passed by
+abbrev pub behind_anew : ℕ → ℕ → List ℕ → List ℕ
+behind_anew room len got = if nat_le room len then [] else got
+
 -- how many bytes are held after that
 abbrev pub exact_left : ℕ → ℕ → ℕ → ℕ → ℕ
 exact_left room len held all =
@@ -66,6 +79,14 @@ exact_left room len held all =
 abbrev pub IsTooFarBack : SeekFrom → ℕ → Type 0
 IsTooFarBack (Current (negsuc k)) held = 2 ^ 63 < held + (k + 1)
 IsTooFarBack _ held = ⊥
+
+-- what lies behind and what is held are as they were
+abbrev pub KeepsBuffer : {R : Type 0} {S : ℕ} → BufReader R S → BufReader R S → Type 0
+KeepsBuffer old new = (reader_held new ≡ reader_held old) × (reader_behind new ≡ reader_behind old)
+
+-- nothing lies behind, and nothing is held
+abbrev pub HasNoBuffer : {R : Type 0} {S : ℕ} → BufReader R S → Type 0
+HasNoBuffer r = (reader_held r ≡ []) × (reader_behind r ≡ [])
 
 -- r after `*r.get_mut() = x`
 abbrev pub reader_with_inner : {R : Type 0} {S : ℕ} → BufReader R S → R → BufReader R S

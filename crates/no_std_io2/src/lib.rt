@@ -17,6 +17,6 @@ pub mod io {
     pub use no_std_io2_base::cursor::{AsSlice, Cursor};
     pub use no_std_io2_base::error::{Error, ErrorKind, Result};
     pub use no_std_io2_base::traits::{
-        BufRead, Bytes, Chain, Read, Seek, SeekFrom, Stored, Take, Write,
+        BufRead, Bytes, Chain, Lines, Read, Seek, SeekFrom, Split, Stored, Take, Write,
     };
 }

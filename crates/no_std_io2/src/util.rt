@@ -1,19 +1,12 @@
 //! Whole copies from a reader to a writer.
 ghost use Rattle.std.specs.Prelude.{◌≡◌, ◌+◌, ◌≤◌, ◌<◌, ◌^◌, length, IfErr};
-ghost use Rattle.no_std_io2_base.specs.Errors.{error_kind, is_interruption, IsFault};
+ghost use Rattle.no_std_io2_base.specs.Errors.{IsFault};
 ghost use Rattle.no_std_io2.specs.Copy.{Copies, CopyMoves};
 
-use no_std_io2_base::error::{Error, ErrorKind, Result};
+use no_std_io2_base::error::Result;
 use no_std_io2_base::traits::{Read, Write};
 
 mod steady;
-
-// The call did nothing and may be made again.
-pub(crate) fn is_interruption(error: &Error) -> bool
-    ensures { result ≡ is_interruption (error_kind error.now) }
-{
-    matches!(error.kind(), ErrorKind::Interrupted)
-}
 
 /// Copies all bytes to come of `reader` to `writer`, through a buffer of `S` bytes on the stack,
 /// and answers their number, or the greatest `u64` where there are more. It passes over the
@@ -51,11 +44,8 @@ pub fn copy<R: Read, W: Write, const S: usize>(reader: &mut R, writer: &mut W) -
                 writer.write_all(&buf[..n])?;
                 copied = copied.saturating_add(n as u64);
             }
-            Err(e) => {
-                if !is_interruption(&e) {
-                    return Err(e);
-                }
-            }
+            Err(e) if e.is_interrupted() => {}
+            Err(e) => return Err(e),
         }
     }
 }

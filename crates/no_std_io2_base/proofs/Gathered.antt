@@ -2,8 +2,8 @@
 use Rattle.std.proofs.Common.{◌≡◌, ℕ, ◌-◌, ◌<◌, ◌≤◌, List, [], ◌∷◌, ◌++◌, length, take, refl, sym, ap, ◌∙◌, subst, arith, Ok, Err, append_assoc, append-nil, inl, inr, length-append}
 use lib.Seq.{take-append-le}
 use Rattle.no_std_io2_base.specs.declared.error.Error.{Error}
-use Rattle.no_std_io2_base.specs.Errors.{IsInterruption, IsFault}
-use Rattle.no_std_io2_base.specs.Events.{IsOutOfMemory, Event, fails, events_of, bytes, HasNoFault, Reads, ReadsToEnd}
+use Rattle.no_std_io2_base.specs.Errors.{IsInterruption, IsFault, IsOutOfMemory}
+use Rattle.no_std_io2_base.specs.Events.{Event, fails, events_of, bytes, HasNoFault, Reads, ReadsToEnd}
 use Rattle.no_std_io2_base.proofs.Events.{bytes-append, bytes-events_of, HasNoFault-append, HasNoFault-events_of}
 
 -- `front`, which has no fault, is gone from E, and its bytes were appended

@@ -1,10 +1,13 @@
 -- How calls of a writer follow one another.
-use Rattle.std.proofs.Common.{◌≡◌, ℕ, ◌+◌, length, Bool, true, subst, List, [], ◌∷◌, ◌++◌, Option, None, Some, sym, ap, ◌∙◌, arith, count_by, append_assoc, append-nil}
+use Rattle.std.proofs.Common.{◌≡◌, refl, Result, Ok, Err, ℕ, ◌+◌, length, Bool, true, subst, List, [], ◌∷◌, ◌++◌, Option, None, Some, sym, ap, ◌∙◌, arith, count_by, append_assoc, append-nil}
 use Rattle.std.proofs.lemmas.List.Sums.{sum_by-append, sum_by-cons}
 use Rattle.std.proofs.lemmas.Bool.Decides.{nat_tests}
 use Rattle.no_std_io2_base.specs.declared.error.ErrorKind.{ErrorKind}
+use Rattle.std.specs.List.{concat}
+use Rattle.std.specs.Result.{OnOk}
+use Rattle.no_std_io2_base.specs.declared.error.Error.{Error}
 use Rattle.no_std_io2_base.specs.Errors.{is_interruption}
-use Rattle.no_std_io2_base.specs.Writes.{Told, IsFront, HasSpent, Moves, zero_write}
+use Rattle.no_std_io2_base.specs.Writes.{Told, IsFront, HasSpent, Moves, MovesFront, MovesEach, Sends, zero_write}
 
 pub IsFront-refl : (xs : List ℕ) → IsFront xs xs
 IsFront-refl xs = ([], sym (append-nil xs))
@@ -89,3 +92,39 @@ Moves-steady {a} {c} {x} {k} {l} e f = spent c.mishaps (subst (λ m. HasSpent m 
 -- a write that took the whole is no mishap
 pub zero_write-whole : (xs : List ℕ) → zero_write (length xs) xs ≡ []
 zero_write-whole xs = grind (arith, nat_tests)
+
+-- `write_all(x)?; write_all(y)`, where the first answered `Ok`: some front of both was accepted, all of it at `Ok`
+pub MovesFront-join : {a b c : Told} (x y : List ℕ) (r : Result (Unit {0}) Error) → MovesFront a x (Ok tt) b → MovesFront b y r c → MovesFront a (x ++ y) r c
+MovesFront-join {a} {b} {c} x y r f g =
+    let first : Moves a x [] b = subst (λ l. Moves a l [] b) f.2 f.3 in
+    (x ++ g.0, (g.1.0, ap (λ l. x ++ l) g.1.1 ∙ sym (append_assoc x g.0 g.1.0)), joined r g.2, Moves-then first g.3)
+  where
+    joined : (r : Result (Unit {0}) Error) → OnOk r (g.0 ≡ y) → OnOk r (x ++ g.0 ≡ x ++ y)
+    joined (Ok u) e = ap (λ l. x ++ l) e
+    joined (Err e) h = tt
+
+-- the same, where the first failed: the second made no call
+pub MovesFront-first : {a b : Told} (x y : List ℕ) (e : Error) → MovesFront a x (Err e) b → MovesFront a (x ++ y) (Err e) b
+MovesFront-first x y e f =
+    (f.0, (f.1.0 ++ y, ap (λ l. l ++ y) f.1.1 ∙ append_assoc f.0 f.1.0 y), tt, f.3)
+
+-- a call that says what is left is a call that accepted some front
+pub MovesFront-sends : {a b : Told} {r : Result (Unit {0}) Error} (x rest : List ℕ) → Sends a x r b rest → OnOk r (rest ≡ []) → MovesFront a x r b
+MovesFront-sends {r} x rest f none = (f.sent, (rest, f.split), whole r none, f.moves)
+  where
+    whole : (r : Result (Unit {0}) Error) → OnOk r (rest ≡ []) → OnOk r (f.sent ≡ x)
+    whole (Ok u) e = sym (f.split ∙ ap (λ l. f.sent ++ l) e ∙ append-nil f.sent)
+    whole (Err e) h = tt
+
+-- two calls that say what is left, one after the other: nothing went out twice
+pub Sends-then : {a b c : Told} {r s : Result (Unit {0}) Error} (x rest left : List ℕ) → Sends a x r b rest → Sends b rest s c left → Sends a x s c left
+Sends-then x rest left f g = record {
+  sent = f.sent ++ g.sent;
+  split = f.split ∙ ap (λ l. f.sent ++ l) g.split ∙ sym (append_assoc f.sent g.sent left);
+  moves = Moves-then f.moves g.moves;
+}
+
+-- a list of calls accepted the lists joined
+pub Moves-each : (a c : Told) (xs : List (List ℕ)) → MovesEach a xs c → Moves a (concat xs) [] c
+Moves-each a c [] f = f
+Moves-each a c (x ∷ xs) f = Moves-then f.1 (Moves-each f.0 c xs f.2)

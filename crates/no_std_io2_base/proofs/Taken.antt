@@ -1,8 +1,8 @@
 -- What a loop of reads has taken so far.
 use Rattle.std.proofs.Common.{◌≡◌, ℕ, ◌+◌, ◌-◌, ◌<◌, ◌≤◌, List, [], ◌∷◌, ◌++◌, length, take, refl, sym, ap, ◌∙◌, subst, arith, Ok, length-take-le, append_assoc, append-nil, inl, length-append}
 use Rattle.no_std_io2_base.specs.declared.error.Error.{Error}
-use Rattle.no_std_io2_base.specs.Errors.{IsInterruption, IsFault}
-use Rattle.no_std_io2_base.specs.Events.{IsUnexpectedEnd, Event, fails, events_of, bytes, HasNoFault, cut, Reads, Fills, FallsShort, StopsAtFault}
+use Rattle.no_std_io2_base.specs.Errors.{IsInterruption, IsFault, IsUnexpectedEnd}
+use Rattle.no_std_io2_base.specs.Events.{Event, fails, events_of, bytes, HasNoFault, cut, Reads, Fills, FallsShort, StopsAtFault}
 use Rattle.no_std_io2_base.proofs.Events.{bytes-append, bytes-events_of, length-events_of, HasNoFault-append, HasNoFault-events_of, cut-append, cut-bytes}
 
 -- `front`, which has no fault, is gone from E and gave these bytes; at `room` bytes it ends with the last of them

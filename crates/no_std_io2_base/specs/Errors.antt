@@ -70,6 +70,26 @@ text_or_kind kind None = kind_text kind
 abbrev pub error_display : Error → List ℕ
 error_display e = text_or_kind (error_kind e) (error_text e)
 
+-- a kind alone, without a text
+abbrev pub IsPlain : ErrorKind → Error → Type 0
+IsPlain kind e = (error_kind e ≡ kind) × (error_text e ≡ None)
+
+-- this kind, with this text
+abbrev pub SaysError : ErrorKind → List ℕ → Error → Type 0
+SaysError kind text e = (error_kind e ≡ kind) × (error_text e ≡ Some text)
+
+-- memory was refused: the kind alone
+abbrev pub IsOutOfMemory : Error → Type 0
+IsOutOfMemory e = IsPlain OutOfMemory e
+
+-- the bytes ended too early
+abbrev pub IsUnexpectedEnd : Error → Type 0
+IsUnexpectedEnd e = SaysError UnexpectedEof (codes "failed to fill whole buffer") e
+
+-- a writer took no byte of some
+abbrev pub IsUnwritten : Error → Type 0
+IsUnwritten e = SaysError WriteZero (codes "failed to write whole buffer") e
+
 -- errors of this kind are interruptions, all others are faults
 abbrev pub is_interruption : ErrorKind → Bool
 is_interruption Interrupted = true

@@ -1,8 +1,7 @@
 -- What a reader has left to give, and what its calls do to that.
-use Rattle.std.specs.Prelude.{◌≡◌, ℕ, zero, suc, ◌<◌, List, [], ◌∷◌, ◌++◌, length, take, ⊤, Ok, Err, Result, ◌⊎◌, Some, None, codes}
+use Rattle.std.specs.Prelude.{◌≡◌, ℕ, zero, suc, ◌<◌, List, [], ◌∷◌, ◌++◌, length, take, ⊤, Ok, Err, Result, ◌⊎◌}
 use Rattle.no_std_io2_base.specs.declared.error.Error.{Error}
-use Rattle.no_std_io2_base.specs.declared.error.ErrorKind.TheVariants.{UnexpectedEof, OutOfMemory}
-use Rattle.no_std_io2_base.specs.Errors.{error_kind, error_text, IsInterruption, IsFault}
+use Rattle.no_std_io2_base.specs.Errors.{IsInterruption, IsFault, IsUnexpectedEnd, IsOutOfMemory}
 
 -- what is still to come of a reader: a byte, or an error that a call answers
 pub data Event : Type 0 where
@@ -46,14 +45,6 @@ SpendsTurn (Err e) old new = new < old
 -- P ends in the fault e, its only one
 abbrev pub EndsInFault : List Event → Error → Type 0
 EndsInFault P e = (Q : List Event) × (P ≡ Q ++ fails e ∷ []) × HasNoFault Q × IsFault e
-
--- the bytes ended too early
-abbrev pub IsUnexpectedEnd : Error → Type 0
-IsUnexpectedEnd e = (error_kind e ≡ UnexpectedEof) × (error_text e ≡ Some (codes "failed to fill whole buffer"))
-
--- memory was refused: the kind alone
-abbrev pub IsOutOfMemory : Error → Type 0
-IsOutOfMemory e = (error_kind e ≡ OutOfMemory) × (error_text e ≡ None)
 
 -- how many bytes a call gave
 abbrev pub given : Result ℕ Error → ℕ

@@ -62,6 +62,21 @@ abbrev pub MovesFront : Told → List ℕ → Result (Unit {0}) Error → Told �
 MovesFront old x reply new =
     (accepted : List ℕ) × IsFront accepted x × OnOk reply (accepted ≡ x) × Moves old accepted (call_mishap reply) new
 
+-- From old to new a writer accepted exactly what is gone from the front of `rest`.
+pub record Sends (old : Told) (rest : List ℕ) (reply : Result (Unit {0}) Error) (new : Told) (left : List ℕ) : Type 0 where
+  pub sent : List ℕ
+  pub split : rest ≡ sent ++ left
+  pub moves : Moves old sent (call_mishap reply) new
+
+-- From old to new calls in a row accepted these lists, one each, without a mishap.
+abbrev pub MovesEach : Told → List (List ℕ) → Told → Type 0
+MovesEach old [] new = Moves old [] [] new
+MovesEach old (x ∷ xs) new = (mid : Told) × Moves old x [] mid × MovesEach mid xs new
+
+-- how many calls hand on some bytes, and how many none
+abbrev pub calls_for : List ℕ → ℕ
+calls_for x = if nat_lt 0 (length x) then 1 else 0
+
 -- what a writer tells whose bytes are out as soon as they are accepted, and that tells no mishaps
 abbrev pub told_out : List ℕ → Told
 told_out bytes = record { out = bytes; held = []; mishaps = None; turns = 0 }

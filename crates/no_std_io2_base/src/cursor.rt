@@ -3,7 +3,7 @@ ghost use Rattle.std.specs.Prelude.{◌≡◌, List, IsOk, IfOk, IfErr, ◌↔�
 ghost use types.Logic.{sem};
 ghost use Rattle.std.specs.Borrow.{Lends};
 ghost use Rattle.no_std_io2_base.specs.contracts.cursor.Cursor.{the_row as cursor-row};
-ghost use Rattle.no_std_io2_base.specs.Events.{IsOutOfMemory};
+ghost use Rattle.no_std_io2_base.specs.Errors.{IsOutOfMemory};
 ghost use Rattle.no_std_io2_base.specs.Cursor.{cursor_place, cursor_inner, cursor_with_inner};
 
 mod reading;
@@ -12,7 +12,7 @@ mod slices;
 mod tells;
 mod vectors;
 
-use crate::error::{Error, ErrorKind, Result};
+use crate::error::Result;
 use std::alloc::Allocator;
 
 /// What lends itself as one slice: the content of a [`Cursor`]. It stands where `std::io::Cursor`
@@ -135,12 +135,10 @@ impl<T> Cursor<T> {
         ensures err { IfErr result IsOutOfMemory }
         ensures succeeds { T.is_infallible (cursor_inner self.now) → IsOk result }
     {
-        match self.inner.clone() {
-            Ok(inner) => Ok(Cursor {
-                inner,
-                pos: self.pos,
-            }),
-            Err(_) => Err(Error::from(ErrorKind::OutOfMemory)),
-        }
+        let inner = self.inner.clone()?;
+        Ok(Cursor {
+            inner,
+            pos: self.pos,
+        })
     }
 }

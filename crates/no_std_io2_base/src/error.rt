@@ -1,8 +1,9 @@
 //! What a stream's call fails with: a kind, and perhaps a static text.
 ghost use Rattle.std.specs.Prelude.{◌≡◌, Some, None};
 ghost use Rattle.std.specs.Option.{option_map};
-ghost use Rattle.no_std_io2_base.specs.Errors.{kind_text, error_kind, error_text, error_display, is_interruption};
+ghost use Rattle.no_std_io2_base.specs.Errors.{kind_text, error_kind, error_text, error_display, is_interruption, IsPlain, IsOutOfMemory, IsUnexpectedEnd, IsUnwritten};
 
+use std::alloc::AllocError;
 use std::fmt;
 
 /// The kinds of errors, as in Rust's `std::io::ErrorKind`. They are ordered as they are declared.
@@ -137,8 +138,9 @@ impl Error {
         self.text
     }
 
-    // Whether the call did nothing and may be made again.
-    pub(crate) fn is_interruption(&self) -> bool
+    /// Whether this is an interruption: the call did nothing, and may be made again. Follows the
+    /// test of the same name inside Rust's `std::io`.
+    pub fn is_interrupted(&self) -> bool
         ensures { result ≡ is_interruption (error_kind self.now) }
     {
         matches!(self.kind, ErrorKind::Interrupted)
@@ -147,10 +149,19 @@ impl Error {
 
 /// A kind alone, with no text.
 impl From<ErrorKind> for Error {
-    ghost from_gives = { λ kind e. (error_kind e ≡ kind) × (error_text e ≡ None) };
+    ghost from_gives = { λ kind e. IsPlain kind e };
 
     fn from(kind: ErrorKind) -> Error {
         Error { kind, text: None }
+    }
+}
+
+/// Refused memory is the kind [`ErrorKind::OutOfMemory`] alone.
+impl From<AllocError> for Error {
+    ghost from_gives = { λ _ e. IsOutOfMemory e };
+
+    fn from(_refused: AllocError) -> Error {
+        Error::from(ErrorKind::OutOfMemory)
     }
 }
 
@@ -170,3 +181,19 @@ impl fmt::Display for Error {
 }
 
 impl std::error::Error for Error {}
+
+// The refusals that the library words itself, each in one place. Users meet them as errors alone.
+
+/// The bytes ended before the buffer was full.
+pub fn failed_to_fill() -> Error
+    ensures { IsUnexpectedEnd result }
+{
+    Error::new(ErrorKind::UnexpectedEof, "failed to fill whole buffer")
+}
+
+/// The device took no byte of some.
+pub fn failed_to_write() -> Error
+    ensures { IsUnwritten result }
+{
+    Error::new(ErrorKind::WriteZero, "failed to write whole buffer")
+}

@@ -5,6 +5,7 @@
 pub mod cursor;
 pub mod error;
 pub mod impls;
+mod piece_laws;
 mod reader_tells;
 mod tells;
 pub mod traits;

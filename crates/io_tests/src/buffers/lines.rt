@@ -1,321 +1,145 @@
+// `LineWriter` over a device: tables of calls.
+//
+// A row is a call, its answer, the bytes out, the bytes held, and the calls that reached the device.
+use crate::kit::recorder::Recorder;
+use crate::kit::rows::play;
+use crate::kit::writers::Writing;
 use no_std_io2::buffered::LineWriter;
-use no_std_io2_base::error::{Error, ErrorKind, Result};
-use no_std_io2_base::traits::Write;
 use std::test::Fail;
 
-// What a device does at its first call.
-#[derive(Clone, Copy)]
-enum First {
-    Take(usize),
-    Block,
-}
+const OF_64_BYTES: &str = r"
+# a line goes out when it is complete
+new
+write_all I shall be telling this with a sigh | ok | - | I shall be telling this with a sigh | -
+write_all \n | ok | I shall be telling this with a sigh\n | - | write I shall be telling this with a sigh\n = 36
+";
 
-// Does one thing at its first write, then takes all. It counts its writes.
-#[derive(Drop)]
-struct Device {
-    first: Option<First>,
-    out: Vec<u8>,
-    writes: u64,
-}
+const OF_8_BYTES: &str = r"
+# the rest of a line is held and sent first
+new take 1
+write a\nb | 2 | a | \n | write a\n = 1
+write b | 1 | a\n | b | write \n = 1
 
-impl Device {
-    ghost use Rattle.std.specs.Prelude.{◌≡◌, []};
+# a device that takes nothing of a line leaves nothing held
+new take 0
+write a\nb | 0 | - | - | write a\n = 0
 
-    fn new(rt: &HostRuntime, first: Option<First>) -> Device
-        ensures { result.out.items ≡ [] }
-    {
-        Device {
-            first,
-            out: Vec::new(rt.alloc()),
-            writes: 0,
-        }
-    }
-}
+# where all lines went, all that follows them is held
+new
+write a\nb\ncd | 6 | a\nb\n | cd | write a\nb\n = 4
+write e\nf | 3 | a\nb\ncde\n | f | write cd = 2, write e\n = 2
 
-impl Write for Device {
-    ghost use Rattle.no_std_io2_base.specs.Writes.{told_out};
+# the device's errors are passed on, and nothing is held of what they refused
+new fail Other no carrier, fail Interrupted
+write a\nb | !Other: no carrier | - | - | write a\n = !Other: no carrier
+write a\nb | !Interrupted | - | - | write a\n = !Interrupted
+new fail BrokenPipe
+write ab | 2 | - | ab | -
+write c\nd | !BrokenPipe | - | ab | write ab = !BrokenPipe
 
-    ghost told = { λ w. told_out w.out.items };
+# a line that was refused is held whole, and goes first
+new fail WouldBlock
+write_all ab | ok | - | ab | -
+write_all c\nd | !WouldBlock | - | abc\n | write abc\n = !WouldBlock
+write_all d | ok | abc\n | d | write abc\n = 4
+new fail WouldBlock
+write_all ab | ok | - | ab | -
+write_all c\nd | !WouldBlock | - | abc\n | write abc\n = !WouldBlock
+write d | 1 | abc\n | d | write abc\n = 4
 
-    ghost takes_all = { λ _. ⊥ };
+# a line that is still held refuses what comes next
+new take 1, fail BrokenPipe
+write a\nb | 2 | a | \n | write a\n = 1
+write b | !BrokenPipe | a | \n | write \n = !BrokenPipe
 
-    ghost cost = { λ _. 0 };
+# with nothing held a whole line is one call, made until all is out
+new take 1, fail Interrupted
+write_all ab\nc | ok | ab\n | c | write ab\n = 1, write b\n = !Interrupted, write b\n = 2
 
-    ghost is_metered = { λ _. ⊥ };
+# a device that takes no line is WriteZero
+new take 0
+write_all ab\n | !WriteZero: failed to write whole buffer | - | - | write ab\n = 0
+flush | ok | - | - | flush = ok
 
-    fn write(&mut self, buf: &[u8]) -> Result<usize> {
-        self.writes = self.writes.saturating_add(1);
-        match self.first.take() {
-            None => self.out.write(buf),
-            Some(First::Take(n)) => {
-                let n = n.min(buf.len());
-                self.out.write(&buf[..n])
-            }
-            Some(First::Block) => Err(Error::from(ErrorKind::WouldBlock)),
-        }
-    }
+# other bytes are not newlines
+new
+write_all \xff\x0d\x8a\x00 | ok | - | \xff\x0d\x8a\x00 | -
+write_all \x0d\n\xc8\x0d | ok | \xff\x0d\x8a\x00\x0d\n | \xc8\x0d | write \xff\x0d\x8a\x00\x0d\n = 6
 
-    fn flush(&mut self) -> Result<()> {
-        Ok(())
-    }
+# a flush sends an unfinished line
+new fail WouldBlock
+write_all abc | ok | - | abc | -
+flush | !WouldBlock | - | abc | write abc = !WouldBlock
+flush | ok | abc | - | write abc = 3, flush = ok
 
-    ghost steady = { λ w h. absurd h };
-}
+# a refused into_inner hands the writer back
+new fail WouldBlock, fail WouldBlock
+write_all ab | ok | - | ab | -
+write_all c\nd | !WouldBlock | - | abc\n | write abc\n = !WouldBlock
+into_inner | !WouldBlock (operation would block) | - | abc\n | write abc\n = !WouldBlock
+into_inner | ok | abc\n | - | write abc\n = 4
 
-#[test]
-fn a_line_goes_out_when_it_is_complete(rt: HostRuntime) -> std::result::Result<(), Fail> {
-    let mut w: LineWriter<Vec<u8>, 64> = LineWriter::new(Vec::new(rt.alloc()));
-    w.write_all(b"I shall be telling this with a sigh")?;
-    assert_eq!(rt; w.get_ref().as_slice(), b"".as_slice());
-    w.write_all(b"\n")?;
-    let line = b"I shall be telling this with a sigh\n".as_slice();
-    assert_eq!(rt; w.get_ref().as_slice(), line);
-    assert_eq!(rt; w.buffer(), b"".as_slice());
-    Ok(())
-}
+# into_inner sends once, and does not flush
+new
+write_all abc | ok | - | abc | -
+into_inner | ok | abc | - | write abc = 3
+drop | - | abc | - | -
 
-#[test]
-fn the_rest_of_a_line_is_held_and_sent_first(rt: HostRuntime) -> std::result::Result<(), Fail> {
-    let mut w: LineWriter<Device, 8> = LineWriter::new(Device::new(&rt, Some(First::Take(1))));
-    assert_eq!(rt; w.write(b"a\nb")?, 2);
-    assert_eq!(rt; w.get_ref().out.as_slice(), b"a".as_slice());
-    assert_eq!(rt; w.buffer(), b"\n".as_slice());
-    assert_eq!(rt; w.write(b"b")?, 1);
-    assert_eq!(rt; w.get_ref().out.as_slice(), b"a\n".as_slice());
-    assert_eq!(rt; w.buffer(), b"b".as_slice());
-    Ok(())
-}
+# bytes of get_mut come before the held ones
+new
+write_all ab | ok | - | ab | -
+below x | ok | x | ab | write x = 1
+write_all \n | ok | xab\n | - | write ab\n = 3
 
-#[test]
-fn a_device_that_takes_nothing_of_a_line_leaves_nothing_held(
-    rt: HostRuntime,
-) -> std::result::Result<(), Fail> {
-    let mut w: LineWriter<Device, 8> = LineWriter::new(Device::new(&rt, Some(First::Take(0))));
-    assert_eq!(rt; w.write(b"a\nb")?, 0);
-    assert_eq!(rt; w.get_ref().out.as_slice(), b"".as_slice());
-    assert_eq!(rt; w.buffer(), b"".as_slice());
-    Ok(())
-}
+# a drop sends once, and does not flush
+new
+write_all abc | ok | - | abc | -
+drop | - | abc | - | write abc = 3
+new fail WouldBlock
+write_all abc | ok | - | abc | -
+drop | - | - | - | write abc = !WouldBlock
+";
 
-#[test]
-fn the_tail_ends_at_a_line_where_one_fits(rt: HostRuntime) -> std::result::Result<(), Fail> {
-    let mut w: LineWriter<Device, 4> = LineWriter::new(Device::new(&rt, Some(First::Take(1))));
-    assert_eq!(rt; w.write(b"a\nb\nccccc\n")?, 4);
-    assert_eq!(rt; w.get_ref().out.as_slice(), b"a".as_slice());
-    assert_eq!(rt; w.buffer(), b"\nb\n".as_slice());
-    Ok(())
-}
+const OF_4_BYTES: &str = r"
+# the tail ends at a line where one fits
+new take 1
+write a\nb\nccccc\n | 4 | a | \nb\n | write a\nb\nccccc\n = 1
 
-#[test]
-fn the_tail_of_a_long_line_fills_the_buffer(rt: HostRuntime) -> std::result::Result<(), Fail> {
-    let mut w: LineWriter<Device, 4> = LineWriter::new(Device::new(&rt, Some(First::Take(1))));
-    assert_eq!(rt; w.write(b"abcdefgh\nx")?, 5);
-    assert_eq!(rt; w.get_ref().out.as_slice(), b"a".as_slice());
-    assert_eq!(rt; w.buffer(), b"bcde".as_slice());
-    Ok(())
-}
+# the tail of a long line fills the buffer
+new take 1
+write abcdefgh\nx | 5 | a | bcde | write abcdefgh\n = 1
 
-#[test]
-fn a_line_that_was_refused_is_held_whole(rt: HostRuntime) -> std::result::Result<(), Fail> {
-    let mut w: LineWriter<Device, 8> = LineWriter::new(Device::new(&rt, Some(First::Block)));
-    w.write_all(b"ab")?;
-    match w.write_all(b"c\nd") {
-        Ok(()) => panic!(rt; "written"),
-        Err(e) => assert_eq!(rt; e.kind(), ErrorKind::WouldBlock),
-    }
-    assert_eq!(rt; w.get_ref().out.as_slice(), b"".as_slice());
-    assert_eq!(rt; w.buffer(), b"abc\n".as_slice());
-    w.write_all(b"d")?;
-    assert_eq!(rt; w.get_ref().out.as_slice(), b"abc\n".as_slice());
-    assert_eq!(rt; w.buffer(), b"d".as_slice());
-    Ok(())
-}
+# few calls reach the device
+new
+write ab | 2 | - | ab | -
+write cde | 3 | ab | cde | write ab = 2
+write a\nbcdefg | 6 | abcdea\n | bcde | write cde = 3, write a\n = 2
+write_all \n | ok | abcdea\nbcde\n | - | write bcde = 4, write \n = 1
 
-#[test]
-fn with_no_room_nothing_is_held(rt: HostRuntime) -> std::result::Result<(), Fail> {
-    let mut w: LineWriter<Device, 0> = LineWriter::new(Device::new(&rt, Some(First::Take(1))));
-    assert_eq!(rt; w.write(b"a\nb")?, 1);
-    assert_eq!(rt; w.get_ref().out.as_slice(), b"a".as_slice());
-    assert_eq!(rt; w.buffer(), b"".as_slice());
-    Ok(())
-}
+# what follows the lines is held where it is short
+new
+write_all a\nbcd | ok | a\n | bcd | write a\n = 2
+write_all e\nfghi | ok | a\nbcde\nfghi | - | write bcd = 3, write e\n = 2, write fghi = 4
+";
+
+const OF_1_BYTE: &str = r"
+# with room for one byte a newline is held
+new take 1
+write a\nb | 2 | a | \n | write a\n = 1
+write b | 1 | a\nb | - | write \n = 1, write b = 1
+";
+
+const OF_NO_BYTES: &str = r"
+# with no room nothing is held
+new take 1
+write a\nb | 1 | a | - | write a\n = 1
+";
 
 #[test]
-fn with_room_for_one_byte_a_newline_is_held(rt: HostRuntime) -> std::result::Result<(), Fail> {
-    let mut w: LineWriter<Device, 1> = LineWriter::new(Device::new(&rt, Some(First::Take(1))));
-    assert_eq!(rt; w.write(b"a\nb")?, 2);
-    assert_eq!(rt; w.get_ref().out.as_slice(), b"a".as_slice());
-    assert_eq!(rt; w.buffer(), b"\n".as_slice());
-    assert_eq!(rt; w.write(b"b")?, 1);
-    assert_eq!(rt; w.get_ref().out.as_slice(), b"a\nb".as_slice());
-    assert_eq!(rt; w.buffer(), b"".as_slice());
-    Ok(())
-}
-
-#[test]
-fn a_device_that_takes_no_line_is_write_zero(rt: HostRuntime) -> std::result::Result<(), Fail> {
-    let mut w: LineWriter<Device, 8> = LineWriter::new(Device::new(&rt, Some(First::Take(0))));
-    match w.write_all(b"ab\n") {
-        Ok(()) => panic!(rt; "written"),
-        Err(e) => {
-            assert_eq!(rt; e.kind(), ErrorKind::WriteZero);
-            assert_eq!(rt; e.into_inner(), Some("failed to write whole buffer"));
-        }
-    }
-    w.flush()?;
-    assert_eq!(rt; w.get_ref().out.as_slice(), b"".as_slice());
-    assert_eq!(rt; w.buffer(), b"".as_slice());
-    Ok(())
-}
-
-#[test]
-fn few_calls_reach_the_device(rt: HostRuntime) -> std::result::Result<(), Fail> {
-    let mut w: LineWriter<Device, 4> = LineWriter::new(Device::new(&rt, None));
-    assert_eq!(rt; w.write(b"ab")?, 2);
-    assert_eq!(rt; w.write(b"cde")?, 3);
-    assert_eq!(rt; w.get_ref().writes, 1);
-    assert_eq!(rt; w.buffer(), b"cde".as_slice());
-    assert_eq!(rt; w.write(b"a\nbcdefg")?, 6);
-    assert_eq!(rt; w.get_ref().writes, 3);
-    assert_eq!(rt; w.buffer(), b"bcde".as_slice());
-    w.write_all(b"\n")?;
-    assert_eq!(rt; w.get_ref().writes, 5);
-    assert_eq!(rt; w.buffer(), b"".as_slice());
-    assert_eq!(rt; w.get_ref().out.as_slice(), b"abcdea\nbcde\n".as_slice());
-    Ok(())
-}
-
-#[test]
-fn what_follows_the_lines_is_held_where_it_is_short(
-    rt: HostRuntime,
-) -> std::result::Result<(), Fail> {
-    let mut w: LineWriter<Device, 4> = LineWriter::new(Device::new(&rt, None));
-    w.write_all(b"a\nbcd")?;
-    assert_eq!(rt; w.get_ref().out.as_slice(), b"a\n".as_slice());
-    assert_eq!(rt; w.buffer(), b"bcd".as_slice());
-    w.write_all(b"e\nfghi")?;
-    assert_eq!(rt; w.get_ref().out.as_slice(), b"a\nbcde\nfghi".as_slice());
-    assert_eq!(rt; w.buffer(), b"".as_slice());
-    Ok(())
-}
-
-#[test]
-fn other_bytes_are_not_newlines(rt: HostRuntime) -> std::result::Result<(), Fail> {
-    let mut w: LineWriter<Vec<u8>, 8> = LineWriter::new(Vec::new(rt.alloc()));
-    w.write_all(&[255, 13, 138, 0])?;
-    assert_eq!(rt; w.get_ref().as_slice(), b"".as_slice());
-    w.write_all(&[13, 10, 200, 13])?;
-    assert_eq!(rt;
-        w.get_ref().as_slice(),
-        [255, 13, 138, 0, 13, 10].as_slice()
-    );
-    assert_eq!(rt; w.buffer(), [200, 13].as_slice());
-    Ok(())
-}
-
-#[test]
-fn a_flush_sends_an_unfinished_line(rt: HostRuntime) -> std::result::Result<(), Fail> {
-    let mut w: LineWriter<Device, 8> = LineWriter::new(Device::new(&rt, Some(First::Block)));
-    w.write_all(b"abc")?;
-    match w.flush() {
-        Ok(()) => panic!(rt; "flushed"),
-        Err(e) => assert_eq!(rt; e.kind(), ErrorKind::WouldBlock),
-    }
-    assert_eq!(rt; w.buffer(), b"abc".as_slice());
-    w.flush()?;
-    assert_eq!(rt; w.get_ref().out.as_slice(), b"abc".as_slice());
-    assert_eq!(rt; w.buffer(), b"".as_slice());
-    Ok(())
-}
-
-#[test]
-fn a_refused_into_inner_hands_the_writer_back(rt: HostRuntime) -> std::result::Result<(), Fail> {
-    let mut w: LineWriter<Device, 8> = LineWriter::new(Device::new(&rt, Some(First::Block)));
-    w.write_all(b"ab")?;
-    assert!(rt; w.write_all(b"c\nd").is_err());
-    w.get_mut().first = Some(First::Block);
-    match w.into_inner() {
-        Ok(_device) => panic!(rt; "sent"),
-        Err(e) => {
-            assert_eq!(rt; e.error().kind(), ErrorKind::WouldBlock);
-            let w = e.into_inner();
-            assert_eq!(rt; w.buffer(), b"abc\n".as_slice());
-            match w.into_inner() {
-                Ok(device) => assert_eq!(rt; device.out.as_slice(), b"abc\n".as_slice()),
-                Err(_e) => panic!(rt; "refused"),
-            }
-        }
-    }
-    Ok(())
-}
-
-#[test]
-fn into_inner_sends_once(rt: HostRuntime) -> std::result::Result<(), Fail> {
-    let mut w: LineWriter<Device, 8> = LineWriter::new(Device::new(&rt, None));
-    w.write_all(b"abc")?;
-    match w.into_inner() {
-        Ok(device) => {
-            assert_eq!(rt; device.writes, 1);
-            assert_eq!(rt; device.out.as_slice(), b"abc".as_slice());
-        }
-        Err(_e) => panic!(rt; "refused"),
-    }
-    Ok(())
-}
-
-#[test]
-fn bytes_of_get_mut_come_before_the_held_ones(rt: HostRuntime) -> std::result::Result<(), Fail> {
-    let mut w: LineWriter<Vec<u8>, 8> = LineWriter::new(Vec::new(rt.alloc()));
-    w.write_all(b"ab")?;
-    w.get_mut().write_all(b"x")?;
-    assert_eq!(rt; w.buffer(), b"ab".as_slice());
-    w.write_all(b"\n")?;
-    assert_eq!(rt; w.get_ref().as_slice(), b"xab\n".as_slice());
-    Ok(())
-}
-
-#[test]
-fn a_drop_sends_once(rt: HostRuntime) -> std::result::Result<(), Fail> {
-    let mut v: Vec<u8> = Vec::new(rt.alloc());
-    let mut w: LineWriter<&mut Vec<u8>, 8> = LineWriter::new(&mut v);
-    w.write_all(b"abc")?;
-    drop(w);
-    assert_eq!(rt; v.as_slice(), b"abc".as_slice());
-
-    let mut device = Device::new(&rt, Some(First::Block));
-    let mut w: LineWriter<&mut Device, 8> = LineWriter::new(&mut device);
-    w.write_all(b"abc")?;
-    drop(w);
-    assert_eq!(rt; device.writes, 1);
-    assert_eq!(rt; device.out.as_slice(), b"".as_slice());
-    Ok(())
-}
-
-// Writes through its bound alone.
-fn write_line<W: Write>(w: &mut W, line: &[u8]) -> Result<()> {
-    w.write_all(line)?;
-    w.write_all(b"\n")
-}
-
-#[test]
-fn a_line_writer_writes_through_a_bound_and_to_a_box(
-    rt: HostRuntime,
-) -> std::result::Result<(), Fail> {
-    let inner: Box<dyn Write + Drop> = Box::new(rt.alloc(), Vec::<u8>::new(rt.alloc()))?;
-    let mut w: LineWriter<Box<dyn Write + Drop>, 8> = LineWriter::new(inner);
-    write_line(&mut w, b"ab")?;
-    w.write_all(b"a\nb")?;
-    assert_eq!(rt; w.buffer(), b"b".as_slice());
-    w.flush()?;
-    assert_eq!(rt; w.buffer(), b"".as_slice());
-    Ok(())
-}
-
-#[test]
-fn it_shows_how_much_is_held(rt: HostRuntime) -> std::result::Result<(), Fail> {
-    let mut w: LineWriter<Vec<u8>, 8> = LineWriter::new(Vec::new(rt.alloc()));
-    w.write_all(b"abc")?;
-    let text = format!(in rt.alloc(); "{w:?}")?;
-    assert!(rt; text.contains("3/8"));
-    Ok(())
+fn a_line_writer(rt: HostRuntime) -> Result<(), Fail> {
+    play::<Writing<LineWriter<Recorder, 64>>>(rt.alloc(), OF_64_BYTES)?;
+    play::<Writing<LineWriter<Recorder, 8>>>(rt.alloc(), OF_8_BYTES)?;
+    play::<Writing<LineWriter<Recorder, 4>>>(rt.alloc(), OF_4_BYTES)?;
+    play::<Writing<LineWriter<Recorder, 1>>>(rt.alloc(), OF_1_BYTE)?;
+    play::<Writing<LineWriter<Recorder, 0>>>(rt.alloc(), OF_NO_BYTES)
 }

@@ -1,283 +1,239 @@
+// `BufWriter` over a device: tables of calls.
+//
+// A row is a call, its answer, the bytes out, the bytes held, and the calls that reached the device. A
+// line `new` makes a writer over a device that is told these answers; a dash stands for nothing.
+use crate::kit::recorder::Recorder;
+use crate::kit::rows::play;
+use crate::kit::writers::{Seeking, Writing};
 use no_std_io2::buffered::BufWriter;
-use no_std_io2_base::error::{Error, ErrorKind, Result};
-use no_std_io2_base::traits::Write;
 use std::test::Fail;
 
-// Fails so often, and then takes two bytes of a write at most.
-#[derive(Drop)]
-struct Jammed {
-    taken: Vec<u8>,
-    jams: usize,
-}
+const OF_8_BYTES: &str = r"
+# small writes are held until a flush
+new
+write no- | 3 | - | no- | -
+write std | 3 | - | no-std | -
+flush | ok | no-std | - | write no-std = 6, flush = ok
+into_inner | ok | no-std | - | -
+drop | - | no-std | - | -
 
-impl Write for Jammed {
-    ghost use Rattle.no_std_io2_base.specs.Writes.{told_out};
+# small whole writes are held until a flush
+new
+write_all no- | ok | - | no- | -
+write_all std | ok | - | no-std | -
+flush | ok | no-std | - | write no-std = 6, flush = ok
+into_inner | ok | no-std | - | -
 
-    ghost told = { λ w. told_out w.taken.items };
+# what is held goes first where more does not fit
+new
+write_all no- | ok | - | no- | -
+write_all std | ok | - | no-std | -
+write_all -io | ok | no-std | -io | write no-std = 6
+flush | ok | no-std-io | - | write -io = 3, flush = ok
+into_inner | ok | no-std-io | - | -
 
-    ghost takes_all = { λ _. ⊥ };
+# into_inner sends and does not flush, and after it nothing is sent again
+new
+write_all 12345678 | ok | 12345678 | - | write 12345678 = 8
+write_all abc | ok | 12345678 | abc | -
+into_inner | ok | 12345678abc | - | write abc = 3
+drop | - | 12345678abc | - | -
 
-    ghost cost = { λ _. 0 };
+# a write that fills the buffer is held, and the next one sends
+new
+write 1234567 | 7 | - | 1234567 | -
+write 8 | 1 | - | 12345678 | -
+write x | 1 | 12345678 | x | write 12345678 = 8
 
-    ghost is_metered = { λ _. ⊥ };
+# a fault while room is made accepts nothing new
+new take 4, fail BrokenPipe
+write 12345678 | 4 | 1234 | - | write 12345678 = 4
+write 1234567 | 7 | 1234 | 1234567 | -
+write 8 | 1 | 1234 | 12345678 | -
+write x | !BrokenPipe | 1234 | 12345678 | write 12345678 = !BrokenPipe
+new take 4, fail BrokenPipe no carrier
+write 1234567 | 7 | - | 1234567 | -
+write 8 | 1 | - | 12345678 | -
+write x | !BrokenPipe: no carrier | 1234 | 5678 | write 12345678 = 4, write 5678 = !BrokenPipe: no carrier
+new take 4, fail BrokenPipe no carrier
+write_all 1234567 | ok | - | 1234567 | -
+write_all 89 | !BrokenPipe: no carrier | 1234 | 567 | write 1234567 = 4, write 567 = !BrokenPipe: no carrier
+flush | ok | 1234567 | - | write 567 = 3, flush = ok
 
-    fn write(&mut self, buf: &[u8]) -> Result<usize> {
-        if self.jams > 0 {
-            self.jams -= 1;
-            return Err(Error::from(ErrorKind::BrokenPipe));
-        }
-        let some = &buf[..buf.len().min(2)];
-        match self.taken.extend_from_slice(some) {
-            Ok(()) => Ok(some.len()),
-            Err(_) => Err(Error::from(ErrorKind::OutOfMemory)),
-        }
-    }
+# what is held goes out before a long write, which goes straight through
+new
+write abc | 3 | - | abc | -
+write 123456789 | 9 | abc123456789 | - | write abc = 3, write 123456789 = 9
+new
+write_all abc | ok | - | abc | -
+write_all 123456789 | ok | abc123456789 | - | write abc = 3, write 123456789 = 9
 
-    fn flush(&mut self) -> Result<()> {
-        Ok(())
-    }
+# the answers of a write that goes straight through are the device's
+new take 4, fail Interrupted, fail TimedOut late, take 0
+write 123456789 | 4 | 1234 | - | write 123456789 = 4
+write 123456789 | !Interrupted | 1234 | - | write 123456789 = !Interrupted
+write 123456789 | !TimedOut: late | 1234 | - | write 123456789 = !TimedOut: late
+write 123456789 | 0 | 1234 | - | write 123456789 = 0
 
-    ghost steady = { λ w h. absurd h };
-}
+# a whole write that goes straight through is made of the device's writes
+new take 4, fail Interrupted, all, take 0, fail TimedOut late
+write_all 123456789 | ok | 123456789 | - | write 123456789 = 4, write 56789 = !Interrupted, write 56789 = 5
+write_all 12345678 | !WriteZero: failed to write whole buffer | 123456789 | - | write 12345678 = 0
+write_all 12345678 | !TimedOut: late | 123456789 | - | write 12345678 = !TimedOut: late
 
-// Takes none: each write answers `Ok(0)`.
-#[derive(Debug, Drop)]
-struct Full;
+# writes of nothing make no call
+new
+write | 0 | - | - | -
+write_all | ok | - | - | -
+write ab | 2 | - | ab | -
+write | 0 | - | ab | -
+write_all | ok | - | ab | -
 
-impl Write for Full {
-    ghost use Rattle.std.specs.Prelude.{[]};
-    ghost use Rattle.no_std_io2_base.specs.Writes.{told_out};
+# a flush goes on where the last one stopped
+new take 2, fail WouldBlock
+write abcdef | 6 | - | abcdef | -
+flush | !WouldBlock | ab | cdef | write abcdef = 2, write cdef = !WouldBlock
+flush | ok | abcdef | - | write cdef = 4, flush = ok
 
-    ghost told = { λ _. told_out [] };
+# a flush passes over interruptions
+new fail Interrupted, take 3, fail Interrupted
+write_all abcde | ok | - | abcde | -
+flush | ok | abcde | - | write abcde = !Interrupted, write abcde = 3, write de = !Interrupted, write de = 2, flush = ok
 
-    ghost takes_all = { λ _. ⊥ };
+# a flush of nothing flushes the device, and its answer is the device's
+new fail Interrupted, fail WouldBlock busy
+flush | !Interrupted | - | - | flush = !Interrupted
+flush | !WouldBlock: busy | - | - | flush = !WouldBlock: busy
+flush | ok | - | - | flush = ok
 
-    ghost cost = { λ _. 0 };
+# what a device does not take stays held
+new take 0, take 0
+write ab | 2 | - | ab | -
+flush | !WriteZero: failed to write the buffered data | - | ab | write ab = 0
+write 1234567 | !WriteZero: failed to write the buffered data | - | ab | write ab = 0
 
-    ghost is_metered = { λ _. ⊥ };
+# bytes that fit need no room behind the end
+new take 5, fail WouldBlock
+write abcd | 4 | - | abcd | -
+write efgh | 4 | - | abcdefgh | -
+flush | !WouldBlock | abcde | fgh | write abcdefgh = 5, write fgh = !WouldBlock
+write 12345 | 5 | abcde | fgh12345 | -
+flush | ok | abcdefgh12345 | - | write fgh12345 = 8, flush = ok
 
-    fn write(&mut self, _buf: &[u8]) -> Result<usize> {
-        Ok(0)
-    }
+# a refused into_inner hands the writer back
+new fail BrokenPipe, take 2
+write_all abc | ok | - | abc | -
+into_inner | !BrokenPipe (broken pipe) | - | abc | write abc = !BrokenPipe
+into_inner | ok | abc | - | write abc = 2, write c = 1
+new take 1, fail BrokenPipe
+write abcd | 4 | - | abcd | -
+into_inner | !BrokenPipe (broken pipe) | a | bcd | write abcd = 1, write bcd = !BrokenPipe
+into_inner | ok | abcd | - | write bcd = 3
+new fail Other no carrier, take 0
+write_all ab | ok | - | ab | -
+into_inner | !Other: no carrier (no carrier) | - | ab | write ab = !Other: no carrier
+into_inner | !WriteZero: failed to write the buffered data (failed to write the buffered data) | - | ab | write ab = 0
 
-    fn flush(&mut self) -> Result<()> {
-        Ok(())
-    }
+# of a refused into_inner the error can be kept alone: the writer is dropped then, and tries once more
+new take 0, take 0
+write_all ab | ok | - | ab | -
+into_error | !WriteZero: failed to write the buffered data | - | - | write ab = 0, write ab = 0
+new
+write_all ab | ok | - | ab | -
+into_error | ok | ab | - | write ab = 2
 
-    ghost steady = { λ w h. absurd h };
-}
+# bytes written to the inner writer go first
+new
+write_all b | ok | - | b | -
+below a | ok | a | b | write a = 1
+into_inner | ok | ab | - | write b = 1
 
-// The vector under a buffer, with all sent.
-fn sent<const S: usize>(w: BufWriter<Vec<u8>, S>) -> Result<Vec<u8>> {
-    Ok(w.into_inner()?)
-}
+# a drop sends what is held and does not flush
+new
+write abc | 3 | - | abc | -
+drop | - | abc | - | write abc = 3
+new take 1, fail Interrupted, take 1
+write abc | 3 | - | abc | -
+drop | - | abc | - | write abc = 1, write bc = !Interrupted, write bc = 1, write c = 1
+new
+drop | - | - | - | -
 
-#[test]
-fn small_writes_are_held_until_a_flush(rt: HostRuntime) -> std::result::Result<(), Fail> {
-    let mut w = BufWriter::<Vec<u8>, 8>::new(Vec::new(rt.alloc()));
-    assert_eq!(rt; w.capacity(), 8);
-    assert_eq!(rt; w.write(b"no-")?, 3);
-    assert_eq!(rt; w.write(b"std")?, 3);
-    assert_eq!(rt; w.buffer(), b"no-std".as_slice());
-    assert_eq!(rt; w.get_ref().len(), 0);
-    w.flush()?;
-    assert_eq!(rt; w.buffer().len(), 0);
-    let v = sent(w)?;
-    assert_eq!(rt; v.as_slice(), b"no-std".as_slice());
-    Ok(())
-}
+# a fault ends a drop
+new take 1, fail BrokenPipe
+write_all abc | ok | - | abc | -
+drop | - | a | - | write abc = 1, write bc = !BrokenPipe
+new take 0
+write_all abc | ok | - | abc | -
+drop | - | - | - | write abc = 0
+";
 
-#[test]
-fn small_whole_writes_are_held_until_a_flush(rt: HostRuntime) -> std::result::Result<(), Fail> {
-    let mut w = BufWriter::<Vec<u8>, 8>::new(Vec::new(rt.alloc()));
-    w.write_all(b"no-")?;
-    w.write_all(b"std")?;
-    w.flush()?;
-    let v = sent(w)?;
-    assert_eq!(rt; v.as_slice(), b"no-std".as_slice());
-    Ok(())
-}
+const OF_4_BYTES: &str = r"
+# a flush goes on where the last one stopped, and so does a write
+new
+write_all abc | ok | - | abc | -
+expect fail BrokenPipe, fail BrokenPipe, take 2, take 1, all, take 2, take 2 | - | - | abc | -
+flush | !BrokenPipe | - | abc | write abc = !BrokenPipe
+write de | !BrokenPipe | - | abc | write abc = !BrokenPipe
+flush | ok | abc | - | write abc = 2, write c = 1, flush = ok
+write_all 123456 | ok | abc123456 | - | write 123456 = 2, write 3456 = 2, write 56 = 2
+";
 
-#[test]
-fn what_is_held_goes_first_where_more_does_not_fit(
-    rt: HostRuntime,
-) -> std::result::Result<(), Fail> {
-    let mut w = BufWriter::<Vec<u8>, 8>::new(Vec::new(rt.alloc()));
-    w.write_all(b"no-")?;
-    w.write_all(b"std")?;
-    w.write_all(b"-io")?;
-    assert_eq!(rt; w.get_ref().as_slice(), b"no-std".as_slice());
-    assert_eq!(rt; w.buffer(), b"-io".as_slice());
-    w.flush()?;
-    let v = sent(w)?;
-    assert_eq!(rt; v.as_slice(), b"no-std-io".as_slice());
-    Ok(())
-}
+const OF_1_BYTE: &str = r"
+# each byte goes straight through, and none is held
+new
+write a | 1 | a | - | write a = 1
+write_all b | ok | ab | - | write b = 1
+write | 0 | ab | - | -
+flush | ok | ab | - | flush = ok
+into_inner | ok | ab | - | -
+";
 
-#[test]
-fn into_inner_sends_without_a_flush(rt: HostRuntime) -> std::result::Result<(), Fail> {
-    let mut w = BufWriter::<Vec<u8>, 8>::new(Vec::new(rt.alloc()));
-    w.write_all(b"12345678")?;
-    w.write_all(b"abc")?;
-    let v = sent(w)?;
-    assert_eq!(rt; v.as_slice(), b"12345678abc".as_slice());
-    Ok(())
-}
-
-#[test]
-fn debug_shows_how_many_bytes_are_held(rt: HostRuntime) -> std::result::Result<(), Fail> {
-    let mut w = BufWriter::<Vec<u8>, 8>::new(Vec::new(rt.alloc()));
-    w.write_all(b"abc")?;
-    let text = format!(in rt.alloc(); "{w:?}")?;
-    assert!(rt; text.as_str().contains("BufWriter"));
-    assert!(rt; text.as_str().contains("3/8"));
-    Ok(())
-}
-
-#[test]
-fn without_capacity_each_call_goes_on(rt: HostRuntime) -> std::result::Result<(), Fail> {
-    let mut w = BufWriter::<Vec<u8>, 0>::new(Vec::new(rt.alloc()));
-    assert_eq!(rt; w.write(b"ab")?, 2);
-    assert_eq!(rt; w.write(b"")?, 0);
-    w.write_all(b"c")?;
-    assert_eq!(rt; w.buffer().len(), 0);
-    assert_eq!(rt; w.get_ref().as_slice(), b"abc".as_slice());
-    w.flush()?;
-    let v = sent(w)?;
-    assert_eq!(rt; v.as_slice(), b"abc".as_slice());
-    Ok(())
-}
-
-#[test]
-fn a_drop_sends_what_is_held(rt: HostRuntime) -> std::result::Result<(), Fail> {
-    let mut v: Vec<u8> = Vec::new(rt.alloc());
-    {
-        let mut w = BufWriter::<&mut Vec<u8>, 8>::new(&mut v);
-        w.write_all(b"abc")?;
-    }
-    assert_eq!(rt; v.as_slice(), b"abc".as_slice());
-    Ok(())
-}
-
-#[test]
-fn a_refused_into_inner_hands_back_the_writer(rt: HostRuntime) -> std::result::Result<(), Fail> {
-    let jammed = Jammed {
-        taken: Vec::new(rt.alloc()),
-        jams: 1,
-    };
-    let mut w = BufWriter::<Jammed, 8>::new(jammed);
-    w.write_all(b"abc")?;
-    let Err(e) = w.into_inner() else {
-        panic!(rt; "sent");
-    };
-    assert_eq!(rt; e.error().kind(), ErrorKind::BrokenPipe);
-    let text = format!(in rt.alloc(); "{e}")?;
-    assert_eq!(rt; text.as_str(), "broken pipe");
-    let w = e.into_inner();
-    assert_eq!(rt; w.buffer(), b"abc".as_slice());
-    let Ok(jammed) = w.into_inner() else {
-        panic!(rt; "not sent");
-    };
-    assert_eq!(rt; jammed.taken.as_slice(), b"abc".as_slice());
-    Ok(())
-}
-
-#[test]
-fn a_refused_into_inner_is_its_error(rt: HostRuntime) -> std::result::Result<(), Fail> {
-    let mut w = BufWriter::<Full, 8>::new(Full);
-    w.write_all(b"ab")?;
-    let Err(e) = w.into_inner() else {
-        panic!(rt; "sent");
-    };
-    let e = Error::from(e);
-    assert_eq!(rt; e.kind(), ErrorKind::WriteZero);
-    assert_eq!(rt; e.into_inner(), Some("failed to write the buffered data"));
-    Ok(())
-}
-
-#[test]
-fn the_debug_text_of_a_refusal_shows_writer_and_error(
-    rt: HostRuntime,
-) -> std::result::Result<(), Fail> {
-    let mut w = BufWriter::<Full, 8>::new(Full);
-    w.write_all(b"ab")?;
-    let Err(e) = w.into_inner() else {
-        panic!(rt; "sent");
-    };
-    let text = format!(in rt.alloc(); "{e:?}")?;
-    let want = concat!(
-        "IntoInnerError { writer: BufWriter { writer: Full, buffer: 2/8 }, ",
-        "error: Error { kind: WriteZero, text: Some(\"failed to write the buffered data\") } }",
-    );
-    assert_eq!(rt; text.as_str(), want);
-    Ok(())
-}
+const OF_NO_BYTES: &str = r"
+# each call goes on
+new
+write ab | 2 | ab | - | write ab = 2
+write | 0 | ab | - | write - = 0
+write_all c | ok | abc | - | write c = 1
+flush | ok | abc | - | flush = ok
+into_inner | ok | abc | - | -
+drop | - | abc | - | -
+";
 
 #[test]
-fn what_a_device_does_not_take_stays_held(rt: HostRuntime) -> std::result::Result<(), Fail> {
-    let mut w = BufWriter::<Full, 8>::new(Full);
-    assert_eq!(rt; w.write(b"ab")?, 2);
-    let Err(e) = w.flush() else {
-        panic!(rt; "flushed");
-    };
-    assert_eq!(rt; e.kind(), ErrorKind::WriteZero);
-    assert_eq!(rt; e.into_inner(), Some("failed to write the buffered data"));
-    assert_eq!(rt; w.buffer(), b"ab".as_slice());
-    assert!(rt; w.write(b"1234567").is_err());
-    assert_eq!(rt; w.buffer(), b"ab".as_slice());
-    Ok(())
+fn a_buffered_writer(rt: HostRuntime) -> Result<(), Fail> {
+    play::<Writing<BufWriter<Recorder, 8>>>(rt.alloc(), OF_8_BYTES)?;
+    play::<Writing<BufWriter<Recorder, 4>>>(rt.alloc(), OF_4_BYTES)?;
+    play::<Writing<BufWriter<Recorder, 1>>>(rt.alloc(), OF_1_BYTE)?;
+    play::<Writing<BufWriter<Recorder, 0>>>(rt.alloc(), OF_NO_BYTES)
 }
+
+const SEEKS: &str = r"
+# a seek sends what is held, and then seeks below
+new all, at 1
+write abc | 3 | - | abc | -
+seek start 1 | 1 | abc | - | write abc = 3, seek start 1 = 1
+new all, at 7
+write abc | 3 | - | abc | -
+stream_position | 7 | abc | - | write abc = 3, seek current 0 = 7
+new all, at 0
+write abc | 3 | - | abc | -
+rewind | ok | abc | - | write abc = 3, seek start 0 = 0
+
+# the answer is the one from below
+new at 9, fail InvalidInput too far
+seek end -3 | 9 | - | - | seek end -3 = 9
+seek current -1 | !InvalidInput: too far | - | - | seek current -1 = !InvalidInput: too far
+
+# a refused sending makes no seek
+new take 1, fail BrokenPipe no carrier
+write abc | 3 | - | abc | -
+seek start 1 | !BrokenPipe: no carrier | a | bc | write abc = 1, write bc = !BrokenPipe: no carrier
+new take 0
+write abc | 3 | - | abc | -
+seek start 1 | !WriteZero: failed to write the buffered data | - | abc | write abc = 0
+";
 
 #[test]
-fn a_flush_goes_on_where_the_last_one_stopped(rt: HostRuntime) -> std::result::Result<(), Fail> {
-    let jammed = Jammed {
-        taken: Vec::new(rt.alloc()),
-        jams: 0,
-    };
-    let mut w = BufWriter::<Jammed, 4>::new(jammed);
-    w.write_all(b"abc")?;
-    w.get_mut().jams = 2;
-    assert!(rt; w.flush().is_err());
-    assert!(rt; w.write(b"de").is_err());
-    assert_eq!(rt; w.buffer(), b"abc".as_slice());
-    w.flush()?;
-    assert_eq!(rt; w.get_ref().taken.as_slice(), b"abc".as_slice());
-    w.write_all(b"123456")?;
-    assert_eq!(rt; w.get_ref().taken.as_slice(), b"abc123456".as_slice());
-    Ok(())
-}
-
-#[test]
-fn bytes_written_to_the_inner_writer_go_first(rt: HostRuntime) -> std::result::Result<(), Fail> {
-    let mut w = BufWriter::<Vec<u8>, 8>::new(Vec::new(rt.alloc()));
-    w.write_all(b"b")?;
-    w.get_mut().write_all(b"a")?;
-    let v = sent(w)?;
-    assert_eq!(rt; v.as_slice(), b"ab".as_slice());
-    Ok(())
-}
-
-// Writes through its bound alone.
-fn write_pieces<W: Write>(w: &mut W) -> Result<()> {
-    w.write_all(b"abc")?;
-    w.write_all(b"defgh")?;
-    w.flush()
-}
-
-#[test]
-fn buffers_nest(rt: HostRuntime) -> std::result::Result<(), Fail> {
-    let inner = BufWriter::<Vec<u8>, 8>::new(Vec::new(rt.alloc()));
-    let mut w = BufWriter::<BufWriter<Vec<u8>, 8>, 4>::new(inner);
-    write_pieces(&mut w)?;
-    assert_eq!(rt; w.get_ref().get_ref().as_slice(), b"abcdefgh".as_slice());
-    Ok(())
-}
-
-#[test]
-fn a_boxed_object_is_buffered(rt: HostRuntime) -> std::result::Result<(), Fail> {
-    let inner: Box<dyn Write + Drop> = Box::new(rt.alloc(), Vec::<u8>::new(rt.alloc()))?;
-    let mut w = BufWriter::<Box<dyn Write + Drop>, 4>::new(inner);
-    write_pieces(&mut w)?;
-    assert_eq!(rt; w.buffer().len(), 0);
-    Ok(())
+fn a_buffered_writer_that_seeks(rt: HostRuntime) -> Result<(), Fail> {
+    play::<Seeking<BufWriter<Recorder, 8>>>(rt.alloc(), SEEKS)
 }

@@ -2,17 +2,6 @@ use no_std_io2_base::error::{ErrorKind, Result};
 use no_std_io2_base::traits::Write;
 use std::test::Fail;
 
-#[test]
-fn a_vector_takes_all_at_its_end(rt: HostRuntime) -> std::result::Result<(), Fail> {
-    let mut v: Vec<u8> = Vec::new(rt.alloc());
-    assert_eq!(rt; v.write(b"ab")?, 2);
-    assert_eq!(rt; v.write(b"")?, 0);
-    v.write_all(b"c")?;
-    v.flush()?;
-    assert_eq!(rt; v.as_slice(), b"abc".as_slice());
-    Ok(())
-}
-
 // Writes through its bound alone.
 fn write_line<W: Write>(w: &mut W, line: &[u8]) -> Result<()> {
     w.write_all(line)?;

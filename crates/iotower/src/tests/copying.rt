@@ -3,7 +3,7 @@ use super::Shy;
 use crate::copy::copy_through;
 use crate::patient::Patient;
 use io_bench::{Act, Faulty};
-use no_std_io2::io::{ErrorKind, LineWriter, Write};
+use no_std_io2::io::ErrorKind;
 use std::alloc::{AllocError, Global};
 use std::test::Fail;
 
@@ -100,18 +100,5 @@ fn a_writers_failure_comes_out(rt: HostRuntime) -> Result<(), Fail> {
             assert_eq!(rt; e.into_inner(), Some("failed to write the buffered data"));
         }
     }
-    Ok(())
-}
-
-#[test]
-fn a_line_goes_out_when_it_ends(rt: HostRuntime) -> Result<(), Fail> {
-    let mut w = LineWriter::<Vec<u8>, 64>::new(Vec::new(rt.alloc()));
-    w.write_all(b"I shall be telling this with a sigh")?;
-    assert!(rt; w.get_ref().is_empty());
-    w.write_all(b"\n")?;
-    assert_eq!(rt;
-        w.get_ref().as_slice(),
-        b"I shall be telling this with a sigh\n".as_slice()
-    );
     Ok(())
 }

@@ -10,115 +10,88 @@ fn played(alloc: Global, shape: Shape, script: &[u8]) -> Result<Vec<u8>, Fault> 
     play(alloc, script, Vec::<u8>::new(alloc), shape)
 }
 
-#[test]
-fn a_flush_that_fails_is_made_again(rt: HostRuntime) -> Result<(), Fail> {
-    let script = b"t 2\ne WouldBlock\nw abcdef\nf\nf\n";
-    let want = b"took=6\nfailed=operation would block\ndone\nout=abcdef\nheld=\n";
-    assert_eq!(rt;
-        played(rt.alloc(), Shape::Buf, script)?.as_slice(),
-        want.as_slice()
-    );
-    Ok(())
-}
+// A shape, a script and what its play writes.
+type Row = (Shape, &'static [u8], &'static [u8]);
+
+const PLAYS: [Row; 20] = [
+    // A flush that failed is made again.
+    (
+        Shape::Buf,
+        b"t 2\ne WouldBlock\nw abcdef\nf\nf\n",
+        b"took=6\nfailed=operation would block\ndone\nout=abcdef\nheld=\n",
+    ),
+    // Lines are sent, and tails are held.
+    (
+        Shape::Line,
+        b"t 1\nw a\\nb\nw b\n",
+        b"took=2\ntook=1\nout=a\\n\nheld=b\n",
+    ),
+    (
+        Shape::LineBuf,
+        b"a ab\na c\\nd\n",
+        b"done\ndone\nout=\nheld=abc\\nd\n",
+    ),
+    // Two buffers hold what does not go out.
+    (
+        Shape::BufBuf,
+        b"e BrokenPipe\nw 12345\nw 6789\nf\n",
+        b"took=5\ntook=4\nfailed=broken pipe\nout=\nheld=123456789\n",
+    ),
+    (
+        Shape::BufBuf,
+        b"w 12345\nw 6789\nf\n",
+        b"took=5\ntook=4\ndone\nout=123456789\nheld=\n",
+    ),
+    // Interruptions are passed over, and flushes go on.
+    (
+        Shape::BufBuf,
+        b"e Interrupted\nt 3\ne BrokenPipe\nw 1234567\nw 89\nf\nf\n",
+        b"took=7\ntook=2\nfailed=broken pipe\ndone\nout=123456789\nheld=\n",
+    ),
+    (
+        Shape::BufBuf,
+        b"e Interrupted\nt 3\ne BrokenPipe\nw 1234567\nw 89\nf\n",
+        b"took=7\ntook=2\nfailed=broken pipe\nout=123\nheld=456789\n",
+    ),
+    // A broken device keeps lines held.
+    (
+        Shape::LineBuf,
+        b"e BrokenPipe\na x\\n\nw y\\nz\nf\n",
+        b"done\ntook=3\nfailed=broken pipe\nout=\nheld=x\\ny\\nz\n",
+    ),
+    (
+        Shape::Line,
+        b"z\na ab\\n\nf\n",
+        b"failed=failed to write whole buffer\ndone\nout=\nheld=\n",
+    ),
+    // An empty script shows an empty tower.
+    (Shape::Buf, b"", b"out=\nheld=\n"),
+    (Shape::Line, b"", b"out=\nheld=\n"),
+    (Shape::BufBuf, b"", b"out=\nheld=\n"),
+    (Shape::LineBuf, b"", b"out=\nheld=\n"),
+    (Shape::Buf, b"\n\n", b"out=\nheld=\n"),
+    (Shape::Line, b"\n\n", b"out=\nheld=\n"),
+    (Shape::BufBuf, b"\n\n", b"out=\nheld=\n"),
+    (Shape::LineBuf, b"\n\n", b"out=\nheld=\n"),
+    // Every byte but two stands for itself.
+    (
+        Shape::Buf,
+        b"w \xff\x80\r\\n\\\\ \nf",
+        b"took=6\ndone\nout=\xff\x80\r\\n\\\\ \nheld=\n",
+    ),
+    (
+        Shape::Buf,
+        b"w\nw \na",
+        b"took=0\ntook=0\ndone\nout=\nheld=\n",
+    ),
+    (Shape::Buf, b"a  x\n", b"done\nout=\nheld= x\n"),
+];
 
 #[test]
-fn lines_are_sent_and_tails_are_held(rt: HostRuntime) -> Result<(), Fail> {
-    let want = b"took=2\ntook=1\nout=a\\n\nheld=b\n";
-    assert_eq!(rt;
-        played(rt.alloc(), Shape::Line, b"t 1\nw a\\nb\nw b\n")?.as_slice(),
-        want.as_slice()
-    );
-    let want = b"done\ndone\nout=\nheld=abc\\nd\n";
-    assert_eq!(rt;
-        played(rt.alloc(), Shape::LineBuf, b"a ab\na c\\nd\n")?.as_slice(),
-        want.as_slice()
-    );
-    Ok(())
-}
-
-#[test]
-fn two_buffers_hold_what_does_not_go_out(rt: HostRuntime) -> Result<(), Fail> {
-    let want = b"took=5\ntook=4\nfailed=broken pipe\nout=\nheld=123456789\n";
-    assert_eq!(rt;
-        played(
-            rt.alloc(),
-            Shape::BufBuf,
-            b"e BrokenPipe\nw 12345\nw 6789\nf\n"
-        )?
-        .as_slice(),
-        want.as_slice()
-    );
-    let want = b"took=5\ntook=4\ndone\nout=123456789\nheld=\n";
-    assert_eq!(rt;
-        played(rt.alloc(), Shape::BufBuf, b"w 12345\nw 6789\nf\n")?.as_slice(),
-        want.as_slice()
-    );
-    Ok(())
-}
-
-#[test]
-fn interruptions_are_passed_over_and_flushes_go_on(rt: HostRuntime) -> Result<(), Fail> {
-    let script = b"e Interrupted\nt 3\ne BrokenPipe\nw 1234567\nw 89\nf\nf\n";
-    let want = b"took=7\ntook=2\nfailed=broken pipe\ndone\nout=123456789\nheld=\n";
-    assert_eq!(rt;
-        played(rt.alloc(), Shape::BufBuf, script)?.as_slice(),
-        want.as_slice()
-    );
-    let script = b"e Interrupted\nt 3\ne BrokenPipe\nw 1234567\nw 89\nf\n";
-    let want = b"took=7\ntook=2\nfailed=broken pipe\nout=123\nheld=456789\n";
-    assert_eq!(rt;
-        played(rt.alloc(), Shape::BufBuf, script)?.as_slice(),
-        want.as_slice()
-    );
-    Ok(())
-}
-
-#[test]
-fn a_broken_device_keeps_lines_held(rt: HostRuntime) -> Result<(), Fail> {
-    let script = b"e BrokenPipe\na x\\n\nw y\\nz\nf\n";
-    let want = b"done\ntook=3\nfailed=broken pipe\nout=\nheld=x\\ny\\nz\n";
-    assert_eq!(rt;
-        played(rt.alloc(), Shape::LineBuf, script)?.as_slice(),
-        want.as_slice()
-    );
-    let want = b"failed=failed to write whole buffer\ndone\nout=\nheld=\n";
-    assert_eq!(rt;
-        played(rt.alloc(), Shape::Line, b"z\na ab\\n\nf\n")?.as_slice(),
-        want.as_slice()
-    );
-    Ok(())
-}
-
-#[test]
-fn an_empty_script_shows_an_empty_tower(rt: HostRuntime) -> Result<(), Fail> {
-    for shape in [Shape::Buf, Shape::Line, Shape::BufBuf, Shape::LineBuf] {
-        assert_eq!(rt;
-            played(rt.alloc(), shape, b"")?.as_slice(),
-            b"out=\nheld=\n".as_slice()
-        );
-        assert_eq!(rt;
-            played(rt.alloc(), shape, b"\n\n")?.as_slice(),
-            b"out=\nheld=\n".as_slice()
-        );
+fn scripts_are_played(rt: HostRuntime) -> Result<(), Fail> {
+    for (shape, script, want) in PLAYS {
+        assert_eq!(rt; played(rt.alloc(), shape, script)?.as_slice(), want);
     }
-    Ok(())
-}
-
-#[test]
-fn every_byte_but_two_stands_for_itself(rt: HostRuntime) -> Result<(), Fail> {
-    let want = b"took=6\ndone\nout=\xff\x80\r\\n\\\\ \nheld=\n";
-    assert_eq!(rt;
-        played(rt.alloc(), Shape::Buf, b"w \xff\x80\r\\n\\\\ \nf")?.as_slice(),
-        want.as_slice()
-    );
-    assert_eq!(rt;
-        played(rt.alloc(), Shape::Buf, b"w\nw \na")?.as_slice(),
-        b"took=0\ntook=0\ndone\nout=\nheld=\n".as_slice()
-    );
-    assert_eq!(rt;
-        played(rt.alloc(), Shape::Buf, b"a  x\n")?.as_slice(),
-        b"done\nout=\nheld= x\n".as_slice()
-    );
     Ok(())
 }
 

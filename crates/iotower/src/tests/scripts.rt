@@ -2,6 +2,7 @@
 use super::Broken;
 use crate::patient::Patient;
 use crate::play::{Fault, Shape, play};
+use io_bench::{Event, Feed};
 use no_std_io2::io::ErrorKind;
 use std::test::Fail;
 
@@ -88,6 +89,17 @@ fn a_devices_fault_comes_before_a_bad_line(rt: HostRuntime) -> Result<(), Fail> 
             assert_eq!(rt; text.as_str(), "no turns left");
         }
         Ok(_text) => assert!(rt; false),
+    }
+    // The whole script is read before a bad line is told.
+    let events = [
+        Event::Byte(b'x'),
+        Event::Byte(b'\n'),
+        Event::Fail(ErrorKind::BrokenPipe),
+    ];
+    let input = Feed::new(Vec::from_slice(rt.alloc(), &events)?, 1);
+    match play(rt.alloc(), input, Vec::<u8>::new(rt.alloc()), Shape::Buf) {
+        Err(Fault::Io(e)) => assert_eq!(rt; e.kind(), ErrorKind::BrokenPipe),
+        _ => assert!(rt; false),
     }
     Ok(())
 }

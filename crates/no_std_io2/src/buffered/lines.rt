@@ -5,9 +5,9 @@ ghost use Rattle.no_std_io2.specs.contracts.buffered.lines.LineWriter.{the_row a
 ghost use Rattle.no_std_io2.specs.LineState.{IsLineState, HasNoNewline};
 ghost use Rattle.no_std_io2.specs.LineWriter.{line_inner, line_buffer, line_told, line_with_inner};
 ghost use Rattle.no_std_io2.specs.Lines.{HasNewline, WritesLines, unfinished_line, whole_if_short};
-ghost use Rattle.no_std_io2.specs.Buffered.{IsEnd, sending_calls, buffer_after, into_inner_error_writer, into_inner_error_cause};
+ghost use Rattle.no_std_io2.specs.Buffered.{IsEnd, buffer_after, into_inner_error_writer, into_inner_error_cause};
 ghost use Rattle.no_std_io2_base.specs.Errors.{error_kind, IsFault, IsNoInterruption};
-ghost use Rattle.no_std_io2_base.specs.Writes.{Moves, MovesFront, taken, write_mishap, call_mishap};
+ghost use Rattle.no_std_io2_base.specs.Writes.{Moves, MovesFront, taken, write_mishap, call_mishap, calls_for};
 
 mod state;
 mod steps;
@@ -98,7 +98,7 @@ impl<W: Write + Drop, const S: usize> LineWriter<W, S> {
         ensures all { W.takes_all (line_inner self) → IsOkAnd result W.takes_all }
         ensures calls { W.is_metered (line_inner self) → W.takes_all (line_inner self)
             → IfOk result (λ w. W.is_metered w
-            × (W.cost w ≡ W.cost (line_inner self) + sending_calls (line_buffer self))) }
+            × (W.cost w ≡ W.cost (line_inner self) + calls_for (line_buffer self))) }
     {
         match self.core.buffered.send() {
             Ok(()) => {
@@ -200,7 +200,7 @@ impl<W: Write + Drop, const S: usize> Write for LineWriter<W, S> {
             → W.takes_all (line_inner self.new) × IsOk result }
         ensures calls { W.is_metered (line_inner self.old) → W.takes_all (line_inner self.old)
             → W.is_metered (line_inner self.new) × (W.cost (line_inner self.new)
-            ≡ W.cost (line_inner self.old) + sending_calls (line_buffer self.old)) }
+            ≡ W.cost (line_inner self.old) + calls_for (line_buffer self.old)) }
     {
         self.core.buffered.flush()
     }
@@ -219,7 +219,7 @@ impl<W: Write + Drop, const S: usize> Write for LineWriter<W, S> {
             (line_told W.told self.new) }
         ensures all { ⊥ → ⊥ }
         ensures cost { ⊥ → ⊥ → ⊥ × (W.cost (line_inner self.new)
-            ≡ W.cost (line_inner self.old) + sending_calls x.now) }
+            ≡ W.cost (line_inner self.old) + calls_for x.now) }
         ensures open { OnOk result (HasNoNewline (line_buffer self.new)) }
         ensures fits { HasNoNewline x.now → HasNoNewline (line_buffer self.old)
             → length x.now < S → length (line_buffer self.old) + length x.now ≤ S

@@ -1,5 +1,6 @@
-// Bytes that were read and not yet given, inside an array.
+// Bytes that were read, inside an array: those not yet given, and before them those that were.
 ghost use Rattle.std.specs.Prelude.{◌≡◌, ◌+◌, ◌<◌, ◌≤◌, ◌^◌, [], ◌++◌, min, length, take, drop, IsOk, OnErr};
+ghost use Rattle.std.specs.Bool.{OnTrue, OnFalse};
 
 use no_std_io2_base::error::Result;
 use no_std_io2_base::traits::Read;
@@ -16,12 +17,14 @@ pub(super) struct ReadAhead<const S: usize> {
 }
 
 impl<const S: usize> ReadAhead<S> {
-    ghost use Rattle.no_std_io2.specs.ReadAhead.{ahead_held, ReadsAhead};
+    ghost use Rattle.no_std_io2.specs.ReadAhead.{ahead_held, ahead_behind, ReadsAhead};
+    ghost use Rattle.no_std_io2.specs.Behind.{IsInBuffer, IsCutOn};
 
     pub(super) fn new() -> Self
         requires some_room { 0 < S }
         requires in_memory { S < 2 ^ 63 }
-        ensures { ahead_held result ≡ [] }
+        ensures held { ahead_held result ≡ [] }
+        ensures behind { ahead_behind result ≡ [] }
     {
         ReadAhead {
             bytes: [0; S],
@@ -52,8 +55,18 @@ impl<const S: usize> ReadAhead<S> {
         &all[self.start..self.end]
     }
 
+    // The bytes that were given since the last read. A read and `clear` begin at the array's front.
+    pub(super) fn behind(&self) -> &[u8]
+        ensures value { result.now ≡ ahead_behind self.now }
+        ensures bound { length result.now ≤ S }
+    {
+        let all = &self.bytes[..];
+        &all[..self.start]
+    }
+
     pub(super) fn clear(&mut self)
-        ensures { ahead_held self.new ≡ [] }
+        ensures held { ahead_held self.new ≡ [] }
+        ensures behind { ahead_behind self.new ≡ [] }
     {
         self.start = 0;
         self.end = 0;
@@ -62,9 +75,29 @@ impl<const S: usize> ReadAhead<S> {
     // No byte moves.
     pub(super) fn drop_front(&mut self, n: usize)
         requires { n ≤ length (ahead_held self.old) }
-        ensures { ahead_held self.new ≡ drop n (ahead_held self.old) }
+        ensures held { ahead_held self.new ≡ drop n (ahead_held self.old) }
+        ensures behind { ahead_behind self.new ≡ ahead_behind self.old ++ take n (ahead_held self.old) }
     {
         self.start += n;
+    }
+
+    // Moves the border between what lies behind and what is held, where that stays between their
+    // ends, and answers whether it does. No byte moves.
+    pub(super) fn shift(&mut self, offset: i64) -> bool
+        ensures within { OnTrue result
+            (IsInBuffer offset (length (ahead_behind self.old)) (length (ahead_held self.old))
+            × IsCutOn offset (ahead_behind self.old) (ahead_held self.old)
+            (ahead_behind self.new) (ahead_held self.new)) }
+        ensures outside { OnFalse result (self.new ≡ self.old
+            × ¬ IsInBuffer offset (length (ahead_behind self.old)) (length (ahead_held self.old))) }
+    {
+        match (self.start as u64).checked_add_signed(offset) {
+            Some(at) if at <= self.end as u64 => {
+                self.start = at as usize;
+                true
+            }
+            _ => false,
+        }
     }
 
     // Moves the first bytes, as many as fill `buf`.
@@ -73,6 +106,7 @@ impl<const S: usize> ReadAhead<S> {
         requires { length buf.old ≤ length (ahead_held self.old) }
         ensures gave { buf.new ≡ take (length buf.old) (ahead_held self.old) }
         ensures held { ahead_held self.new ≡ drop (length buf.old) (ahead_held self.old) }
+        ensures behind { ahead_behind self.new ≡ ahead_behind self.old ++ buf.new }
     {
         let end = self.start + buf.len();
         let all = &self.bytes[..];
@@ -86,6 +120,7 @@ impl<const S: usize> ReadAhead<S> {
         ensures count { result ≡ min (length (ahead_held self.old)) (length buf.old) }
         ensures gave { take result buf.new ≡ take result (ahead_held self.old) }
         ensures held { ahead_held self.new ≡ drop result (ahead_held self.old) }
+        ensures behind { ahead_behind self.new ≡ ahead_behind self.old ++ take result buf.new }
     {
         let n = self.len().min(buf.len());
         // One byte or none needs no call of `memcpy`.
@@ -105,6 +140,7 @@ impl<const S: usize> ReadAhead<S> {
     #[inline]
     pub(super) fn fill<R: Read>(&mut self, from: &mut R) -> Result<()>
         ensures err { OnErr result (ahead_held self.new ≡ []) }
+        ensures behind { ahead_behind self.new ≡ [] }
         ensures bound { length (ahead_held self.new) ≤ S }
         ensures told { R.tells from.old → R.tells from.new
             × ReadsAhead (R.events from.old) result (ahead_held self.new) (R.events from.new) }

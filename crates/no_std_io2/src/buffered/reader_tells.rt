@@ -1,14 +1,15 @@
 // What a `BufReader` tells of its inner reader, and what a caller knows from it. The bodies do
 // nothing, or one call: these contracts hold the members of the impls to what is meant, so that
 // none of them can tell less.
-ghost use Rattle.std.specs.Prelude.{◌≡◌, ◌+◌, ◌-◌, ◌<◌, ◌≤◌, min, nat_lt, if◌then◌else◌, length, drop, ◌++◌, IfOk, IsOkAnd};
+ghost use Rattle.std.specs.Prelude.{◌≡◌, ◌+◌, ◌-◌, ◌<◌, ◌≤◌, min, nat_lt, if◌then◌else◌, length, drop, ◌++◌, IsOk, IfOk, IsOkAnd};
 ghost use Rattle.no_std_io2_base.specs.Events.{events_of};
-ghost use Rattle.no_std_io2.specs.Reading.{reader_held, reader_inner};
+ghost use Rattle.no_std_io2.specs.Reading.{reader_held, reader_behind, reader_inner, reader_is_sound};
+ghost use Rattle.no_std_io2.specs.Behind.{IsInBuffer, MovesEvents};
 ghost use Rattle.no_std_io2.specs.Sound.{IsSound};
 
 use super::reading::BufReader;
 use no_std_io2_base::error::Result;
-use no_std_io2_base::traits::{BufRead, Read, Stored};
+use no_std_io2_base::traits::{BufRead, Read, Seek, Stored};
 
 // Its events are the held bytes, then the inner reader's.
 fn reader_tells<R: Read, const S: usize>(r: &BufReader<R, S>)
@@ -28,6 +29,18 @@ fn reader_stores<R: Stored, const S: usize>(r: &BufReader<R, S>)
     ensures content { ⟦<BufReader<R, S> as Stored>⟧.content r.now ≡ R.content (reader_inner r.now) }
     ensures position { ⟦<BufReader<R, S> as Stored>⟧.position r.now
         ≡ R.position (reader_inner r.now) - length (reader_held r.now) }
+{}
+
+// It is sound where what lies behind and what is held are the store's up to the inner's position;
+// then it tells that store.
+#[tactic(auto, using(crate::proofs::Behind::sound_held))]
+fn reader_is_sound_where<R: Stored, const S: usize>(r: &BufReader<R, S>)
+    ensures sound { R.has_store (reader_inner r.now)
+        → IsSound (reader_behind r.now ++ reader_held r.now) (R.position (reader_inner r.now))
+        (R.content (reader_inner r.now))
+        → reader_is_sound R.has_store R.position R.content r.now }
+    ensures told { reader_is_sound R.has_store R.position R.content r.now
+        → ⟦<BufReader<R, S> as Stored>⟧.has_store r.now }
 {}
 
 // Over a metered reader its fills are counted, and over a filling one their lengths are known.
@@ -63,4 +76,13 @@ fn consume_counted<R: Read, const S: usize>(r: &mut BufReader<R, S>, amount: usi
     ensures held { reader_held r.new ≡ drop amount (reader_held r.old) }
 {
     r.consume(amount);
+}
+
+// Moves inside the buffer once. The events to come move with it, and none is taken from the inner.
+fn move_told<R: Read + Seek, const S: usize>(r: &mut BufReader<R, S>, offset: i64) -> Result<()>
+    ensures { IsInBuffer offset (length (reader_behind r.old)) (length (reader_held r.old))
+        → IsOk result × MovesEvents offset (reader_behind r.old) (reader_held r.old)
+        (⟦<BufReader<R, S> as Read>⟧.events r.old) (⟦<BufReader<R, S> as Read>⟧.events r.new) }
+{
+    r.seek_relative(offset)
 }

@@ -4,7 +4,7 @@ ghost use Rattle.std.specs.Borrow.{Lends, sem};
 ghost use Rattle.no_std_io2_base.specs.Events.{events_of};
 ghost use Rattle.no_std_io2_base.specs.Lending.{IsNotEmpty, reads_needed};
 ghost use Rattle.no_std_io2.specs.contracts.buffered.reading.BufReader.{the_row as reader-row};
-ghost use Rattle.no_std_io2.specs.Reading.{reader_held, reader_inner, reader_events, reader_turns, reader_has_store, reader_position, reader_lent_length, reader_with_inner, FillsFrom};
+ghost use Rattle.no_std_io2.specs.Reading.{reader_held, reader_behind, reader_inner, reader_events, reader_turns, reader_has_store, reader_is_sound, reader_position, reader_lent_length, reader_with_inner, FillsFrom};
 
 use super::read_ahead::ReadAhead;
 use no_std_io2_base::error::Result;
@@ -12,6 +12,7 @@ use no_std_io2_base::traits::{Read, Stored};
 use std::fmt::{self, Debug, Formatter};
 
 mod lends;
+mod pieces;
 mod reads;
 mod seeks;
 
@@ -35,6 +36,7 @@ impl<R: Read, const S: usize> BufReader<R, S> {
         requires in_memory { S < 2 ^ 63 }
         ensures inner { reader_inner result ≡ inner }
         ensures empty { reader_held result ≡ [] }
+        ensures behind { reader_behind result ≡ [] }
         ensures events { reader_events R.events result ≡ R.events inner }
     {
         BufReader {
@@ -69,6 +71,17 @@ impl<R, const S: usize> BufReader<R, S> {
         self.ahead.as_slice()
     }
 
+    /// The bytes given since the last inner read that lie right before those held: as far back as
+    /// [`seek_relative`](BufReader::seek_relative) goes without a seek of the inner reader. They are
+    /// no more there after an inner read, whatever it answers, and after a seek that drops the
+    /// buffer. Rust's `BufReader` keeps them and doesn't show them.
+    pub fn behind(&self) -> &[u8]
+        ensures value { result.now ≡ reader_behind self.now }
+        ensures bound { length result.now ≤ S }
+    {
+        self.ahead.behind()
+    }
+
     /// The buffer's size in bytes, `S`. Follows `BufReader::capacity`.
     pub fn capacity(&self) -> usize
         ensures { result ≡ S }
@@ -91,6 +104,9 @@ impl<R: Read, const S: usize> BufReader<R, S> {
         ensures count { result ≡ min (length (reader_held self.old)) (length buf.old) }
         ensures gave { take result buf.new ≡ take result (reader_held self.old) }
         ensures held { reader_held self.new ≡ drop result (reader_held self.old) }
+        ensures behind { reader_behind self.new ≡ reader_behind self.old ++ take result buf.new }
+        ensures sound { reader_is_sound R.has_store R.position R.content self.old
+            → reader_is_sound R.has_store R.position R.content self.new }
         ensures inner { reader_inner self.new ≡ reader_inner self.old }
         ensures told { reader_events R.events self.old
             ≡ events_of (take result buf.new) ++ reader_events R.events self.new }
@@ -107,6 +123,9 @@ impl<R: Read, const S: usize> BufReader<R, S> {
     fn fill(&mut self) -> Result<()>
         ensures kept { IsNotEmpty (reader_held self.old) → IsOk result × (self.new ≡ self.old) }
         ensures held { OnErr result (reader_held self.new ≡ []) }
+        ensures behind { reader_held self.old ≡ [] → reader_behind self.new ≡ [] }
+        ensures sound { reader_is_sound R.has_store R.position R.content self.old
+            → reader_is_sound R.has_store R.position R.content self.new }
         ensures told { R.tells (reader_inner self.old) → R.tells (reader_inner self.new)
             × FillsFrom (reader_events R.events self.old) result (reader_events R.events self.new) }
         ensures end { R.tells (reader_inner self.old)

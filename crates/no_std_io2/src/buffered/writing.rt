@@ -1,10 +1,10 @@
 //! A buffer in front of a writer.
-ghost use Rattle.std.specs.Prelude.{Some, ◌≡◌, ◌+◌, ◌<◌, ◌≤◌, ◌⊎◌, [], ◌∷◌, ◌++◌, length, Ok, IsOk, IfOk, IfErr, IsOkAnd, OnOk, false};
+ghost use Rattle.std.specs.Prelude.{Some, ◌≡◌, ◌+◌, ◌<◌, ◌≤◌, ◌⊎◌, [], ◌∷◌, ◌++◌, length, take, Ok, IsOk, IfOk, IfErr, IsOkAnd, OnOk, OnErr, false};
 ghost use Rattle.std.specs.Borrow.{Lends, sem};
 ghost use Rattle.no_std_io2.specs.contracts.buffered.writing.BufWriter.{the_row as writer-row};
 ghost use Rattle.no_std_io2_base.specs.Errors.{error_kind, error_display, IsFault, IsNoInterruption};
-ghost use Rattle.no_std_io2_base.specs.Writes.{Moves, MovesFront, taken, write_mishap, call_mishap};
-ghost use Rattle.no_std_io2.specs.Buffered.{writer_inner, writer_buffer, writer_told, into_inner_error_writer, into_inner_error_cause, Sends, sending_calls, writing_calls, buffer_after, IsEnd, writer_with_inner};
+ghost use Rattle.no_std_io2_base.specs.Writes.{Moves, MovesFront, taken, write_mishap, call_mishap, Sends, calls_for};
+ghost use Rattle.no_std_io2.specs.Buffered.{writer_inner, writer_buffer, writer_told, into_inner_error_writer, into_inner_error_cause, writing_calls, buffer_after, IsEnd, writer_with_inner};
 
 mod seeking;
 
@@ -100,7 +100,7 @@ impl<W: Write + Drop, const S: usize> BufWriter<W, S> {
         ensures all { W.takes_all (writer_inner self) → IsOkAnd result W.takes_all }
         ensures calls { W.is_metered (writer_inner self) → W.takes_all (writer_inner self)
             → IfOk result (λ w. W.is_metered w
-            × (W.cost w ≡ W.cost (writer_inner self) + sending_calls (writer_buffer self))) }
+            × (W.cost w ≡ W.cost (writer_inner self) + calls_for (writer_buffer self))) }
     {
         match self.core.send() {
             Ok(()) => {
@@ -222,7 +222,10 @@ impl<W: Write + Drop, const S: usize> Write for BufWriter<W, S> {
         ensures fits { length buf.now < S → length (writer_buffer self.old) + length buf.now ≤ S
             → IsOk result × (writer_inner self.new ≡ writer_inner self.old)
             × (writer_buffer self.new ≡ writer_buffer self.old ++ buf.now) }
+        ensures sent { S < length (writer_buffer self.old) + length buf.now
+            → IfOk result (λ n. IsEnd (take n buf.now) (writer_buffer self.new)) }
         ensures whole { length buf.now < S → IfOk result (λ n. n ≡ length buf.now) }
+        ensures calm { length buf.now < S → IsNoInterruption result }
         ensures after { W.takes_all (writer_inner self.old)
             → writer_buffer self.new ≡ buffer_after S (writer_buffer self.old) buf.now }
 
@@ -231,10 +234,7 @@ impl<W: Write + Drop, const S: usize> Write for BufWriter<W, S> {
             → W.is_metered (writer_inner self.new) × (W.cost (writer_inner self.new)
             ≡ W.cost (writer_inner self.old) + writing_calls S (writer_buffer self.old) buf.now) }
     {
-        if !self.core.hold_if_room(buf) {
-            return self.core.write(buf);
-        }
-        Ok(buf.len())
+        self.core.write(buf)
     }
 
     /// Sends what is held, then flushes the inner writer.
@@ -257,7 +257,7 @@ impl<W: Write + Drop, const S: usize> Write for BufWriter<W, S> {
         ensures rest { IsEnd (writer_buffer self.old) (writer_buffer self.new) }
         ensures calls { W.is_metered (writer_inner self.old) → W.takes_all (writer_inner self.old)
             → W.is_metered (writer_inner self.new) × (W.cost (writer_inner self.new)
-            ≡ W.cost (writer_inner self.old) + sending_calls (writer_buffer self.old)) }
+            ≡ W.cost (writer_inner self.old) + calls_for (writer_buffer self.old)) }
     {
         self.core.flush()
     }
@@ -273,7 +273,7 @@ impl<W: Write + Drop, const S: usize> Write for BufWriter<W, S> {
         ensures moves { MovesFront (writer_told W.told self.old) buf.now result (writer_told W.told self.new) }
         ensures all { W.takes_all (writer_inner self.old) → W.takes_all (writer_inner self.new) }
         ensures cost { ⊥ → W.takes_all (writer_inner self.old)
-            → ⊥ × (W.cost (writer_inner self.new) ≡ W.cost (writer_inner self.old) + sending_calls buf.now) }
+            → ⊥ × (W.cost (writer_inner self.new) ≡ W.cost (writer_inner self.old) + calls_for buf.now) }
 
         // What is held then.
         ensures ok { W.takes_all (writer_inner self.old) → IsOk result }
@@ -282,6 +282,11 @@ impl<W: Write + Drop, const S: usize> Write for BufWriter<W, S> {
         ensures fits { length buf.now < S → length (writer_buffer self.old) + length buf.now ≤ S
             → IsOk result × (writer_inner self.new ≡ writer_inner self.old)
             × (writer_buffer self.new ≡ writer_buffer self.old ++ buf.now) }
+        ensures sent { S < length (writer_buffer self.old) + length buf.now
+            → OnOk result (IsEnd buf.now (writer_buffer self.new)) }
+        ensures none { length buf.now < S
+            → OnErr result (IsEnd (writer_buffer self.old) (writer_buffer self.new)
+            × Moves (writer_told W.told self.old) [] (call_mishap result) (writer_told W.told self.new)) }
         ensures after { W.takes_all (writer_inner self.old)
             → writer_buffer self.new ≡ buffer_after S (writer_buffer self.old) buf.now }
 
@@ -290,9 +295,6 @@ impl<W: Write + Drop, const S: usize> Write for BufWriter<W, S> {
             → W.is_metered (writer_inner self.new) × (W.cost (writer_inner self.new)
             ≡ W.cost (writer_inner self.old) + writing_calls S (writer_buffer self.old) buf.now) }
     {
-        if self.core.hold_if_room(buf) {
-            return Ok(());
-        }
         self.core.write_all(buf)
     }
 

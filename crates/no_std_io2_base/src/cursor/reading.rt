@@ -1,12 +1,12 @@
-ghost use Rattle.std.specs.Prelude.{◌≡◌, ◌+◌, ◌++◌, ◌≤◌, ◌<◌, ◌^◌, ◌↔◌, min, length, take, codes, Some, IsOk, IsOkAnd, IfOk, IfErr, OnErr};
+ghost use Rattle.std.specs.Prelude.{◌≡◌, ◌+◌, ◌++◌, ◌≤◌, ◌<◌, ◌^◌, ◌↔◌, min, length, take, IsOk, IsOkAnd, IfOk, IfErr, OnErr};
 ghost use Rattle.no_std_io2_base.specs.Cursor.{cursor_place, cursor_inner, cursor_left, cursor_stores};
-ghost use Rattle.no_std_io2_base.specs.Errors.{error_kind, error_text};
+ghost use Rattle.no_std_io2_base.specs.Errors.{IsUnexpectedEnd};
 ghost use Rattle.no_std_io2_base.specs.Events.{events_of, given, Reads, ReadsExact, SpendsTurn};
 ghost use Rattle.no_std_io2_base.specs.Laws.{bytes_alone};
 ghost use Rattle.std.proofs.Common.{rules};
 
 use super::{AsSlice, Cursor};
-use crate::error::{Error, ErrorKind, Result};
+use crate::error::{Result, failed_to_fill};
 use crate::impls::copy_prefix;
 use crate::traits::{BufRead, Read, Stored};
 
@@ -73,15 +73,13 @@ impl<T: AsSlice<u8>> Read for Cursor<T> {
         ensures variant { IsOk result ↔ (length buf.old ≤ length (cursor_left T.slice self.old)) }
         ensures ok { IfOk result (λ _. (buf.new ≡ take (length buf.old) (cursor_left T.slice self.old))
             × (cursor_place self.new ≡ cursor_place self.old + length buf.old)) }
-        ensures kind { IfErr result (λ e. error_kind e ≡ ErrorKind.UnexpectedEof) }
-        ensures text { IfErr result (λ e. error_text e ≡ Some (codes "failed to fill whole buffer")) }
+        ensures says { IfErr result IsUnexpectedEnd }
         ensures err { OnErr result ((cursor_place self.new ≡ cursor_place self.old) × (buf.new ≡ buf.old)) }
         ensures inner { cursor_inner self.new ≡ cursor_inner self.old }
     {
         let left = self.left();
         if left.len() < buf.len() {
-            let message = "failed to fill whole buffer";
-            return Err(Error::new(ErrorKind::UnexpectedEof, message));
+            return Err(failed_to_fill());
         }
         let n = copy_prefix(left, buf);
         self.pos += n as u64;

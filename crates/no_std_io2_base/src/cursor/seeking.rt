@@ -60,5 +60,13 @@ impl<T: AsSlice<u8>> Seek for Cursor<T> {
         Ok(())
     }
 
+    // Nothing moves.
+    fn stream_len(&mut self) -> Result<u64>
+        ensures same { self.new ≡ self.old }
+        ensures len { result ≡ Ok (length (T.slice (cursor_inner self.old))) }
+    {
+        Ok(self.inner.as_slice().len() as u64)
+    }
+
     ghost seek_fits = { λ c h. h };
 }

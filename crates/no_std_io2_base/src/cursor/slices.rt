@@ -1,10 +1,10 @@
-ghost use Rattle.std.specs.Prelude.{◌≡◌, ℕ, ◌+◌, ◌-◌, ◌≤◌, ◌↔◌, nat_lt, min, [], codes, Some, Ok, IsOk, IsOkAnd, OnOk, IfOk, IfErr, length, if◌then◌else◌};
+ghost use Rattle.std.specs.Prelude.{◌≡◌, ℕ, ◌+◌, ◌-◌, ◌≤◌, ◌↔◌, nat_lt, min, [], Ok, IsOk, IsOkAnd, OnOk, IfOk, IfErr, length, if◌then◌else◌};
 ghost use Rattle.no_std_io2_base.specs.Cursor.{cursor_place, cursor_inner, cursor_out, PutsFitting};
-ghost use Rattle.no_std_io2_base.specs.Errors.{error_kind, error_text, IsNoInterruption};
+ghost use Rattle.no_std_io2_base.specs.Errors.{IsNoInterruption, IsUnwritten};
 ghost use Rattle.no_std_io2_base.specs.Writes.{Moves, MovesFront, taken, write_mishap, call_mishap, told_out};
 
 use super::Cursor;
-use crate::error::{Error, ErrorKind, Result};
+use crate::error::{Result, failed_to_write};
 use crate::impls::copy_prefix;
 use crate::traits::Write;
 
@@ -78,15 +78,13 @@ impl Write for Cursor<&mut [u8]> {
 
         // What fits, at the position, and an error exactly where that is not all.
         ensures variant { IsOk result ↔ (length buf.now ≤ length (cursor_inner self.old).now - cursor_place self.old) }
-        ensures kind { IfErr result (λ e. error_kind e ≡ ErrorKind.WriteZero) }
-        ensures text { IfErr result (λ e. error_text e ≡ Some (codes "failed to write whole buffer")) }
+        ensures says { IfErr result IsUnwritten }
         ensures puts { PutsFitting (cursor_inner self.old).now (cursor_place self.old) buf.now
             (cursor_inner self.new).now (cursor_place self.new) }
         ensures reference { (cursor_inner self.new).ghost_name ≡ (cursor_inner self.old).ghost_name }
     {
         if write_fitting(self.inner, &mut self.pos, buf) < buf.len() {
-            let message = "failed to write whole buffer";
-            return Err(Error::new(ErrorKind::WriteZero, message));
+            return Err(failed_to_write());
         }
         Ok(())
     }

@@ -24,6 +24,10 @@ impl<W: Write, A: Allocator> Write for Box<W, A> {
         self.as_mut().write_all(buf)
     }
 
+    fn write_rest(&mut self, rest: &mut &[u8]) -> Result<()> {
+        self.as_mut().write_rest(rest)
+    }
+
     ghost steady = { λ b h. W.steady b.value h };
 }
 
@@ -84,12 +88,20 @@ impl<T: BufRead, A: Allocator> BufRead for Box<T, A> {
     fn consume(&mut self, amount: usize) {
         self.as_mut().consume(amount)
     }
+
+    fn read_until<B: Allocator>(&mut self, delim: u8, buf: &mut Vec<u8, B>) -> Result<usize> {
+        self.as_mut().read_until(delim, buf)
+    }
 }
 
 /// A boxed seeker is what is in the box.
 impl<T: Seek, A: Allocator> Seek for Box<T, A> {
     fn seek(&mut self, pos: SeekFrom) -> Result<u64> {
         self.as_mut().seek(pos)
+    }
+
+    fn stream_len(&mut self) -> Result<u64> {
+        self.as_mut().stream_len()
     }
 
     ghost seek_fits = { λ b h. T.seek_fits b.value h };

@@ -1,11 +1,13 @@
 ghost use Rattle.std.specs.Prelude.{[]};
 
 use crate::error::Result;
-use crate::traits::{BufRead, LEAST_ROOM, Read, Stored, open_room, reserve_room};
+use crate::traits::{
+    BufRead, LEAST_ROOM, Read, Stored, append, find_piece, open_room, reserve_room,
+};
 use std::alloc::Allocator;
 
-// A boxed object tells no store. The body of `read_to_end` is the trait's, written again: a method
-// with a bound of its own is not left to its trait at a boxed object.
+// A boxed object tells no store. The bodies of `read_to_end` and `read_until` are the traits',
+// written again: a method with a bound of its own is not left to its trait at a boxed object.
 impl<A: Allocator> Stored for Box<dyn BufRead + Drop, A> {
     ghost has_store = { λ _. ⊥ };
 
@@ -50,11 +52,10 @@ impl<A: Allocator> Read for Box<dyn BufRead + Drop, A> {
                     return Ok(filled - start);
                 }
                 Ok(n) => filled += n,
+                Err(e) if e.is_interrupted() => {}
                 Err(e) => {
-                    if !e.is_interruption() {
-                        buf.truncate(filled);
-                        return Err(e);
-                    }
+                    buf.truncate(filled);
+                    return Err(e);
                 }
             }
         }
@@ -84,5 +85,23 @@ impl<A: Allocator> BufRead for Box<dyn BufRead + Drop, A> {
 
     fn consume(&mut self, amount: usize) {
         (**self).consume(amount)
+    }
+
+    fn read_until<B: Allocator>(&mut self, delim: u8, buf: &mut Vec<u8, B>) -> Result<usize> {
+        let start = buf.len();
+        'pieces: loop {
+            match self.fill_buf() {
+                Ok(lent) => {
+                    let (len, is_whole) = find_piece(lent, delim);
+                    append(buf, &lent[..len])?;
+                    self.consume(len);
+                    if is_whole {
+                        return Ok(buf.len() - start);
+                    }
+                }
+                Err(e) if e.is_interrupted() => {}
+                Err(e) => return Err(e),
+            }
+        }
     }
 }

@@ -1,5 +1,6 @@
 use crate::error::Result;
 use crate::traits::{BufRead, Read, Seek, SeekFrom, Stored, Write};
+use std::alloc::Allocator;
 
 /// A lent writer is its target.
 impl<W: Write> Write for &mut W {
@@ -21,6 +22,10 @@ impl<W: Write> Write for &mut W {
 
     fn write_all(&mut self, buf: &[u8]) -> Result<()> {
         Write::write_all(&mut **self, buf)
+    }
+
+    fn write_rest(&mut self, rest: &mut &[u8]) -> Result<()> {
+        Write::write_rest(&mut **self, rest)
     }
 
     ghost steady = { λ w h. W.steady w.now h };
@@ -83,12 +88,20 @@ impl<T: BufRead> BufRead for &mut T {
     fn consume(&mut self, amount: usize) {
         BufRead::consume(&mut **self, amount)
     }
+
+    fn read_until<A: Allocator>(&mut self, delim: u8, buf: &mut Vec<u8, A>) -> Result<usize> {
+        BufRead::read_until(&mut **self, delim, buf)
+    }
 }
 
 /// A lent seeker is its target.
 impl<T: Seek> Seek for &mut T {
     fn seek(&mut self, pos: SeekFrom) -> Result<u64> {
         Seek::seek(&mut **self, pos)
+    }
+
+    fn stream_len(&mut self) -> Result<u64> {
+        Seek::stream_len(&mut **self)
     }
 
     ghost seek_fits = { λ r h. T.seek_fits r.now h };

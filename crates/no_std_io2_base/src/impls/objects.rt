@@ -26,6 +26,10 @@ impl<A: Allocator> Write for Box<dyn Write + Drop, A> {
         (**self).write_all(buf)
     }
 
+    fn write_rest(&mut self, rest: &mut &[u8]) -> Result<()> {
+        (**self).write_rest(rest)
+    }
+
     ghost steady = { λ w h. absurd h };
 }
 
@@ -40,6 +44,10 @@ impl<A: Allocator> Stored for Box<dyn Seek + Drop, A> {
 impl<A: Allocator> Seek for Box<dyn Seek + Drop, A> {
     fn seek(&mut self, pos: SeekFrom) -> Result<u64> {
         (**self).seek(pos)
+    }
+
+    fn stream_len(&mut self) -> Result<u64> {
+        (**self).stream_len()
     }
 
     ghost seek_fits = { λ b h. absurd h };

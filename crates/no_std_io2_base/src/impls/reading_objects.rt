@@ -50,11 +50,10 @@ impl<A: Allocator> Read for Box<dyn Read + Drop, A> {
                     return Ok(filled - start);
                 }
                 Ok(n) => filled += n,
+                Err(e) if e.is_interrupted() => {}
                 Err(e) => {
-                    if !e.is_interruption() {
-                        buf.truncate(filled);
-                        return Err(e);
-                    }
+                    buf.truncate(filled);
+                    return Err(e);
                 }
             }
         }

@@ -3,7 +3,7 @@ ghost use Rattle.no_std_io2_base.specs.Errors.{IsFault};
 ghost use Rattle.no_std_io2_base.specs.Events.{events_of, ReadsExact};
 ghost use Rattle.no_std_io2_base.specs.Laws.{bytes_alone};
 
-use crate::error::{Error, ErrorKind, Result};
+use crate::error::{Result, failed_to_fill};
 use crate::traits::{BufRead, Read, Stored};
 use std::alloc::Allocator;
 
@@ -61,8 +61,7 @@ impl Read for &[u8] {
     {
         let all: &[u8] = *self;
         if all.len() < buf.len() {
-            let message = "failed to fill whole buffer";
-            return Err(Error::new(ErrorKind::UnexpectedEof, message));
+            return Err(failed_to_fill());
         }
         let n = copy_prefix(all, buf);
         *self = &all[n..];
@@ -72,9 +71,7 @@ impl Read for &[u8] {
     // One growth, for exactly the bytes that are left.
     fn read_to_end<A: Allocator>(&mut self, buf: &mut Vec<u8, A>) -> Result<usize> {
         let all: &[u8] = *self;
-        if buf.extend_from_slice(all).is_err() {
-            return Err(Error::from(ErrorKind::OutOfMemory));
-        }
+        buf.extend_from_slice(all)?;
         *self = &all[all.len()..];
         Ok(all.len())
     }

@@ -1,9 +1,8 @@
 ghost use Rattle.std.specs.Prelude.{◌≡◌, ℕ, ◌+◌, ◌≤◌, nat_lt, if◌then◌else◌, [], Ok, IsOk, OnOk, OnErr, IfOk, IfErr, length};
-ghost use Rattle.no_std_io2_base.specs.Errors.{IsNoInterruption};
-ghost use Rattle.no_std_io2_base.specs.Events.{IsOutOfMemory};
+ghost use Rattle.no_std_io2_base.specs.Errors.{IsNoInterruption, IsOutOfMemory};
 ghost use Rattle.no_std_io2_base.specs.Writes.{Moves, MovesFront, taken, write_mishap, call_mishap, told_out};
 
-use crate::error::{Error, ErrorKind, Result};
+use crate::error::Result;
 use crate::traits::Write;
 use std::alloc::Allocator;
 
@@ -33,10 +32,8 @@ impl<A: Allocator> Write for Vec<u8, A> {
         ensures same { OnErr result (self.new.items ≡ self.old.items) }
         ensures empty { length buf.now ≡ 0 → IsOk result }
     {
-        match self.extend_from_slice(buf) {
-            Ok(_) => Ok(buf.len()),
-            Err(_) => Err(Error::from(ErrorKind::OutOfMemory)),
-        }
+        self.extend_from_slice(buf)?;
+        Ok(buf.len())
     }
 
     #[inline]

@@ -11,7 +11,7 @@ ghost use Rattle.no_std_io2_base.specs.Laws.{cut_alone};
 use super::lending::BufRead;
 use super::reading::{LEAST_ROOM, Read, open_room, reserve_room};
 use super::store::Stored;
-use crate::error::{Error, ErrorKind, Result};
+use crate::error::{Result, failed_to_fill};
 use std::alloc::Allocator;
 
 /// At most so many bytes of a reader. Made by [`Read::take`]; follows Rust's `std::io::Take`.
@@ -151,16 +151,10 @@ impl<T: Read> Read for Take<T> {
         let mut at = 0;
         'reads: while at < buf.len() {
             match self.read(&mut buf[at..]) {
-                Ok(0) => {
-                    let message = "failed to fill whole buffer";
-                    return Err(Error::new(ErrorKind::UnexpectedEof, message));
-                }
+                Ok(0) => return Err(failed_to_fill()),
                 Ok(n) => at += n,
-                Err(e) => {
-                    if !e.is_interruption() {
-                        return Err(e);
-                    }
-                }
+                Err(e) if e.is_interrupted() => {}
+                Err(e) => return Err(e),
             }
         }
         Ok(())
@@ -193,11 +187,10 @@ impl<T: Read> Read for Take<T> {
             match self.read(&mut buf[filled..]) {
                 Ok(0) => break 'reads,
                 Ok(n) => filled += n,
+                Err(e) if e.is_interrupted() => {}
                 Err(e) => {
-                    if !e.is_interruption() {
-                        buf.truncate(filled);
-                        return Err(e);
-                    }
+                    buf.truncate(filled);
+                    return Err(e);
                 }
             }
         }

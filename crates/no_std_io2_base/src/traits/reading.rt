@@ -1,6 +1,6 @@
 ghost use Rattle.std.specs.Prelude.{◌≡◌, ℕ, false, List, ◌++◌, take, drop, ◌+◌, ◌≤◌, ◌<◌, ◌^◌, min, length, IfOk, IfErr, OnOk, OnErr, IsOkAnd, vec_len, vec_capacity};
-ghost use Rattle.no_std_io2_base.specs.Errors.{IsFault};
-ghost use Rattle.no_std_io2_base.specs.Events.{IsOutOfMemory, Event, cut, bytes, events_of, given, Reads, ReadsExact, ReadsToEnd, SpendsTurn};
+ghost use Rattle.no_std_io2_base.specs.Errors.{IsFault, IsOutOfMemory};
+ghost use Rattle.no_std_io2_base.specs.Events.{Event, cut, bytes, events_of, given, Reads, ReadsExact, ReadsToEnd, SpendsTurn};
 ghost use Rattle.no_std_io2_base.specs.Chain.{chain_first, chain_second, chain_is_done, chain_tells, chain_events};
 ghost use Rattle.no_std_io2_base.specs.SingleBytes.{bytes_reader};
 ghost use Rattle.no_std_io2_base.specs.Take.{take_inner, take_limit, take_events};
@@ -9,7 +9,7 @@ use super::chaining::Chain;
 use super::limiting::Take;
 use super::single_bytes::Bytes;
 use super::store::Stored;
-use crate::error::{Error, ErrorKind, Result};
+use crate::error::{Result, failed_to_fill};
 use std::alloc::Allocator;
 
 // The least room that `read_to_end` makes where there is none.
@@ -28,9 +28,7 @@ pub(crate) fn reserve_room<A: Allocator>(buf: &mut Vec<u8, A>, wanted: usize) ->
     ensures refused { IfErr result IsOutOfMemory }
     ensures full { OnErr result (vec_capacity buf.old < vec_len buf.old + wanted) }
 {
-    if buf.reserve(wanted).is_err() {
-        return Err(Error::from(ErrorKind::OutOfMemory));
-    }
+    buf.reserve(wanted)?;
     Ok(())
 }
 
@@ -128,16 +126,10 @@ pub trait Read: Stored {
         let mut at = 0;
         'reads: while at < buf.len() {
             match self.read(&mut buf[at..]) {
-                Ok(0) => {
-                    let message = "failed to fill whole buffer";
-                    return Err(Error::new(ErrorKind::UnexpectedEof, message));
-                }
+                Ok(0) => return Err(failed_to_fill()),
                 Ok(n) => at += n,
-                Err(e) => {
-                    if !e.is_interruption() {
-                        return Err(e);
-                    }
-                }
+                Err(e) if e.is_interrupted() => {}
+                Err(e) => return Err(e),
             }
         }
         Ok(())
@@ -178,11 +170,10 @@ pub trait Read: Stored {
                     return Ok(filled - start);
                 }
                 Ok(n) => filled += n,
+                Err(e) if e.is_interrupted() => {}
                 Err(e) => {
-                    if !e.is_interruption() {
-                        buf.truncate(filled);
-                        return Err(e);
-                    }
+                    buf.truncate(filled);
+                    return Err(e);
                 }
             }
         }

@@ -58,6 +58,26 @@ pub trait Seek: Stored {
         Ok(())
     }
 
+    /// The length of the content in bytes, by a seek to its end and one back, where that is
+    /// elsewhere. Follows `std::io::Seek::stream_len`.
+    ///
+    /// # Errors
+    /// The first error of these seeks, after which the position may be the end: none over a told
+    /// store, which is as it was.
+    fn stream_len(&mut self) -> Result<u64>
+        ensures store { Self.has_store self.old → Self.has_store self.new
+            × (Self.content self.new ≡ Self.content self.old)
+            × (Self.position self.new ≡ Self.position self.old)
+            × IsOkAnd result (λ n. n ≡ length (Self.content self.old)) }
+    {
+        let old = self.stream_position()?;
+        let end = self.seek(SeekFrom::End(0))?;
+        if old != end {
+            self.seek(SeekFrom::Start(old))?;
+        }
+        Ok(end)
+    }
+
     // A told store fits the numbers that the calls give.
     ghost seek_fits: { (x : Self) → Self.has_store x → (length (Self.content x) < 2 ^ 64) × (Self.position x < 2 ^ 64) };
 }

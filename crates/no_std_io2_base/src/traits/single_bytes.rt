@@ -45,11 +45,8 @@ where
             match self.inner.read(&mut one) {
                 Ok(0) => return None,
                 Ok(_) => return Some(Ok(one[0])),
-                Err(e) => {
-                    if !e.is_interruption() {
-                        return Some(Err(e));
-                    }
-                }
+                Err(e) if e.is_interrupted() => {}
+                Err(e) => return Some(Err(e)),
             }
         }
     }

@@ -1,8 +1,8 @@
-ghost use Rattle.std.specs.Prelude.{◌≡◌, ℕ, ◌+◌, ◌≤◌, Bool, List, [], Some, Ok, OnOk, IfOk, length, nat_lt, if◌then◌else◌};
+ghost use Rattle.std.specs.Prelude.{◌≡◌, ℕ, ◌+◌, ◌≤◌, [], Some, Ok, OnOk, IfOk, IsOk, length};
 ghost use Rattle.no_std_io2_base.specs.Errors.{IsNoInterruption};
-ghost use Rattle.no_std_io2_base.specs.Writes.{Told, Moves, MovesFront, taken, write_mishap, call_mishap};
+ghost use Rattle.no_std_io2_base.specs.Writes.{Told, Moves, MovesFront, Sends, taken, write_mishap, call_mishap, calls_for};
 
-use crate::error::{Error, ErrorKind, Result};
+use crate::error::{Result, failed_to_write};
 
 /// A sink of bytes. Follows Rust's `std::io::Write`.
 ///
@@ -56,27 +56,41 @@ pub trait Write {
     ///
     /// # Errors
     /// `WriteZero` where the device took no byte of some, else the device's first fault; never
-    /// `Interrupted`. Some front of `buf`, possibly empty or whole, was accepted then.
+    /// `Interrupted`. Some front of `buf`, possibly empty or whole, was accepted then; nobody knows
+    /// which, so a caller that must not send a byte twice calls [`write_rest`](Write::write_rest).
     fn write_all(&mut self, buf: &[u8]) -> Result<()>
         ensures fault { IsNoInterruption result }
         ensures moves { MovesFront (told self.old) buf.now result (told self.new) }
         ensures all { takes_all self.old → takes_all self.new }
         ensures cost { is_metered self.old → takes_all self.old → is_metered self.new
-            × (cost self.new ≡ cost self.old + (if nat_lt 0 (length buf.now) then 1 else 0)) }
+            × (cost self.new ≡ cost self.old + calls_for buf.now) }
     {
         let mut rest = buf;
+        self.write_rest(&mut rest)
+    }
+
+    /// Writes what is left in `rest`, and takes off its front what was accepted. So after an error
+    /// `rest` is exactly what is still to be written: the same call goes on there, and no byte goes
+    /// out twice. It passes over interruptions; an empty `rest` makes no call. Rust's std has no such
+    /// call.
+    ///
+    /// # Errors
+    /// `WriteZero` where the device took no byte of some, else the device's first fault; never
+    /// `Interrupted`.
+    fn write_rest(&mut self, rest: &mut &[u8]) -> Result<()>
+        ensures fault { IsNoInterruption result }
+        ensures sends { Sends (told self.old) rest.old.now result (told self.new) rest.new.now }
+        ensures done { OnOk result (rest.new.now ≡ []) }
+        ensures all { takes_all self.old → takes_all self.new × IsOk result }
+        ensures cost { is_metered self.old → takes_all self.old → is_metered self.new
+            × (cost self.new ≡ cost self.old + calls_for rest.old.now) }
+    {
         'writes: while !rest.is_empty() {
             match self.write(rest) {
-                Ok(0) => {
-                    let text = "failed to write whole buffer";
-                    return Err(Error::new(ErrorKind::WriteZero, text));
-                }
-                Ok(n) => rest = &rest[n..],
-                Err(e) => {
-                    if !e.is_interruption() {
-                        return Err(e);
-                    }
-                }
+                Ok(0) => return Err(failed_to_write()),
+                Ok(n) => *rest = &rest[n..],
+                Err(e) if e.is_interrupted() => {}
+                Err(e) => return Err(e),
             }
         }
         Ok(())

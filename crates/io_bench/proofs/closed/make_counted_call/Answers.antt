@@ -43,3 +43,6 @@ returns-in-Err-flush-clause-calls g c =
 pub returns-in-Err-clause-all : goal.returns-in-Err-clause-all
 returns-in-Err-clause-all g c =
     absurd (Moves-steady (g.met.W.Write.steady _ c.requires.all) c.in-Err.ensures.moves)
+
+pub returns-in-Ok-write_all-clause-all : goal.returns-in-Ok-write_all-clause-all
+returns-in-Ok-write_all-clause-all g c = rw c.in-WriteAll.is (c.in-Ok-write_all.ensures.all c.requires.all, tt)

@@ -7,7 +7,7 @@ use Rattle.no_std_io2.specs.Buffered.{writer_inner, writer_buffer}
 use Rattle.io_bench.specs.Tally.{tally_inner, tally_writes}
 use Rattle.io_bench.proofs.RunLemmas.{Ran-next, AreWhole-next, Ran-none}
 use Rattle.io_bench.proofs.ClosedLemmas.{Paid-on, Paid-all, given_all}
-use Rattle.io_bench.proofs.PaidLemmas.{Paid-empty, sending_calls-min}
+use Rattle.io_bench.proofs.PaidLemmas.{Paid-empty, calls_for-min}
 use Rattle.io_bench.proofs.closed.run_closed.Goals as goal
 
 pub calls-preserved : goal.calls-preserved
@@ -58,7 +58,7 @@ returns-in-Ok-clause-bound g c =
     let last = c.in-Ok.ensures.calls tt before.all in
     let bound = Paid-all g.row.S before.paid.0 ops c.calls.op-index _ (omega arith) before.paid.2 in
     let first = ap tally_writes c.new-buffered.ensures.inner in
-    omega (arith, last.1, bound, first, before.paid.1, sending_calls-min (writer_buffer c.calls.buffered))
+    omega (arith, last.1, bound, first, before.paid.1, calls_for-min (writer_buffer c.calls.buffered))
 
 pub returns-in-Ok-clause-all : goal.returns-in-Ok-clause-all
 returns-in-Ok-clause-all g c = c.in-Ok.ensures.all c.calls.invariant.all

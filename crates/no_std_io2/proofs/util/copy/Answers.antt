@@ -70,9 +70,9 @@ returns-in_err-write_all-in-Ok-clause-told g c = λ t.
     let e = c.in_err-write_all-in-Ok.field-0.0 in
     (now.0, rw (p.1, p.2) (copied_refused g.row.S _ _ _ _ _ c.in-Ok.n c.read.new.buf _ _ e so_far.1 now.1 (search rules) c.in-Ok.ensures.bound (search rules) c.in_err-write_all-in-Ok.ensures.moves))
 
-pub returns-then-not-is_interruption-clause-told :
-    goal.returns-then-not-is_interruption-clause-told
-returns-then-not-is_interruption-clause-told g c = λ t.
+pub returns-in-Err-2-clause-told :
+    goal.returns-in-Err-2-clause-told
+returns-in-Err-2-clause-told g c = λ t.
     let so_far = c.reads.invariant.told t in
     let now = c.in-Err.ensures.told so_far.0 in
     (now.0, copied_fault g.row.S _ _ _ _ _ c.in-Err.e _ so_far.1 now.1 (search rules) (λ z. (c.reads.invariant.same z).1))

@@ -3,9 +3,9 @@ ghost use Rattle.std.specs.Bool.{OnTrue, OnFalse};
 ghost use Rattle.std.specs.Prelude.{◌≡◌, ◌≢◌, ◌+◌, ◌-◌, ◌<◌, ◌≤◌, ◌⊎◌, ◌++◌, [], length, Ok, IsOk, IfOk, IsOkAnd, OnOk, drop, take, slice_index, slice_range};
 ghost use Rattle.no_std_io2.specs.LineState.{IsLineState, HasNoNewline};
 ghost use Rattle.no_std_io2.specs.Lines.{IsLinesLen, WritesLines, unfinished_line, held_tail, whole_if_short};
-ghost use Rattle.no_std_io2.specs.Buffered.{sender_inner, sender_buffer, sender_told, sending_calls, buffer_after, IsEnd};
+ghost use Rattle.no_std_io2.specs.Buffered.{sender_inner, sender_buffer, sender_told, buffer_after, IsEnd};
 ghost use Rattle.no_std_io2_base.specs.Errors.{IsNoInterruption};
-ghost use Rattle.no_std_io2_base.specs.Writes.{Moves, MovesFront, taken, write_mishap, call_mishap};
+ghost use Rattle.no_std_io2_base.specs.Writes.{Moves, MovesFront, taken, write_mishap, call_mishap, calls_for};
 
 use crate::buffered::sender::Sender;
 use memchr::memrchr;
@@ -41,52 +41,6 @@ fn tail_end(x: &[u8], len: usize, sent: usize, room: usize) -> usize
     }
     let part = lines_len(&x[sent..sent + room]);
     if part == 0 { sent + room } else { sent + part }
-}
-
-// The sender's `write`, with its hot path in place: a short piece is held where there is room.
-fn write_buffered<W: Write + Drop, const S: usize>(w: &mut Sender<W, S>, x: &[u8]) -> Result<usize>
-    ensures bound { IfOk result (λ n. n ≤ length x.now) }
-    ensures moves { Moves (sender_told W.told w.old) (taken result x.now) (write_mishap result x.now)
-        (sender_told W.told w.new) }
-    ensures rest { IsEnd (sender_buffer w.old ++ taken result x.now) (sender_buffer w.new) }
-    ensures fits { length x.now < S → length (sender_buffer w.old) + length x.now ≤ S
-        → IsOk result × (sender_inner w.new ≡ sender_inner w.old)
-        × (sender_buffer w.new ≡ sender_buffer w.old ++ x.now) }
-    ensures whole { length x.now < S → IfOk result (λ n. n ≡ length x.now) }
-    ensures all { W.takes_all (sender_inner w.old)
-        → W.takes_all (sender_inner w.new) × (result ≡ Ok (length x.now)) }
-    ensures after { W.takes_all (sender_inner w.old)
-        → sender_buffer w.new ≡ buffer_after S (sender_buffer w.old) x.now }
-    ensures calls { W.is_metered (sender_inner w.old) → W.takes_all (sender_inner w.old)
-        → W.is_metered (sender_inner w.new)
-        × (W.cost (sender_inner w.new) ≤ W.cost (sender_inner w.old) + 2) }
-{
-    if !w.hold_if_room(x) {
-        return w.write(x);
-    }
-    Ok(x.len())
-}
-
-// The sender's `write_all`, likewise.
-fn write_all_buffered<W: Write + Drop, const S: usize>(w: &mut Sender<W, S>, x: &[u8]) -> Result<()>
-    ensures fault { IsNoInterruption result }
-    ensures moves { MovesFront (sender_told W.told w.old) x.now result (sender_told W.told w.new) }
-    ensures rest { IsEnd (sender_buffer w.old ++ x.now) (sender_buffer w.new)
-        ⊎ IsEnd (sender_buffer w.old) (sender_buffer w.new) }
-    ensures fits { length x.now < S → length (sender_buffer w.old) + length x.now ≤ S
-        → IsOk result × (sender_inner w.new ≡ sender_inner w.old)
-        × (sender_buffer w.new ≡ sender_buffer w.old ++ x.now) }
-    ensures all { W.takes_all (sender_inner w.old) → W.takes_all (sender_inner w.new) × IsOk result }
-    ensures after { W.takes_all (sender_inner w.old)
-        → sender_buffer w.new ≡ buffer_after S (sender_buffer w.old) x.now }
-    ensures few { W.is_metered (sender_inner w.old) → W.takes_all (sender_inner w.old)
-        → W.is_metered (sender_inner w.new) × (W.cost (sender_inner w.new)
-        ≤ W.cost (sender_inner w.old) + sending_calls (sender_buffer w.old) + 1) }
-{
-    if w.hold_if_room(x) {
-        return Ok(());
-    }
-    w.write_all(x)
 }
 
 // Whether the last byte is a newline.
@@ -146,7 +100,7 @@ pub(super) fn write_plain<W: Write + Drop, const S: usize>(
         × (W.cost (sender_inner w.new) ≤ W.cost (sender_inner w.old) + 3) }
 {
     send_line(w)?;
-    write_buffered(w, x)
+    w.write(x)
 }
 
 // A write of x, whose first `len` bytes are lines.
@@ -173,7 +127,7 @@ pub(super) fn write_lines<W: Write + Drop, const S: usize>(
         × (W.cost (sender_inner w.new) ≤ W.cost (sender_inner w.old) + 3) }
 {
     w.send()?;
-    let n = w.write_through(&x[..len])?;
+    let n = w.inner.write(&x[..len])?;
     if n == 0 {
         return Ok(0);
     }
@@ -205,7 +159,7 @@ pub(super) fn write_all_plain<W: Write + Drop, const S: usize>(
         × (W.cost (sender_inner w.new) ≤ W.cost (sender_inner w.old) + 3) }
 {
     send_line(w)?;
-    write_all_buffered(w, x)
+    w.write_all(x)
 }
 
 // Writes all of x, which is lines: through, or behind what is held, to be sent with it.
@@ -223,7 +177,7 @@ fn send_lines<W: Write + Drop, const S: usize>(w: &mut Sender<W, S>, x: &[u8]) -
         × (W.cost (sender_inner w.new) ≤ W.cost (sender_inner w.old) + 2) }
 {
     if w.buffer().is_empty() {
-        return w.write_all_through(x);
+        return w.inner.write_all(x);
     }
     w.write_all(x)?;
     w.send()
@@ -250,5 +204,5 @@ pub(super) fn write_all_lines<W: Write + Drop, const S: usize>(
         × (W.cost (sender_inner w.new) ≤ W.cost (sender_inner w.old) + 3) }
 {
     send_lines(w, &x[..len])?;
-    write_all_buffered(w, &x[len..])
+    w.write_all(&x[len..])
 }

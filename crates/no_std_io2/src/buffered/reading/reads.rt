@@ -3,12 +3,11 @@ ghost use Rattle.std.specs.Prelude.{◌≡◌, ◌+◌, ◌-◌, ◌<◌, ◌≤
 ghost use Rattle.no_std_io2_base.specs.Errors.{IsFault};
 ghost use Rattle.no_std_io2_base.specs.Events.{events_of, given, Reads, ReadsExact, SpendsTurn};
 ghost use Rattle.no_std_io2_base.specs.Lending.{IsNotEmpty, reads_needed};
-ghost use Rattle.no_std_io2.specs.Reading.{reader_held, reader_inner, reader_events, reader_turns, reader_has_store, reader_position, held_or_to_come, exact_reads, exact_left};
+ghost use Rattle.no_std_io2.specs.Reading.{reader_held, reader_behind, reader_inner, reader_events, reader_turns, reader_has_store, reader_is_sound, reader_position, behind_anew, held_or_to_come, exact_reads, exact_left};
 ghost use Rattle.no_std_io2.specs.Sound.{sound_tells, sound_fits};
 
 use super::BufReader;
-use crate::util::is_interruption;
-use no_std_io2_base::error::{Error, ErrorKind, Result};
+use no_std_io2_base::error::{Result, failed_to_fill};
 use no_std_io2_base::traits::Read;
 
 impl<R: Read, const S: usize> BufReader<R, S> {
@@ -27,6 +26,9 @@ impl<R: Read, const S: usize> BufReader<R, S> {
             → reader_has_store R.has_store R.position R.content self.new
             × (R.content (reader_inner self.new) ≡ R.content (reader_inner self.old))
             × (reader_position R.position self.new ≡ reader_position R.position self.old + given result) }
+        ensures behind { reader_behind self.new ≡ behind_anew S (length buf.old) (take (given result) buf.new) }
+        ensures sound { reader_is_sound R.has_store R.position R.content self.old
+            → reader_is_sound R.has_store R.position R.content self.new }
         ensures asks { R.is_metered (reader_inner self.old) → R.is_metered (reader_inner self.new)
             × (R.cost (reader_inner self.new) ≡ R.cost (reader_inner self.old) + 1) }
         ensures gives { R.is_filling (reader_inner self.old) → R.is_filling (reader_inner self.new)
@@ -57,6 +59,9 @@ impl<R: Read, const S: usize> BufReader<R, S> {
             → reader_has_store R.has_store R.position R.content self.new
             × (R.content (reader_inner self.new) ≡ R.content (reader_inner self.old))
             × (reader_position R.position self.new ≡ reader_position R.position self.old + given result) }
+        ensures behind { reader_behind self.new ≡ behind_anew S (length buf.old) (take (given result) buf.new) }
+        ensures sound { reader_is_sound R.has_store R.position R.content self.old
+            → reader_is_sound R.has_store R.position R.content self.new }
         ensures asks { R.is_metered (reader_inner self.old) → R.is_metered (reader_inner self.new)
             × (R.cost (reader_inner self.new) ≡ R.cost (reader_inner self.old) + 1) }
         ensures gives { R.is_filling (reader_inner self.old) → R.is_filling (reader_inner self.new)
@@ -83,6 +88,8 @@ impl<R: Read, const S: usize> BufReader<R, S> {
             × (R.content (reader_inner self.new) ≡ R.content (reader_inner self.old))
             × (reader_position R.position self.new + length (reader_events R.events self.new)
             ≡ reader_position R.position self.old + length (reader_events R.events self.old)) }
+        ensures sound { reader_is_sound R.has_store R.position R.content self.old
+            → reader_is_sound R.has_store R.position R.content self.new }
         ensures asks { R.is_metered (reader_inner self.old) → R.is_filling (reader_inner self.old)
             → R.is_metered (reader_inner self.new) × (R.cost (reader_inner self.new)
             ≡ R.cost (reader_inner self.old) + exact_reads (length buf.old)
@@ -96,16 +103,10 @@ impl<R: Read, const S: usize> BufReader<R, S> {
         let mut at = self.give(buf);
         'reads: while at < buf.len() {
             match self.read(&mut buf[at..]) {
-                Ok(0) => {
-                    let message = "failed to fill whole buffer";
-                    return Err(Error::new(ErrorKind::UnexpectedEof, message));
-                }
+                Ok(0) => return Err(failed_to_fill()),
                 Ok(n) => at += n,
-                Err(e) => {
-                    if !is_interruption(&e) {
-                        return Err(e);
-                    }
-                }
+                Err(e) if e.is_interrupted() => {}
+                Err(e) => return Err(e),
             }
         }
         Ok(())
@@ -124,6 +125,8 @@ impl<R: Read, const S: usize> BufReader<R, S> {
             × (R.content (reader_inner self.new) ≡ R.content (reader_inner self.old))
             × (reader_position R.position self.new + length (reader_events R.events self.new)
             ≡ reader_position R.position self.old + length (reader_events R.events self.old)) }
+        ensures sound { reader_is_sound R.has_store R.position R.content self.old
+            → reader_is_sound R.has_store R.position R.content self.new }
         ensures asks { R.is_metered (reader_inner self.old) → R.is_filling (reader_inner self.old)
             → R.is_metered (reader_inner self.new) × (R.cost (reader_inner self.new)
             ≡ R.cost (reader_inner self.old) + exact_reads (length buf.old)
@@ -191,6 +194,14 @@ impl<R: Read, const S: usize> Read for BufReader<R, S> {
         ensures filled { R.is_filling (reader_inner self.old) → reader_held self.old ≡ []
             → length buf.old < S
             → length (reader_held self.new) + given result ≡ min S (length (R.events (reader_inner self.old))) }
+
+        // What then lies behind: with bytes held those given now too, else those given of the own buffer.
+        ensures behind { IsNotEmpty (reader_held self.old)
+            → reader_behind self.new ≡ reader_behind self.old ++ take (given result) buf.new }
+        ensures behind_anew { reader_held self.old ≡ []
+            → reader_behind self.new ≡ behind_anew S (length buf.old) (take (given result) buf.new) }
+        ensures sound { reader_is_sound R.has_store R.position R.content self.old
+            → reader_is_sound R.has_store R.position R.content self.new }
     {
         if self.ahead.len() == 0 {
             return self.read_slowly(buf);
@@ -217,6 +228,7 @@ impl<R: Read, const S: usize> Read for BufReader<R, S> {
         ensures held { length buf.old ≤ length (reader_held self.old) → IsOk result
             × (buf.new ≡ take (length buf.old) (reader_held self.old))
             × (reader_held self.new ≡ drop (length buf.old) (reader_held self.old))
+            × (reader_behind self.new ≡ reader_behind self.old ++ buf.new)
             × (reader_inner self.new ≡ reader_inner self.old) }
 
         // How often it reads over a filling reader, and what it then holds and has taken.
@@ -229,6 +241,8 @@ impl<R: Read, const S: usize> Read for BufReader<R, S> {
             (length (reader_held self.old)) (length (reader_events R.events self.old)))
             × (length (reader_events R.events self.new)
             ≡ length (reader_events R.events self.old) - length buf.old) }
+        ensures sound { reader_is_sound R.has_store R.position R.content self.old
+            → reader_is_sound R.has_store R.position R.content self.new }
     {
         if buf.len() > self.ahead.len() {
             return self.read_exact_slowly(buf);

@@ -1,8 +1,10 @@
 // A `BufReader` as a seeker.
-ghost use Rattle.std.specs.Prelude.{FitsSigned, SomeIff, ◌≡◌, ◌<◌, ◌^◌, ◌⊎◌, ◌-ℤ◌, pos, [], length, IfOk, IsOk, IsOkAnd, OnOk, OnErr};
+ghost use Rattle.std.specs.Prelude.{FitsSigned, SomeIff, ◌≡◌, ◌<◌, ◌^◌, ◌⊎◌, ◌-ℤ◌, pos, [], List, length, IfOk, IsOk, IsOkAnd, OnOk, OnErr};
 ghost use Rattle.std.specs.Int.{w64};
 ghost use Rattle.no_std_io2_base.specs.Seek.{Seeks};
-ghost use Rattle.no_std_io2.specs.Reading.{reader_held, reader_inner, reader_has_store, reader_position, IsTooFarBack};
+ghost use Rattle.no_std_io2_base.specs.Events.{Event};
+ghost use Rattle.no_std_io2.specs.Behind.{IsInBuffer, IsCutOn, MovesEvents, led_to};
+ghost use Rattle.no_std_io2.specs.Reading.{reader_held, reader_behind, reader_inner, reader_events, reader_has_store, reader_is_sound, reader_position, KeepsBuffer, HasNoBuffer, IsTooFarBack};
 ghost use Rattle.no_std_io2.specs.Sound.{sound_fits};
 
 use super::BufReader;
@@ -21,13 +23,17 @@ impl<R: Seek, const S: usize> BufReader<R, S> {
     // Seeks the inner reader. What is held is dropped where that succeeds.
     fn seek_inner(&mut self, target: SeekFrom) -> Result<u64>
         ensures empty { OnOk result (reader_held self.new ≡ []) }
+        ensures behind { OnOk result (reader_behind self.new ≡ []) }
         ensures kept { OnErr result (reader_held self.new ≡ reader_held self.old) }
+        ensures behind_kept { OnErr result (reader_behind self.new ≡ reader_behind self.old) }
         ensures store { R.has_store (reader_inner self.old) → R.has_store (reader_inner self.new)
             × (R.content (reader_inner self.new) ≡ R.content (reader_inner self.old))
             × Seeks (length (R.content (reader_inner self.old))) (R.position (reader_inner self.old))
             target result (R.position (reader_inner self.new)) }
         ensures position { IfOk result (λ n. R.has_store (reader_inner self.new)
             → R.position (reader_inner self.new) ≡ n) }
+        ensures sound { reader_is_sound R.has_store R.position R.content self.old
+            → reader_is_sound R.has_store R.position R.content self.new }
     {
         let at = self.inner.seek(target)?;
         self.ahead.clear();
@@ -37,11 +43,15 @@ impl<R: Seek, const S: usize> BufReader<R, S> {
     // Goes back to where the held bytes begin, and drops them.
     fn seek_back(&mut self) -> Result<()>
         ensures empty { OnOk result (reader_held self.new ≡ []) }
+        ensures behind { OnOk result (reader_behind self.new ≡ []) }
         ensures kept { OnErr result (reader_held self.new ≡ reader_held self.old) }
+        ensures behind_kept { OnErr result (reader_behind self.new ≡ reader_behind self.old) }
         ensures store { reader_has_store R.has_store R.position R.content self.old
             → R.has_store (reader_inner self.new) × IsOk result
             × (R.content (reader_inner self.new) ≡ R.content (reader_inner self.old))
             × (R.position (reader_inner self.new) ≡ reader_position R.position self.old) }
+        ensures sound { reader_is_sound R.has_store R.position R.content self.old
+            → reader_is_sound R.has_store R.position R.content self.new }
     {
         let held = self.ahead.len();
         self.seek_inner(SeekFrom::Current(-(held as i64)))?;
@@ -58,12 +68,15 @@ impl<R: Seek, const S: usize> BufReader<R, S> {
         ensures position { IfOk result (λ n. R.has_store (reader_inner self.new)
             → R.position (reader_inner self.new) ≡ n) }
         ensures empty { OnOk result (reader_held self.new ≡ []) }
-        ensures kept { OnErr result ((reader_held self.new ≡ reader_held self.old)
+        ensures behind { OnOk result (reader_behind self.new ≡ []) }
+        ensures kept { OnErr result (KeepsBuffer self.old self.new
             ⊎ (IsTooFarBack (SeekFrom.Current offset) (length (reader_held self.old))
-            × (reader_held self.new ≡ []))) }
+            × HasNoBuffer self.new)) }
         ensures dropped { reader_has_store R.has_store R.position R.content self.old
             → IsTooFarBack (SeekFrom.Current offset) (length (reader_held self.old))
-            → reader_held self.new ≡ [] }
+            → HasNoBuffer self.new }
+        ensures sound { reader_is_sound R.has_store R.position R.content self.old
+            → reader_is_sound R.has_store R.position R.content self.new }
     {
         let held = self.ahead.len();
         match offset_behind(offset, held) {
@@ -74,12 +87,71 @@ impl<R: Seek, const S: usize> BufReader<R, S> {
             }
         }
     }
+
+    /// Moves by `offset` bytes from the next byte that this reader would give. Where the target lies
+    /// in the buffer, from the first byte [`behind`](BufReader::behind) to the end of those held, the
+    /// inner reader isn't asked, and no byte that was read is lost: forward the next bytes are passed
+    /// over, backward the last ones come again. Else this is `seek(SeekFrom::Current(offset))` without
+    /// its number, which drops the buffer. Follows `BufReader::seek_relative`.
+    ///
+    /// ```
+    /// let mut r = BufReader::<_, 4>::new(Cursor::new(&b"abcdefgh"[..]));
+    /// r.read(&mut [0])?;      // behind is `a`, held is `bcd`
+    /// r.seek_relative(2)?;    // behind is `abc`, held is `d`
+    /// r.seek_relative(-3)?;   // nothing lies behind, held is `abcd`
+    /// r.seek_relative(5)?;    // past the buffer: one seek of the cursor, and nothing is held
+    /// ```
+    ///
+    /// # Errors
+    /// Those of `seek`, and none in the buffer: `InvalidInput` where the target is below 0 or above
+    /// the greatest `u64`. The position is as it was, and so is the buffer, unless the offset is too
+    /// far back for one seek of the inner reader; then the buffer is dropped.
+    pub fn seek_relative(&mut self, offset: i64) -> Result<()>
+        // In the buffer the border between behind and held moves.
+        ensures within { IsInBuffer offset (length (reader_behind self.old)) (length (reader_held self.old))
+            → IsOk result × (reader_inner self.new ≡ reader_inner self.old)
+            × IsCutOn offset (reader_behind self.old) (reader_held self.old)
+            (reader_behind self.new) (reader_held self.new) }
+        // Whatever the inner reader tells, that moves the events to come.
+        ensures events { IsInBuffer offset (length (reader_behind self.old)) (length (reader_held self.old))
+            → (events : R → List Event) → MovesEvents offset (reader_behind self.old) (reader_held self.old)
+            (reader_events events self.old) (reader_events events self.new) }
+
+        // Outside it is a seek.
+        ensures outside { ¬ IsInBuffer offset (length (reader_behind self.old)) (length (reader_held self.old))
+            → OnOk result (HasNoBuffer self.new) × OnErr result (KeepsBuffer self.old self.new
+            ⊎ (IsTooFarBack (SeekFrom.Current offset) (length (reader_held self.old)) × HasNoBuffer self.new)) }
+        ensures sought { ¬ IsInBuffer offset (length (reader_behind self.old)) (length (reader_held self.old))
+            → reader_has_store R.has_store R.position R.content self.old
+            → reader_has_store R.has_store R.position R.content self.new
+            × (R.content (reader_inner self.new) ≡ R.content (reader_inner self.old))
+            × Seeks (length (R.content (reader_inner self.old))) (reader_position R.position self.old)
+            (SeekFrom.Current offset) (led_to (reader_position R.position self.new) result)
+            (reader_position R.position self.new) }
+
+        // Over a sound store it succeeds exactly where there is a target, wherever that lies.
+        ensures store { reader_is_sound R.has_store R.position R.content self.old
+            → reader_is_sound R.has_store R.position R.content self.new
+            × (R.content (reader_inner self.new) ≡ R.content (reader_inner self.old))
+            × Seeks (length (R.content (reader_inner self.old))) (reader_position R.position self.old)
+            (SeekFrom.Current offset) (led_to (reader_position R.position self.new) result)
+            (reader_position R.position self.new) }
+    {
+        if self.ahead.shift(offset) {
+            return Ok(());
+        }
+        match self.seek_current(offset) {
+            Ok(_) => Ok(()),
+            Err(e) => Err(e),
+        }
+    }
 }
 
 /// `Current(n)` counts from the next byte that this reader would give, and so seeks the inner
 /// reader by `n` less the bytes held. Where that is no `i64`, the inner reader first goes back by
 /// the bytes held, which are dropped, and then by `n`. `Start` and `End` go to the inner reader.
-/// Success drops the bytes held; a refusal of the first or only inner seek keeps them.
+/// Success drops the bytes held and those that lie behind; a refusal of the first or only inner
+/// seek keeps them.
 impl<R: Seek, const S: usize> Seek for BufReader<R, S> {
     fn seek(&mut self, target: SeekFrom) -> Result<u64>
         // The trait's.
@@ -91,12 +163,15 @@ impl<R: Seek, const S: usize> Seek for BufReader<R, S> {
         ensures position { IfOk result (λ n. reader_has_store R.has_store R.position R.content self.new
             → reader_position R.position self.new ≡ n) }
 
-        // What is held is dropped by success, and kept by a refusal of the first or only seek.
+        // The buffer is dropped by success, and kept by a refusal of the first or only seek.
         ensures empty { OnOk result (reader_held self.new ≡ []) }
-        ensures kept { OnErr result ((reader_held self.new ≡ reader_held self.old)
-            ⊎ (IsTooFarBack target (length (reader_held self.old)) × (reader_held self.new ≡ []))) }
+        ensures behind { OnOk result (reader_behind self.new ≡ []) }
+        ensures kept { OnErr result (KeepsBuffer self.old self.new
+            ⊎ (IsTooFarBack target (length (reader_held self.old)) × HasNoBuffer self.new)) }
         ensures dropped { reader_has_store R.has_store R.position R.content self.old
-            → IsTooFarBack target (length (reader_held self.old)) → reader_held self.new ≡ [] }
+            → IsTooFarBack target (length (reader_held self.old)) → HasNoBuffer self.new }
+        ensures sound { reader_is_sound R.has_store R.position R.content self.old
+            → reader_is_sound R.has_store R.position R.content self.new }
     {
         match target {
             SeekFrom::Current(offset) => self.seek_current(offset),
@@ -104,7 +179,7 @@ impl<R: Seek, const S: usize> Seek for BufReader<R, S> {
         }
     }
 
-    // Both drop what is held, as `seek` does.
+    // Both drop the buffer, as `seek` does.
     fn stream_position(&mut self) -> Result<u64>
         ensures store { reader_has_store R.has_store R.position R.content self.old
             → reader_has_store R.has_store R.position R.content self.new
@@ -114,7 +189,10 @@ impl<R: Seek, const S: usize> Seek for BufReader<R, S> {
         ensures position { IfOk result (λ n. reader_has_store R.has_store R.position R.content self.new
             → reader_position R.position self.new ≡ n) }
         ensures empty { OnOk result (reader_held self.new ≡ []) }
-        ensures kept { OnErr result (reader_held self.new ≡ reader_held self.old) }
+        ensures behind { OnOk result (reader_behind self.new ≡ []) }
+        ensures kept { OnErr result (KeepsBuffer self.old self.new) }
+        ensures sound { reader_is_sound R.has_store R.position R.content self.old
+            → reader_is_sound R.has_store R.position R.content self.new }
     {
         self.seek(SeekFrom::Current(0))
     }
@@ -125,10 +203,31 @@ impl<R: Seek, const S: usize> Seek for BufReader<R, S> {
             × (R.content (reader_inner self.new) ≡ R.content (reader_inner self.old))
             × (reader_position R.position self.new ≡ 0) × IsOk result }
         ensures empty { OnOk result (reader_held self.new ≡ []) }
-        ensures kept { OnErr result (reader_held self.new ≡ reader_held self.old) }
+        ensures behind { OnOk result (reader_behind self.new ≡ []) }
+        ensures kept { OnErr result (KeepsBuffer self.old self.new) }
+        ensures sound { reader_is_sound R.has_store R.position R.content self.old
+            → reader_is_sound R.has_store R.position R.content self.new }
     {
         self.seek(SeekFrom::Start(0))?;
         Ok(())
+    }
+
+    // Asks the inner reader, and leaves the buffer as it is.
+    fn stream_len(&mut self) -> Result<u64>
+        ensures store { reader_has_store R.has_store R.position R.content self.old
+            → reader_has_store R.has_store R.position R.content self.new
+            × (R.content (reader_inner self.new) ≡ R.content (reader_inner self.old))
+            × (reader_position R.position self.new ≡ reader_position R.position self.old)
+            × IsOkAnd result (λ n. n ≡ length (R.content (reader_inner self.old))) }
+        ensures buffer { KeepsBuffer self.old self.new }
+        ensures sound { reader_is_sound R.has_store R.position R.content self.old
+            → reader_is_sound R.has_store R.position R.content self.new }
+        ensures inner { R.has_store (reader_inner self.old) → R.has_store (reader_inner self.new)
+            × (R.content (reader_inner self.new) ≡ R.content (reader_inner self.old))
+            × (R.position (reader_inner self.new) ≡ R.position (reader_inner self.old))
+            × IsOkAnd result (λ n. n ≡ length (R.content (reader_inner self.old))) }
+    {
+        self.inner.stream_len()
     }
 
     ghost seek_fits = { λ r h. sound_fits _ (reader_held r) _ (R.seek_fits (reader_inner r) h.0) };

@@ -3,7 +3,7 @@ ghost use Rattle.no_std_io2_base.specs.Errors.{error_kind};
 ghost use Rattle.no_std_io2_base.specs.Seek.{Seeks};
 ghost use Rattle.no_std_io2_base.specs.Writes.{Moves};
 ghost use Rattle.no_std_io2.specs.Buffered.{writer_inner, writer_buffer, writer_told, IsEnd};
-ghost use Rattle.no_std_io2.specs.BufferedSeek.{SeeksAfterSending, here, at_start, as_seek};
+ghost use Rattle.no_std_io2.specs.BufferedSeek.{SeeksAfterSending, MeasuredAfterSending, here, at_start, as_seek};
 
 use super::BufWriter;
 use no_std_io2_base::error::Result;
@@ -16,6 +16,21 @@ impl<W: Write + Stored + Drop, const S: usize> Stored for BufWriter<W, S> {
     ghost content = { λ w. W.content (writer_inner w) };
 
     ghost position = { λ w. W.position (writer_inner w) };
+}
+
+// The content's length as the trait's own body takes it: to the end, and back where that is elsewhere.
+fn length_by_seeks<W: Seek>(w: &mut W) -> Result<u64>
+    ensures { W.has_store w.old → W.has_store w.new
+        × (W.content w.new ≡ W.content w.old)
+        × (W.position w.new ≡ W.position w.old)
+        × IsOkAnd result (λ n. n ≡ length (W.content w.old)) }
+{
+    let old = w.seek(SeekFrom::Current(0))?;
+    let end = w.seek(SeekFrom::End(0))?;
+    if old != end {
+        w.seek(SeekFrom::Start(old))?;
+    }
+    Ok(end)
 }
 
 /// Follows `std::io::Seek for BufWriter`.
@@ -88,6 +103,29 @@ impl<W: Write + Seek + Drop, const S: usize> Seek for BufWriter<W, S> {
     {
         self.seek(SeekFrom::Start(0))?;
         Ok(())
+    }
+
+    // Sends what is held, and then makes the seeks of the trait's body.
+    fn stream_len(&mut self) -> Result<u64>
+        // The trait's.
+        ensures store { (writer_buffer self.old ≡ []) × W.has_store (writer_inner self.old)
+            → ((writer_buffer self.new ≡ []) × W.has_store (writer_inner self.new))
+            × (W.content (writer_inner self.new) ≡ W.content (writer_inner self.old))
+            × (W.position (writer_inner self.new) ≡ W.position (writer_inner self.old))
+            × IsOkAnd result (λ n. n ≡ length (W.content (writer_inner self.old))) }
+
+        // Those of `seek`.
+        ensures rest { IsEnd (writer_buffer self.old) (writer_buffer self.new) }
+        ensures refused { IfErr result (λ e. 0 < length (writer_buffer self.new)
+            → Moves (writer_told W.told self.old) [] (error_kind e ∷ []) (writer_told W.told self.new)) }
+        ensures empty { OnOk result (writer_buffer self.new ≡ []) }
+        ensures sent { writer_buffer self.new ≡ [] → MeasuredAfterSending W.told W.has_store W.content
+            W.position (writer_told W.told self.old) result (writer_inner self.new) }
+    {
+        match self.core.send() {
+            Ok(()) => length_by_seeks(self.core.get_mut()),
+            Err(e) => Err(e),
+        }
     }
 
     ghost seek_fits = { λ w h. W.seek_fits (writer_inner w) h.1 };

@@ -4,12 +4,12 @@ use Rattle.no_std_io2.proofs.BufferLemmas.{Moves-sent_part}
 use Rattle.no_std_io2.proofs.buffered.lines.LineWriter.into_inner.Goals as goal
 
 pub invariant_of-self : goal.invariant_of-self
-invariant_of-self g c = record { line = IsLineState-end _ _ (c.send.ensures.sends.0, c.send.ensures.sends.1) c.args.self.core.line }
+invariant_of-self g c = record { line = IsLineState-end _ _ (c.send.ensures.sends.sent, c.send.ensures.sends.split) c.args.self.core.line }
 
 pub returns-in-Err-clause-err : goal.returns-in-Err-clause-err
 returns-in-Err-clause-err g c =
     let sent = c.in-Err.ensures.sends in
-    rw (c.new.ensures.writer, c.new.ensures.cause) (Moves-sent_part sent.0 _ _ sent.1 sent.2)
+    rw (c.new.ensures.writer, c.new.ensures.cause) (Moves-sent_part sent.sent _ _ sent.split sent.moves)
 
 pub returns-in-Err-clause-steady : goal.returns-in-Err-clause-steady
-returns-in-Err-clause-steady g c = λ none. absurd (Moves-steady none c.in-Err.ensures.sends.2)
+returns-in-Err-clause-steady g c = λ none. absurd (Moves-steady none c.in-Err.ensures.sends.moves)

@@ -5,4 +5,4 @@ pub invariant_of-self : goal.invariant_of-self
 invariant_of-self g c = record { line = IsLineState-end _ _ c.flush.ensures.rest c.args.self.now.core.line }
 
 pub returns-clause-lasts : goal.returns-clause-lasts
-returns-clause-lasts g c = λ t. (c.flush.ensures.all t, c.flush.ensures.ok t)
+returns-clause-lasts g c = λ t. c.flush.ensures.all t

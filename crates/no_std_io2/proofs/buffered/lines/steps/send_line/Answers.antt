@@ -12,7 +12,7 @@ ended g c =
     subst (λ l. (0 < length l) × (slice_index l (length l - 1) ≡ 10)) c.buffer.ensures.value c.if-ends_in_newline.ensures.yes
 
 pub returns-then-ends_in_newline-clause-line : goal.returns-then-ends_in_newline-clause-line
-returns-then-ends_in_newline-clause-line g c = IsLineState-end _ _ (c.send.ensures.sends.0, c.send.ensures.sends.1) c.requires.line
+returns-then-ends_in_newline-clause-line g c = IsLineState-end _ _ (c.send.ensures.sends.sent, c.send.ensures.sends.split) c.requires.line
 
 pub returns-then-ends_in_newline-clause-open : goal.returns-then-ends_in_newline-clause-open
 returns-then-ends_in_newline-clause-open g c = onok_map c.send.result _ _ (HasNoNewline-none _) c.send.ensures.empty
@@ -23,7 +23,7 @@ returns-then-ends_in_newline-clause-held g c =
 
 pub returns-then-ends_in_newline-clause-moves : goal.returns-then-ends_in_newline-clause-moves
 returns-then-ends_in_newline-clause-moves g c =
-    Moves-sent_part c.send.ensures.sends.0 _ _ c.send.ensures.sends.1 c.send.ensures.sends.2
+    Moves-sent_part c.send.ensures.sends.sent _ _ c.send.ensures.sends.split c.send.ensures.sends.moves
 
 pub returns-then-ends_in_newline-clause-idle : goal.returns-then-ends_in_newline-clause-idle
 returns-then-ends_in_newline-clause-idle g c = λ none.

@@ -1,4 +1,5 @@
-use Rattle.std.proofs.Common.{◌-◌, drop, arith, length-take}
+use Rattle.std.proofs.Common.{◌≤◌, ◌-◌, drop, arith, length-take}
+use Rattle.no_std_io2.proofs.Behind.{behind_more}
 use Rattle.no_std_io2.proofs.Sounds.{held_rest}
 use Rattle.no_std_io2.proofs.buffered.read_ahead.ReadAhead.drop_front.Goals as goal
 
@@ -6,4 +7,5 @@ pub returns : goal.returns
 returns g c =
     let self = c.args.self.now in
     let n = c.args.n in
-    held_rest self.bytes self.start self.end n (omega (arith, c.requires, length-take (self.end - self.start) (drop self.start self.bytes)))
+    let fits : n ≤ self.end - self.start = omega (arith, c.requires, length-take (self.end - self.start) (drop self.start self.bytes)) in
+    record { held = held_rest self.bytes self.start self.end n fits; behind = behind_more self.bytes self.start self.end n fits }

@@ -29,6 +29,7 @@ reads-init g c =
       store = λ s.
           let now = gave.store s in
           (now.0, ap g.R.Stored.content gave.inner, omega (arith, now.1, moved, before, after));
+      sound = gave.sound;
       filling = λ f. (subst g.R.Read.is_filling same f, exact_begins _ _ _ _ _ _ _ all left (omega (arith, moved, before)));
       cost = λ m f. (subst g.R.Read.is_metered same m, omega (arith, ap g.R.Read.cost gave.inner));
     }
@@ -55,6 +56,7 @@ reads-preserved-in-Ok g c =
           let now = read.store before.0 in
           let tells = g.met.R.Read.store_tells _ before.0.0 in
           (now.0, now.1 ∙ before.1, moved_read _ _ _ _ _ _ _ (omega (arith, read.bound)) (read.told tells.0).1.0 now.2 before.2);
+      sound = λ h. read.sound (c.reads.invariant.sound h);
       filling = λ f.
           let before = c.reads.invariant.filling f in
           let now = read.gives before.0 in
@@ -93,46 +95,47 @@ reads-preserved g c =
           let before = c.reads.invariant.store t in
           let tells = g.met.R.Read.store_tells _ before.0.0 in
           absurd (no_error_behind _ _ _ _ _ tells.1 (read.told tells.0).1);
+      sound = λ h. read.sound (c.reads.invariant.sound h);
       filling = λ f. absurd (read.gives (c.reads.invariant.filling f).0).1;
       cost = λ m f. absurd (read.gives (c.reads.invariant.filling f).0).1;
     }
 
-pub returns-then-not-is_interruption-clause-told :
-    goal.returns-then-not-is_interruption-clause-told
-returns-then-not-is_interruption-clause-told g c = λ t.
+pub returns-in-Err-2-clause-told :
+    goal.returns-in-Err-2-clause-told
+returns-in-Err-2-clause-told g c = λ t.
     let before = c.reads.invariant.told t in
     let now = c.in-Err.ensures.told before.0 in
     let long = length-take-le c.reads.at c.reads.buf (omega arith) in
     (now.0, inl (taken_fault _ _ _ _ _ _ _ before.1 now.1 (search rules) (search (rules, long))))
 
-pub returns-then-not-is_interruption-clause-store :
-    goal.returns-then-not-is_interruption-clause-store
-returns-then-not-is_interruption-clause-store g c = λ t.
+pub returns-in-Err-2-clause-store :
+    goal.returns-in-Err-2-clause-store
+returns-in-Err-2-clause-store g c = λ t.
     let before = c.reads.invariant.store t in
     let tells = g.met.R.Read.store_tells _ before.0.0 in
     absurd (no_error_behind _ _ _ _ _ tells.1 (c.in-Err.ensures.told tells.0).1)
 
-pub returns-then-not-is_interruption-clause-left :
-    goal.returns-then-not-is_interruption-clause-left
-returns-then-not-is_interruption-clause-left g c = λ f.
+pub returns-in-Err-2-clause-left :
+    goal.returns-in-Err-2-clause-left
+returns-in-Err-2-clause-left g c = λ f.
     absurd (c.in-Err.ensures.gives (c.reads.invariant.filling f).0).1
 
-pub returns-then-not-is_interruption-clause-asks :
-    goal.returns-then-not-is_interruption-clause-asks
-returns-then-not-is_interruption-clause-asks g c = λ m f.
+pub returns-in-Err-2-clause-asks :
+    goal.returns-in-Err-2-clause-asks
+returns-in-Err-2-clause-asks g c = λ m f.
     absurd (c.in-Err.ensures.gives (c.reads.invariant.filling f).0).1
 
 pub returns-in-Ok-eq0-clause-told : goal.returns-in-Ok-eq0-clause-told
 returns-in-Ok-eq0-clause-told g c = λ t.
     let before = c.reads.invariant.told t in
-    let now = c.in-Ok-eq0.ensures.told before.0 in
+    let now = c.in-Ok-eq0.ensures-1.told before.0 in
     let long = length-take-le c.reads.at c.reads.buf (omega arith) in
-    (now.0, inr (taken_end _ _ _ _ _ c.new.result _ c.in-Ok-eq0.field-0 _ before.1 now.1 (search rules) (omega arith) (c.new.ensures.kind, search rules) (search (rules, long))))
+    (now.0, inr (taken_end _ _ _ _ _ c.failed_to_fill.result _ c.in-Ok-eq0.field-0 _ before.1 now.1 (search rules) (omega arith) c.failed_to_fill.ensures (search (rules, long))))
 
 pub returns-in-Ok-eq0-clause-store : goal.returns-in-Ok-eq0-clause-store
 returns-in-Ok-eq0-clause-store g c = λ t.
     let before = c.reads.invariant.store t in
-    let read = c.in-Ok-eq0.ensures in
+    let read = c.in-Ok-eq0.ensures-1 in
     let now = read.store before.0 in
     let tells = g.met.R.Read.store_tells _ before.0.0 in
     (now.0, now.1 ∙ before.1, moved_read _ _ _ _ _ _ _ (omega (arith, read.bound)) (read.told tells.0).1.0 now.2 before.2)
@@ -142,8 +145,8 @@ returns-in-Ok-eq0-clause-asks g c = λ m f.
     let old = c.reads.self in
     let before = c.reads.invariant.cost m f in
     let so_far = c.reads.invariant.filling f in
-    let now = c.in-Ok-eq0.ensures.asks before.0 in
-    let gives = c.in-Ok-eq0.ensures.gives so_far.0 in
+    let now = c.in-Ok-eq0.ensures-1.asks before.0 in
+    let gives = c.in-Ok-eq0.ensures-1.gives so_far.0 in
     let none = exact_none _ _ _ _ _ _ _ so_far.1 (omega arith) in
     let come = gives_to_come (length (reader_held old)) (length (g.R.Read.events (reader_inner old))) none in
     let zero : c.in-Ok-eq0.field-0 ≡ 0 = search rules in
@@ -153,7 +156,7 @@ returns-in-Ok-eq0-clause-asks g c = λ m f.
 pub returns-in-Ok-eq0-clause-left : goal.returns-in-Ok-eq0-clause-left
 returns-in-Ok-eq0-clause-left g c = λ f.
     let old = c.reads.self in
-    let read = c.in-Ok-eq0.ensures in
+    let read = c.in-Ok-eq0.ensures-1 in
     let so_far = c.reads.invariant.filling f in
     let gives = read.gives so_far.0 in
     let none = exact_none _ _ _ _ _ _ _ so_far.1 (omega arith) in
@@ -178,3 +181,13 @@ returns-clause-left g c = λ f.
     let all = length-events (reader_held c.reads.self) (g.R.Read.events (reader_inner c.reads.self)) in
     let left = exact_left-full _ _ _ _ _ _ _ (length (reader_events g.R.Read.events c.reads.self)) now.1 (omega arith) (omega (arith, c.requires)) all in
     (now.0, left.0, left.1)
+
+pub returns-in-Ok-eq0-clause-sound : goal.returns-in-Ok-eq0-clause-sound
+returns-in-Ok-eq0-clause-sound g c = λ h. c.in-Ok-eq0.ensures-1.sound (c.reads.invariant.sound h)
+
+pub returns-in-Err-2-clause-sound :
+    goal.returns-in-Err-2-clause-sound
+returns-in-Err-2-clause-sound g c = λ h. c.in-Err.ensures.sound (c.reads.invariant.sound h)
+
+pub returns-clause-sound : goal.returns-clause-sound
+returns-clause-sound g c = c.reads.invariant.sound

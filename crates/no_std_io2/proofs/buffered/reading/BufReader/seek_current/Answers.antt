@@ -33,3 +33,8 @@ returns-in_ok-seek_back-in-None-clause-store g c = λ s.
     let same = to_z-of_z w64 c.args.offset c.ranges.offset in
     let done = sought_again c.args.offset _ c.seek_inner-in-None.result (reader_held c.seek_back.new.self) (reader_held c.seek_inner-in-None.new.self) _ _ _ _ _ _ c.in_ok-seek_back-in-None.ensures.empty same there.2 there.3 now.2 second.empty second.kept in
     ((now.0, done.0), now.1 ∙ there.2, done.1)
+
+pub returns-in_ok-seek_back-in-None-clause-sound :
+    goal.returns-in_ok-seek_back-in-None-clause-sound
+returns-in_ok-seek_back-in-None-clause-sound g c = λ h.
+    c.seek_inner-in-None.ensures.sound (c.in_ok-seek_back-in-None.ensures.sound h)

@@ -1,3 +1,4 @@
+-- Sending: each turn moves a front of what is held from the buffer to what was sent.
 use Rattle.std.proofs.Common.{◌≡◌, ◌<◌, ◌++◌, length, take, drop, rules, arith, sym, ap, ◌∙◌}
 use Rattle.no_std_io2_base.proofs.MovesLemmas.{Moves-more, Moves-ends, Moves-quiet}
 use Rattle.no_std_io2.specs.Buffered.{sender_buffer}
@@ -23,14 +24,6 @@ loop-self-preserved-in-Ok g c =
           (one.0, omega (arith, (before.cost m t).1, one.1, sending_none _ next, sending_some held some));
       unmoved = search rules;
     }
-
-pub returns-then-not-is_interruption-clause-idle :
-    goal.returns-then-not-is_interruption-clause-idle
-returns-then-not-is_interruption-clause-idle g c =
-    let before = c.loop-self.invariant in
-    let held = sender_buffer c.loop-self.self in
-    let some : 0 < length held = search rules in
-    λ e. absurd (omega (arith, none_left _ before.sent.0 held before.sent.1 e))
 
 pub loop-self-preserved : goal.loop-self-preserved
 loop-self-preserved g c =

@@ -1,7 +1,7 @@
 -- What is gone from the buffer was accepted by the inner writer.
 use Rattle.std.proofs.Common.{◌≡◌, ℕ, ◌+◌, ◌++◌, List, [], length}
-use Rattle.no_std_io2_base.specs.Writes.{Moves}
-use Rattle.no_std_io2.specs.Buffered.{sender_buffer, sending_calls}
+use Rattle.no_std_io2_base.specs.Writes.{Moves, calls_for}
+use Rattle.no_std_io2.specs.Buffered.{sender_buffer}
 use Rattle.no_std_io2.proofs.buffered.sender.Sender.send.Given as goal
 
 abbrev pub invariant-loop-self : goal.invariant-loop-self
@@ -13,7 +13,7 @@ invariant-loop-self g l =
       idle : sender_buffer before ≡ [] → l.self.inner ≡ before.inner;
       all : g.W.Write.takes_all before.inner → g.W.Write.takes_all l.self.inner;
       cost : g.W.Write.is_metered before.inner → g.W.Write.takes_all before.inner → g.W.Write.is_metered l.self.inner
-          × (g.W.Write.cost l.self.inner + sending_calls (sender_buffer l.self) ≡ g.W.Write.cost before.inner + sending_calls (sender_buffer before));
+          × (g.W.Write.cost l.self.inner + calls_for (sender_buffer l.self) ≡ g.W.Write.cost before.inner + calls_for (sender_buffer before));
       unmoved : l.self.window.bytes ≡ before.window.bytes;
     }
 

@@ -1,20 +1,19 @@
-use Rattle.std.proofs.Common.{[], refl, inl}
-use Rattle.no_std_io2_base.proofs.MovesLemmas.{IsFront-refl, Moves-then}
-use Rattle.no_std_io2.specs.Buffered.{sender_buffer}
-use Rattle.no_std_io2.proofs.BufferLemmas.{Moves-held, call_steady, IsEnd-held}
+-- A `write_all` past the hot path, by its three ends.
+use Rattle.std.proofs.Common.{refl, arith}
+use Rattle.std.proofs.lemmas.Result.{err_from_is_err_and}
+use Rattle.no_std_io2.proofs.SendingLemmas.{refused_all, passed_all, held_all}
 use Rattle.no_std_io2.proofs.buffered.sender.Sender.write_all_cold.Goals as goal
 
-pub returns-then-buf-clause-all : goal.returns-then-buf-clause-all
-returns-then-buf-clause-all g c =
-    λ all.
-    let way = c.in_ok-make_way.ensures.all all in
-    (c.write_all.ensures.all way.0, call_steady c.write_all.result (g.met.W.Write.steady _ way.0) c.write_all.ensures.moves.3)
+pub returns-in_err-make_way : goal.returns-in_err-make_way
+returns-in_err-make_way g c =
+    let p = err_from_is_err_and c.from_residual.result c.from_residual.ensures.1 in
+    rw (p.1, p.2) (refused_all c.args.self.now c.make_way.new.self c.args.buf.now c.in_err-make_way.field-0.0 c.in_err-make_way.ensures)
 
-pub returns-clause-moves : goal.returns-clause-moves
-returns-clause-moves g c =
-    let x = c.args.buf.now in
-    (x, IsFront-refl x, refl, Moves-then {k = []} c.in_ok-make_way.ensures.moves (Moves-held _ (sender_buffer c.make_way.new.self) _ x c.push.ensures.held))
+pub returns-then-buf : goal.returns-then-buf
+returns-then-buf g c =
+    let inner = c.write_all.ensures in
+    passed_all c.args.self.now c.make_way.new.self c.args.buf.now c.write_all.result c.write_all.new.self (λ w h. g.met.W.Write.steady w h) c.in_ok-make_way.ensures c.if-buf.true inner.fault inner.moves inner.all inner.cost
 
-pub returns-clause-rest : goal.returns-clause-rest
-returns-clause-rest g c =
-    inl (IsEnd-held _ (sender_buffer c.make_way.new.self) _ c.args.buf.now c.in_ok-make_way.ensures.rest c.push.ensures.held)
+pub returns : goal.returns
+returns g c =
+    held_all c.args.self.now c.make_way.new.self _ c.args.buf.now c.in_ok-make_way.ensures (omega (arith, c.if-buf.false)) refl c.push.ensures.held

@@ -1,29 +1,19 @@
-use Rattle.std.proofs.Common.{[], le_refl, take_all, append-nil}
+-- A write past the hot path, by its three ends.
+use Rattle.std.proofs.Common.{refl, arith}
 use Rattle.std.proofs.lemmas.Result.{err_from_is_err_and}
-use Rattle.no_std_io2_base.proofs.MovesLemmas.{Moves-then, zero_write-whole}
-use Rattle.no_std_io2.specs.Buffered.{sender_buffer}
-use Rattle.no_std_io2.proofs.BufferLemmas.{Moves-held, Moves-passed, IsEnd-none, IsEnd-held}
+use Rattle.no_std_io2.proofs.SendingLemmas.{refused, passed, held}
 use Rattle.no_std_io2.proofs.buffered.sender.Sender.write_cold.Goals as goal
 
-pub returns-in_err-make_way-clause-rest : goal.returns-in_err-make_way-clause-rest
-returns-in_err-make_way-clause-rest g c =
+pub returns-in_err-make_way : goal.returns-in_err-make_way
+returns-in_err-make_way g c =
     let p = err_from_is_err_and c.from_residual.result c.from_residual.ensures.1 in
-    rw (p.1, append-nil) c.make_way.ensures.rest
+    rw (p.1, p.2) (refused c.args.self.now c.make_way.new.self c.args.buf.now c.in_err-make_way.field-0.0 c.in_err-make_way.ensures)
 
-pub returns-then-buf-clause-moves : goal.returns-then-buf-clause-moves
-returns-then-buf-clause-moves g c =
-    Moves-then {k = []} c.in_ok-make_way.ensures.moves (Moves-passed (sender_buffer c.make_way.new.self) (c.in_ok-make_way.ensures.empty c.if-buf.true) c.write.ensures.moves)
+pub returns-then-buf : goal.returns-then-buf
+returns-then-buf g c =
+    let inner = c.write.ensures in
+    passed c.args.self.now c.make_way.new.self c.args.buf.now c.write.result c.write.new.self c.in_ok-make_way.ensures c.if-buf.true inner.bound inner.moves inner.all inner.cost
 
-pub returns-then-buf-clause-rest : goal.returns-then-buf-clause-rest
-returns-then-buf-clause-rest g c = IsEnd-none _ (sender_buffer c.make_way.new.self) (c.in_ok-make_way.ensures.empty c.if-buf.true)
-
-pub returns-clause-moves : goal.returns-clause-moves
-returns-clause-moves g c =
-    let x = c.args.buf.now in
-    let then = Moves-then {k = []} c.in_ok-make_way.ensures.moves (Moves-held _ (sender_buffer c.make_way.new.self) _ x c.push.ensures.held) in
-    rw (take_all _ x (le_refl _), zero_write-whole x) then
-
-pub returns-clause-rest : goal.returns-clause-rest
-returns-clause-rest g c =
-    let x = c.args.buf.now in
-    rw (take_all _ x (le_refl _)) (IsEnd-held _ (sender_buffer c.make_way.new.self) _ x c.in_ok-make_way.ensures.rest c.push.ensures.held)
+pub returns : goal.returns
+returns g c =
+    held c.args.self.now c.make_way.new.self _ c.args.buf.now c.in_ok-make_way.ensures (omega (arith, c.if-buf.false)) refl c.push.ensures.held

@@ -26,18 +26,18 @@ reads-preserved-in-Ok g c =
       along = λ t. along_then _ _ _ _ _ _ (before.along t) (read.along (before.told t).0);
     }
 
-pub returns-then-not-is_interruption-clause-told :
-    goal.returns-then-not-is_interruption-clause-told
-returns-then-not-is_interruption-clause-told g c = λ t.
+pub returns-in-Err-2-clause-told :
+    goal.returns-in-Err-2-clause-told
+returns-in-Err-2-clause-told g c = λ t.
     let before = c.reads.invariant.told t in
     let now = c.in-Err.ensures.told before.0 in
     let at = c.reads.at in
     let long = length-take-le at c.reads.buf (omega arith) in
     (now.0, inl (taken_fault _ _ _ _ _ _ _ before.1 now.1 (search rules) (search (rules, long))))
 
-pub returns-then-not-is_interruption-clause-along :
-    goal.returns-then-not-is_interruption-clause-along
-returns-then-not-is_interruption-clause-along g c = λ t.
+pub returns-in-Err-2-clause-along :
+    goal.returns-in-Err-2-clause-along
+returns-in-Err-2-clause-along g c = λ t.
     let before = c.reads.invariant in
     along_then _ _ _ _ _ _ (before.along t) (c.in-Err.ensures.along (before.told t).0)
 

@@ -50,9 +50,9 @@ reads-preserved-in-Ok g c =
       along = λ t. along_then _ _ _ _ _ _ (before.along t) (read.along (before.told t).0);
     }
 
-pub returns-then-not-is_interruption-clause-told :
-    goal.returns-then-not-is_interruption-clause-told
-returns-then-not-is_interruption-clause-told g c = λ t.
+pub returns-in-Err-2-clause-told :
+    goal.returns-in-Err-2-clause-told
+returns-in-Err-2-clause-told g c = λ t.
     let before = c.reads.invariant.told t in
     let now = c.in-Err.ensures.told before.0 in
     let filled = c.reads.filled in
@@ -61,9 +61,9 @@ returns-then-not-is_interruption-clause-told g c = λ t.
     let same = c.truncate.ensures.items ∙ kept ∙ c.open_room.ensures.front in
     (now.0, gathered_fault _ _ _ _ _ _ (subst (λ l. Gathered (take_events g.T.Read.events c.args.self.now) c.args.buf.now.items l (take_events g.T.Read.events c.reads.self)) (sym same) before.1) now.1 (search rules))
 
-pub returns-then-not-is_interruption-clause-along :
-    goal.returns-then-not-is_interruption-clause-along
-returns-then-not-is_interruption-clause-along g c = λ t.
+pub returns-in-Err-2-clause-along :
+    goal.returns-in-Err-2-clause-along
+returns-in-Err-2-clause-along g c = λ t.
     let before = c.reads.invariant in
     along_then _ _ _ _ _ _ (before.along t) (c.in-Err.ensures.along (before.told t).0)
 

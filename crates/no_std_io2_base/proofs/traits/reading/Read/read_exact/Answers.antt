@@ -27,9 +27,9 @@ reads-preserved-in-Ok g c =
           (now.0, now.1 ∙ before.1, moved_read _ _ _ _ _ _ _ (omega (arith, read.bound)) (read.told tells.0).1.0 now.2 before.2);
     }
 
-pub returns-then-not-is_interruption-clause-told :
-    goal.returns-then-not-is_interruption-clause-told
-returns-then-not-is_interruption-clause-told g c = λ t.
+pub returns-in-Err-2-clause-told :
+    goal.returns-in-Err-2-clause-told
+returns-in-Err-2-clause-told g c = λ t.
     let before = c.reads.invariant.told t in
     let now = c.in-Err.ensures.told before.0 in
     let at = c.reads.at in

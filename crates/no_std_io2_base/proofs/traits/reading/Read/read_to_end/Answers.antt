@@ -34,15 +34,15 @@ reads-preserved-in-Ok g c =
           (now.0, now.1 ∙ before.1, moved_read _ _ _ _ _ _ _ read.bound (read.told tells.0).1.0 now.2 before.2);
     }
 
-pub returns-then-not-is_interruption-clause-told :
-    goal.returns-then-not-is_interruption-clause-told
-returns-then-not-is_interruption-clause-told g c = λ t.
+pub returns-in-Err-2-clause-told :
+    goal.returns-in-Err-2-clause-told
+returns-in-Err-2-clause-told g c = λ t.
     let before = c.reads.invariant.told t in
     let now = c.in-Err.ensures.told before.0 in
     let filled = c.reads.filled in
     let opened = c.open_room.new.buf in
     let kept = take-written_below filled opened.len filled c.deref_mut.result.now opened.items c.read.new.buf (le_refl _) (omega arith) opened.ok.0 c.deref_mut.ensures.value in
-    let same = c.truncate-then-not-is_interruption.ensures.items ∙ kept ∙ c.open_room.ensures.front in
+    let same = c.truncate-in-Err-2.ensures.items ∙ kept ∙ c.open_room.ensures.front in
     (now.0, gathered_fault _ _ _ _ _ _ (gathered_same _ _ _ _ _ before.1 same) now.1 (search rules))
 
 pub reads-preserved : goal.reads-preserved

@@ -6,4 +6,4 @@ use Rattle.no_std_io2.proofs.buffered.writing.seeking.BufWriterSeek.seek.Goals a
 pub returns-clause-sent : goal.returns-clause-sent
 returns-clause-sent g c =
     let sends = c.in_ok-send.ensures.sends in
-    λ empty. record { sent = sender_inner c.send.new.self; moves = Moves-out {k = []} _ sends.0 _ sends.1 c.in_ok-send.ensures.empty sends.2; seeks = rw c.get_mut.ensures.value at c.seek.ensures.store }
+    λ empty. record { sent = sender_inner c.send.new.self; moves = Moves-out {k = []} _ sends.sent _ sends.split c.in_ok-send.ensures.empty sends.moves; seeks = rw c.get_mut.ensures.value at c.seek.ensures.store }

@@ -1,0 +1,69 @@
+//! The examples of README, as the gate proves them. They stand on `no_std_io2` alone.
+#![tactic(auto)]
+
+ghost use Rattle.std.specs.Prelude.{◌≡◌, ◌++◌, [], IfOk, OnOk};
+ghost use Rattle.no_std_io2.specs.Writes.{Sends, told_out};
+ghost use Rattle.no_std_io2.specs.Fits.{BufWriterFits};
+
+use no_std_io2::io::{BufWriter, Result, Write};
+
+/// Writes a text through a buffer of 64 bytes, and gives the device back with every byte out.
+pub fn save(device: Vec<u8>, text: &[u8]) -> Result<Vec<u8>>
+    ensures { IfOk result (λ out. out.items ≡ device.items ++ text.now) }
+{
+    let mut w = BufWriter::<Vec<u8>, 64>::new(device);
+    w.write_all(text)?;
+    w.flush()?;
+    match w.into_inner() {
+        Ok(device) => Ok(device),
+        Err(e) => Err(e.into()),
+    }
+}
+
+/// The same over any device that fits in memory with its buffer.
+pub fn save_to<W: Write + Drop>(device: W, text: &[u8]) -> Result<W>
+    requires { BufWriterFits W.row 64 }
+{
+    let mut w = BufWriter::<W, 64>::new(device);
+    w.write_all(text)?;
+    w.flush()?;
+    match w.into_inner() {
+        Ok(device) => Ok(device),
+        Err(e) => Err(e.into()),
+    }
+}
+
+/// Sends what is left of a text, and after a fault tries once more: no byte goes out twice.
+pub fn send_patiently<W: Write>(device: &mut W, rest: &mut &[u8]) -> Result<()>
+    ensures sends { Sends (W.told device.old) rest.old.now result (W.told device.new) rest.new.now }
+    ensures done { OnOk result (rest.new.now ≡ []) }
+{
+    if device.write_rest(rest).is_ok() {
+        return Ok(());
+    }
+    device.write_rest(rest)
+}
+
+/// A device that takes nothing: each write answers `Ok(0)`.
+#[derive(Drop)]
+pub struct Full;
+
+impl Write for Full {
+    ghost told = { λ _. told_out [] };
+
+    ghost takes_all = { λ _. ⊥ };
+
+    ghost cost = { λ _. 0 };
+
+    ghost is_metered = { λ _. ⊥ };
+
+    fn write(&mut self, _buf: &[u8]) -> Result<usize> {
+        Ok(0)
+    }
+
+    fn flush(&mut self) -> Result<()> {
+        Ok(())
+    }
+
+    ghost steady = { λ w h. absurd h };
+}

@@ -1,0 +1,45 @@
+use Rattle.std.proofs.Common.{◌≡◌, ℕ, ◌∙◌, ap, ⊎_elim, sym, refl, map, string_bytes, Global, List, [], ◌∷◌, ◌++◌, Some, None, Ok, Err}
+use Rattle.std.proofs.lemmas.Result.{err_from_is_err_and}
+use Rattle.no_std_io2_base.specs.Pieces.{line_text}
+use Rattle.no_std_io2_base.specs.PieceItems.{lines_reader, RefusesLine, ends_at}
+use Rattle.io_bench.specs.Runs.{appended}
+use Rattle.io_bench.proofs.PieceRunLemmas.{none_gathered, one_gathered, all_gathered, gathered_to, gathered_full, appended-none, appended-more, shown-one, yields_at}
+use Rattle.io_bench.proofs.pieces.run_lines.Goals as goal
+
+pub items-preserved : goal.items-preserved
+items-preserved g c =
+    let events = g.R.Read.events in
+    let before = c.items.invariant in
+    let item = c.in-Some-Ok.item in
+    let is : c.next.result ≡ Some (Ok item) = c.in-Some-Ok.is ∙ ap Some c.in-Some-Ok.field-0-is in
+    let pushed = c.push_reserved.ensures.items ∙ ap (λ l. l ++ item ∷ []) c.make_room.ensures.items in
+    let next = c.next.ensures.steps in
+    record {
+      appends = appended-more _ _ _ _ before.appends pushed;
+      told = λ fresh t.
+          let so_far = before.told fresh t in
+          let step = next.1 so_far.0 in
+          let told = step.1 so_far.1 in (
+            step.0 ∙ ap ends_at is,
+            told.0,
+            one_gathered (string_bytes {Z = Global}) line_text RefusesLine 10 (events (lines_reader c.args.lines)) (map (string_bytes {Z = Global}) (appended c.args.items.now.items c.items.items.items)) (map (string_bytes {Z = Global}) (appended c.args.items.now.items c.push_reserved.new.self.items)) (events (lines_reader c.items.lines)) item (events (lines_reader c.next.new.self))
+                (shown-one (string_bytes {Z = Global}) _ _ _ _ before.appends pushed) so_far.2 (yields_at (string_bytes {Z = Global}) (λ _. line_text) RefusesLine 10 10 (events (lines_reader c.items.lines)) _ _ (events (lines_reader c.next.new.self)) refl is told.1),
+          );
+    }
+
+pub returns-in-None-clause-told : goal.returns-in-None-clause-told
+returns-in-None-clause-told g c = λ fresh t.
+    let events = g.R.Read.events in
+    let so_far = c.items.invariant.told fresh t in
+    let told = (c.next.ensures.steps.1 so_far.0).1 so_far.1 in
+    all_gathered (string_bytes {Z = Global}) line_text RefusesLine 10 (events (lines_reader c.args.lines)) (map (string_bytes {Z = Global}) (appended c.args.items.now.items c.items.items.items)) (map (string_bytes {Z = Global}) (appended c.args.items.now.items c.make_room.new.items.items)) (events (lines_reader c.items.lines)) (events (lines_reader c.next.new.self)) (ap (λ l. map (string_bytes {Z = Global}) (appended c.args.items.now.items l)) c.make_room.ensures.items) so_far.2
+    (yields_at (string_bytes {Z = Global}) (λ _. line_text) RefusesLine 10 10 (events (lines_reader c.items.lines)) _ _ (events (lines_reader c.next.new.self)) refl c.in-None.is told.1)
+
+pub returns-in-Some-Err-clause-told : goal.returns-in-Some-Err-clause-told
+returns-in-Some-Err-clause-told g c = λ fresh t.
+    let events = g.R.Read.events in
+    let so_far = c.items.invariant.told fresh t in
+    let told = (c.next.ensures.steps.1 so_far.0).1 so_far.1 in
+    let e = c.in-Some-Err.e in
+    gathered_to (Unit {0}) (string_bytes {Z = Global}) line_text RefusesLine 10 (events (lines_reader c.args.lines)) (map (string_bytes {Z = Global}) (appended c.args.items.now.items c.items.items.items)) (map (string_bytes {Z = Global}) (appended c.args.items.now.items c.make_room.new.items.items)) (events (lines_reader c.items.lines)) e (events (lines_reader c.next.new.self)) (ap (λ l. map (string_bytes {Z = Global}) (appended c.args.items.now.items l)) c.make_room.ensures.items) so_far.2
+    (yields_at (string_bytes {Z = Global}) (λ _. line_text) RefusesLine 10 10 (events (lines_reader c.items.lines)) _ _ (events (lines_reader c.next.new.self)) refl (c.in-Some-Err.is ∙ ap Some c.in-Some-Err.field-0-is) told.1)

@@ -1,0 +1,43 @@
+-- What a whole run of `split` or `lines` gathers.
+use Rattle.std.specs.Prelude.{◌≡◌, ℕ, ◌⊎◌, List, ◌∷◌, ◌++◌, map, filter, Result, Ok, Err}
+use Rattle.no_std_io2_base.specs.declared.error.Error.{Error}
+use Rattle.no_std_io2_base.specs.Errors.{IsFault, IsOutOfMemory}
+use Rattle.no_std_io2_base.specs.Events.{Event, fails, bytes, HasNoFault}
+use Rattle.no_std_io2_base.specs.Pieces.{ends_in, pieces, pieces_given}
+
+-- no fault was to come, and these are the pieces of all bytes, trimmed
+pub record AllPieces (trim : List ℕ → List ℕ) (d : ℕ) (E : List Event) (items : List (List ℕ)) : Type 0 where
+  pub no_fault : HasNoFault E
+  pub are : items ≡ map trim (pieces d (bytes E))
+
+-- e is the first fault, and these are the pieces that a d ended before it, trimmed
+pub record PiecesToFault (trim : List ℕ → List ℕ) (d : ℕ) (E : List Event) (e : Error) (items : List (List ℕ)) : Type 0 where
+  pub before : List Event
+  pub behind : List Event
+  pub split : E ≡ before ++ fails e ∷ behind
+  pub no_fault : HasNoFault before
+  pub fault : IsFault e
+  pub are : items ≡ map trim (filter (ends_in d) (pieces d (bytes before)))
+
+-- these are the pieces before one that e refuses, trimmed
+pub record PiecesToRefused (trim : List ℕ → List ℕ) (refuses : List ℕ → Error → Type 0) (d : ℕ) (E : List Event) (e : Error) (items : List (List ℕ)) : Type 0 where
+  pub before : List (List ℕ)
+  pub piece : List ℕ
+  pub behind : List (List ℕ)
+  pub given : pieces_given d E ≡ before ++ piece ∷ behind
+  pub refused : refuses piece e
+  pub are : items ≡ map trim before
+
+-- memory was refused, and these are the first pieces, trimmed
+pub record PiecesToMemory (trim : List ℕ → List ℕ) (d : ℕ) (E : List Event) (e : Error) (items : List (List ℕ)) : Type 0 where
+  pub before : List (List ℕ)
+  pub behind : List (List ℕ)
+  pub given : pieces_given d E ≡ before ++ behind
+  pub refused : IsOutOfMemory e
+  pub are : items ≡ map trim before
+
+-- a whole run over a reader with these events to come gathered these items and ended so
+abbrev pub GathersPieces : {A : Type 0} → (List ℕ → List ℕ) → (List ℕ → Error → Type 0) → ℕ → List Event → Result A Error → List (List ℕ) → Type 0
+GathersPieces trim refuses d E (Ok _) items = AllPieces trim d E items
+GathersPieces trim refuses d E (Err e) items =
+    PiecesToFault trim d E e items ⊎ (PiecesToRefused trim refuses d E e items ⊎ PiecesToMemory trim d E e items)

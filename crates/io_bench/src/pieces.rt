@@ -1,0 +1,73 @@
+// Whole runs of `split` and of `lines`.
+ghost use Rattle.std.specs.Prelude.{◌≡◌, ◌<◌, ◌++◌, map, false, OnOk, OnErr, IfErr, vec_items, vec_len, vec_capacity, string_bytes};
+ghost use Rattle.no_std_io2_base.specs.Errors.{IsFault, IsOutOfMemory};
+ghost use Rattle.no_std_io2_base.specs.Pieces.{line_text, without};
+ghost use Rattle.no_std_io2_base.specs.PieceItems.{split_reader, split_delim, split_is_ended, lines_reader, lines_is_ended, RefusesLine};
+ghost use Rattle.no_std_io2_base.specs.Writes.{IsFront};
+ghost use Rattle.io_bench.specs.PieceRuns.{GathersPieces};
+ghost use Rattle.io_bench.specs.Runs.{appended};
+
+use no_std_io2::io::{BufRead, Error, ErrorKind, Lines, Result, Split};
+
+// Makes room for one item more.
+fn make_room<T>(items: &mut Vec<T>) -> Result<()>
+    ensures items { items.new.items ≡ items.old.items }
+    ensures room { OnOk result (vec_len items.new < vec_capacity items.new) }
+    ensures refused { IfErr result IsOutOfMemory }
+{
+    match items.reserve(1) {
+        Ok(()) => Ok(()),
+        Err(_refused) => Err(Error::from(ErrorKind::OutOfMemory)),
+    }
+}
+
+/// Takes the items of a `split` to its end, and appends them to `items`.
+///
+/// They are the pieces of all bytes that were to come, in order and without their delimiter,
+/// whatever the reader is and however its pieces fall.
+///
+/// # Errors
+/// The reader's first fault: the items are the pieces that a delimiter ended before it.
+/// `OutOfMemory`: they are the first pieces, as far as memory reached.
+pub fn run_split<R: BufRead + Drop>(mut split: Split<R>, items: &mut Vec<Vec<u8>>) -> Result<()>
+    ensures told { split_is_ended split ≡ false → R.tells (split_reader split)
+        → GathersPieces (without (split_delim split)) (λ _ _. ⊥) (split_delim split)
+        (R.events (split_reader split)) result (map vec_items (appended items.old.items items.new.items)) }
+    ensures appends { items.new.items ≡ items.old.items ++ appended items.old.items items.new.items }
+    ensures fault { IfErr result IsFault }
+{
+    'items: loop {
+        make_room(items)?;
+        match split.next() {
+            None => return Ok(()),
+            Some(Ok(item)) => items.push_reserved(item),
+            Some(Err(e)) => return Err(e),
+        }
+    }
+}
+
+/// Takes the items of a `lines` to its end, and appends them to `items`.
+///
+/// They are the lines of all bytes that were to come, in order and without their line ends, whatever
+/// the reader is and however its pieces fall.
+///
+/// # Errors
+/// The reader's first fault: the items are the lines that a newline ended before it. `InvalidData`:
+/// they are the lines before one that isn't UTF-8. `OutOfMemory`: they are the first lines, as far
+/// as memory reached.
+pub fn run_lines<R: BufRead + Drop>(mut lines: Lines<R>, items: &mut Vec<String>) -> Result<()>
+    ensures told { lines_is_ended lines ≡ false → R.tells (lines_reader lines)
+        → GathersPieces line_text RefusesLine 10
+        (R.events (lines_reader lines)) result (map string_bytes (appended items.old.items items.new.items)) }
+    ensures appends { items.new.items ≡ items.old.items ++ appended items.old.items items.new.items }
+    ensures fault { IfErr result IsFault }
+{
+    'items: loop {
+        make_room(items)?;
+        match lines.next() {
+            None => return Ok(()),
+            Some(Ok(item)) => items.push_reserved(item),
+            Some(Err(e)) => return Err(e),
+        }
+    }
+}

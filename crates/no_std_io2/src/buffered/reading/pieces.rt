@@ -1,0 +1,25 @@
+// Where a piece of lent bytes ends, by `memchr`.
+ghost use Rattle.std.specs.Prelude.{◌≡◌, ◌≢◌, ◌<◌, All, length, take, slice_index, IfSome, IfNone};
+ghost use Rattle.no_std_io2_base.specs.Pieces.{FindsPiece};
+
+use memchr::memchr;
+
+// Where this byte stands first.
+fn find_byte(bytes: &[u8], wanted: u8) -> Option<usize>
+    ensures some { IfSome result (λ at. (at < length bytes.now) × (slice_index bytes.now at ≡ wanted)
+        × All (λ b. b ≢ wanted) (take at bytes.now)) }
+    ensures none { IfNone result (All (λ b. b ≢ wanted) bytes.now) }
+{
+    memchr(wanted, bytes)
+}
+
+// How many of the lent bytes belong to a piece, and whether it is whole with them: they end in its
+// delimiter, or nothing was lent.
+pub(super) fn find_piece(lent: &[u8], delim: u8) -> (usize, bool)
+    ensures { FindsPiece delim lent.now result.0 result.1 }
+{
+    match find_byte(lent, delim) {
+        Some(at) => (at + 1, true),
+        None => (lent.len(), lent.is_empty()),
+    }
+}

@@ -1,0 +1,73 @@
+-- The laws that determine the pieces of some bytes.
+use Rattle.std.proofs.Common.{◌≡◌, ◌≢◌, ℕ, ◌==◌, true, false, Bool, if◌then◌else◌, List, [], ◌∷◌, ◌++◌, length, refl, sym, ap, ◌∙◌, subst, arith, true≢false, eqb-true, eq-eqb, ne_eqb, suc-ne-zero, get_or, drop}
+use Rattle.std.specs.List.{concat}
+use Rattle.no_std_io2_base.specs.Pieces.{in_front, pieces, ArePieces}
+
+-- the pieces where d stands first, and where it doesn't
+pub pieces-at : (d b : ℕ) (bs : List ℕ) → b ≡ d → pieces d (b ∷ bs) ≡ (b ∷ []) ∷ pieces d bs
+pieces-at d b bs is = ap (λ t. if t then (b ∷ []) ∷ pieces d bs else in_front b (pieces d bs)) (eq-eqb b d is)
+
+pub pieces-other : (d b : ℕ) (bs : List ℕ) → b ≢ d → pieces d (b ∷ bs) ≡ in_front b (pieces d bs)
+pieces-other d b bs differ = ap (λ t. if t then (b ∷ []) ∷ pieces d bs else in_front b (pieces d bs)) (ne_eqb b d differ)
+
+-- a byte in front of the first piece
+front_are : (d b : ℕ) (bs : List ℕ) (ps : List (List ℕ)) → b ≢ d → ArePieces d bs ps → ArePieces d (b ∷ bs) (in_front b ps)
+front_are d b bs [] differ h = record { joined = ap (λ l. b ∷ l) h.joined; none_empty = (omega arith, tt); ended = tt; nowhere_else = (tt, tt) }
+front_are d b bs ([] ∷ ps) differ h = absurd (omega (arith, h.none_empty.0))
+front_are d b bs ((c ∷ p) ∷ []) differ h = record { joined = ap (λ l. b ∷ l) h.joined; none_empty = (omega arith, tt); ended = tt; nowhere_else = ((differ, h.nowhere_else.0), tt) }
+front_are d b bs ((c ∷ p) ∷ q ∷ ps) differ h = record { joined = ap (λ l. b ∷ l) h.joined; none_empty = (omega arith, h.none_empty.1); ended = h.ended; nowhere_else = ((differ, h.nowhere_else.0), h.nowhere_else.1) }
+
+-- d alone as the first piece
+end_are : (d b : ℕ) (bs : List ℕ) (ps : List (List ℕ)) → b ≡ d → ArePieces d bs ps → ArePieces d (b ∷ bs) ((b ∷ []) ∷ ps)
+end_are d b bs [] is h = record { joined = ap (λ l. b ∷ l) h.joined; none_empty = (omega arith, tt); ended = tt; nowhere_else = (tt, tt) }
+end_are d b bs (p ∷ ps) is h = record { joined = ap (λ l. b ∷ l) h.joined; none_empty = (omega arith, h.none_empty); ended = (eq-eqb b d is, h.ended); nowhere_else = (tt, h.nowhere_else) }
+
+-- of one byte more, by whether that is d
+more_are : (d b : ℕ) (bs : List ℕ) (t : Bool) → (b == d) ≡ t → ArePieces d bs (pieces d bs) → ArePieces d (b ∷ bs) (pieces d (b ∷ bs))
+more_are d b bs true e h = let is = eqb-true b d e in subst (ArePieces d (b ∷ bs)) (sym (pieces-at d b bs is)) (end_are d b bs _ is h)
+more_are d b bs false e h =
+    let differ : b ≢ d = λ same. true≢false (sym (eq-eqb b d same) ∙ e) in
+    subst (ArePieces d (b ∷ bs)) (sym (pieces-other d b bs differ)) (front_are d b bs _ differ h)
+
+pub pieces_are : (d : ℕ) (bs : List ℕ) → ArePieces d bs (pieces d bs)
+pieces_are d [] = record { joined = refl; none_empty = tt; ended = tt; nowhere_else = tt }
+pieces_are d (b ∷ bs) = more_are d b bs (b == d) refl (pieces_are d bs)
+
+-- no byte, no piece
+none_only : (d : ℕ) (ps : List (List ℕ)) → ArePieces d [] ps → ps ≡ []
+none_only d [] h = refl
+none_only d ([] ∷ ps) h = absurd (omega (arith, h.none_empty.0))
+none_only d ((c ∷ p) ∷ ps) h = absurd (suc-ne-zero _ (ap length h.joined))
+
+-- the rest is what is behind the first byte
+joined_rest : (b c : ℕ) (bs cs : List ℕ) → c ∷ cs ≡ b ∷ bs → (c ≡ b) × (cs ≡ bs)
+joined_rest b c bs cs h = (ap (λ l. get_or l 0 0) h, ap (drop 1) h)
+
+-- one byte is one piece
+single : (d b : ℕ) (t : Bool) → (b == d) ≡ t → pieces d (b ∷ []) ≡ (b ∷ []) ∷ []
+single d b true e = pieces-at d b [] (eqb-true b d e)
+single d b false e = pieces-other d b [] (λ same. true≢false (sym (eq-eqb b d same) ∙ e))
+
+pub pieces_only : (d : ℕ) (bs : List ℕ) (ps : List (List ℕ)) → ArePieces d bs ps → ps ≡ pieces d bs
+pieces_only d [] ps h = none_only d ps h
+pieces_only d (b ∷ bs) [] h = absurd (suc-ne-zero _ (sym (ap length h.joined)))
+pieces_only d (b ∷ bs) ([] ∷ ps) h = absurd (omega (arith, h.none_empty.0))
+-- d alone
+pieces_only d (b ∷ bs) ((c ∷ []) ∷ []) h =
+    let is = joined_rest b c bs [] h.joined in
+    ap (λ n. (n ∷ []) ∷ []) is.0 ∙ sym (ap (λ l. pieces d (b ∷ l)) (sym is.1) ∙ single d b (b == d) refl)
+pieces_only d (b ∷ bs) ((c ∷ []) ∷ q ∷ ps) h =
+    let is = joined_rest b c bs (concat (q ∷ ps)) h.joined in
+    let end : c ≡ d = eqb-true c d h.ended.0 in
+    let rest = pieces_only d bs (q ∷ ps) (record { joined = is.1; none_empty = h.none_empty.1; ended = h.ended.1; nowhere_else = h.nowhere_else.1 }) in
+    ap (λ l. (c ∷ []) ∷ l) rest ∙ ap (λ n. (n ∷ []) ∷ pieces d bs) is.0 ∙ sym (pieces-at d b bs (sym is.0 ∙ end))
+pieces_only d (b ∷ bs) ((c ∷ e ∷ p) ∷ []) h =
+    let is = joined_rest b c bs (e ∷ p ++ []) h.joined in
+    let differ : c ≢ d = h.nowhere_else.0.0 in
+    let rest = pieces_only d bs ((e ∷ p) ∷ []) (record { joined = is.1; none_empty = (omega arith, tt); ended = tt; nowhere_else = (h.nowhere_else.0.1, tt) }) in
+    ap (in_front c) rest ∙ ap (λ n. in_front n (pieces d bs)) is.0 ∙ sym (pieces-other d b bs (λ same. differ (is.0 ∙ same)))
+pieces_only d (b ∷ bs) ((c ∷ e ∷ p) ∷ q ∷ ps) h =
+    let is = joined_rest b c bs (e ∷ p ++ concat (q ∷ ps)) h.joined in
+    let differ : c ≢ d = h.nowhere_else.0.0 in
+    let rest = pieces_only d bs ((e ∷ p) ∷ q ∷ ps) (record { joined = is.1; none_empty = (omega arith, h.none_empty.1); ended = h.ended; nowhere_else = (h.nowhere_else.0.1, h.nowhere_else.1) }) in
+    ap (in_front c) rest ∙ ap (λ n. in_front n (pieces d bs)) is.0 ∙ sym (pieces-other d b bs (λ same. differ (is.0 ∙ same)))

@@ -1,0 +1,181 @@
+-- What a loop that reads one piece has appended so far.
+use Rattle.std.proofs.Common.{◌≡◌, ℕ, ◌-◌, ◌⊎◌, List, [], ◌∷◌, ◌++◌, length, refl, sym, ap, ◌∙◌, subst, arith, append_assoc, append-nil, inl, inr, length-append, ◌+◌, ◌==◌, Bool, true, zero, suc, ⊎_elim, All, slice_index, add-one, take, take-suc, ◌<◌, ◌≤◌, ◌≢◌, Result, Ok, Err, true≢false, eqb-true, eq-eqb, drop_of_length-le, take_all, le_refl, length-take-le}
+use Rattle.std.proofs.lemmas.List.Elements.{recursion_from_All}
+use Rattle.std.specs.Borrow.{Bor}
+use Rattle.no_std_io2_base.specs.declared.error.Error.{Error}
+use Rattle.no_std_io2_base.specs.Lending.{Lends, LendsFrom, LendingTurn}
+use Rattle.no_std_io2_base.specs.Writes.{IsFront}
+use Rattle.no_std_io2_base.specs.Errors.{is_interruption, IsInterruption, IsFault, IsOutOfMemory}
+use Rattle.no_std_io2_base.specs.Events.{Event, byte, fails, events_of, bytes, HasNoFault}
+use Rattle.no_std_io2_base.specs.Pieces.{Lacks, EndsPiece, FindsPiece, GivesPiece, StopsInPiece}
+use Rattle.no_std_io2_base.proofs.Events.{bytes-append, bytes-events_of, events_of-append, HasNoFault-append, HasNoFault-events_of}
+
+-- `front`, which has neither a fault nor a d, is gone from E, and its bytes were appended
+pub record PieceSoFar (d : ℕ) (E : List Event) (old new : List ℕ) (after : List Event) : Type 0 where
+  pub front : List Event
+  pub split : E ≡ front ++ after
+  pub no_fault : HasNoFault front
+  pub gave : new ≡ old ++ bytes front
+  pub no_end : Lacks d (bytes front)
+
+pub Lacks-append : (d : ℕ) (bs cs : List ℕ) → Lacks d bs → Lacks d cs → Lacks d (bs ++ cs)
+Lacks-append d [] cs h k = k
+Lacks-append d (b ∷ bs) cs h k = (h.0, Lacks-append d bs cs h.1 k)
+
+pub piece_none : (d : ℕ) (E : List Event) (old new : List ℕ) → new ≡ old → PieceSoFar d E old new E
+piece_none d E old new is = record { front = []; split = refl; no_fault = tt; gave = is ∙ sym (append-nil old); no_end = tt }
+
+-- the bytes of a front, and some more
+gave_more : (front : List Event) (old mid new part : List ℕ) → mid ≡ old ++ bytes front → new ≡ mid ++ part → new ≡ old ++ bytes (front ++ events_of part)
+gave_more front old mid new part gave is = is ∙ ap (λ l. l ++ part) gave ∙ append_assoc old (bytes front) part
+    ∙ ap (λ l. old ++ l) (sym (bytes-append front (events_of part) ∙ ap (λ l. bytes front ++ l) (bytes-events_of part)))
+
+-- some bytes without a d
+pub piece_more : (d : ℕ) (E : List Event) (old mid new : List ℕ) (after rest : List Event) (part : List ℕ)
+    → PieceSoFar d E old mid after → after ≡ events_of part ++ rest → Lacks d part → new ≡ mid ++ part → PieceSoFar d E old new rest
+piece_more d E old mid new after rest part t read none is = record {
+  front = t.front ++ events_of part;
+  split = t.split ∙ ap (λ l. t.front ++ l) read ∙ sym (append_assoc t.front (events_of part) rest);
+  no_fault = HasNoFault-append t.front (events_of part) t.no_fault (HasNoFault-events_of part);
+  gave = gave_more t.front old mid new part t.gave is;
+  no_end = subst (Lacks d) (sym (bytes-append t.front (events_of part) ∙ ap (λ l. bytes t.front ++ l) (bytes-events_of part))) (Lacks-append d (bytes t.front) part t.no_end none);
+}
+
+pub piece_interruption : (d : ℕ) (E : List Event) (old new : List ℕ) (after : List Event) (e : Error) (rest : List Event)
+    → PieceSoFar d E old new after → after ≡ fails e ∷ rest → IsInterruption e → PieceSoFar d E old new rest
+piece_interruption d E old new after e rest t read again =
+    let same = bytes-append t.front (fails e ∷ []) ∙ append-nil (bytes t.front) in
+    record {
+      front = t.front ++ fails e ∷ [];
+      split = t.split ∙ ap (λ l. t.front ++ l) read ∙ sym (append_assoc t.front (fails e ∷ []) rest);
+      no_fault = HasNoFault-append t.front (fails e ∷ []) t.no_fault (again, tt);
+      gave = t.gave ∙ ap (λ l. old ++ l) (sym same);
+      no_end = subst (Lacks d) (sym same) t.no_end;
+    }
+
+-- how many bytes were appended
+counted : (k : ℕ) (old new bs : List ℕ) → new ≡ old ++ bs → k ≡ length new - length old → k ≡ length bs
+counted k old new bs gave is = omega (arith, ap length gave ∙ length-append old bs)
+
+-- the bytes that end the piece, or none at the end
+pub piece_ended : (d : ℕ) (E : List Event) (old mid new : List ℕ) (after rest : List Event) (part : List ℕ) (k : ℕ)
+    → PieceSoFar d E old mid after → after ≡ events_of part ++ rest → EndsPiece d part ⊎ ((part ≡ []) × (after ≡ [])) → new ≡ mid ++ part → k ≡ length new - length old
+    → GivesPiece d E k old new rest
+piece_ended d E old mid new after rest part k t read (inl end) is count =
+    let gave = gave_more t.front old mid new part t.gave is in
+    record {
+      taken = t.front ++ events_of part;
+      split = t.split ∙ ap (λ l. t.front ++ l) read ∙ sym (append_assoc t.front (events_of part) rest);
+      appended = gave;
+      count = counted k old new _ gave count;
+      no_fault = HasNoFault-append t.front (events_of part) t.no_fault (HasNoFault-events_of part);
+      ends = inl (
+        t.front ++ events_of end.0,
+        ap (λ l. t.front ++ events_of l) end.1 ∙ ap (λ l. t.front ++ l) (events_of-append end.0 (d ∷ [])) ∙ sym (append_assoc t.front (events_of end.0) (byte d ∷ [])),
+        subst (Lacks d) (sym (bytes-append t.front (events_of end.0) ∙ ap (λ l. bytes t.front ++ l) (bytes-events_of end.0))) (Lacks-append d (bytes t.front) end.0 t.no_end end.2),
+      );
+    }
+piece_ended d E old mid new after rest part k t read (inr end) is count =
+    let gave : new ≡ old ++ bytes t.front = is ∙ ap (λ l. mid ++ l) end.0 ∙ append-nil mid ∙ t.gave in
+    let left : after ≡ rest = read ∙ ap (λ l. events_of l ++ rest) end.0 in
+    record {
+      taken = t.front;
+      split = t.split ∙ ap (λ l. t.front ++ l) left;
+      appended = gave;
+      count = counted k old new _ gave count;
+      no_fault = t.no_fault;
+      ends = inr (t.no_end, sym left ∙ end.1);
+    }
+
+pub piece_fault : (d : ℕ) (E : List Event) (old new : List ℕ) (after : List Event) (e : Error) (rest : List Event)
+    → PieceSoFar d E old new after → after ≡ fails e ∷ rest → IsFault e → StopsInPiece d E e old new rest
+piece_fault d E old new after e rest t read fault =
+    let same = bytes-append t.front (fails e ∷ []) ∙ append-nil (bytes t.front) in
+    record {
+      taken = t.front ++ fails e ∷ [];
+      split = t.split ∙ ap (λ l. t.front ++ l) read ∙ sym (append_assoc t.front (fails e ∷ []) rest);
+      appended = t.gave ∙ ap (λ l. old ++ l) (sym same);
+      no_end = subst (Lacks d) (sym same) t.no_end;
+      stops = inl (t.front, refl, t.no_fault, fault);
+    }
+
+pub piece_memory : (d : ℕ) (E : List Event) (old mid new : List ℕ) (after rest : List Event) (e : Error)
+    → PieceSoFar d E old mid after → rest ≡ after → new ≡ mid → IsOutOfMemory e → StopsInPiece d E e old new rest
+piece_memory d E old mid new after rest e t same is refused = record {
+  taken = t.front;
+  split = t.split ∙ ap (λ l. t.front ++ l) (sym same);
+  appended = is ∙ t.gave;
+  no_end = t.no_end;
+  stops = inr (t.no_fault, refused);
+}
+
+-- where d stands first, the piece ends
+pub found_at : (d : ℕ) (bs : List ℕ) (at : ℕ) → at < length bs → slice_index bs at ≡ d → All (λ b. b ≢ d) (take at bs) → FindsPiece d bs (at + 1) true
+found_at d bs at within is none = record {
+  within = omega (arith, within);
+  whole = λ _. inl (
+    take at bs,
+    ap (λ k. take k bs) (add-one at) ∙ take-suc bs at 0 within ∙ ap (λ b. take at bs ++ b ∷ []) is,
+    recursion_from_All (λ b. b ≢ d) (take at bs) none,
+  );
+  open_ended = λ e. absurd (true≢false e);
+}
+
+-- and where it doesn't stand, all belongs to it
+pub found_none : (d : ℕ) (bs : List ℕ) (is_whole : Bool) → is_whole ≡ (length bs == 0) → All (λ b. b ≢ d) bs → FindsPiece d bs (length bs) is_whole
+found_none d bs is_whole is none = record {
+  within = omega arith;
+  whole = λ e. inr (drop_of_length-le bs {i = 0} (omega (arith, eqb-true (length bs) 0 (sym is ∙ e))));
+  open_ended = λ e. (
+    omega (arith, λ (zero : length bs ≡ 0). true≢false (sym (eq-eqb (length bs) 0 zero) ∙ sym is ∙ e)),
+    subst (Lacks d) (sym (take_all (length bs) bs (le_refl _))) (recursion_from_All (λ b. b ≢ d) bs none),
+  );
+}
+
+-- what was lent, and then dropped, is gone
+pub part_taken : (reply : Result (Bor (List ℕ)) Error) (s : Bor (List ℕ)) (held : List ℕ) (E E' rest : List Event) (n : ℕ)
+    → reply ≡ Ok s → Lends reply held → LendsFrom E reply E' → E' ≡ events_of (take n held) ++ rest → E ≡ events_of (take n s.now) ++ rest
+part_taken reply s held E E' rest n is lends same read =
+    let lent : held ≡ s.now = subst (λ r. Lends r held) is lends in
+    sym (subst (λ r. LendsFrom E r E') is same) ∙ read ∙ ap (λ l. events_of (take n l) ++ rest) lent
+
+-- what was lent, and not dropped, is to come
+pub none_taken : (reply : Result (Bor (List ℕ)) Error) (s : Bor (List ℕ)) (E E' : List Event) → reply ≡ Ok s → LendsFrom E reply E' → E' ≡ E
+none_taken reply s E E' is same = subst (λ r. LendsFrom E r E') is same
+
+-- an error stood first
+pub error_taken : (reply : Result (Bor (List ℕ)) Error) (e : Error) (E E' : List Event) → reply ≡ Err e → LendsFrom E reply E' → E ≡ fails e ∷ E'
+error_taken reply e E E' is gone = subst (λ r. LendsFrom E r E') is gone
+
+pub error_turn : (reply : Result (Bor (List ℕ)) Error) (e : Error) (old new : ℕ) → reply ≡ Err e → LendingTurn reply old new → new < old
+error_turn reply e old new is turn = subst (λ r. LendingTurn r old new) is turn
+
+-- nothing is a part of what is lent where that is nothing
+take-none : (n : ℕ) → take {A = ℕ} n [] ≡ []
+take-none zero = refl
+take-none (suc n) = refl
+
+-- the part that makes the piece whole, or nothing at the end
+pub whole_part : (d : ℕ) (E : List Event) (lent : List ℕ) (n : ℕ) (is_whole : Bool) → FindsPiece d lent n is_whole → is_whole ≡ true → (lent ≡ [] → E ≡ [])
+    → EndsPiece d (take n lent) ⊎ ((take n lent ≡ []) × (E ≡ []))
+whole_part d E lent n is_whole found whole end = ⊎_elim (λ e. inl e) (λ e. inr (ap (take n) e ∙ take-none n, end e)) (found.whole whole)
+
+-- more is appended
+pub front_more : (old mid new more : List ℕ) → IsFront old mid → new ≡ mid ++ more → IsFront old new
+front_more old mid new more front is = (front.0 ++ more, is ∙ ap (λ l. l ++ more) front.1 ∙ append_assoc old front.0 more)
+
+pub front_same : (old mid new : List ℕ) → IsFront old mid → new ≡ mid → IsFront old new
+front_same old mid new front is = (front.0, is ∙ front.1)
+
+-- a turn was spent where anything was appended
+pub spent_more : (old mid new n t r s u : ℕ) → (old < mid → r < t) → r ≤ t → s ≤ r → u ≤ s → (0 < n → u < s) → new ≤ mid + n → old < new → u < t
+spent_more old mid new zero t r s u before a b c now within grown = let early : r < t = before (omega arith) in omega arith
+spent_more old mid new (suc n) t r s u before a b c now within grown = let late : u < s = now (omega arith) in omega arith
+
+-- no more bytes than asked for
+pub part_fits : (n mid new : ℕ) (lent : List ℕ) → new ≡ mid + length (take n lent) → n ≤ length lent → new ≤ mid + n
+part_fits n mid new lent is fits = omega (arith, is, length-take-le n lent fits)
+
+-- want of memory is a fault
+pub memory_fault : (e : Error) → IsOutOfMemory e → IsFault e
+memory_fault e refused = ap is_interruption refused.0

@@ -1,0 +1,106 @@
+-- Pieces of bytes, each ended by a delimiter, and what a call that reads one piece does.
+use Rattle.std.specs.Prelude.{◌≡◌, ◌≢◌, ℕ, ◌<◌, ◌≤◌, ◌==◌, true, false, Bool, List, [], ◌∷◌, ◌++◌, length, take, filter, if◌then◌else◌, ◌⊎◌, Option, None, Some, Result, Ok, Err}
+use Rattle.std.specs.List.{AllByRecursion, concat}
+use Rattle.no_std_io2_base.specs.declared.error.Error.{Error}
+use Rattle.no_std_io2_base.specs.Errors.{error_kind, is_interruption, IsOutOfMemory}
+use Rattle.no_std_io2_base.specs.Events.{Event, byte, fails, bytes, HasNoFault, EndsInFault}
+
+-- d stands nowhere in these bytes
+abbrev pub Lacks : ℕ → List ℕ → Type 0
+Lacks d bs = AllByRecursion (λ b. b ≢ d) bs
+
+-- whether the last byte is d
+abbrev pub ends_in : ℕ → List ℕ → Bool
+ends_in d [] = false
+ends_in d (b ∷ []) = b == d
+ends_in d (b ∷ c ∷ bs) = ends_in d (c ∷ bs)
+
+-- all but the last
+abbrev pub but_last : {X : Type 0} → List X → List X
+but_last [] = []
+but_last (x ∷ []) = []
+but_last (x ∷ y ∷ xs) = x ∷ but_last (y ∷ xs)
+
+-- without the d that ends them, where one does
+abbrev pub without : ℕ → List ℕ → List ℕ
+without d bs = if ends_in d bs then but_last bs else bs
+
+-- a line's text: without its newline, and without one carriage return right before that newline
+abbrev pub line_text : List ℕ → List ℕ
+line_text bs = if ends_in 10 bs then without 13 (without 10 bs) else bs
+
+-- b in front of the first piece, which it begins where there is none
+abbrev pub in_front : ℕ → List (List ℕ) → List (List ℕ)
+in_front b [] = (b ∷ []) ∷ []
+in_front b (p ∷ ps) = (b ∷ p) ∷ ps
+
+-- the bytes, cut right behind each d
+abbrev pub pieces : ℕ → List ℕ → List (List ℕ)
+pieces d [] = []
+pieces d (b ∷ bs) = if b == d then (b ∷ []) ∷ pieces d bs else in_front b (pieces d bs)
+
+-- What the pieces of the bytes are, and nothing else is.
+pub record ArePieces (d : ℕ) (bs : List ℕ) (ps : List (List ℕ)) : Type 0 where
+  -- joined they are the bytes
+  pub joined : concat ps ≡ bs
+  -- none is empty
+  pub none_empty : AllByRecursion (λ p. 0 < length p) ps
+  -- each but perhaps the last ends in d
+  pub ended : AllByRecursion (λ p. ends_in d p ≡ true) (but_last ps)
+  -- and d stands nowhere else
+  pub nowhere_else : AllByRecursion (λ p. Lacks d (but_last p)) ps
+
+-- these bytes end in d, the only one in them
+abbrev pub EndsPiece : ℕ → List ℕ → Type 0
+EndsPiece d bs = (front : List ℕ) × (bs ≡ front ++ d ∷ []) × Lacks d front
+
+-- Of these bytes the first n belong to a piece, which is whole where they end in its d, or where there are none: then nothing is to come.
+pub record FindsPiece (d : ℕ) (bs : List ℕ) (n : ℕ) (is_whole : Bool) : Type 0 where
+  pub within : n ≤ length bs
+  pub whole : is_whole ≡ true → EndsPiece d (take n bs) ⊎ (bs ≡ [])
+  pub open_ended : is_whole ≡ false → (0 < n) × Lacks d (take n bs)
+
+-- `read_until(d)` answered n: a piece was taken from E and its bytes were appended
+pub record GivesPiece (d : ℕ) (E : List Event) (n : ℕ) (old new : List ℕ) (after : List Event) : Type 0 where
+  pub taken : List Event
+  pub split : E ≡ taken ++ after
+  pub appended : new ≡ old ++ bytes taken
+  pub count : n ≡ length (bytes taken)
+  pub no_fault : HasNoFault taken
+  -- d is its last event and the only one; or there is none, and nothing is left
+  pub ends : ((front : List Event) × (taken ≡ front ++ byte d ∷ []) × Lacks d (bytes front)) ⊎ (Lacks d (bytes taken) × (after ≡ []))
+
+-- `read_until(d)` answered e: what was taken before has no d, and its bytes were appended
+pub record StopsInPiece (d : ℕ) (E : List Event) (e : Error) (old new : List ℕ) (after : List Event) : Type 0 where
+  pub taken : List Event
+  pub split : E ≡ taken ++ after
+  pub appended : new ≡ old ++ bytes taken
+  pub no_end : Lacks d (bytes taken)
+  -- at the first fault, which is taken too, or where memory was refused
+  pub stops : EndsInFault taken e ⊎ (HasNoFault taken × IsOutOfMemory e)
+
+-- `read_until(d)` turned E into after and appended the bytes that it took: up to and with the first d, or else all that is left; a fault stops it, and so does refused memory
+abbrev pub TakesPiece : ℕ → List Event → Result ℕ Error → List ℕ → List ℕ → List Event → Type 0
+TakesPiece d E (Ok n) old new after = GivesPiece d E n old new after
+TakesPiece d E (Err e) old new after = StopsInPiece d E e old new after
+
+-- the bytes that stand before the first fault
+abbrev pub bytes_to_fault : List Event → List ℕ
+bytes_to_fault [] = []
+bytes_to_fault (byte b ∷ E) = b ∷ bytes_to_fault E
+bytes_to_fault (fails e ∷ E) = if is_interruption (error_kind e) then bytes_to_fault E else []
+
+-- the first fault, if there is one
+abbrev pub first_fault : List Event → Option Error
+first_fault [] = None
+first_fault (byte b ∷ E) = first_fault E
+first_fault (fails e ∷ E) = if is_interruption (error_kind e) then first_fault E else Some e
+
+-- all pieces, or those that a d ended where a fault comes behind them
+abbrev pub pieces_before : ℕ → Option Error → List ℕ → List (List ℕ)
+pieces_before d None bs = pieces d bs
+pieces_before d (Some e) bs = filter (ends_in d) (pieces d bs)
+
+-- the pieces that a reader with these events gives: all of them, or those that a d ended before the first fault
+abbrev pub pieces_given : ℕ → List Event → List (List ℕ)
+pieces_given d E = pieces_before d (first_fault E) (bytes_to_fault E)

@@ -1,0 +1,112 @@
+// What the calls that read pieces are made of.
+ghost use Rattle.std.specs.Prelude.{◌≡◌, ◌≢◌, ◌<◌, ◌+◌, ◌++◌, All, length, take, slice_index, IfSome, IfNone, OnOk, OnErr, IfErr, IfOk, IsOk, IsUtf8, vec_len, string_bytes, string_len};
+ghost use Rattle.no_std_io2_base.specs.Pieces.{FindsPiece, ends_in, without, line_text};
+ghost use Rattle.no_std_io2_base.specs.PieceItems.{IsInvalidText, AnswersLine};
+ghost use Rattle.no_std_io2_base.specs.Errors.{IsFault, IsOutOfMemory};
+ghost use Rattle.no_std_io2_base.specs.Writes.{IsFront};
+
+use crate::error::{Error, ErrorKind, Result};
+use std::alloc::Allocator;
+
+// Where this byte stands first.
+fn find_byte(bytes: &[u8], wanted: u8) -> Option<usize>
+    ensures some { IfSome result (λ at. (at < length bytes.now) × (slice_index bytes.now at ≡ wanted)
+        × All (λ b. b ≢ wanted) (take at bytes.now)) }
+    ensures none { IfNone result (All (λ b. b ≢ wanted) bytes.now) }
+{
+    bytes.iter().position(|byte| *byte == wanted)
+}
+
+// How many of the lent bytes belong to a piece, and whether it is whole with them: they end in its
+// delimiter, or nothing was lent.
+pub(crate) fn find_piece(lent: &[u8], delim: u8) -> (usize, bool)
+    ensures { FindsPiece delim lent.now result.0 result.1 }
+{
+    match find_byte(lent, delim) {
+        Some(at) => (at + 1, true),
+        None => (lent.len(), lent.is_empty()),
+    }
+}
+
+/// Appends these bytes.
+///
+/// # Errors
+/// `OutOfMemory` where the growth was refused: `buf` is as it was.
+pub fn append<A: Allocator>(buf: &mut Vec<u8, A>, bytes: &[u8]) -> Result<()>
+    ensures ok { OnOk result (buf.new.items ≡ buf.old.items ++ bytes.now) }
+    ensures err { OnErr result (buf.new.items ≡ buf.old.items) }
+    ensures len { OnOk result (vec_len buf.new ≡ vec_len buf.old + length bytes.now) }
+    ensures refused { IfErr result IsOutOfMemory }
+{
+    match buf.extend_from_slice(bytes) {
+        Ok(()) => Ok(()),
+        Err(_refused) => Err(Error::from(ErrorKind::OutOfMemory)),
+    }
+}
+
+// Drops the last byte, where it is this one; answers whether it was.
+pub(super) fn drop_last(bytes: &mut Vec<u8>, last: u8) -> bool
+    ensures dropped { result ≡ ends_in last bytes.old.items }
+    ensures items { bytes.new.items ≡ without last bytes.old.items }
+{
+    let len = bytes.len();
+    if len == 0 {
+        return false;
+    }
+    if bytes[len - 1] != last {
+        return false;
+    }
+    bytes.truncate(len - 1);
+    true
+}
+
+// Drops the newline that ends the line, and one carriage return right before it.
+pub(super) fn trim_line(line: &mut Vec<u8>)
+    ensures { line.new.items ≡ line_text line.old.items }
+{
+    if drop_last(line, b'\n') {
+        drop_last(line, b'\r');
+    }
+}
+
+// The text of these bytes, or `InvalidData`.
+pub(super) fn text_of(bytes: Vec<u8>) -> Result<String>
+    ensures ok { IfOk result (λ text. string_bytes text ≡ bytes.items) }
+    ensures err { IfErr result (λ e. (IsUtf8 bytes.items → ⊥) × IsInvalidText e) }
+{
+    match String::from_utf8(bytes) {
+        Ok(text) => Ok(text),
+        Err(_refused) => Err(invalid_text()),
+    }
+}
+
+// Appends a line's bytes to a text, where they are UTF-8, and answers as its read did. After want
+// of memory, the read's too, and where the bytes are no text, it leaves the text as it was.
+pub(super) fn append_line(buf: &mut String, line: &[u8], read: Result<usize>) -> Result<usize>
+    ensures answers { AnswersLine line.now read result (string_bytes buf.old) (string_bytes buf.new) }
+    ensures appends { IsFront (string_bytes buf.old) (string_bytes buf.new) }
+    ensures read { IsOk result → result ≡ read }
+    ensures count { OnOk result (string_len buf.new ≡ string_len buf.old + length line.now) }
+    ensures fault { IfErr read IsFault → IfErr result IsFault }
+{
+    if let Err(e) = &read
+        && e.kind() == ErrorKind::OutOfMemory
+    {
+        return read;
+    }
+    let Ok(text) = std::str::from_utf8(line) else {
+        return Err(read.err().unwrap_or_else(invalid_text));
+    };
+    if buf.push_str(text).is_err() {
+        return Err(Error::from(ErrorKind::OutOfMemory));
+    }
+    read
+}
+
+// The bytes aren't UTF-8.
+fn invalid_text() -> Error
+    ensures { IsInvalidText result }
+{
+    let message = "stream did not contain valid UTF-8";
+    Error::new(ErrorKind::InvalidData, message)
+}
