@@ -4,6 +4,7 @@ ghost use Rattle.std.specs.Borrow.{Lends, sem};
 ghost use Rattle.no_std_io2_base.specs.Events.{events_of};
 ghost use Rattle.no_std_io2_base.specs.Lending.{IsNotEmpty, reads_needed};
 ghost use Rattle.no_std_io2.specs.contracts.buffered.reading.BufReader.{the_row as reader-row};
+ghost use Rattle.no_std_io2.specs.ReaderCalls.{FillsBuffer};
 ghost use Rattle.no_std_io2.specs.Reading.{reader_held, reader_behind, reader_inner, reader_events, reader_turns, reader_has_store, reader_is_sound, reader_position, reader_lent_length, reader_with_inner, FillsFrom};
 
 use super::read_ahead::ReadAhead;
@@ -121,26 +122,8 @@ impl<R: Read, const S: usize> BufReader<R, S> {
     // Where nothing is held, reads once.
     #[inline(always)]
     fn fill(&mut self) -> Result<()>
-        ensures kept { IsNotEmpty (reader_held self.old) → IsOk result × (self.new ≡ self.old) }
-        ensures held { OnErr result (reader_held self.new ≡ []) }
-        ensures behind { reader_held self.old ≡ [] → reader_behind self.new ≡ [] }
-        ensures sound { reader_is_sound R.has_store R.position R.content self.old
-            → reader_is_sound R.has_store R.position R.content self.new }
-        ensures told { R.tells (reader_inner self.old) → R.tells (reader_inner self.new)
-            × FillsFrom (reader_events R.events self.old) result (reader_events R.events self.new) }
-        ensures end { R.tells (reader_inner self.old)
-            → OnOk result (reader_held self.new ≡ [] → reader_events R.events self.old ≡ []) }
-        ensures turns { reader_turns R.turns self.new ≤ reader_turns R.turns self.old }
-        ensures turn { OnErr result (reader_turns R.turns self.new < reader_turns R.turns self.old) }
-        ensures cost { R.is_metered (reader_inner self.old) → R.is_metered (reader_inner self.new)
-            × (R.cost (reader_inner self.new)
-            ≡ R.cost (reader_inner self.old) + reads_needed (reader_held self.old)) }
-        ensures fills { R.is_filling (reader_inner self.old) → R.is_filling (reader_inner self.new)
-            × IsOk result × (length (reader_held self.new) ≡ reader_lent_length R.events self.old) }
-        ensures store { reader_has_store R.has_store R.position R.content self.old
-            → reader_has_store R.has_store R.position R.content self.new
-            × (R.content (reader_inner self.new) ≡ R.content (reader_inner self.old))
-            × (reader_position R.position self.new ≡ reader_position R.position self.old) }
+        ensures { FillsBuffer R.tells R.events R.turns R.has_store R.position R.content R.is_metered
+            R.cost R.is_filling self.old result self.new }
     {
         if self.ahead.len() > 0 {
             return Ok(());

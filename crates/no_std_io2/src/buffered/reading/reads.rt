@@ -4,6 +4,7 @@ ghost use Rattle.no_std_io2_base.specs.Errors.{IsFault};
 ghost use Rattle.no_std_io2_base.specs.Events.{events_of, given, Reads, ReadsExact, SpendsTurn};
 ghost use Rattle.no_std_io2_base.specs.Lending.{IsNotEmpty, reads_needed};
 ghost use Rattle.no_std_io2.specs.Reading.{reader_held, reader_behind, reader_inner, reader_events, reader_turns, reader_has_store, reader_is_sound, reader_position, behind_anew, held_or_to_come, exact_reads, exact_left};
+ghost use Rattle.no_std_io2.specs.ReaderCalls.{ReadsAnew, ReadsExactAnew};
 ghost use Rattle.no_std_io2.specs.Sound.{sound_tells, sound_fits};
 
 use super::BufReader;
@@ -17,26 +18,8 @@ impl<R: Read, const S: usize> BufReader<R, S> {
     #[inline(never)]
     fn read_anew(&mut self, buf: &mut [u8]) -> Result<usize>
         requires { length (reader_held self.old) ≡ 0 }
-        ensures bound { IfOk result (λ n. n ≤ length buf.new) }
-        ensures told { R.tells (reader_inner self.old) → R.tells (reader_inner self.new)
-            × Reads (reader_events R.events self.old) result buf.new (reader_events R.events self.new) }
-        ensures turns { reader_turns R.turns self.new ≤ reader_turns R.turns self.old }
-        ensures turn { SpendsTurn result (reader_turns R.turns self.old) (reader_turns R.turns self.new) }
-        ensures store { reader_has_store R.has_store R.position R.content self.old
-            → reader_has_store R.has_store R.position R.content self.new
-            × (R.content (reader_inner self.new) ≡ R.content (reader_inner self.old))
-            × (reader_position R.position self.new ≡ reader_position R.position self.old + given result) }
-        ensures behind { reader_behind self.new ≡ behind_anew S (length buf.old) (take (given result) buf.new) }
-        ensures sound { reader_is_sound R.has_store R.position R.content self.old
-            → reader_is_sound R.has_store R.position R.content self.new }
-        ensures asks { R.is_metered (reader_inner self.old) → R.is_metered (reader_inner self.new)
-            × (R.cost (reader_inner self.new) ≡ R.cost (reader_inner self.old) + 1) }
-        ensures gives { R.is_filling (reader_inner self.old) → R.is_filling (reader_inner self.new)
-            × IsOkAnd result (λ n. n ≡ min (length buf.old) (length (R.events (reader_inner self.old)))) }
-        ensures direct { R.is_filling (reader_inner self.old) → S ≤ length buf.old
-            → reader_held self.new ≡ [] }
-        ensures filled { R.is_filling (reader_inner self.old) → length buf.old < S
-            → length (reader_held self.new) + given result ≡ min S (length (R.events (reader_inner self.old))) }
+        ensures { ReadsAnew R.tells R.events R.turns R.has_store R.position R.content R.is_metered
+            R.cost R.is_filling self.old (length buf.old) result buf.new self.new }
     {
         if buf.len() >= S {
             self.ahead.clear();
@@ -50,26 +33,8 @@ impl<R: Read, const S: usize> BufReader<R, S> {
     #[inline(always)]
     fn read_slowly(&mut self, buf: &mut [u8]) -> Result<usize>
         requires { length (reader_held self.old) ≡ 0 }
-        ensures bound { IfOk result (λ n. n ≤ length buf.new) }
-        ensures told { R.tells (reader_inner self.old) → R.tells (reader_inner self.new)
-            × Reads (reader_events R.events self.old) result buf.new (reader_events R.events self.new) }
-        ensures turns { reader_turns R.turns self.new ≤ reader_turns R.turns self.old }
-        ensures turn { SpendsTurn result (reader_turns R.turns self.old) (reader_turns R.turns self.new) }
-        ensures store { reader_has_store R.has_store R.position R.content self.old
-            → reader_has_store R.has_store R.position R.content self.new
-            × (R.content (reader_inner self.new) ≡ R.content (reader_inner self.old))
-            × (reader_position R.position self.new ≡ reader_position R.position self.old + given result) }
-        ensures behind { reader_behind self.new ≡ behind_anew S (length buf.old) (take (given result) buf.new) }
-        ensures sound { reader_is_sound R.has_store R.position R.content self.old
-            → reader_is_sound R.has_store R.position R.content self.new }
-        ensures asks { R.is_metered (reader_inner self.old) → R.is_metered (reader_inner self.new)
-            × (R.cost (reader_inner self.new) ≡ R.cost (reader_inner self.old) + 1) }
-        ensures gives { R.is_filling (reader_inner self.old) → R.is_filling (reader_inner self.new)
-            × IsOkAnd result (λ n. n ≡ min (length buf.old) (length (R.events (reader_inner self.old)))) }
-        ensures direct { R.is_filling (reader_inner self.old) → S ≤ length buf.old
-            → reader_held self.new ≡ [] }
-        ensures filled { R.is_filling (reader_inner self.old) → length buf.old < S
-            → length (reader_held self.new) + given result ≡ min S (length (R.events (reader_inner self.old))) }
+        ensures { ReadsAnew R.tells R.events R.turns R.has_store R.position R.content R.is_metered
+            R.cost R.is_filling self.old (length buf.old) result buf.new self.new }
     {
         self.read_anew(buf)
     }
@@ -79,26 +44,8 @@ impl<R: Read, const S: usize> BufReader<R, S> {
     #[inline(never)]
     fn read_exact_anew(&mut self, buf: &mut [u8]) -> Result<()>
         requires { length (reader_held self.old) < length buf.old }
-        ensures told { R.tells (reader_inner self.old) → R.tells (reader_inner self.new)
-            × ReadsExact ⊥ (reader_events R.events self.old) result buf.new (reader_events R.events self.new) }
-        ensures fault { IfErr result IsFault }
-        ensures turns { reader_turns R.turns self.new ≤ reader_turns R.turns self.old }
-        ensures store { reader_has_store R.has_store R.position R.content self.old
-            → reader_has_store R.has_store R.position R.content self.new
-            × (R.content (reader_inner self.new) ≡ R.content (reader_inner self.old))
-            × (reader_position R.position self.new + length (reader_events R.events self.new)
-            ≡ reader_position R.position self.old + length (reader_events R.events self.old)) }
-        ensures sound { reader_is_sound R.has_store R.position R.content self.old
-            → reader_is_sound R.has_store R.position R.content self.new }
-        ensures asks { R.is_metered (reader_inner self.old) → R.is_filling (reader_inner self.old)
-            → R.is_metered (reader_inner self.new) × (R.cost (reader_inner self.new)
-            ≡ R.cost (reader_inner self.old) + exact_reads (length buf.old)
-            (length (reader_held self.old)) (length (reader_events R.events self.old))) }
-        ensures left { R.is_filling (reader_inner self.old) → R.is_filling (reader_inner self.new)
-            × (length (reader_held self.new) ≡ exact_left S (length buf.old)
-            (length (reader_held self.old)) (length (reader_events R.events self.old)))
-            × (length (reader_events R.events self.new)
-            ≡ length (reader_events R.events self.old) - length buf.old) }
+        ensures { ReadsExactAnew R.tells R.events R.turns R.has_store R.position R.content R.is_metered
+            R.cost R.is_filling self.old (length buf.old) result buf.new self.new }
     {
         let mut at = self.give(buf);
         'reads: while at < buf.len() {
@@ -116,26 +63,8 @@ impl<R: Read, const S: usize> BufReader<R, S> {
     #[inline(always)]
     fn read_exact_slowly(&mut self, buf: &mut [u8]) -> Result<()>
         requires { length (reader_held self.old) < length buf.old }
-        ensures told { R.tells (reader_inner self.old) → R.tells (reader_inner self.new)
-            × ReadsExact ⊥ (reader_events R.events self.old) result buf.new (reader_events R.events self.new) }
-        ensures fault { IfErr result IsFault }
-        ensures turns { reader_turns R.turns self.new ≤ reader_turns R.turns self.old }
-        ensures store { reader_has_store R.has_store R.position R.content self.old
-            → reader_has_store R.has_store R.position R.content self.new
-            × (R.content (reader_inner self.new) ≡ R.content (reader_inner self.old))
-            × (reader_position R.position self.new + length (reader_events R.events self.new)
-            ≡ reader_position R.position self.old + length (reader_events R.events self.old)) }
-        ensures sound { reader_is_sound R.has_store R.position R.content self.old
-            → reader_is_sound R.has_store R.position R.content self.new }
-        ensures asks { R.is_metered (reader_inner self.old) → R.is_filling (reader_inner self.old)
-            → R.is_metered (reader_inner self.new) × (R.cost (reader_inner self.new)
-            ≡ R.cost (reader_inner self.old) + exact_reads (length buf.old)
-            (length (reader_held self.old)) (length (reader_events R.events self.old))) }
-        ensures left { R.is_filling (reader_inner self.old) → R.is_filling (reader_inner self.new)
-            × (length (reader_held self.new) ≡ exact_left S (length buf.old)
-            (length (reader_held self.old)) (length (reader_events R.events self.old)))
-            × (length (reader_events R.events self.new)
-            ≡ length (reader_events R.events self.old) - length buf.old) }
+        ensures { ReadsExactAnew R.tells R.events R.turns R.has_store R.position R.content R.is_metered
+            R.cost R.is_filling self.old (length buf.old) result buf.new self.new }
     {
         self.read_exact_anew(buf)
     }

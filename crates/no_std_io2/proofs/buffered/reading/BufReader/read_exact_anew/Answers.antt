@@ -1,7 +1,9 @@
+-- An exact read past the held bytes: its turns, and its three ends.
 use Rattle.std.proofs.Common.{◌≡◌, ◌-◌, ◌≤◌, length, take, rules, arith, sym, ap, subst, ◌∙◌, le_refl, inl, inr, length-take-le, length-drop}
 use Rattle.std.proofs.lemmas.Slice.{take-put_mid_below}
 use Rattle.no_std_io2_base.proofs.Parts.{take-put_mid}
 use Rattle.no_std_io2_base.proofs.Taken.{taken_read, taken_interruption, taken_fault, moved_read}
+use Rattle.no_std_io2_base.specs.Errors.{IsFault}
 use Rattle.no_std_io2.specs.Reading.{reader_held, reader_inner, reader_events}
 use Rattle.no_std_io2.proofs.Exact.{exact_begins, exact_none, exact_first, exact_read, exact_short, exact_left-end, exact_left-full, taken_first, taken_end, taken_whole, nothing_read, length-events, moved_length, no_bytes, gives_to_come, no_error_behind}
 use Rattle.no_std_io2.proofs.buffered.reading.BufReader.read_exact_anew.Goals as goal
@@ -100,94 +102,85 @@ reads-preserved g c =
       cost = λ m f. absurd (read.gives (c.reads.invariant.filling f).0).1;
     }
 
-pub returns-in-Err-2-clause-told :
-    goal.returns-in-Err-2-clause-told
-returns-in-Err-2-clause-told g c = λ t.
-    let before = c.reads.invariant.told t in
-    let now = c.in-Err.ensures.told before.0 in
-    let long = length-take-le c.reads.at c.reads.buf (omega arith) in
-    (now.0, inl (taken_fault _ _ _ _ _ _ _ before.1 now.1 (search rules) (search (rules, long))))
+pub returns-in-Err-2 : goal.returns-in-Err-2
+returns-in-Err-2 g c =
+    let read = c.in-Err.ensures in
+    let fault : IsFault c.in-Err.e = search rules in
+    record {
+      told = λ t.
+          let before = c.reads.invariant.told t in
+          let now = read.told before.0 in
+          let long = length-take-le c.reads.at c.reads.buf (omega arith) in
+          (now.0, inl (taken_fault _ _ _ _ _ _ _ before.1 now.1 fault (search (rules, long))));
+      fault = fault;
+      no_later = omega (arith, read.turns, c.reads.invariant.turns);
+      store = λ t.
+          let before = c.reads.invariant.store t in
+          let tells = g.met.R.Read.store_tells _ before.0.0 in
+          absurd (no_error_behind _ _ _ _ _ tells.1 (read.told tells.0).1);
+      sound = λ h. read.sound (c.reads.invariant.sound h);
+      asks = λ m f. absurd (read.gives (c.reads.invariant.filling f).0).1;
+      left = λ f. absurd (read.gives (c.reads.invariant.filling f).0).1;
+    }
 
-pub returns-in-Err-2-clause-store :
-    goal.returns-in-Err-2-clause-store
-returns-in-Err-2-clause-store g c = λ t.
-    let before = c.reads.invariant.store t in
-    let tells = g.met.R.Read.store_tells _ before.0.0 in
-    absurd (no_error_behind _ _ _ _ _ tells.1 (c.in-Err.ensures.told tells.0).1)
-
-pub returns-in-Err-2-clause-left :
-    goal.returns-in-Err-2-clause-left
-returns-in-Err-2-clause-left g c = λ f.
-    absurd (c.in-Err.ensures.gives (c.reads.invariant.filling f).0).1
-
-pub returns-in-Err-2-clause-asks :
-    goal.returns-in-Err-2-clause-asks
-returns-in-Err-2-clause-asks g c = λ m f.
-    absurd (c.in-Err.ensures.gives (c.reads.invariant.filling f).0).1
-
-pub returns-in-Ok-eq0-clause-told : goal.returns-in-Ok-eq0-clause-told
-returns-in-Ok-eq0-clause-told g c = λ t.
-    let before = c.reads.invariant.told t in
-    let now = c.in-Ok-eq0.ensures-1.told before.0 in
-    let long = length-take-le c.reads.at c.reads.buf (omega arith) in
-    (now.0, inr (taken_end _ _ _ _ _ c.failed_to_fill.result _ c.in-Ok-eq0.field-0 _ before.1 now.1 (search rules) (omega arith) c.failed_to_fill.ensures (search (rules, long))))
-
-pub returns-in-Ok-eq0-clause-store : goal.returns-in-Ok-eq0-clause-store
-returns-in-Ok-eq0-clause-store g c = λ t.
-    let before = c.reads.invariant.store t in
-    let read = c.in-Ok-eq0.ensures-1 in
-    let now = read.store before.0 in
-    let tells = g.met.R.Read.store_tells _ before.0.0 in
-    (now.0, now.1 ∙ before.1, moved_read _ _ _ _ _ _ _ (omega (arith, read.bound)) (read.told tells.0).1.0 now.2 before.2)
-
-pub returns-in-Ok-eq0-clause-asks : goal.returns-in-Ok-eq0-clause-asks
-returns-in-Ok-eq0-clause-asks g c = λ m f.
-    let old = c.reads.self in
-    let before = c.reads.invariant.cost m f in
-    let so_far = c.reads.invariant.filling f in
-    let now = c.in-Ok-eq0.ensures-1.asks before.0 in
-    let gives = c.in-Ok-eq0.ensures-1.gives so_far.0 in
-    let none = exact_none _ _ _ _ _ _ _ so_far.1 (omega arith) in
-    let come = gives_to_come (length (reader_held old)) (length (g.R.Read.events (reader_inner old))) none in
-    let zero : c.in-Ok-eq0.field-0 ≡ 0 = search rules in
-    let short = exact_short _ _ _ _ _ _ _ so_far.1 (omega arith) (omega (arith, gives.1, come)) (omega (arith, c.requires)) in
-    (now.0, omega (arith, before.1, now.1, none, short))
-
-pub returns-in-Ok-eq0-clause-left : goal.returns-in-Ok-eq0-clause-left
-returns-in-Ok-eq0-clause-left g c = λ f.
+-- the inner reader's end, before the buffer was full
+pub returns-in-Ok-eq0 : goal.returns-in-Ok-eq0
+returns-in-Ok-eq0 g c =
     let old = c.reads.self in
     let read = c.in-Ok-eq0.ensures-1 in
-    let so_far = c.reads.invariant.filling f in
-    let gives = read.gives so_far.0 in
-    let none = exact_none _ _ _ _ _ _ _ so_far.1 (omega arith) in
-    let empty = no_bytes (reader_held old) none in
-    let come = gives_to_come (length (reader_held old)) (length (g.R.Read.events (reader_inner old))) none in
     let zero : c.in-Ok-eq0.field-0 ≡ 0 = search rules in
-    let tells = g.met.R.Read.filling_tells _ so_far.0 in
-    let told = (read.told tells.0).1 in
-    let same = nothing_read _ _ _ _ told zero in
-    let end = told.1 zero (omega arith) in
-    let left = exact_left-end g.row.S _ _ _ _ _ _ (length (reader_held c.read.new.self)) (length c.reads.buf - c.reads.at) so_far.1 (omega arith) (omega (arith, gives.1, come)) (λ h. ap length (read.direct so_far.0 empty (omega arith))) (λ h. omega (arith, read.filled so_far.0 empty (omega arith))) (omega (arith, c.requires)) in
-    (gives.0, left.0, ap length (sym same ∙ end) ∙ left.1)
+    record {
+      told = λ t.
+          let before = c.reads.invariant.told t in
+          let now = read.told before.0 in
+          let long = length-take-le c.reads.at c.reads.buf (omega arith) in
+          (now.0, inr (taken_end _ _ _ _ _ c.failed_to_fill.result _ c.in-Ok-eq0.field-0 _ before.1 now.1 zero (omega arith) c.failed_to_fill.ensures (search (rules, long))));
+      fault = search rules;
+      no_later = omega (arith, read.turns, c.reads.invariant.turns);
+      store = λ t.
+          let before = c.reads.invariant.store t in
+          let now = read.store before.0 in
+          let tells = g.met.R.Read.store_tells _ before.0.0 in
+          (now.0, now.1 ∙ before.1, moved_read _ _ _ _ _ _ _ (omega (arith, read.bound)) (read.told tells.0).1.0 now.2 before.2);
+      sound = λ h. read.sound (c.reads.invariant.sound h);
+      asks = λ m f.
+          let before = c.reads.invariant.cost m f in
+          let so_far = c.reads.invariant.filling f in
+          let now = read.asks before.0 in
+          let gives = read.gives so_far.0 in
+          let none = exact_none _ _ _ _ _ _ _ so_far.1 (omega arith) in
+          let come = gives_to_come (length (reader_held old)) (length (g.R.Read.events (reader_inner old))) none in
+          let short = exact_short _ _ _ _ _ _ _ so_far.1 (omega arith) (omega (arith, gives.1, come, zero)) (omega (arith, c.requires)) in
+          (now.0, omega (arith, before.1, now.1, none, short));
+      left = λ f.
+          let so_far = c.reads.invariant.filling f in
+          let gives = read.gives so_far.0 in
+          let none = exact_none _ _ _ _ _ _ _ so_far.1 (omega arith) in
+          let empty = no_bytes (reader_held old) none in
+          let come = gives_to_come (length (reader_held old)) (length (g.R.Read.events (reader_inner old))) none in
+          let tells = g.met.R.Read.filling_tells _ so_far.0 in
+          let told = (read.told tells.0).1 in
+          let end = told.1 zero (omega arith) in
+          let held = length (reader_held c.read.new.self) in
+          let left = exact_left-end g.row.S _ _ _ _ _ _ held (length c.reads.buf - c.reads.at) so_far.1 (omega arith)
+              (omega (arith, gives.1, come, zero)) (λ h. ap length (read.direct so_far.0 empty (omega arith)))
+              (λ h. omega (arith, read.filled so_far.0 empty (omega arith), zero)) (omega (arith, c.requires)) in
+          (gives.0, left.0, ap length (sym (nothing_read _ _ _ _ told zero) ∙ end) ∙ left.1);
+    }
 
-pub returns-clause-told : goal.returns-clause-told
-returns-clause-told g c = λ t.
-    let now = c.reads.invariant.told t in
-    (now.0, taken_whole _ _ c.reads.at c.reads.buf _ now.1 (omega arith) (omega arith))
-
-pub returns-clause-left : goal.returns-clause-left
-returns-clause-left g c = λ f.
-    let now = c.reads.invariant.filling f in
-    let all = length-events (reader_held c.reads.self) (g.R.Read.events (reader_inner c.reads.self)) in
-    let left = exact_left-full _ _ _ _ _ _ _ (length (reader_events g.R.Read.events c.reads.self)) now.1 (omega arith) (omega (arith, c.requires)) all in
-    (now.0, left.0, left.1)
-
-pub returns-in-Ok-eq0-clause-sound : goal.returns-in-Ok-eq0-clause-sound
-returns-in-Ok-eq0-clause-sound g c = λ h. c.in-Ok-eq0.ensures-1.sound (c.reads.invariant.sound h)
-
-pub returns-in-Err-2-clause-sound :
-    goal.returns-in-Err-2-clause-sound
-returns-in-Err-2-clause-sound g c = λ h. c.in-Err.ensures.sound (c.reads.invariant.sound h)
-
-pub returns-clause-sound : goal.returns-clause-sound
-returns-clause-sound g c = c.reads.invariant.sound
+pub returns : goal.returns
+returns g c =
+    let all = c.reads.invariant in
+    record {
+      told = λ t. let now = all.told t in (now.0, taken_whole _ _ c.reads.at c.reads.buf _ now.1 (omega arith) (omega arith));
+      fault = tt;
+      no_later = all.turns;
+      store = all.store;
+      sound = all.sound;
+      asks = search rules;
+      left = λ f.
+          let now = all.filling f in
+          let to_come = length-events (reader_held c.reads.self) (g.R.Read.events (reader_inner c.reads.self)) in
+          let left = exact_left-full _ _ _ _ _ _ _ (length (reader_events g.R.Read.events c.reads.self)) now.1 (omega arith) (omega (arith, c.requires)) to_come in
+          (now.0, left.0, left.1);
+    }
