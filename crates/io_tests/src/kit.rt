@@ -10,4 +10,5 @@ pub mod recorder;
 pub mod rows;
 pub mod runs;
 pub mod slices;
+pub mod texts;
 pub mod writers;

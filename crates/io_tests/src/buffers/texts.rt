@@ -1,4 +1,5 @@
 // What buffers print and tell of themselves, and the example of README.md.
+use crate::kit::texts::debug_text;
 use no_std_io2::buffered::{BufReader, BufWriter, LineWriter};
 use no_std_io2_base::error::Result;
 use no_std_io2_base::traits::{BufRead, Write};
@@ -40,7 +41,7 @@ fn the_debug_text_of_a_refusal_shows_writer_and_error(
     let Err(e) = w.into_inner() else {
         panic!(rt; "sent");
     };
-    let text = format!(in rt.alloc(); "{e:?}")?;
+    let text = debug_text(rt.alloc(), &e)?;
     let want = concat!(
         "IntoInnerError { writer: BufWriter { writer: Full, buffer: 2/8 }, ",
         "error: Error { kind: WriteZero, text: Some(\"failed to write the buffered data\") } }",
@@ -53,7 +54,7 @@ fn the_debug_text_of_a_refusal_shows_writer_and_error(
 fn debug_shows_how_many_bytes_are_held(rt: HostRuntime) -> std::result::Result<(), Fail> {
     let mut w = BufWriter::<Vec<u8>, 8>::new(Vec::new(rt.alloc()));
     w.write_all(b"abc")?;
-    let text = format!(in rt.alloc(); "{w:?}")?;
+    let text = debug_text(rt.alloc(), &w)?;
     assert!(rt; text.as_str().contains("BufWriter"));
     assert!(rt; text.as_str().contains("3/8"));
     Ok(())
@@ -63,7 +64,7 @@ fn debug_shows_how_many_bytes_are_held(rt: HostRuntime) -> std::result::Result<(
 fn a_line_writer_shows_how_much_is_held(rt: HostRuntime) -> std::result::Result<(), Fail> {
     let mut w: LineWriter<Vec<u8>, 8> = LineWriter::new(Vec::new(rt.alloc()));
     w.write_all(b"abc")?;
-    let text = format!(in rt.alloc(); "{w:?}")?;
+    let text = debug_text(rt.alloc(), &w)?;
     assert!(rt; text.contains("3/8"));
     Ok(())
 }
@@ -72,7 +73,7 @@ fn a_line_writer_shows_how_much_is_held(rt: HostRuntime) -> std::result::Result<
 fn a_buffered_reader_shows_how_much_it_holds(rt: HostRuntime) -> std::result::Result<(), Fail> {
     let mut r: BufReader<&[u8], 4> = BufReader::new(b"abc");
     r.fill_buf()?;
-    let shown = format!(in rt.alloc(); "{r:?}")?;
+    let shown = debug_text(rt.alloc(), &r)?;
     assert!(rt; shown.contains("3/4"), "{shown}");
     Ok(())
 }

@@ -1,4 +1,5 @@
 // Devices by themselves.
+use crate::kit::texts::debug_text;
 use super::writers::Closed;
 use io_bench::{Act, Faulty, Sink, Tally};
 use no_std_io2::io::{ErrorKind, Write};
@@ -88,7 +89,7 @@ fn two_bytes_a_write(rt: HostRuntime) -> Answer {
 fn the_debug_text_of_a_tally(rt: HostRuntime) -> Answer {
     let mut w = Tally::new(Vec::new(rt.alloc()));
     w.write_all(b"a")?;
-    let text = format!(in rt.alloc(); "{w:?}")?;
+    let text = debug_text(rt.alloc(), &w)?;
     assert_eq!(rt; text.as_str(), "Tally { inner: [97], writes: 1, reads: 0 }");
     Ok(())
 }

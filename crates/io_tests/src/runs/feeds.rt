@@ -1,4 +1,5 @@
 // Readers over a feed, and counted reads.
+use crate::kit::texts::debug_text;
 use io_bench::{Event, Feed, Tally};
 use no_std_io2::io::{ErrorKind, Read};
 use std::alloc::{AllocError, Global};
@@ -144,7 +145,7 @@ fn a_tally_counts_reads_with_room(rt: HostRuntime) -> Answer {
 fn the_debug_text_of_a_feed(rt: HostRuntime) -> Answer {
     let events = vec![in rt.alloc(); Event::Byte(b'a'), Event::Fail(ErrorKind::BrokenPipe)]?;
     let feed = Feed::new(events, 4);
-    let text = format!(in rt.alloc(); "{feed:?}")?;
+    let text = debug_text(rt.alloc(), &feed)?;
     let want = "Feed { events: [Byte(97), Fail(BrokenPipe)], at: 0, piece: 4 }";
     assert_eq!(rt; text.as_str(), want);
     Ok(())

@@ -2,6 +2,7 @@
 //
 // A row is a call, its answer, the bytes that it gave (dots where nothing was written), the limit where
 // there is one, and the calls that reached the devices.
+use crate::kit::texts::debug_text;
 use crate::kit::readers::{Reading, Singles};
 use crate::kit::recorder::Recorder;
 use crate::kit::rows::play;
@@ -229,7 +230,7 @@ fn the_debug_text_of_a_chain(rt: HostRuntime) -> std::result::Result<(), Fail> {
     let first: &[u8] = b"A";
     let second: &[u8] = b"B";
     let r = first.chain(second);
-    let text = format!(in rt.alloc(); "{r:?}")?;
+    let text = debug_text(rt.alloc(), &r)?;
     let want = "Chain { first: [65], second: [66], done_first: false }";
     assert_eq!(rt; text.as_str(), want);
     Ok(())
@@ -239,7 +240,7 @@ fn the_debug_text_of_a_chain(rt: HostRuntime) -> std::result::Result<(), Fail> {
 fn the_debug_text_of_a_limited_reader(rt: HostRuntime) -> std::result::Result<(), Fail> {
     let all: &[u8] = b"A";
     let r = all.take(2);
-    let text = format!(in rt.alloc(); "{r:?}")?;
+    let text = debug_text(rt.alloc(), &r)?;
     assert_eq!(rt; text.as_str(), "Take { inner: [65], limit: 2 }");
     Ok(())
 }

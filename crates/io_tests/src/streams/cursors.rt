@@ -1,4 +1,5 @@
 // Cursors as values, and what they stand on.
+use crate::kit::texts::debug_text;
 use no_std_io2_base::cursor::{AsSlice, Cursor};
 use no_std_io2_base::traits::Write;
 use std::test::Fail;
@@ -61,7 +62,7 @@ fn each_content_lends_its_bytes(rt: HostRuntime) -> std::result::Result<(), Fail
 #[test]
 fn it_prints_content_and_position(rt: HostRuntime) -> std::result::Result<(), Fail> {
     let c = Cursor::new([1u8]);
-    let text = format!(in rt.alloc(); "{c:?}")?;
+    let text = debug_text(rt.alloc(), &c)?;
     assert_eq!(rt; text.as_str(), "Cursor { inner: [1], pos: 0 }");
     Ok(())
 }

@@ -1,3 +1,4 @@
+use crate::kit::texts::{debug_text, display_text};
 use no_std_io2_base::error::{Error, ErrorKind};
 use std::alloc::Global;
 use std::collections::BTreeSet;
@@ -36,7 +37,7 @@ fn each_kind_prints_its_text(rt: HostRuntime) -> std::result::Result<(), Fail> {
         let error = Error::from(kind);
         assert_eq!(rt; error.kind(), kind);
         assert!(rt; error.get_ref().is_none());
-        let printed = format!(in rt.alloc(); "{error}")?;
+        let printed = display_text(rt.alloc(), &error)?;
         assert_eq!(rt; printed.as_str(), text);
         assert!(rt; error.into_inner().is_none());
     }
@@ -84,12 +85,12 @@ fn an_error_keeps_its_text(rt: HostRuntime) -> std::result::Result<(), Fail> {
     let error = Error::other("error!");
     assert_eq!(rt; error.kind(), ErrorKind::Other);
     assert_eq!(rt; error.get_ref().copied(), Some("error!"));
-    let printed = format!(in rt.alloc(); "{error}")?;
+    let printed = display_text(rt.alloc(), &error)?;
     assert_eq!(rt; printed.as_str(), "error!");
     assert_eq!(rt; error.into_inner(), Some("error!"));
     let error = Error::new(ErrorKind::BrokenPipe, "the far side left");
     assert_eq!(rt; error.kind(), ErrorKind::BrokenPipe);
-    let printed = format!(in rt.alloc(); "{error}")?;
+    let printed = display_text(rt.alloc(), &error)?;
     assert_eq!(rt; printed.as_str(), "the far side left");
     Ok(())
 }
@@ -97,18 +98,18 @@ fn an_error_keeps_its_text(rt: HostRuntime) -> std::result::Result<(), Fail> {
 #[test]
 fn the_debug_text_names_kind_and_text(rt: HostRuntime) -> std::result::Result<(), Fail> {
     let error = Error::new(ErrorKind::BrokenPipe, "the far side left");
-    let shown = format!(in rt.alloc(); "{error:?}")?;
+    let shown = debug_text(rt.alloc(), &error)?;
     assert!(rt; shown.contains("BrokenPipe"));
     assert!(rt; shown.contains("the far side left"));
     let kind = ErrorKind::TimedOut;
-    let shown = format!(in rt.alloc(); "{kind:?}")?;
+    let shown = debug_text(rt.alloc(), &kind)?;
     assert_eq!(rt; shown.as_str(), "TimedOut");
     Ok(())
 }
 
 // Through its bound alone.
 fn shown<E: std::error::Error>(alloc: Global, error: &E) -> std::result::Result<String, Fail> {
-    Ok(format!(in alloc; "{error}")?)
+    Ok(display_text(alloc, error)?)
 }
 
 #[test]

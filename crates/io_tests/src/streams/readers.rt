@@ -1,4 +1,5 @@
 // What any reader does.
+use crate::kit::texts::debug_text;
 use no_std_io2_base::traits::Read;
 use std::test::Fail;
 
@@ -20,7 +21,7 @@ fn two_halves_of_a_mebibyte_are_the_whole(rt: HostRuntime) -> std::result::Resul
 fn the_debug_text_of_single_bytes(rt: HostRuntime) -> std::result::Result<(), Fail> {
     let all: &[u8] = b"A";
     let r = all.bytes();
-    let text = format!(in rt.alloc(); "{r:?}")?;
+    let text = debug_text(rt.alloc(), &r)?;
     assert_eq!(rt; text.as_str(), "Bytes { inner: [65] }");
     Ok(())
 }
