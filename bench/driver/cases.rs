@@ -63,7 +63,26 @@ macro_rules! case {
     };
 }
 
+// The same, for a call that the original crate lacks.
+macro_rules! case_of_two {
+    ($name:expr, $calls:expr, $function:ident $(::<$size:literal>)? ($argument:expr)) => {
+        Case {
+            name: $name,
+            calls: $calls,
+            runs: vec![
+                Some(Box::new(move |calls| crate::ours::$function $(::<$size>)? ($argument, calls))),
+                Some(Box::new(move |calls| crate::std_side::$function $(::<$size>)? ($argument, calls))),
+                #[cfg(original)]
+                None,
+            ],
+        }
+    };
+}
+
 const SMALL: u64 = 1 << 16;
+
+// Lines can be long.
+const PIECES: u64 = 1 << 13;
 
 const MEBIBYTE: usize = 1 << 20;
 
@@ -73,6 +92,8 @@ pub fn all() -> Vec<Case> {
     add_writers(&mut cases);
     add_lines(&mut cases);
     add_readers(&mut cases);
+    add_pieces(&mut cases);
+    add_moves(&mut cases);
     add_whole(&mut cases);
     add_rest(&mut cases);
     cases
@@ -123,6 +144,38 @@ fn add_readers(cases: &mut Vec<Case>) {
     }
     add!("read", read, 64 1024 8192);
     add!("read_exact", read_exact, 64 1024 8192);
+}
+
+// As many lines as the longer of two runs reads, each of so many bytes and a newline.
+fn lines_of(len: usize) -> &'static [u8] {
+    let letter = |at: usize| b'a' + source()[at] % 26;
+    let line = |at: usize| (0..len).map(move |of| letter(at + of)).chain([b'\n']);
+    Vec::leak((0..2 * PIECES as usize).flat_map(line).collect())
+}
+
+fn add_pieces(cases: &mut Vec<Case>) {
+    macro_rules! add {
+        ($of:literal, $len:expr, $text:expr, $read_until:ident, $lines:ident $(, $size:literal)?) => {
+            let name = |call: &str| format!("{}, `{call}` of {} bytes", $of, $len);
+            cases.push(case_of_two!(name("read_until"), PIECES, $read_until $(::<$size>)? ($text)));
+            cases.push(case_of_two!(name("lines"), PIECES, $lines $(::<$size>)? ($text)));
+        };
+    }
+    for len in [1, 16, 80, 1000] {
+        let text = lines_of(len);
+        add!("a slice", len, text, read_until_slice, lines_slice);
+        add!("a cursor", len, text, read_until_cursor, lines_cursor);
+        add!("`BufReader` 64", len, text, read_until_buffered, lines_buffered, 64);
+        add!("`BufReader` 1024", len, text, read_until_buffered, lines_buffered, 1024);
+        add!("`BufReader` 8192", len, text, read_until_buffered, lines_buffered, 8192);
+    }
+}
+
+fn add_moves(cases: &mut Vec<Case>) {
+    let name = String::from("`BufReader` 1024, `seek_relative` of 3 and `read_exact` of 8");
+    cases.push(case_of_two!(name, SMALL, moves(source())));
+    let name = String::from("`Cursor`, `stream_len`");
+    cases.push(case_of_two!(name, SMALL, stream_len(source())));
 }
 
 fn add_whole(cases: &mut Vec<Case>) {

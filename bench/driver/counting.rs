@@ -46,9 +46,9 @@ pub fn count_below_callgrind(cases: &[Case]) {
     }
 }
 
-/// Runs this program below callgrind, and gives for each case the instructions a call on each side
+/// Runs this program below callgrind on the cases of this word, and gives for each case the instructions a call on each side
 /// that it has.
-pub fn count(cases: &[Case]) -> Result<Vec<Vec<Option<f64>>>, String> {
+pub fn count(cases: &[Case], word: &str) -> Result<Vec<Vec<Option<f64>>>, String> {
     let program = std::env::current_exe().map_err(|error| error.to_string())?;
     let folder = program.with_file_name("callgrind");
     let _ = fs::remove_dir_all(&folder);
@@ -57,7 +57,7 @@ pub fn count(cases: &[Case]) -> Result<Vec<Vec<Option<f64>>>, String> {
         .arg("--tool=callgrind")
         .arg(format!("--callgrind-out-file={}/out", folder.display()))
         .arg(&program)
-        .arg("count")
+        .args([word, "count"])
         // Callgrind counts each byte of a `rep movsb` as an instruction, so no copy is to use it.
         .env("GLIBC_TUNABLES", "glibc.cpu.hwcaps=-ERMS")
         .stderr(Stdio::null())

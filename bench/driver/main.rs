@@ -1,7 +1,10 @@
 //! Times this library's streams, Rust's standard ones and those of the original crate on the same
 //! work, and counts their instructions. Prints one table.
 //!
-//! `driver` alone runs everything; `driver count` is what it runs below `callgrind`.
+//! `driver WORD` runs the cases in whose names it stands, and `driver` alone all; with `count` behind the word, or
+//! behind an empty one, it is what it runs below `callgrind`.
+#![feature(seek_stream_len)]
+
 mod cases;
 mod counting;
 mod ours;
@@ -17,8 +20,10 @@ mod std_side;
 use std::process::ExitCode;
 
 fn main() -> ExitCode {
-    let cases = cases::all();
-    if std::env::args().nth(1).as_deref() == Some("count") {
+    let word = std::env::args().nth(1).unwrap_or_default();
+    let mut cases = cases::all();
+    cases.retain(|case| case.name.contains(&word));
+    if std::env::args().nth(2).as_deref() == Some("count") {
         counting::count_below_callgrind(&cases);
         return ExitCode::SUCCESS;
     }
@@ -29,7 +34,7 @@ fn main() -> ExitCode {
         }
     }
     let times = timing::time(&cases);
-    match counting::count(&cases) {
+    match counting::count(&cases, &word) {
         Ok(counts) => {
             table::print(&cases, &times, &counts);
             ExitCode::SUCCESS

@@ -46,6 +46,23 @@ unsafe extern "C" {
     fn speed_read_exact_8192(s: *const u8, len: usize, room: *mut u8, most: usize, n: u64) -> u64;
 }
 
+type Pieces = unsafe extern "C" fn(*const u8, usize, u64) -> u64;
+
+unsafe extern "C" {
+    fn speed_read_until_slice(text: *const u8, len: usize, calls: u64) -> u64;
+    fn speed_read_until_cursor(text: *const u8, len: usize, calls: u64) -> u64;
+    fn speed_read_until_64(text: *const u8, len: usize, calls: u64) -> u64;
+    fn speed_read_until_1024(text: *const u8, len: usize, calls: u64) -> u64;
+    fn speed_read_until_8192(text: *const u8, len: usize, calls: u64) -> u64;
+    fn speed_lines_slice(text: *const u8, len: usize, calls: u64) -> u64;
+    fn speed_lines_cursor(text: *const u8, len: usize, calls: u64) -> u64;
+    fn speed_lines_of_64(text: *const u8, len: usize, calls: u64) -> u64;
+    fn speed_lines_of_1024(text: *const u8, len: usize, calls: u64) -> u64;
+    fn speed_lines_of_8192(text: *const u8, len: usize, calls: u64) -> u64;
+    fn speed_moves_1024(source: *const u8, len: usize, calls: u64) -> u64;
+    fn speed_stream_len(source: *const u8, len: usize, calls: u64) -> u64;
+}
+
 // Each call below passes a pointer and the length of the slice that it comes from.
 
 pub fn write_to_sink<const S: usize>(piece: &[u8], calls: u64) -> u64 {
@@ -158,4 +175,50 @@ pub fn cursor_overwrites(len: usize, piece: &[u8], calls: u64) -> u64 {
 
 pub fn boxed_tower(piece: &[u8], calls: u64) -> u64 {
     unsafe { speed_boxed_tower(piece.as_ptr(), piece.len(), calls) }
+}
+
+fn run_pieces(run: Pieces, text: &[u8], calls: u64) -> u64 {
+    unsafe { run(text.as_ptr(), text.len(), calls) }
+}
+
+pub fn read_until_slice(text: &[u8], calls: u64) -> u64 {
+    run_pieces(speed_read_until_slice, text, calls)
+}
+
+pub fn lines_slice(text: &[u8], calls: u64) -> u64 {
+    run_pieces(speed_lines_slice, text, calls)
+}
+
+pub fn read_until_cursor(text: &[u8], calls: u64) -> u64 {
+    run_pieces(speed_read_until_cursor, text, calls)
+}
+
+pub fn lines_cursor(text: &[u8], calls: u64) -> u64 {
+    run_pieces(speed_lines_cursor, text, calls)
+}
+
+pub fn read_until_buffered<const S: usize>(text: &[u8], calls: u64) -> u64 {
+    let run: Pieces = match S {
+        64 => speed_read_until_64,
+        1024 => speed_read_until_1024,
+        _ => speed_read_until_8192,
+    };
+    run_pieces(run, text, calls)
+}
+
+pub fn lines_buffered<const S: usize>(text: &[u8], calls: u64) -> u64 {
+    let run: Pieces = match S {
+        64 => speed_lines_of_64,
+        1024 => speed_lines_of_1024,
+        _ => speed_lines_of_8192,
+    };
+    run_pieces(run, text, calls)
+}
+
+pub fn moves(source: &[u8], calls: u64) -> u64 {
+    run_pieces(speed_moves_1024, source, calls)
+}
+
+pub fn stream_len(source: &[u8], calls: u64) -> u64 {
+    run_pieces(speed_stream_len, source, calls)
 }

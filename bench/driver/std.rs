@@ -1,7 +1,7 @@
 //! The streams of Rust's standard library.
 mod streams {
     use std::io::{BufReader, BufWriter, LineWriter};
-    pub use std::io::{Cursor, Read, Result, Write};
+    pub use std::io::{BufRead, Cursor, Read, Result, Seek, Write};
 
     pub fn buffered_writer<W: Write, const S: usize>(inner: W) -> BufWriter<W> {
         BufWriter::with_capacity(S, inner)
@@ -23,5 +23,8 @@ mod streams {
 
 #[path = "loops.rs"]
 mod loops;
+#[path = "pieces.rs"]
+mod pieces;
 
 pub use loops::*;
+pub use pieces::*;

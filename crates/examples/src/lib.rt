@@ -7,6 +7,8 @@ ghost use Rattle.no_std_io2.specs.Fits.{BufWriterFits};
 
 use no_std_io2::io::{BufWriter, Result, Write};
 
+pub mod records;
+
 /// Writes a text through a buffer of 64 bytes, and gives the device back with every byte out.
 pub fn save(device: Vec<u8>, text: &[u8]) -> Result<Vec<u8>>
     ensures { IfOk result (λ out. out.items ≡ device.items ++ text.now) }

@@ -1,8 +1,10 @@
 // Buffered writers and readers, and copies.
 mod boxed;
 mod copies;
+mod lengths;
 mod lent;
 mod lines;
+mod moves;
 mod over_cursors;
 mod readers;
 mod seeks;

@@ -4,6 +4,7 @@ pub mod cursors;
 pub mod journal;
 pub mod kinds;
 pub mod line;
+pub mod moves;
 pub mod outcomes;
 pub mod readers;
 pub mod recorder;

@@ -9,7 +9,7 @@ ghost use Rattle.iotower.specs.Play.{Shows, IsPlay, Writes, fresh_told};
 
 use crate::report::report_of;
 use crate::script::Script;
-use io_bench::{Act, Faulty, Op, run_split, run_writes};
+use io_bench::{Act, Faulty, Op, run_writes};
 use no_std_io2::io::{BufRead, BufReader, BufWriter, Error, LineWriter, Read, Result, Write};
 use std::alloc::Global;
 use std::fmt;
@@ -131,9 +131,7 @@ pub fn play<R: Read + Drop, W: Write + Drop>(
     ensures ok { IfOk result (λ w. Writes IsPlay (W.told output) (W.told w)) }
 {
     let reader = BufReader::<R, INPUT_ROOM>::new(input);
-    let mut lines = Vec::new(alloc);
-    run_split(reader.split(alloc, b'\n'), &mut lines)?;
-    let Script { acts, calls } = Script::parse(alloc, &lines)?;
+    let Script { acts, calls } = Script::read(alloc, reader.split(alloc, b'\n'))?;
     let ops = calls.ops(alloc)?;
     let report = play_ops(alloc, acts, &ops, shape)?;
     output.write_all(&report)?;

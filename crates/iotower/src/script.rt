@@ -6,7 +6,7 @@ ghost use Rattle.no_std_io2_base.specs.declared.error.ErrorKind.{ErrorKind as Ki
 
 use crate::play::Fault;
 use io_bench::{Act, Op};
-use no_std_io2::io::{Error, ErrorKind, Result};
+use no_std_io2::io::{BufRead, Error, ErrorKind, Result, Split};
 use std::alloc::Global;
 
 /// What a line of a script says. Its text is still escaped.
@@ -44,11 +44,15 @@ pub struct Calls {
 }
 
 impl Script {
-    /// Reads a script by its lines, which are numbered from 1.
+    /// Reads a script by its lines, which are numbered from 1. A line is kept no longer than it takes to read it,
+    /// and all are read before a bad one is told.
     ///
     /// # Errors
-    /// The first bad line, by its number, or `OutOfMemory`.
-    pub fn parse(alloc: Global, lines: &[Vec<u8>]) -> std::result::Result<Script, Fault> {
+    /// A fault of the reader, or `OutOfMemory`; else the first bad line, by its number.
+    pub fn read<R: BufRead + Drop>(
+        alloc: Global,
+        lines: Split<R>,
+    ) -> std::result::Result<Script, Fault> {
         let mut script = Script {
             acts: Vec::new(alloc),
             calls: Calls {
@@ -57,13 +61,18 @@ impl Script {
             },
         };
         let mut number = 0u64;
+        let mut bad = None;
         'lines: for line in lines {
+            let line = line?;
             number = number.saturating_add(1);
-            if !script.add_line(line)? {
-                return Err(Fault::Line(number));
+            if bad.is_none() && !script.add_line(&line)? {
+                bad = Some(number);
             }
         }
-        Ok(script)
+        match bad {
+            Some(number) => Err(Fault::Line(number)),
+            None => Ok(script),
+        }
     }
 
     // `false` where the line is bad.

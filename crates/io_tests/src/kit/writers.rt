@@ -191,6 +191,7 @@ pub fn make_seek<S: Seek>(s: &mut S, call: &Call, line: &mut Line) -> Made<bool>
         },
         "stream_position" => line.position(&s.stream_position())?,
         "rewind" => line.done(&s.rewind())?,
+        "stream_len" => line.position(&s.stream_len())?,
         _ => return Ok(false),
     }
     Ok(true)

@@ -1,5 +1,6 @@
 // What the calls that read pieces are made of.
-ghost use Rattle.std.specs.Prelude.{◌≡◌, ◌≢◌, ◌<◌, ◌+◌, ◌++◌, All, length, take, slice_index, IfSome, IfNone, OnOk, OnErr, IfErr, IfOk, IsOk, IsUtf8, vec_len, string_bytes, string_len};
+ghost use Rattle.std.specs.Prelude.{◌≡◌, ◌≢◌, ◌<◌, ◌≤◌, ◌+◌, ◌++◌, false, All, length, take, slice_index, IfSome, IfNone, OnOk, OnErr, IfErr, IfOk, IsOk, IsUtf8, vec_len, string_bytes, string_len};
+ghost use Rattle.std.specs.List.{AllWithin};
 ghost use Rattle.no_std_io2_base.specs.Pieces.{FindsPiece, ends_in, without, line_text};
 ghost use Rattle.no_std_io2_base.specs.PieceItems.{IsInvalidText, AnswersLine};
 ghost use Rattle.no_std_io2_base.specs.Errors.{IsFault, IsOutOfMemory};
@@ -8,13 +9,47 @@ ghost use Rattle.no_std_io2_base.specs.Writes.{IsFront};
 use crate::error::{Error, ErrorKind, Result};
 use std::alloc::Allocator;
 
+// How many bytes are looked at in one step.
+const STEP: usize = 16;
+
+// Whether this byte stands among the next `STEP`. It looks at all of them, so that one comparison of vectors does.
+#[inline(always)]
+fn stands_in_step(bytes: &[u8], at: usize, wanted: u8) -> bool
+    requires { at + 16 ≤ length bytes.now }
+    ensures { result ≡ false → AllWithin (λ b. b ≢ wanted) bytes.now at (at + 16) }
+{
+    let mut stands = false;
+    'bytes: for i in 0..STEP {
+        stands |= bytes[at + i] == wanted;
+    }
+    stands
+}
+
+// Passes over steps without this byte.
+#[inline(always)]
+fn skip_steps(bytes: &[u8], wanted: u8) -> usize
+    ensures within { result ≤ length bytes.now }
+    ensures lacks { AllWithin (λ b. b ≢ wanted) bytes.now 0 result }
+{
+    let mut at = 0;
+    'steps: while bytes.len() - at >= STEP && !stands_in_step(bytes, at, wanted) {
+        at += STEP;
+    }
+    at
+}
+
 // Where this byte stands first.
 fn find_byte(bytes: &[u8], wanted: u8) -> Option<usize>
     ensures some { IfSome result (λ at. (at < length bytes.now) × (slice_index bytes.now at ≡ wanted)
         × All (λ b. b ≢ wanted) (take at bytes.now)) }
     ensures none { IfNone result (All (λ b. b ≢ wanted) bytes.now) }
 {
-    bytes.iter().position(|byte| *byte == wanted)
+    'bytes: for i in skip_steps(bytes, wanted)..bytes.len() {
+        if bytes[i] == wanted {
+            return Some(i);
+        }
+    }
+    None
 }
 
 // How many of the lent bytes belong to a piece, and whether it is whole with them: they end in its

@@ -1,0 +1,38 @@
+-- A header that was read of the buffer and stepped back over.
+use Rattle.std.proofs.Common.{◌≡◌, ℕ, ◌+◌, ◌≤◌, List, [], ◌∷◌, ◌++◌, length, take, drop, get_or, refl, sym, ap, ◌∙◌, arith, append_assoc, length-append, take-append-drop}
+use Rattle.std.proofs.lemmas.List.{length-take-le}
+use Rattle.std.proofs.Math.Seq.{take-append_seam, drop-append_seam, drop-append-add}
+
+-- one list, cut at one place, has the same two parts
+pub same_cut : (a b c d : List ℕ) → a ++ b ≡ c ++ d → length a ≡ length c → (a ≡ c) × (b ≡ d)
+same_cut a b c d whole long = (
+  sym (take-append_seam a b) ∙ ap (take (length a)) whole ∙ ap (λ n. take n (c ++ d)) long ∙ take-append_seam c d,
+  sym (drop-append_seam a b) ∙ ap (drop (length a)) whole ∙ ap (λ n. drop n (c ++ d)) long ∙ drop-append_seam c d,
+)
+
+-- n bytes were given of the held ones, so that as many lie behind
+pub given_behind : (n : ℕ) (behind held header behind1 : List ℕ) → header ≡ take n held → n ≤ length held → behind1 ≡ behind ++ header → length behind1 ≡ length behind + n
+given_behind n behind held header behind1 is enough after =
+    ap length after ∙ length-append behind header ∙ ap (λ m. length behind + m) (ap length is ∙ length-take-le n held enough)
+
+-- n bytes were given of the held ones, and the border went back by as many
+pub stepped_back : (n : ℕ) (behind held header behind1 held1 behind2 held2 : List ℕ) → header ≡ take n held → n ≤ length held → held1 ≡ drop n held
+    → behind1 ≡ behind ++ header → behind2 ++ held2 ≡ behind1 ++ held1 → length behind2 + n ≡ length behind1 → (held2 ≡ held) × (behind2 ≡ behind)
+stepped_back n behind held header behind1 held1 behind2 held2 is enough left after whole back =
+    let joined : behind2 ++ held2 ≡ behind ++ held =
+        whole ∙ ap (λ l. l ++ held1) after ∙ ap (λ l. (behind ++ header) ++ l) left ∙ ap (λ l. (behind ++ l) ++ drop n held) is
+        ∙ append_assoc behind (take n held) (drop n held) ∙ ap (λ l. behind ++ l) (take-append-drop n held) in
+    let cut = same_cut behind2 held2 behind held joined (omega (arith, given_behind n behind held header behind1 is enough after)) in
+    (cut.1, cut.0)
+
+-- the border went on by n
+pub moved_on : (n : ℕ) (behind held behind1 held1 : List ℕ) → behind1 ++ held1 ≡ behind ++ held → length behind1 ≡ length behind + n → held1 ≡ drop n held
+moved_on n behind held behind1 held1 whole on =
+    sym (drop-append_seam behind1 held1) ∙ ap (drop (length behind1)) whole ∙ ap (λ m. drop m (behind ++ held)) on ∙ drop-append-add behind held n
+
+-- the two items of a list of two
+pub both_items : (xs : List ℕ) → length xs ≡ 2 → get_or xs 0 0 ∷ get_or xs 1 0 ∷ [] ≡ xs
+both_items [] long = absurd (omega (arith, long))
+both_items (x ∷ []) long = absurd (omega (arith, long))
+both_items (x ∷ y ∷ []) long = refl
+both_items (x ∷ y ∷ z ∷ xs) long = absurd (omega (arith, long))
