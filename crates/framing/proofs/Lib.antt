@@ -1,0 +1,3 @@
+pub mod EventLemmas
+pub mod SendingLemmas
+pub mod TakingLemmas
