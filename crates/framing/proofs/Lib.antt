@@ -1,3 +1,4 @@
 pub mod EventLemmas
 pub mod SendingLemmas
+pub mod DeliveryLemmas
 pub mod TakingLemmas
