@@ -1,5 +1,6 @@
 -- How bytes and faults of events go with `++`, and what a loan leaves.
-use Rattle.std.proofs.Common.{◌≡◌, ℕ, ◌<◌, ◌==◌, arith, length, Bool, false, Bor, List, [], ◌∷◌, ◌++◌, take, Result, Ok, Err, refl, sym, ap, ◌∙◌, subst}
+use Rattle.std.proofs.Common.{◌≡◌, ℕ, ◌<◌, ◌==◌, arith, length, Bool, true, false, Bor, List, [], ◌∷◌, ◌++◌, take, Result, Ok, Err, refl, sym, ap, ◌∙◌, subst}
+use Rattle.std.proofs.lemmas.Bool.Decides.{nat_tests}
 use Rattle.no_std_io2.specs.declared.io.Error.{Error}
 use Rattle.no_std_io2.specs.Errors.{is_interruption, IsFault, IsOutOfMemory}
 use Rattle.no_std_io2.specs.Events.{Event, byte, fails, events_of, bytes, HasNoFault}
@@ -52,5 +53,10 @@ memory_fault e refused = ap is_interruption refused.0
 
 -- what was lent is some
 pub some_lent : (bs : List ℕ) (b : Bool) → b ≡ (length bs == 0) → b ≡ false → 0 < length bs
-some_lent [] b e h = let no : ⊥ = cc in absurd no
+some_lent [] b e h = let no : ⊥ = grind (arith, nat_tests) in absurd no
 some_lent (x ∷ bs) b e h = omega arith
+
+-- what is none
+pub none_of : (bs : List ℕ) (b : Bool) → b ≡ (length bs == 0) → b ≡ true → bs ≡ []
+none_of [] b e h = refl
+none_of (x ∷ bs) b e h = let no : ⊥ = grind (arith, nat_tests) in absurd no

@@ -2,3 +2,6 @@ pub mod EventLemmas
 pub mod SendingLemmas
 pub mod DeliveryLemmas
 pub mod TakingLemmas
+pub mod FrameLemmas
+pub mod RunLemmas
+pub mod RoundTrip

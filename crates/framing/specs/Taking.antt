@@ -50,7 +50,7 @@ pub record IsTooLong (limit : ℕ) (E : List Event) (e : Error) (after : List Ev
   pub rest : List Event
   pub passes : Passes E seen rest
   pub kept : after ≡ events_of seen ++ rest
-  pub header : length seen ≡ 4
+  pub header : 4 ≤ length seen
   pub above : limit < told_length seen
   pub kind : error_kind e ≡ InvalidData
 

@@ -131,6 +131,8 @@ impl<R: Read, const S: usize> FrameReader<R, S> {
         ensures limit { most self.new ≡ most self.old }
         ensures fault { IfErr result IsFault }
     {
+        // Read here so that its range is known.
+        let _limit = self.limit;
         'frames: loop {
             payloads.reserve(1)?;
             match self.next()? {
