@@ -9,7 +9,7 @@ use Rattle.no_std_io2.specs.declared.io.Error.{Error}
 use Rattle.no_std_io2.specs.Errors.{IsOutOfMemory}
 use Rattle.no_std_io2.specs.Events.{Event, bytes}
 use Rattle.framing.specs.Frames.{frame, frames, told_length, IsPart}
-use Rattle.framing.specs.Taking.{Passes, PassesFrames, TakesNone, TakesFrames, ComesBack, IsFirstFault}
+use Rattle.framing.specs.Taking.{TakesNone, TakesFrames, ComesBack, IsFirstFault}
 use Rattle.framing.proofs.TakingLemmas.{passes_then}
 use Rattle.framing.proofs.FrameLemmas.{bytes_passed, none_lost}
 
