@@ -1,4 +1,5 @@
-//! The tests of `no_std_io2_base` (`streams`), of `no_std_io2` (`buffers`) and of `io_bench` (`runs`).
+//! The tests of `no_std_io2_base` (`streams`), of `no_std_io2` (`buffers`), of `io_bench` (`runs`) and of
+//! `system_streams` (`system`).
 //!
 //! They stand in a crate of their own, as Rust's integration tests do, since a check with tests
 //! proves the crate that they stand in once more. Most of them are rows of tables: a line of text is a
@@ -13,3 +14,5 @@ mod kit;
 mod runs;
 #[cfg(test)]
 mod streams;
+#[cfg(test)]
+mod system;

@@ -21,12 +21,12 @@ use denote.Triple.Entry.{on_entry}
 use denote.Triple.Spec.{Meets, triple_of}
 use denote.Triple.Table.{entered}
 use denote.Triple.Walked.{says, ends_at, walked, walk_Meets}
-use Rattle.io_bench.specs.declared.trace.Trace.{Trace}
-use Rattle.io_bench.specs.contracts.trace.Trace as T
-use Rattle.io_bench.specs.contracts.trace.Trace.new.Key.{name as #it}
-use Rattle.io_bench.specs.contracts.trace.Trace.new as it
-use Rattle.io_bench.proofs.trace.Trace.new.Statement as stated
-use Rattle.io_bench.proofs.trace.Trace.new.Code as code
+use Rattle.no_std_io2.specs.declared.trace.Trace.{Trace}
+use Rattle.no_std_io2.specs.contracts.trace.Trace as T
+use Rattle.no_std_io2.specs.contracts.trace.Trace.new.Key.{name as #it}
+use Rattle.no_std_io2.specs.contracts.trace.Trace.new as it
+use Rattle.no_std_io2.proofs.trace.Trace.new.Statement as stated
+use Rattle.no_std_io2.proofs.trace.Trace.new.Code as code
 
 abbrev v : Val
 v = vstruct (vcons (vstruct vnil) vnil)

@@ -1,14 +1,14 @@
 -- A copy, piece by piece.
 use Rattle.std.proofs.Common.{◌≡◌, ℕ, List, [], ◌∷◌, ◌++◌, sym, ap, ◌∙◌, subst, arith, rules, Ok, Err, Result, Some, IsOk, IfErr, append-nil, append_assoc, inl, inr, ◌⊎◌}
-use Rattle.no_std_io2_base.specs.declared.error.Error.{Error}
-use Rattle.no_std_io2_base.specs.Errors.{error_kind, IsInterruption, IsFault}
-use Rattle.no_std_io2_base.specs.Events.{Event, byte, fails, bytes, HasNoFault}
-use Rattle.no_std_io2_base.specs.Writes.{Told, Moves}
-use Rattle.no_std_io2_base.proofs.MovesLemmas.{Moves-then, Moves-ends, Moves-steady}
+use Rattle.no_std_io2.specs.declared.io.Error.{Error}
+use Rattle.no_std_io2.specs.Errors.{error_kind, IsInterruption, IsFault}
+use Rattle.no_std_io2.specs.Events.{Event, byte, fails, bytes, HasNoFault}
+use Rattle.no_std_io2.specs.Writes.{Told, Moves}
+use Rattle.no_std_io2.proofs.MovesLemmas.{Moves-then, Moves-ends, Moves-steady}
 use Rattle.no_std_io2.specs.Buffered.{with_buffer}
 use Rattle.no_std_io2.proofs.BufferLemmas.{Moves-bare}
 use Rattle.no_std_io2.specs.Copy.{Copies, CopyEnds, CopyMoves}
-use Rattle.iotower.specs.Copies.{Passes, PassesSome, HasFirstFault, HasFailed}
+use Rattle.system_streams.specs.Copies.{Passes, PassesSome, HasFirstFault, HasFailed}
 
 -- a copy to the end took all, and had no fault
 pub copies_all : {E after : List Event} {old new : Told} {n : ℕ} → Copies 64 E (Ok n) after old new → HasNoFault E × Passes old (bytes E) n new

@@ -1,6 +1,6 @@
 // What a patient tells, as a reader and as a writer: proved, so that it can tell no less.
 ghost use Rattle.std.specs.Prelude.{◌≡◌};
-ghost use Rattle.iotower.specs.Patient.{patient_turns, patient_told};
+ghost use Rattle.system_streams.specs.Patient.{patient_turns, patient_told};
 
 use crate::patient::Patient;
 use no_std_io2::io::{Read, Stored, Write};

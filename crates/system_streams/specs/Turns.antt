@@ -1,8 +1,8 @@
 -- How a patient answers: its errors, and the turns that an answer spends.
 use Rattle.std.specs.Prelude.{◌≡◌, ℕ, ◌+◌, ◌<◌, None, Some, Ok, Err, Result, codes, ◌⊎◌}
-use Rattle.no_std_io2_base.specs.declared.error.Error.{Error}
-use Rattle.no_std_io2_base.specs.declared.error.ErrorKind.TheVariants.{TimedOut, Interrupted, Other}
-use Rattle.no_std_io2_base.specs.Errors.{error_kind, error_text}
+use Rattle.no_std_io2.specs.declared.io.Error.{Error}
+use Rattle.no_std_io2.specs.declared.io.ErrorKind.TheVariants.{TimedOut, Interrupted, Other}
+use Rattle.no_std_io2.specs.Errors.{error_kind, error_text}
 
 -- no turn was left to ask the device again
 abbrev pub IsOutOfTurns : Error → Type 0

@@ -1,9 +1,9 @@
 // Turns of a patient reader and a patient writer.
 use super::{Broken, Shy};
-use crate::patient::Patient;
 use no_std_io2::io::{ErrorKind, Read, Result, Write};
 use std::io;
 use std::test::Fail;
+use system_streams::Patient;
 
 // What a call answered: how much, or its error's kind and text.
 type Answer = std::result::Result<usize, (ErrorKind, Option<&'static str>)>;

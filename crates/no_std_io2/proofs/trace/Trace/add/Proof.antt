@@ -25,12 +25,12 @@ use denote.Triple.Entry.{on_entry}
 use denote.Triple.Spec.{Meets, triple_of}
 use denote.Triple.Table.{entered}
 use denote.Triple.Walked.{says, Stays, stay_ref, walk_of, AllGo, Goes-ref, Walks, ends_at, walked, walk_Meets}
-use Rattle.io_bench.specs.declared.trace.Trace.{Trace}
-use Rattle.io_bench.specs.contracts.trace.Trace as T
-use Rattle.io_bench.specs.contracts.trace.Trace.add.Key.{name as #it}
-use Rattle.io_bench.specs.contracts.trace.Trace.add as it
-use Rattle.io_bench.proofs.trace.Trace.add.Statement as stated
-use Rattle.io_bench.proofs.trace.Trace.add.Code as code
+use Rattle.no_std_io2.specs.declared.trace.Trace.{Trace}
+use Rattle.no_std_io2.specs.contracts.trace.Trace as T
+use Rattle.no_std_io2.specs.contracts.trace.Trace.add.Key.{name as #it}
+use Rattle.no_std_io2.specs.contracts.trace.Trace.add as it
+use Rattle.no_std_io2.proofs.trace.Trace.add.Statement as stated
+use Rattle.no_std_io2.proofs.trace.Trace.add.Code as code
 use denote.Ref.{Bor}
 use denote.Builtin.{u8}
 use denote.Exit.{yes}

@@ -1,7 +1,7 @@
 use Rattle.std.proofs.Common.{subst, sym}
-use Rattle.no_std_io2_base.specs.Events.{HasNoFault}
-use Rattle.iotower.proofs.CopyLemmas.{ok_unless, no_failure}
-use Rattle.iotower.proofs.copy.copy_through.Goals as goal
+use Rattle.no_std_io2.specs.Events.{HasNoFault}
+use Rattle.system_streams.proofs.CopyLemmas.{ok_unless, no_failure}
+use Rattle.system_streams.proofs.copy.copy_through.Goals as goal
 
 pub returns-then-line-clause-steady : goal.returns-then-line-clause-steady
 returns-then-line-clause-steady g c = λ t none steady.

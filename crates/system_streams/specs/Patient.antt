@@ -1,7 +1,7 @@
 -- What a clause reads of a `Patient`.
 use Rattle.std.specs.Prelude.{ℕ, List, [], None}
-use Rattle.no_std_io2_base.specs.Writes.{Told}
-use Rattle.iotower.specs.declared.patient.Patient.{Patient}
+use Rattle.no_std_io2.specs.Writes.{Told}
+use Rattle.system_streams.specs.declared.patient.Patient.{Patient}
 
 -- `p.into_inner()`
 abbrev pub patient_device : {D : Type 0} → Patient D → D

@@ -1,11 +1,10 @@
 // Copies through a buffered writer.
 use super::Shy;
-use crate::copy::copy_through;
-use crate::patient::Patient;
 use io_bench::{Act, Faulty};
 use no_std_io2::io::ErrorKind;
 use std::alloc::{AllocError, Global};
 use std::test::Fail;
+use system_streams::{Patient, copy_through};
 
 fn faulty(alloc: Global, acts: &[Act]) -> Result<Faulty<Vec<u8>>, AllocError> {
     Ok(Faulty::new(Vec::new(alloc), Vec::from_slice(alloc, acts)?))

@@ -1,7 +1,7 @@
 use Rattle.std.proofs.Common.{inl, inr, ap, ⊎_elim}
 use Rattle.std.proofs.lemmas.Result.{err_from_is_err_and}
-use Rattle.iotower.proofs.CopyLemmas.{copies_err, copies_all, copies_some, passes_then, passes_bare, has_failed, failed_bare}
-use Rattle.iotower.proofs.copy.through_lines.Goals as goal
+use Rattle.system_streams.proofs.CopyLemmas.{copies_err, copies_all, copies_some, passes_then, passes_bare, has_failed, failed_bare}
+use Rattle.system_streams.proofs.copy.through_lines.Goals as goal
 
 pub returns-in_err-flush-clause-err : goal.returns-in_err-flush-clause-err
 returns-in_err-flush-clause-err g c = λ t.

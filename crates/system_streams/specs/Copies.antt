@@ -1,9 +1,9 @@
 -- What a copy through a buffered writer does.
 use Rattle.std.specs.Prelude.{◌≡◌, ℕ, List, [], ◌∷◌, ◌++◌}
-use Rattle.no_std_io2_base.specs.declared.error.Error.{Error}
-use Rattle.no_std_io2_base.specs.Errors.{error_kind}
-use Rattle.no_std_io2_base.specs.Events.{Event, EndsInFault}
-use Rattle.no_std_io2_base.specs.Writes.{Told, Moves}
+use Rattle.no_std_io2.specs.declared.io.Error.{Error}
+use Rattle.no_std_io2.specs.Errors.{error_kind}
+use Rattle.no_std_io2.specs.Events.{Event, EndsInFault}
+use Rattle.no_std_io2.specs.Writes.{Told, Moves}
 use Rattle.no_std_io2.specs.Copy.{counted}
 
 -- A writer accepted b without a mishap, and n counts it.

@@ -1,10 +1,17 @@
-//! Bytes that only contracts read. They take no memory.
+//! Bytes that only contracts read, for a device that keeps none of those that it took.
 ghost use Rattle.std.specs.Prelude.{◌≡◌, ℕ, List, [], ◌++◌};
 ghost use Rattle.std.specs.Borrow.{ftrue};
 
 use std::marker::{Model, PhantomData};
 
-/// A list of bytes that is seen by contracts alone.
+/// A list of bytes that is seen by contracts alone. It takes no memory, and its calls do nothing when they run.
+///
+/// A device that doesn't keep what it took tells its `out` by one: a port, a socket, a sink.
+///
+/// ```
+/// let mut taken = Trace::new();
+/// taken.add(b"ab"); // `taken.bytes` is `97 ∷ 98 ∷ []` now, for contracts
+/// ```
 #[derive(Drop)]
 pub struct Trace {
     marker: PhantomData<u8>,
