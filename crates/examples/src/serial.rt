@@ -12,17 +12,8 @@ pub trait Port {
 /// A device that knows nothing of itself. It keeps no byte: those that its port took are seen by contracts alone.
 #[derive(Drop)]
 pub struct Serial<P> {
-    port: P,
-    taken: Trace,
-}
-
-impl<P> Serial<P> {
-    pub fn new(port: P) -> Serial<P> {
-        Serial {
-            port,
-            taken: Trace::new(),
-        }
-    }
+    pub port: P,
+    pub taken: Trace,
 }
 
 impl<P: Port> Write for Serial<P> {
