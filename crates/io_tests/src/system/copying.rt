@@ -1,10 +1,55 @@
 // Copies through a buffered writer.
-use super::Shy;
+use super::scripted::patient;
+use crate::kit::line::Line;
+use crate::kit::rows::{Call, Subject, play};
+use crate::kit::writers::{device, new_journal, show_calls};
 use io_bench::{Act, Faulty};
 use no_std_io2::io::ErrorKind;
 use std::alloc::{AllocError, Global};
 use std::test::Fail;
 use system_streams::{Patient, copy_through};
+
+// A row is a copy with or without lines, its answer, and the calls that reached the output.
+const CALLS: &str = r"
+# all goes out at the end, and is flushed once
+new
+buf | 0 | flush = ok
+line | 0 | flush = ok
+buf ab\ncd\ne | 7 | write ab\ncd\ne = 7, flush = ok
+
+# lines go out as they end
+new
+line ab\ncd\ne | 7 | write ab\ncd\n = 6, write e = 1, flush = ok
+line ab\n | 3 | write ab\n = 3, flush = ok
+";
+
+// The copies of a table.
+#[derive(Drop)]
+struct Copying {
+    alloc: Global,
+}
+
+impl Subject for Copying {
+    fn make(alloc: Global, _words: &'static str) -> Result<Copying, Fail> {
+        Ok(Copying { alloc })
+    }
+
+    fn play(self, call: &Call, line: &mut Line) -> Result<Copying, Fail> {
+        line.column()?;
+        let journal = new_journal(self.alloc, "")?;
+        match copy_through(call.bytes.as_slice(), device(&journal)?, call.word == "line") {
+            Ok((count, _output)) => line.number(count)?,
+            Err(e) => line.error(&e)?,
+        }
+        show_calls(&journal, line)?;
+        Ok(self)
+    }
+}
+
+#[test]
+fn the_outputs_calls_are_these(rt: HostRuntime) -> Result<(), Fail> {
+    play::<Copying>(rt.alloc(), CALLS)
+}
 
 fn faulty(alloc: Global, acts: &[Act]) -> Result<Faulty<Vec<u8>>, AllocError> {
     Ok(Faulty::new(Vec::new(alloc), Vec::from_slice(alloc, acts)?))
@@ -60,13 +105,8 @@ fn a_patient_reader_is_copied_while_it_has_turns(rt: HostRuntime) -> Result<(), 
 
 #[test]
 fn a_readers_interruptions_are_passed_over(rt: HostRuntime) -> Result<(), Fail> {
-    let input = Patient::new(
-        Shy {
-            interruptions: 5,
-            rest: b"abcdef",
-        },
-        100,
-    );
+    let answers = "fail Interrupted, fail Interrupted, give abc, fail Interrupted, give def";
+    let input = patient(&new_journal(rt.alloc(), answers)?, 100)?;
     let (count, v) = copy_through(input, Vec::<u8>::new(rt.alloc()), true)?;
     assert_eq!(rt; count, 6);
     assert_eq!(rt; v.as_slice(), b"abcdef".as_slice());
