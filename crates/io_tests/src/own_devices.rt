@@ -38,16 +38,16 @@ impl Source for Letters {
 
 #[test]
 fn a_narrow_device_takes_all_in_pieces(rt: HostRuntime) -> Result<(), Fail> {
-    for (most, writes, refused) in [(4, 16, None), (0, 1, Some(ErrorKind::WriteZero))] {
+    for (most, writes, refused) in [(4, 15, None), (0, 1, Some(ErrorKind::WriteZero))] {
         let device = Narrow {
             taken: Vec::new(rt.alloc()),
             most,
         };
         let mut w = BufWriter::<Tally<Narrow>, 64>::new(Tally::new(device));
-        w.write_all(&[7u8; 64])?;
+        w.write_all(&[7u8; 60])?;
         assert_eq!(rt; refusal(w.flush()), refused);
         assert_eq!(rt; w.get_ref().writes(), writes);
-        assert_eq!(rt; w.buffer().len() + w.get_ref().get_ref().taken.len(), 64);
+        assert_eq!(rt; w.buffer().len() + w.get_ref().get_ref().taken.len(), 60);
     }
     Ok(())
 }
@@ -63,7 +63,12 @@ fn a_serial_line_gets_each_byte_once(rt: HostRuntime) -> Result<(), Fail> {
     };
     let mut w = BufWriter::<Serial<Shy>, 8>::new(device);
     w.write_all(b"abcdefg")?;
-    for want in [Some(ErrorKind::WouldBlock), Some(ErrorKind::WouldBlock), Some(ErrorKind::WouldBlock), None] {
+    for want in [
+        Some(ErrorKind::WouldBlock),
+        Some(ErrorKind::WouldBlock),
+        Some(ErrorKind::WouldBlock),
+        None,
+    ] {
         assert_eq!(rt; refusal(w.flush()), want);
     }
     assert_eq!(rt; w.get_ref().port.sent.as_slice(), b"abcdefg".as_slice());
@@ -85,7 +90,13 @@ fn readers_give_these(rt: HostRuntime) -> Result<(), Fail> {
         source: Letters(b"ab"),
         turns: 4,
     };
-    for want in [Ok(*b"a\0"), Ok(*b"b\0"), Err(ErrorKind::WouldBlock), Err(ErrorKind::TimedOut), Ok([0, 0])] {
+    for want in [
+        Ok(*b"a\0"),
+        Ok(*b"b\0"),
+        Err(ErrorKind::WouldBlock),
+        Err(ErrorKind::TimedOut),
+        Ok([0, 0]),
+    ] {
         assert_eq!(rt; read(&mut inbox), want);
     }
     let mut broken = Broken {

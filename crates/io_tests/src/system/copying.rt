@@ -37,7 +37,11 @@ impl Subject for Copying {
     fn play(self, call: &Call, line: &mut Line) -> Result<Copying, Fail> {
         line.column()?;
         let journal = new_journal(self.alloc, "")?;
-        match copy_through(call.bytes.as_slice(), device(&journal)?, call.word == "line") {
+        match copy_through(
+            call.bytes.as_slice(),
+            device(&journal)?,
+            call.word == "line",
+        ) {
             Ok((count, _output)) => line.number(count)?,
             Err(e) => line.error(&e)?,
         }

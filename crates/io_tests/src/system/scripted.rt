@@ -21,7 +21,10 @@ pub struct Scripted {
 }
 
 // A patient with so many turns over a device on this journal.
-pub fn patient(journal: &Rc<RefCell<Journal>>, turns: u64) -> Result<Patient<Scripted>, AllocError> {
+pub fn patient(
+    journal: &Rc<RefCell<Journal>>,
+    turns: u64,
+) -> Result<Patient<Scripted>, AllocError> {
     let device = Scripted {
         journal: journal.clone()?,
     };
