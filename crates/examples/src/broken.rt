@@ -8,6 +8,7 @@ use no_std_io2::io::{Error, Read, Result, Stored};
 /// A reader that tells what is to come: one fault, and then the end.
 #[derive(Drop)]
 pub struct Broken {
+    /// The fault that is to come.
     pub fault: Option<Error>,
 }
 

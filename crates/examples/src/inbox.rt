@@ -3,8 +3,9 @@ ghost use Rattle.std.specs.Prelude.{[]};
 
 use no_std_io2::io::{Error, ErrorKind, Read, Result, Stored};
 
-/// The receiving half of a port: a byte, or none for now.
+/// The receiving half of a port.
 pub trait Source {
+    /// The next byte, or none for now.
     fn receive(&mut self) -> Option<u8>;
 }
 
@@ -12,7 +13,9 @@ pub trait Source {
 /// last turn is the answer that none is left.
 #[derive(Drop)]
 pub struct Inbox<S> {
+    /// Where the bytes come from.
     pub source: S,
+    /// How many answers are left.
     pub turns: u64,
 }
 

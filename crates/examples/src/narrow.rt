@@ -6,7 +6,9 @@ use no_std_io2::io::{Result, Write};
 /// A device that takes bytes: at most `most` a call, into a vector.
 #[derive(Drop)]
 pub struct Narrow {
+    /// What it took.
     pub taken: Vec<u8>,
+    /// How many bytes it takes a call.
     pub most: usize,
 }
 

@@ -4,15 +4,18 @@ ghost use Rattle.no_std_io2.specs.Writes.{told_out};
 use no_std_io2::io::{Error, ErrorKind, Result, Write};
 use no_std_io2::trace::Trace;
 
-/// The sending half of a port: it takes a byte, or refuses it for now.
+/// The sending half of a port.
 pub trait Port {
+    /// Whether it took the byte.
     fn send(&mut self, byte: u8) -> bool;
 }
 
 /// A device that knows nothing of itself. It keeps no byte: those that its port took are seen by contracts alone.
 #[derive(Drop)]
 pub struct Serial<P> {
+    /// Where the bytes go.
     pub port: P,
+    /// Those that went.
     pub taken: Trace,
 }
 
