@@ -1,0 +1,71 @@
+-- How tries follow one another.
+use Rattle.std.proofs.Common.{◌≡◌, ℕ, ◌+◌, ◌<◌, ◌≤◌, ◌^◌, List, [], ◌∷◌, ◌++◌, length, Bool, true, Option, None, Some, Result, Ok, Err, refl, sym, ap, ◌∙◌, subst, arith, append_assoc, append-nil, count_by}
+use Rattle.std.specs.Result.{result_err, OnOk}
+use Rattle.std.proofs.lemmas.List.Recursion.{is_count_by}
+use Rattle.no_std_io2.specs.declared.io.Error.{Error}
+use Rattle.no_std_io2.specs.declared.io.ErrorKind.{ErrorKind}
+use Rattle.no_std_io2.specs.Errors.{error_kind}
+use Rattle.no_std_io2.specs.Writes.{Told, Moves, Sends, HasSpent, call_mishap}
+use Rattle.no_std_io2.proofs.MovesLemmas.{Moves-refl, Moves-then, Moves-quiet}
+use Rattle.framing.specs.Sending.{SendsFrames, frame_mishap, TakesOff}
+use Rattle.framing.specs.Delivering.{TriesOnce, Delivers, HasAtMost, HasSpentTries, tried_mishap}
+use Rattle.std.proofs.lemmas.List.Elements.{All-append}
+
+-- the mishap of a flush
+flushed_mishap : (reply : Result (Unit {0}) Error) (fault : Option Error) → fault ≡ result_err reply → call_mishap reply ≡ tried_mishap (Ok fault)
+flushed_mishap (Ok u) fault is = ap (λ f. tried_mishap (Ok f)) (sym is)
+flushed_mishap (Err e) fault is = ap (λ f. tried_mishap (Ok f)) (sym is)
+
+-- all frames were sent, and then a flush
+pub tried_flush : {a b c : Told} (to_go mid_go left end shown under_way : List ℕ) (reply : Result (Unit {0}) Error) (fault : Option Error) → SendsFrames a to_go (Ok tt) under_way b mid_go → Sends b left reply c end
+    → mid_go ≡ left ++ shown → shown ≡ [] → fault ≡ result_err reply → TriesOnce a to_go (Ok fault) c (end ++ shown)
+tried_flush {a} {b} {c} to_go mid_go left end shown under_way reply fault f s is none same = record {
+  sent = f.sent ++ s.sent;
+  split = f.split ∙ ap (λ l. f.sent ++ l) (is ∙ ap (λ l. l ++ shown) s.split ∙ append_assoc s.sent end shown) ∙ sym (append_assoc f.sent s.sent (end ++ shown));
+  moves = subst (λ k. Moves a (f.sent ++ s.sent) k c) (flushed_mishap reply fault same) (Moves-then f.moves s.moves);
+}
+
+-- what was left out of a list of kinds, counted
+count_all : (xs : List ErrorKind) → length xs ≡ count_by (λ _. true) xs
+count_all = is_count_by length (λ _. true) refl (λ x xs. omega arith)
+
+pub delivers_none : (a : Told) (to_go : List ℕ) → Delivers a to_go a to_go
+delivers_none a to_go = record { sent = []; split = refl; moves = Moves-refl a }
+
+-- one try more
+pub delivers_more : {a b c : Told} {whole to_go left : List ℕ} (reply : Result (Option Error) Error) → Delivers a whole b to_go → TriesOnce b to_go reply c left → Delivers a whole c left
+delivers_more {left = left} reply f s = record {
+  sent = f.sent ++ s.sent;
+  split = f.split ∙ ap (λ l. f.sent ++ l) s.split ∙ sym (append_assoc f.sent s.sent left);
+  moves = Moves-quiet (Moves-then f.moves s.moves);
+}
+
+pub off_then : {xs ys zs : List (List ℕ)} → TakesOff xs ys → TakesOff ys zs → TakesOff xs zs
+off_then {zs = zs} f g = record {
+  front = f.front ++ g.front;
+  split = f.split ∙ ap (λ l. f.front ++ l) g.split ∙ sym (append_assoc f.front g.front zs);
+  short = All-append (λ p. length p < 2 ^ 32) f.front g.front f.short g.short;
+}
+
+pub spent_none : (n : ℕ) (old : Option (List ErrorKind)) → HasSpentTries n n old old
+spent_none n None = tt
+spent_none n (Some old) = omega arith
+
+-- a mishap more was spent
+pub spent_more : (n left less : ℕ) (old mid new : Option (List ErrorKind)) (k : ErrorKind) → HasSpentTries n left old mid → HasSpent mid (k ∷ []) new → left ≡ less + 1 → HasSpentTries n less old new
+spent_more n left less None mid new k f g is = tt
+spent_more n left less (Some old) None new k f g is = absurd f
+spent_more n left less (Some old) (Some mid) None k f g is = absurd g
+spent_more n left less (Some old) (Some mid) (Some new) k f g is = omega (arith, f, g (λ _. true), count_all mid, count_all new)
+
+-- no more mishaps than were told
+pub spent_all : (n : ℕ) (old mid new : Option (List ErrorKind)) (k : ErrorKind) → HasSpentTries n 0 old mid → HasSpent mid (k ∷ []) new → HasAtMost n old → ⊥
+spent_all n None mid new k f g most = most
+spent_all n (Some old) None new k f g most = f
+spent_all n (Some old) (Some mid) None k f g most = g
+spent_all n (Some old) (Some mid) (Some new) k f g most = omega (arith, f, g (λ _. true), count_all mid, count_all new, most)
+
+-- a flush without an error did all
+pub flush_done : (reply : Result (Unit {0}) Error) (A B C : Type 0) → result_err reply ≡ None → OnOk reply (A × B × C) → A × B × C
+flush_done (Ok u) A B C is h = h
+flush_done (Err e) A B C is h = let no : ⊥ = cc in absurd no

@@ -1,0 +1,7 @@
+pub mod EventLemmas
+pub mod SendingLemmas
+pub mod DeliveryLemmas
+pub mod TakingLemmas
+pub mod FrameLemmas
+pub mod RunLemmas
+pub mod RoundTrip

@@ -1,0 +1,44 @@
+use Rattle.std.proofs.Common.{◌≡◌, ◌<◌, ◌≤◌, ◌++◌, length, take, sym, ap, ◌∙◌, rules, arith, le_trans, length-take-le}
+use Rattle.framing.proofs.EventLemmas.{part_taken, error_taken, some_lent}
+use Rattle.framing.proofs.TakingLemmas.{gathered_bytes, gathered_interruption}
+use Rattle.framing.proofs.reader.part.gather.Goals as goal
+
+pub pieces-preserved-in-Ok : goal.pieces-preserved-in-Ok
+pieces-preserved-in-Ok g c =
+    let events = g.B.Read.events in
+    let before = c.pieces.invariant in
+    let filled = c.fill_buf.follows.holds-at-none in
+    let dropped = c.consume.ensures in
+    let len = c.min-len.result in
+    let lent = c.in-Ok.lent.now in
+    let appended = c.in_ok-extend_from_slice-in-Ok.ensures in
+    let some : 0 < length lent = some_lent lent c.is_empty.result c.is_empty.ensures c.if-is_empty.false in
+    let within : len ≤ length lent = omega (arith, c.min-len.ensures, c.len-in-Ok.ensures) in
+    let is : length (take len lent) ≡ len = length-take-le len lent within in
+    record {
+      told = λ t.
+          let so_far = before.told t in
+          let loan = filled.told so_far.0 in
+          let rest = dropped.told loan.0 in
+          let part = part_taken _ c.in-Ok.lent _ _ _ (events c.consume.new.self) len c.in-Ok.is filled.lends loan.1 rest.1 in
+          (rest.0, gathered_bytes (take len lent) c.extend_from_slice.new.self.items (events c.consume.new.self) so_far.1 part appended.items);
+      grows = omega (arith, before.grows, appended.len);
+      len = omega (arith, appended.len, is, c.min-len.ensures, c.len.ensures, c.pieces-test.true);
+      turns = omega (arith, dropped.turns, filled.turns, before.turns);
+      turn = λ _. let one : 0 < len = omega (arith, c.min-len.ensures, c.len-in-Ok.ensures, c.len.ensures, c.pieces-test.true) in omega (arith, dropped.turn one, filled.turns, before.turns);
+    }
+
+pub pieces-preserved : goal.pieces-preserved
+pieces-preserved g c =
+    let before = c.pieces.invariant in
+    let filled = c.fill_buf.follows.holds-at-none in
+    record {
+      told = λ t.
+          let so_far = before.told t in
+          let loan = filled.told so_far.0 in
+          (loan.0, gathered_interruption c.in-Err.e _ so_far.1 (error_taken _ _ _ _ c.in-Err.is loan.1) (sym c.is_interrupted.ensures ∙ c.if-is_interrupted.true));
+      grows = before.grows;
+      len = before.len;
+      turns = le_trans filled.turns before.turns;
+      turn = λ more. omega (arith, before.turn more, filled.turns);
+    }

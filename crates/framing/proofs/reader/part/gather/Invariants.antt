@@ -1,0 +1,18 @@
+-- What was gathered so far is what is gone from what was to come, and has no fault.
+use Rattle.std.proofs.Common.{◌≤◌, ◌<◌, vec_len}
+use Rattle.framing.specs.Taking.{Gathered}
+use Rattle.framing.proofs.reader.part.gather.Given as goal
+
+abbrev pub invariant-pieces : goal.invariant-pieces
+invariant-pieces g l =
+    let R = g.B.Read in
+    record {
+      told : R.tells l.initial.from → R.tells l.from × Gathered (R.events l.initial.from) l.initial.part.items l.part.items (R.events l.from);
+      grows : vec_len l.initial.part ≤ vec_len l.part;
+      len : vec_len l.part ≤ l.want;
+      turns : R.turns l.from ≤ R.turns l.initial.from;
+      turn : vec_len l.initial.part < vec_len l.part → R.turns l.from < R.turns l.initial.from;
+    }
+
+abbrev pub decreases-pieces : goal.decreases-pieces
+decreases-pieces g l = g.B.Read.turns l.from

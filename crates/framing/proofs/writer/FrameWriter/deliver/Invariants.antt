@@ -1,0 +1,18 @@
+-- What is no longer to go was accepted, and each try but the first has spent a mishap, where they are told.
+use Rattle.std.proofs.Common.{◌++◌, ◌≤◌, map}
+use Rattle.framing.specs.Frames.{frames}
+use Rattle.framing.specs.Sending.{writer_tells, still_to_go, TakesOff}
+use Rattle.framing.specs.Delivering.{Delivers, HasSpentTries}
+use Rattle.framing.proofs.writer.FrameWriter.deliver.Given as goal
+
+abbrev pub invariant-tries : goal.invariant-tries
+invariant-tries g l =
+    let told = g.W.Write.told in
+    record {
+      goes : Delivers (writer_tells told l.initial.self) (still_to_go l.initial.self ++ frames (map (λ v. v.items) l.initial.rest.now)) (writer_tells told l.self) (still_to_go l.self ++ frames (map (λ v. v.items) l.rest.now));
+      off : TakesOff (map (λ v. v.items) l.initial.rest.now) (map (λ v. v.items) l.rest.now);
+      spent : HasSpentTries l.fn.tries l.left (writer_tells told l.initial.self).mishaps (writer_tells told l.self).mishaps;
+    }
+
+abbrev pub decreases-tries : goal.decreases-tries
+decreases-tries g l = l.left

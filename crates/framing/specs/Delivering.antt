@@ -1,0 +1,35 @@
+-- What sending again and again does.
+use Rattle.std.specs.Prelude.{◌≡◌, ◌≤◌, ◌+◌, ℕ, List, [], ◌∷◌, ◌++◌, length, Option, Some, None, Result, Ok, Err, ⊤}
+use Rattle.no_std_io2.specs.Errors.{error_kind}
+use Rattle.no_std_io2.specs.Writes.{Told, Moves}
+use Rattle.no_std_io2.specs.declared.io.Error.{Error}
+use Rattle.no_std_io2.specs.declared.io.ErrorKind.{ErrorKind}
+
+-- at most n mishaps are told to come
+abbrev pub HasAtMost : ℕ → Option (List ErrorKind) → Type 0
+HasAtMost n None = ⊥
+HasAtMost n (Some mishaps) = length mishaps ≤ n
+
+-- a told list stays told, and is shorter by n - left at least
+abbrev pub HasSpentTries : ℕ → ℕ → Option (List ErrorKind) → Option (List ErrorKind) → Type 0
+HasSpentTries n left None new = ⊤
+HasSpentTries n left (Some old) None = ⊥
+HasSpentTries n left (Some old) (Some new) = length new + n ≤ length old + left
+
+-- the mishap that one try is: a fault of the device's is one, a refusal is none
+abbrev pub tried_mishap : Result (Option Error) Error → List ErrorKind
+tried_mishap (Ok None) = []
+tried_mishap (Ok (Some e)) = error_kind e ∷ []
+tried_mishap (Err e) = []
+
+-- what one try did: what is no longer to go was accepted
+pub record TriesOnce (old : Told) (to_go : List ℕ) (reply : Result (Option Error) Error) (new : Told) (left : List ℕ) : Type 0 where
+  pub sent : List ℕ
+  pub split : to_go ≡ sent ++ left
+  pub moves : Moves old sent (tried_mishap reply) new
+
+-- what all tries did: what is no longer to go was accepted, each byte once, in order
+pub record Delivers (old : Told) (to_go : List ℕ) (new : Told) (left : List ℕ) : Type 0 where
+  pub sent : List ℕ
+  pub split : to_go ≡ sent ++ left
+  pub moves : Moves old sent [] new

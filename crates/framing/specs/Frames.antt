@@ -1,0 +1,35 @@
+-- What a frame is.
+use Rattle.std.specs.Prelude.{◌≡◌, ◌⊎◌, ℕ, ◌+◌, ◌<◌, ◌≤◌, ◌^◌, List, [], ◌++◌, length, take, map}
+use Rattle.std.specs.List.{concat}
+use Rattle.no_std_io2.specs.Errors.{error_kind, IsOutOfMemory}
+use Rattle.no_std_io2.specs.declared.io.Error.{Error}
+use Rattle.no_std_io2.specs.declared.io.ErrorKind.TheVariants.{InvalidInput}
+use Rattle.std.specs.Int.{w32, to_le_bytes, from_le_bytes}
+
+-- a frame: its payload's length in four bytes, the lowest first, and the payload
+abbrev pub frame : List ℕ → List ℕ
+frame payload = to_le_bytes w32 (length payload) ++ payload
+
+-- the frames of these payloads, one after another
+abbrev pub frames : List (List ℕ) → List ℕ
+frames payloads = concat (map frame payloads)
+
+-- the length of the payload, as the first four bytes tell it
+abbrev pub told_length : List ℕ → ℕ
+told_length bs = from_le_bytes w32 (take 4 bs)
+
+-- fewer bytes than a frame that begins with them has
+abbrev pub IsPart : List ℕ → Type 0
+IsPart bs = (length bs < 4) ⊎ (length bs < 4 + told_length bs)
+
+-- a header and a payload that are no more than a frame's: no payload before the header is whole, and no longer one than it tells
+abbrev pub IsWithin : List ℕ → List ℕ → Type 0
+IsWithin header payload = (length header ≤ 4) × (length header < 4 → payload ≡ []) × (length payload ≤ from_le_bytes w32 header)
+
+-- a payload was refused: it is too long for a frame
+abbrev pub IsTooLongToSend : List ℕ → Error → Type 0
+IsTooLongToSend payload e = (2 ^ 32 ≤ length payload) × (error_kind e ≡ InvalidInput)
+
+-- a payload was refused: it is too long for a frame, or there was no memory for it
+abbrev pub IsRefusal : List ℕ → Error → Type 0
+IsRefusal payload e = IsTooLongToSend payload e ⊎ IsOutOfMemory e

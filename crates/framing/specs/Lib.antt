@@ -1,0 +1,6 @@
+pub mod Frames
+pub mod Pending
+pub mod Sending
+pub mod Delivering
+pub mod Taking
+pub mod Part

@@ -1,0 +1,34 @@
+-- What a clause reads of a frame that is gathered.
+use Rattle.std.specs.Prelude.{◌≡◌, ◌<◌, ◌≤◌, ℕ, List, [], ◌++◌, length, min, ◌+◌}
+use Rattle.std.specs.Int.{w32, from_le_bytes}
+use Rattle.no_std_io2.specs.Events.{Event, events_of}
+use Rattle.no_std_io2.specs.Reading.{reader_inner, reader_events, reader_turns}
+use Rattle.framing.specs.declared.reader.part.Part.{Part}
+use Rattle.framing.specs.declared.reader.FrameReader.{FrameReader}
+
+-- the bytes of the next frame that were gathered
+abbrev pub part_bytes : Part → List ℕ
+part_bytes p = p.header.items ++ p.payload.items
+
+-- the header's, and the payload's
+abbrev pub part_header : Part → List ℕ
+part_header p = p.header.items
+
+abbrev pub part_payload : Part → List ℕ
+part_payload p = p.payload.items
+
+-- the reader below
+abbrev pub reads_from : {R : Type 0} {S : ℕ} → FrameReader R S → R
+reads_from r = reader_inner r.inner
+
+-- what is to come, where the reader below tells `events`: first what was gathered of the next frame
+abbrev pub frame_events : {R : Type 0} {S : ℕ} → (R → List Event) → FrameReader R S → List Event
+frame_events events r = events_of (part_bytes r.part) ++ reader_events events r.inner
+
+-- the most bytes that a payload may have
+abbrev pub most : {R : Type 0} {S : ℕ} → FrameReader R S → ℕ
+most r = r.limit
+
+-- a number that each frame lowers, where the reader below tells `turns`
+abbrev pub frame_turns : {R : Type 0} {S : ℕ} → (R → ℕ) → FrameReader R S → ℕ
+frame_turns turns r = reader_turns turns r.inner + min 1 (length (part_bytes r.part))

@@ -1,0 +1,54 @@
+//! Frames that are sent until the device has them all.
+ghost use Rattle.std.specs.Prelude.{◌≡◌, [], ◌++◌, None, map, OnOk, IfOk, IfErr};
+ghost use Rattle.framing.specs.Frames.{frames};
+ghost use Rattle.framing.specs.Sending.{writer_tells, under_way, still_to_go, RefusesFirst, TakesOff};
+ghost use Rattle.framing.specs.Delivering.{TriesOnce, Delivers, HasAtMost};
+
+use crate::writer::FrameWriter;
+use no_std_io2::io::{Error, Result, Write};
+
+impl<W: Write + Drop, const S: usize> FrameWriter<W, S> {
+    // Sends these payloads and flushes, once. `Ok` has the device's fault, if one came; `Err` is a refusal.
+    fn try_once(&mut self, rest: &mut &[Vec<u8>]) -> Result<Option<Error>>
+        ensures sends { TriesOnce (writer_tells W.told self.old)
+            (still_to_go self.old ++ frames (map (λ v. v.items) rest.old.now)) result
+            (writer_tells W.told self.new) (still_to_go self.new ++ frames (map (λ v. v.items) rest.new.now)) }
+        ensures rest { TakesOff (map (λ v. v.items) rest.old.now) (map (λ v. v.items) rest.new.now) }
+        ensures done { IfOk result (λ fault. fault ≡ None → (under_way self.new ≡ []) × (still_to_go self.new ≡ [])
+            × (rest.new.now ≡ []) × ((writer_tells W.told self.new).held ≡ [])) }
+        ensures refused { IfErr result (RefusesFirst (map (λ v. v.items) rest.new.now)) }
+    {
+        match self.send_all(rest) {
+            Ok(()) => Ok(self.flush().err()),
+            Err(e) if self.is_under_way() => Ok(Some(e)),
+            Err(e) => Err(e),
+        }
+    }
+
+    /// Sends these payloads as [`send_all`](FrameWriter::send_all) and flushes, and does so again after each of the
+    /// first `tries` faults of the device. After `Ok` every frame is out, once, and nothing is held. Over a
+    /// device that tells at most `tries` mishaps to come it fails by a refusal alone.
+    ///
+    /// # Errors
+    /// The device's fault after the last try: the same call goes on. `InvalidInput` and `OutOfMemory` as of
+    /// [`send`](FrameWriter::send), at once, with the refused payload at the front of `rest`.
+    pub fn deliver(&mut self, rest: &mut &[Vec<u8>], tries: u32) -> Result<()>
+        ensures sends { Delivers (writer_tells W.told self.old)
+            (still_to_go self.old ++ frames (map (λ v. v.items) rest.old.now))
+            (writer_tells W.told self.new) (still_to_go self.new ++ frames (map (λ v. v.items) rest.new.now)) }
+        ensures rest { TakesOff (map (λ v. v.items) rest.old.now) (map (λ v. v.items) rest.new.now) }
+        ensures done { OnOk result ((under_way self.new ≡ []) × (still_to_go self.new ≡ [])
+            × (rest.new.now ≡ []) × ((writer_tells W.told self.new).held ≡ [])) }
+        ensures enough { HasAtMost tries (writer_tells W.told self.old).mishaps
+            → IfErr result (RefusesFirst (map (λ v. v.items) rest.new.now)) }
+    {
+        let mut left = tries;
+        'tries: loop {
+            match self.try_once(rest)? {
+                None => return Ok(()),
+                Some(fault) if left == 0 => return Err(fault),
+                Some(_) => left -= 1,
+            }
+        }
+    }
+}

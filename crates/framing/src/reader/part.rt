@@ -1,0 +1,137 @@
+//! The part of the next frame that was gathered.
+ghost use Rattle.std.specs.Prelude.{◌≡◌, ◌⊎◌, ◌+◌, ◌≤◌, ◌<◌, [], ◌++◌, true, ◌==◌, length, vec_len, IfOk, IfErr};
+ghost use Rattle.std.specs.Int.{w32, to_le_bytes, from_le_bytes};
+ghost use Rattle.no_std_io2.specs.Errors.{IsFault};
+ghost use Rattle.framing.specs.Frames.{IsWithin};
+ghost use Rattle.framing.specs.Taking.{Gathers};
+
+use no_std_io2::io::{BufRead, Result};
+use std::alloc::Global;
+use std::mem;
+
+// How many bytes tell a frame's length.
+const HEADER: usize = 4;
+
+// Reads until `part` has `want` bytes. `false`: the end came first.
+fn gather<B: BufRead>(from: &mut B, part: &mut Vec<u8>, want: usize) -> Result<bool>
+    requires { vec_len part.old ≤ want }
+    ensures told { B.tells from.old → B.tells from.new
+        × Gathers want (B.events from.old) result part.old.items part.new.items (B.events from.new) }
+    ensures len { vec_len part.new ≤ want }
+    ensures whole { IfOk result (λ b. b ≡ true → vec_len part.new ≡ want) }
+    ensures fault { IfErr result IsFault }
+    ensures turns { B.turns from.new ≤ B.turns from.old }
+    ensures turn { vec_len part.old < vec_len part.new → B.turns from.new < B.turns from.old }
+{
+    'pieces: while part.len() < want {
+        match from.fill_buf() {
+            Ok(lent) => {
+                if lent.is_empty() {
+                    return Ok(false);
+                }
+                let len = lent.len().min(want - part.len());
+                part.extend_from_slice(&lent[..len])?;
+                from.consume(len);
+            }
+            Err(e) if e.is_interrupted() => {}
+            Err(e) => return Err(e),
+        }
+    }
+    Ok(true)
+}
+
+// The length that these bytes tell.
+fn length_of(header: [u8; HEADER]) -> u32
+    ensures value { result ≡ from_le_bytes w32 header }
+    ensures back { to_le_bytes w32 result ≡ header }
+{
+    u32::from_le_bytes(header)
+}
+
+/// A frame's header and payload, as far as they were gathered.
+#[derive(Drop)]
+pub struct Part {
+    header: Vec<u8>,
+    payload: Vec<u8>,
+    ghost within: { IsWithin header.items payload.items },
+}
+
+impl Part {
+    ghost use Rattle.framing.specs.Part.{part_bytes, part_header, part_payload};
+
+    /// Nothing was gathered.
+    pub fn new(alloc: Global) -> Part
+        ensures { part_bytes result ≡ [] }
+    {
+        Part {
+            header: Vec::new(alloc),
+            payload: Vec::new(alloc),
+        }
+    }
+
+    /// Whether nothing was gathered.
+    pub fn is_empty(&self) -> bool
+        ensures { result ≡ (length (part_bytes self.now) == 0) }
+    {
+        self.header.is_empty()
+    }
+
+    /// Gathers the frame's header. `false`: the end came first.
+    ///
+    /// # Errors
+    /// The reader's first fault, and `OutOfMemory`.
+    pub fn fill_header<B: BufRead>(&mut self, from: &mut B) -> Result<bool>
+        ensures told { B.tells from.old → B.tells from.new
+            × Gathers 4 (B.events from.old) result (part_bytes self.old) (part_bytes self.new) (B.events from.new) }
+        ensures whole { IfOk result (λ b. b ≡ true → length (part_header self.new) ≡ 4) }
+        ensures fault { IfErr result IsFault }
+        ensures turns { B.turns from.new ≤ B.turns from.old }
+        ensures turn { length (part_bytes self.old) < length (part_bytes self.new) → B.turns from.new < B.turns from.old }
+        ensures some { IfOk result (λ b. b ≡ true → length (part_bytes self.old) < length (part_bytes self.new) ⊎ (0 < length (part_bytes self.old))) }
+    {
+        if self.header.len() == HEADER {
+            return Ok(true);
+        }
+        gather(from, &mut self.header, HEADER)
+    }
+
+    /// The length that the header tells.
+    pub fn told_len(&self) -> u32
+        requires { length (part_header self.now) ≡ 4 }
+        ensures value { result ≡ from_le_bytes w32 (part_header self.now) }
+        ensures back { to_le_bytes w32 result ≡ part_header self.now }
+    {
+        let mut header = [0; HEADER];
+        header.copy_from_slice(&self.header);
+        length_of(header)
+    }
+
+    /// Gathers the payload, of the length that the header tells. `false`: the end came first. Room for
+    /// all of it is made before anything is read.
+    ///
+    /// # Errors
+    /// The reader's first fault, and `OutOfMemory`.
+    pub fn fill_payload<B: BufRead>(&mut self, from: &mut B, len: usize) -> Result<bool>
+        requires header { length (part_header self.old) ≡ 4 }
+        requires len { len ≡ from_le_bytes w32 (part_header self.old) }
+        ensures told { B.tells from.old → B.tells from.new
+            × Gathers (4 + len) (B.events from.old) result (part_bytes self.old) (part_bytes self.new) (B.events from.new) }
+        ensures header { part_header self.new ≡ part_header self.old }
+        ensures whole { IfOk result (λ b. b ≡ true → length (part_payload self.new) ≡ len) }
+        ensures fault { IfErr result IsFault }
+        ensures turns { B.turns from.new ≤ B.turns from.old }
+    {
+        self.payload.reserve(len - self.payload.len())?;
+        gather(from, &mut self.payload, len)
+    }
+
+    /// Gives the payload, with nothing gathered any more.
+    pub fn take_payload(&mut self) -> Vec<u8>
+        ensures payload { result.items ≡ part_payload self.old }
+        ensures empty { part_bytes self.new ≡ [] }
+    {
+        self.header.clear();
+        let alloc = *self.payload.allocator();
+        mem::replace(&mut self.payload, Vec::new(alloc))
+    }
+}

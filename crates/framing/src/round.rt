@@ -1,0 +1,64 @@
+//! What a writer of frames sent, a reader of frames gives back.
+ghost use Rattle.std.specs.Prelude.{◌≡◌, ◌<◌, ◌^◌, [], map, All, length, IfOk, IfErr};
+ghost use Rattle.no_std_io2.specs.Errors.{IsOutOfMemory};
+ghost use Rattle.framing.specs.Sending.{writer_tells, under_way};
+ghost use Rattle.framing.specs.Delivering.{HasAtMost};
+
+use crate::reader::FrameReader;
+use crate::writer::FrameWriter;
+use no_std_io2::io::{BufWriter, LineWriter, Result, Write};
+use std::alloc::Global;
+
+/// A writer that shows what it has handed on for good, as a device in memory does.
+pub trait Shown: Write {
+    /// The bytes that are out.
+    fn shown(&self) -> &[u8]
+        ensures { result.now ≡ (Self.told self.now).out };
+}
+
+impl Shown for Vec<u8> {
+    fn shown(&self) -> &[u8] {
+        self.as_slice()
+    }
+}
+
+impl<W: Shown + Drop, const S: usize> Shown for BufWriter<W, S> {
+    fn shown(&self) -> &[u8] {
+        self.get_ref().shown()
+    }
+}
+
+impl<W: Shown + Drop, const S: usize> Shown for LineWriter<W, S> {
+    fn shown(&self) -> &[u8] {
+        self.get_ref().shown()
+    }
+}
+
+/// Sends these payloads, with at most `tries` tries after faults, and gives what a reader of frames reads
+/// of the bytes that went out: these payloads, in order, each once, whatever tower of buffers and whatever
+/// device is below. Over a device that tells at most `tries` mishaps to come, and with payloads of fewer
+/// than 2^32 bytes, it fails for want of memory alone. The writer is to be flushed, with no frame under way.
+///
+/// # Errors
+/// Those of [`FrameWriter::deliver`], and `OutOfMemory` of the reader.
+pub fn round_trip<W: Shown + Drop, const S: usize>(
+    alloc: Global,
+    w: &mut FrameWriter<W, S>,
+    payloads: &[Vec<u8>],
+    tries: u32,
+) -> Result<Vec<Vec<u8>>>
+    requires idle { under_way w.old ≡ [] }
+    requires flushed { (writer_tells W.told w.old).held ≡ [] }
+    ensures came { IfOk result (λ given. map (λ v. v.items) given.items ≡ map (λ v. v.items) payloads.now) }
+    ensures enough { HasAtMost tries (writer_tells W.told w.old).mishaps
+        → All (λ v. length v.items < 2 ^ 32) payloads.now → IfErr result IsOutOfMemory }
+{
+    let before = w.get_ref().shown().len();
+    let mut rest = payloads;
+    w.deliver(&mut rest, tries)?;
+    let sent = &w.get_ref().shown()[before..];
+    let mut reader = FrameReader::<&[u8], 64>::new(alloc, sent, u32::MAX);
+    let mut given = Vec::new(alloc);
+    reader.read_all(&mut given)?;
+    Ok(given)
+}

@@ -1,0 +1,171 @@
+//! Frames into a writer: none is torn by a fault, and none goes out twice.
+ghost use Rattle.std.specs.Prelude.{◌≡◌, ◌⊎◌, ◌<◌, ◌^◌, [], ◌∷◌, ◌++◌, map, length, nat_lt, OnOk, OnErr, IfOk, IfErr, IsOk};
+ghost use Rattle.no_std_io2.specs.Errors.{error_kind, IsNoInterruption, IsFault};
+ghost use Rattle.no_std_io2.specs.Writes.{Moves, Sends};
+ghost use Rattle.no_std_io2.specs.Buffered.{writer_told, into_inner_error_writer, into_inner_error_cause};
+ghost use Rattle.framing.specs.Frames.{frames};
+ghost use Rattle.framing.specs.Sending.{writes_to, frames_held, writer_tells, under_way, still_to_go, SendsFrame, SendsFrames, RefusesFirst, TakesOff};
+
+mod pending;
+
+use no_std_io2::io::{BufWriter, IntoInnerError, Result, Write};
+use pending::Pending;
+use std::alloc::Global;
+
+/// A writer of frames, with a buffer of `S` bytes in front of any writer.
+///
+/// A frame that was not whole when the device failed is *under way*: [`retry`](FrameWriter::retry), and
+/// likewise `send_all` and `flush`, go on where it stopped, so no byte goes out twice. What the device
+/// took, then what the buffer holds, then what is still to go of the frame under way is always what it
+/// was, followed by exactly the frames that were sent.
+///
+/// Dropping it sends the buffer once, ignores a fault, and cuts off the frame under way.
+#[derive(Drop)]
+pub struct FrameWriter<W: Write + Drop, const S: usize> {
+    inner: BufWriter<W, S>,
+    pending: Pending,
+}
+
+impl<W: Write + Drop, const S: usize> FrameWriter<W, S> {
+    /// A writer of frames to `inner`, with none under way. The frame under way is kept by `alloc`.
+    pub fn new(alloc: Global, inner: W) -> FrameWriter<W, S>
+        ensures inner { writes_to result ≡ inner }
+        ensures empty { frames_held result ≡ [] }
+        ensures idle { under_way result ≡ [] }
+        ensures none { still_to_go result ≡ [] }
+    {
+        FrameWriter {
+            inner: BufWriter::new(inner),
+            pending: Pending::new(alloc),
+        }
+    }
+
+    /// The writer below.
+    pub fn get_ref(&self) -> &W
+        ensures { result.now ≡ writes_to self.now }
+    {
+        self.inner.get_ref()
+    }
+
+    /// Whether a frame is under way.
+    pub fn is_under_way(&self) -> bool
+        ensures { result ≡ nat_lt 0 (length (under_way self.now)) }
+    {
+        self.pending.is_some()
+    }
+
+    /// Goes on with the frame that is under way, where it stopped. With none it makes no call.
+    ///
+    /// # Errors
+    /// The device's first fault, or `WriteZero` where it took no byte of some; never `Interrupted`. The
+    /// frame is still under way, from the first byte on that was not accepted.
+    pub fn retry(&mut self) -> Result<()>
+        ensures sends { Sends (writer_tells W.told self.old) (still_to_go self.old) result
+            (writer_tells W.told self.new) (still_to_go self.new) }
+        ensures done { OnOk result (under_way self.new ≡ []) }
+        ensures none { OnOk result (still_to_go self.new ≡ []) }
+        ensures err { OnErr result (under_way self.new ≡ under_way self.old) }
+        ensures some { OnErr result (0 < length (under_way self.new)) }
+        ensures idle { under_way self.old ≡ [] → IsOk result × (self.new ≡ self.old) }
+        ensures fault { IsNoInterruption result }
+    {
+        if !self.is_under_way() {
+            return Ok(());
+        }
+        let mut rest = self.pending.rest();
+        let reply = self.inner.write_rest(&mut rest);
+        let left = rest.len();
+        if reply.is_ok() {
+            self.pending.clear();
+        } else {
+            self.pending.keep_last(left);
+        }
+        reply
+    }
+
+    /// Sends a payload: after `Ok` its whole frame was accepted, and is out or held. It isn't flushed. No
+    /// other frame may be under way: `retry` first where [`is_under_way`](FrameWriter::is_under_way).
+    ///
+    /// # Errors
+    /// `InvalidInput` where the payload has 2^32 bytes or more, and `OutOfMemory`: nothing was accepted, and
+    /// no frame is under way. Else those of `retry`, and the frame is under way.
+    ///
+    /// ```
+    /// let mut w = FrameWriter::<W, 64>::new(alloc, device);
+    /// if w.send(b"hello").is_err() && w.is_under_way() {
+    ///     w.retry()?;
+    /// }
+    /// ```
+    pub fn send(&mut self, payload: &[u8]) -> Result<()>
+        requires { under_way self.old ≡ [] }
+        ensures sends { SendsFrame (writer_tells W.told self.old) payload.now result
+            (under_way self.new) (still_to_go self.new) (writer_tells W.told self.new) }
+        ensures small { OnOk result (length payload.now < 2 ^ 32) }
+        ensures fault { IsNoInterruption result }
+    {
+        self.pending.stage(payload)?;
+        self.retry()
+    }
+
+    /// Goes on with the frame under way, then sends these payloads in order, and takes each off the front
+    /// of `rest` once its frame is accepted or under way. So after an error the same call goes on: each
+    /// frame goes out once.
+    ///
+    /// # Errors
+    /// Those of `retry`, with a frame under way. `InvalidInput` and `OutOfMemory` as of `send`, with no
+    /// frame under way and the refused payload at the front of `rest`.
+    pub fn send_all(&mut self, rest: &mut &[Vec<u8>]) -> Result<()>
+        ensures sends { SendsFrames (writer_tells W.told self.old)
+            (still_to_go self.old ++ frames (map (λ v. v.items) rest.old.now)) result (under_way self.new)
+            (writer_tells W.told self.new) (still_to_go self.new ++ frames (map (λ v. v.items) rest.new.now)) }
+        ensures rest { TakesOff (map (λ v. v.items) rest.old.now) (map (λ v. v.items) rest.new.now) }
+        ensures refused { IfErr result (λ e. under_way self.new ≡ [] → RefusesFirst (map (λ v. v.items) rest.new.now) e) }
+        ensures done { OnOk result ((under_way self.new ≡ []) × (still_to_go self.new ≡ []) × (rest.new.now ≡ [])) }
+        ensures fault { IsNoInterruption result }
+    {
+        'frames: loop {
+            self.retry()?;
+            let Some((payload, others)) = rest.split_first() else {
+                return Ok(());
+            };
+            self.pending.stage(payload.as_slice())?;
+            *rest = others;
+        }
+    }
+
+    /// Goes on with the frame under way, then hands on all that is held: after `Ok` nothing is held, and
+    /// no frame is under way.
+    ///
+    /// # Errors
+    /// Those of `retry`, or the device's own. What was not handed on is still held or to go, and a later
+    /// call goes on there.
+    pub fn flush(&mut self) -> Result<()>
+        ensures sends { Sends (writer_tells W.told self.old) (still_to_go self.old) result
+            (writer_tells W.told self.new) (still_to_go self.new) }
+        ensures done { OnOk result ((under_way self.new ≡ []) × (still_to_go self.new ≡ [])
+            × ((writer_tells W.told self.new).held ≡ [])) }
+    {
+        self.retry()?;
+        self.inner.flush()
+    }
+
+    /// Sends what is held, and gives the writer below, which isn't flushed. No frame may be under way:
+    /// `retry` first where [`is_under_way`](FrameWriter::is_under_way).
+    ///
+    /// # Errors
+    /// The device's first fault, or `WriteZero`; never `Interrupted`. The error holds the buffered writer,
+    /// which holds what was not sent.
+    pub fn into_inner(self) -> std::result::Result<W, IntoInnerError<BufWriter<W, S>>>
+        requires { under_way self ≡ [] }
+        ensures ok { IfOk result (λ w. Moves (writer_tells W.told self) [] [] (W.told w)) }
+        ensures err { IfErr result (λ e. Moves (writer_tells W.told self) []
+            (error_kind (into_inner_error_cause e) ∷ []) (writer_told W.told (into_inner_error_writer e))) }
+        ensures fault { IfErr result (λ e. IsFault (into_inner_error_cause e)) }
+    {
+        let FrameWriter {
+            inner,
+            pending: _pending,
+        } = self;
+        inner.into_inner()
+    }
+}
