@@ -1,13 +1,12 @@
 -- How tries follow one another.
-use Rattle.std.proofs.Common.{◌≡◌, ℕ, ◌+◌, ◌<◌, ◌≤◌, ◌^◌, List, [], ◌∷◌, ◌++◌, length, Bool, true, Option, None, Some, Result, Ok, Err, refl, sym, ap, ◌∙◌, subst, arith, append_assoc, append-nil, count_by}
+use Rattle.std.proofs.Common.{◌≡◌, ℕ, ◌+◌, ◌<◌, ◌^◌, List, [], ◌∷◌, ◌++◌, length, true, Option, None, Some, Result, Ok, Err, refl, sym, ap, ◌∙◌, subst, arith, append_assoc, count_by}
 use Rattle.std.specs.Result.{result_err, OnOk}
 use Rattle.std.proofs.lemmas.List.Recursion.{is_count_by}
 use Rattle.no_std_io2.specs.declared.io.Error.{Error}
 use Rattle.no_std_io2.specs.declared.io.ErrorKind.{ErrorKind}
-use Rattle.no_std_io2.specs.Errors.{error_kind}
 use Rattle.no_std_io2.specs.Writes.{Told, Moves, Sends, HasSpent, call_mishap}
 use Rattle.no_std_io2.proofs.MovesLemmas.{Moves-refl, Moves-then, Moves-quiet}
-use Rattle.framing.specs.Sending.{SendsFrames, frame_mishap, TakesOff}
+use Rattle.framing.specs.Sending.{SendsFrames, TakesOff}
 use Rattle.framing.specs.Delivering.{TriesOnce, Delivers, HasAtMost, HasSpentTries, tried_mishap}
 use Rattle.std.proofs.lemmas.List.Elements.{All-append}
 

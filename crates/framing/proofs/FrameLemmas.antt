@@ -1,11 +1,11 @@
 -- How a frame is gathered: its header, and then its payload.
-use Rattle.std.proofs.Common.{◌≡◌, ◌⊎◌, ℕ, ◌+◌, ◌<◌, ◌≤◌, ◌==◌, min, Bool, true, false, not, List, [], ◌∷◌, ◌++◌, length, take, Result, Ok, Err, refl, sym, ap, ◌∙◌, subst, inl, inr, arith, append_assoc, append-nil, length-append}
+use Rattle.std.proofs.Common.{◌≡◌, ◌⊎◌, ℕ, ◌+◌, ◌<◌, ◌≤◌, min, Bool, true, false, List, [], ◌++◌, length, take, Ok, Err, refl, sym, ap, ◌∙◌, subst, inl, inr, arith, append-nil}
 use Rattle.std.specs.Int.{w32, to_le_bytes, from_le_bytes}
 use Rattle.std.proofs.Math.Seq.{take-append_seam}
 use Rattle.no_std_io2.specs.declared.io.Error.{Error}
 use Rattle.no_std_io2.specs.declared.io.ErrorKind.TheVariants.{InvalidData, UnexpectedEof}
 use Rattle.no_std_io2.specs.Errors.{error_kind}
-use Rattle.no_std_io2.specs.Events.{Event, events_of, fails, bytes}
+use Rattle.no_std_io2.specs.Events.{Event, events_of, bytes}
 use Rattle.framing.specs.Frames.{frame, told_length, IsPart}
 use Rattle.framing.specs.Taking.{Passes, Gathered, Gathers, TakesNone}
 use Rattle.framing.proofs.EventLemmas.{bytes-append, bytes-behind}

@@ -5,3 +5,4 @@ pub mod TakingLemmas
 pub mod FrameLemmas
 pub mod RunLemmas
 pub mod RoundTrip
+pub mod WentOut

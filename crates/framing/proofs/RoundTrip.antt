@@ -9,7 +9,7 @@ use Rattle.no_std_io2.specs.declared.io.Error.{Error}
 use Rattle.no_std_io2.specs.Errors.{IsOutOfMemory}
 use Rattle.no_std_io2.specs.Events.{Event, bytes}
 use Rattle.framing.specs.Frames.{frame, frames, told_length, IsPart}
-use Rattle.framing.specs.Taking.{Passes, PassesFrames, TakesNone, TakesFrames, ComesBack, IsFirstFault}
+use Rattle.framing.specs.Taking.{TakesNone, TakesFrames, ComesBack, IsFirstFault}
 use Rattle.framing.proofs.TakingLemmas.{passes_then}
 use Rattle.framing.proofs.FrameLemmas.{bytes_passed, none_lost}
 
@@ -50,7 +50,7 @@ front_frames (p ∷ ps) (s ∷ ss) left e small small' =
     let others = front_frames ps ss left (sym one.1) (All-tail (λ q. length q < 2 ^ 32) s ss small) (All-tail (λ q. length q < 2 ^ 32) p ps small') in
     (others.0, ap (λ l. l ∷ ss) (sym one.0) ∙ ap (λ l. p ∷ l) others.1, others.2)
 
-All-right : {X : Type 0} (P : X → Type 0) (xs ys : List X) → All P (xs ++ ys) → All P ys
+pub All-right : {X : Type 0} (P : X → Type 0) (xs ys : List X) → All P (xs ++ ys) → All P ys
 All-right P [] ys h = h
 All-right P (x ∷ xs) ys h = All-right P xs ys (All-tail P x (xs ++ ys) h)
 

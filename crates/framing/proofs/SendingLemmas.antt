@@ -1,13 +1,12 @@
 -- How frames go, piece by piece.
-use Rattle.std.proofs.Common.{◌≡◌, ◌⊎◌, ℕ, ◌<◌, ◌^◌, List, [], ◌∷◌, ◌++◌, length, map, All, Result, Ok, Err, refl, sym, ap, ◌∙◌, subst, inl, inr, arith, append_assoc, append-nil}
-use Rattle.std.specs.Result.{OnOk, OnErr, IfErr}
+use Rattle.std.proofs.Common.{◌≡◌, ℕ, ◌<◌, ◌^◌, List, [], ◌∷◌, ◌++◌, length, map, Result, Ok, Err, refl, sym, ap, ◌∙◌, subst, inr, arith, append_assoc, append-nil}
+use Rattle.std.specs.Result.{OnOk, OnErr}
 use Rattle.std.proofs.lemmas.List.Elements.{All-push}
 use Rattle.no_std_io2.specs.declared.io.Error.{Error}
-use Rattle.no_std_io2.specs.Errors.{error_kind}
 use Rattle.no_std_io2.specs.Writes.{Told, Moves, Sends, call_mishap}
 use Rattle.no_std_io2.proofs.MovesLemmas.{Moves-refl, Moves-then, Moves-ends}
-use Rattle.framing.specs.Frames.{frame, frames, IsRefusal}
-use Rattle.framing.specs.Sending.{IsRefused, IsStopped, SendsFrame, SendsFrames, frame_mishap, TakesOff}
+use Rattle.framing.specs.Frames.{frame, frames}
+use Rattle.framing.specs.Sending.{SendsFrame, SendsFrames, frame_mishap, TakesOff}
 
 -- what is no longer to go was accepted, and no mishap is told of
 pub record Goes (old : Told) (to_go : List ℕ) (new : Told) (left : List ℕ) : Type 0 where

@@ -1,8 +1,8 @@
 -- How what was taken of events follows one another.
-use Rattle.std.proofs.Common.{◌≡◌, ◌⊎◌, ℕ, ◌+◌, ◌<◌, ◌≤◌, Bool, true, false, List, [], ◌∷◌, ◌++◌, length, Result, Ok, Err, refl, sym, ap, ◌∙◌, subst, inl, inr, arith, append_assoc, append-nil, length-append}
+use Rattle.std.proofs.Common.{◌≡◌, ℕ, ◌+◌, Bool, true, false, List, [], ◌∷◌, ◌++◌, length, Result, Ok, Err, refl, sym, ap, ◌∙◌, subst, inl, inr, arith, append_assoc, append-nil, length-append}
 use Rattle.no_std_io2.specs.declared.io.Error.{Error}
-use Rattle.no_std_io2.specs.Errors.{IsFault, IsInterruption, IsOutOfMemory}
-use Rattle.no_std_io2.specs.Events.{Event, fails, events_of, bytes, HasNoFault}
+use Rattle.no_std_io2.specs.Errors.{IsInterruption}
+use Rattle.no_std_io2.specs.Events.{Event, fails, events_of, bytes}
 use Rattle.no_std_io2.specs.Laws.{bytes-events_of}
 use Rattle.framing.specs.Taking.{Passes, Gathered, Gathers}
 use Rattle.framing.proofs.EventLemmas.{bytes-append, HasNoFault-append, HasNoFault-events_of}

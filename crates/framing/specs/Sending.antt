@@ -1,11 +1,10 @@
 -- What a clause reads of a writer of frames, and what its calls do.
-use Rattle.std.specs.Prelude.{◌≡◌, ◌⊎◌, ◌<◌, ◌≤◌, ◌^◌, All, Result, Ok, Err, List, ℕ, [], ◌∷◌, ◌++◌, length}
-use Rattle.no_std_io2.specs.Errors.{error_kind, IsOutOfMemory}
+use Rattle.std.specs.Prelude.{◌≡◌, ◌⊎◌, ◌<◌, ◌^◌, All, Result, Ok, Err, List, ℕ, [], ◌∷◌, ◌++◌, length}
+use Rattle.no_std_io2.specs.Errors.{error_kind}
 use Rattle.no_std_io2.specs.Writes.{Told, Moves}
 use Rattle.no_std_io2.specs.Buffered.{writer_inner, writer_buffer, writer_told}
 use Rattle.no_std_io2.specs.declared.io.Error.{Error}
 use Rattle.no_std_io2.specs.declared.io.ErrorKind.{ErrorKind}
-use Rattle.no_std_io2.specs.declared.io.ErrorKind.TheVariants.{InvalidInput}
 use Rattle.framing.specs.Frames.{frame, IsRefusal}
 use Rattle.framing.specs.Pending.{pending_frame, pending_rest}
 use Rattle.framing.specs.declared.writer.FrameWriter.{FrameWriter}

@@ -1,5 +1,5 @@
 -- What a reader of frames takes of what is to come.
-use Rattle.std.specs.Prelude.{◌≡◌, ◌⊎◌, ◌<◌, ◌≤◌, ◌+◌, List, ℕ, [], ◌∷◌, ◌++◌, length, map, drop, All, Bool, true, false, Option, Some, None, Result, Ok, Err, OnOk, IfErr}
+use Rattle.std.specs.Prelude.{◌≡◌, ◌⊎◌, ◌<◌, ◌≤◌, List, ℕ, [], ◌∷◌, ◌++◌, length, drop, All, Bool, true, false, Option, Some, None, Result, Ok, Err, OnOk, IfErr}
 use Rattle.no_std_io2.specs.Errors.{error_kind, IsFault, IsOutOfMemory}
 use Rattle.no_std_io2.specs.Events.{Event, fails, events_of, bytes, HasNoFault}
 use Rattle.no_std_io2.specs.declared.io.Error.{Error}

@@ -51,7 +51,7 @@ pub fn round_trip<W: Shown + Drop, const S: usize>(
     requires flushed { (writer_tells W.told w.old).held ≡ [] }
     ensures came { IfOk result (λ given. map (λ v. v.items) given.items ≡ map (λ v. v.items) payloads.now) }
     ensures enough { HasAtMost tries (writer_tells W.told w.old).mishaps
-        → All (λ v. length v.items < 2 ^ 32) payloads.now → IfErr result IsOutOfMemory }
+        → All (λ p. length p < 2 ^ 32) (map (λ v. v.items) payloads.now) → IfErr result IsOutOfMemory }
 {
     let before = w.get_ref().shown().len();
     let mut rest = payloads;

@@ -1,10 +1,7 @@
-use Rattle.std.proofs.Common.{◌≡◌, ◌+◌, ◌<◌, ◌≤◌, [], ◌++◌, length, true, false, refl, sym, ap, ◌∙◌, subst, inl, inr, rules, arith, length-append}
+use Rattle.std.proofs.Common.{◌≡◌, ◌+◌, ◌<◌, [], length, sym, ap, ◌∙◌, inl, arith, length-append}
 use Rattle.std.proofs.lemmas.Result.{err_from_is_err_and}
 use Rattle.std.specs.Int.{w32, from_le_bytes}
-use Rattle.framing.specs.Frames.{IsPart, told_length}
 use Rattle.framing.specs.Part.{part_bytes, part_header, part_payload, most}
-use Rattle.framing.specs.Taking.{Passes, TakesNone}
-use Rattle.no_std_io2.specs.Reading.{reader_events}
 use Rattle.framing.proofs.TakingLemmas.{gathered_none, gathered_then, gathered_passes}
 use Rattle.framing.proofs.EventLemmas.{some_lent, none_of}
 use Rattle.framing.proofs.FrameLemmas.{told_behind, stopped, ended, no_frame, whole_part, too_long, frame_whole, passes_as, part_short, turn_spent}

@@ -1,4 +1,4 @@
-use Rattle.std.proofs.Common.{◌≡◌, ◌<◌, [], length, true, refl, ap, arith}
+use Rattle.std.proofs.Common.{length, ap, arith}
 use Rattle.std.proofs.lemmas.Result.{err_from_is_err_and}
 use Rattle.framing.specs.Part.{most, part_bytes, part_payload}
 use Rattle.framing.proofs.FrameLemmas.{none_lost, end_taken, frame_taken}

@@ -1,7 +1,6 @@
-use Rattle.std.proofs.Common.{◌≡◌, ◌<◌, ◌^◌, [], ◌++◌, ◌∷◌, map, length, Ok, Err, refl, sym, ap, ◌∙◌, rules}
+use Rattle.std.proofs.Common.{◌≡◌, ◌<◌, ◌^◌, [], ◌++◌, ◌∷◌, Ok, ap, ◌∙◌, rules}
 use Rattle.std.proofs.lemmas.Result.{err_from_is_err_and}
-use Rattle.framing.specs.Part.{most, frame_events}
-use Rattle.framing.specs.Taking.{appended}
+use Rattle.framing.specs.Part.{most}
 use Rattle.framing.proofs.RunLemmas.{appends_push, run_same, run_more, run_ends, run_refused, run_stops, frame_within}
 use Rattle.framing.proofs.RoundTrip.{comes_back}
 use Rattle.framing.proofs.reader.FrameReader.read_all.Goals as goal

@@ -1,4 +1,4 @@
-use Rattle.std.proofs.Common.{◌≡◌, ◌<◌, ◌≤◌, ◌++◌, length, take, sym, ap, ◌∙◌, rules, arith, le_trans, length-take-le}
+use Rattle.std.proofs.Common.{◌≡◌, ◌<◌, ◌≤◌, length, take, sym, ◌∙◌, arith, le_trans, length-take-le}
 use Rattle.framing.proofs.EventLemmas.{part_taken, error_taken, some_lent}
 use Rattle.framing.proofs.TakingLemmas.{gathered_bytes, gathered_interruption}
 use Rattle.framing.proofs.reader.part.gather.Goals as goal

@@ -1,5 +1,4 @@
-use Rattle.std.proofs.Common.{◌≡◌, ◌+◌, Some, Ok, Err, refl, sym, ap, ◌∙◌, subst, rules, arith}
-use Rattle.std.proofs.lemmas.Result.{err_from_is_err_and}
+use Rattle.std.proofs.Common.{arith}
 use Rattle.framing.proofs.DeliveryLemmas.{delivers_none, delivers_more, off_then, spent_none, spent_more, spent_all}
 use Rattle.framing.proofs.SendingLemmas.{off_none}
 use Rattle.framing.proofs.writer.FrameWriter.deliver.Goals as goal

@@ -1,5 +1,5 @@
 -- What is no longer to go was accepted, and each try but the first has spent a mishap, where they are told.
-use Rattle.std.proofs.Common.{◌++◌, ◌≤◌, map}
+use Rattle.std.proofs.Common.{◌++◌, map}
 use Rattle.framing.specs.Frames.{frames}
 use Rattle.framing.specs.Sending.{writer_tells, still_to_go, TakesOff}
 use Rattle.framing.specs.Delivering.{Delivers, HasSpentTries}

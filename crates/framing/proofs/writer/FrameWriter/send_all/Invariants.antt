@@ -1,6 +1,5 @@
 -- What is no longer to go was accepted, and the payloads that were taken off are short enough for a frame.
-use Rattle.std.proofs.Common.{◌≡◌, [], ◌++◌, List, ℕ, map, length}
-use Rattle.no_std_io2.specs.Writes.{Moves}
+use Rattle.std.proofs.Common.{◌++◌, map, length}
 use Rattle.framing.specs.Frames.{frames}
 use Rattle.framing.specs.Sending.{writer_tells, still_to_go, TakesOff}
 use Rattle.framing.proofs.SendingLemmas.{Goes}

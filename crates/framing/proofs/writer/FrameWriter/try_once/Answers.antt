@@ -1,4 +1,4 @@
-use Rattle.std.proofs.Common.{◌≡◌, ◌++◌, [], map, None, Ok, refl, sym, ap, ◌∙◌}
+use Rattle.std.proofs.Common.{map, refl, sym, ap, ◌∙◌}
 use Rattle.framing.specs.Frames.{frames}
 use Rattle.framing.proofs.DeliveryLemmas.{tried_flush, flush_done}
 use Rattle.framing.proofs.writer.FrameWriter.try_once.Goals as goal
