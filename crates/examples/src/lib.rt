@@ -1,11 +1,20 @@
-//! The examples of README, as the gate proves them. They stand on `no_std_io2` alone.
+//! The examples that README and docs/ARCHITECTURE.md print, as the gate proves them. They stand on `no_std_io2` alone.
 #![tactic(auto)]
 
 ghost use Rattle.std.specs.Prelude.{◌≡◌, ◌++◌, [], IfOk, OnOk};
-ghost use Rattle.no_std_io2.specs.Writes.{Sends, told_out};
+ghost use Rattle.no_std_io2.specs.Writes.{Sends};
 ghost use Rattle.no_std_io2.specs.Fits.{BufWriterFits};
 
+mod broken;
+mod inbox;
+mod narrow;
+mod serial;
+
+pub use broken::Broken;
+pub use inbox::{Inbox, Source};
+pub use narrow::Narrow;
 use no_std_io2::io::{BufWriter, Result, Write};
+pub use serial::{Port, Serial};
 
 pub mod records;
 
@@ -44,28 +53,4 @@ pub fn send_patiently<W: Write>(device: &mut W, rest: &mut &[u8]) -> Result<()>
         return Ok(());
     }
     device.write_rest(rest)
-}
-
-/// A device that takes nothing: each write answers `Ok(0)`.
-#[derive(Drop)]
-pub struct Full;
-
-impl Write for Full {
-    ghost told = { λ _. told_out [] };
-
-    ghost takes_all = { λ _. ⊥ };
-
-    ghost cost = { λ _. 0 };
-
-    ghost is_metered = { λ _. ⊥ };
-
-    fn write(&mut self, _buf: &[u8]) -> Result<usize> {
-        Ok(0)
-    }
-
-    fn flush(&mut self) -> Result<()> {
-        Ok(())
-    }
-
-    ghost steady = { λ w h. absurd h };
 }

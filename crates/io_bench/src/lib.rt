@@ -19,12 +19,12 @@ mod sink;
 mod tally;
 mod tells;
 mod towers;
-pub mod trace;
 
 pub use asks::{Ask, ReadTotals, run_reads};
 pub use closed::run_closed;
 pub use faulty::{Act, Faulty};
 pub use feed::{Event, Feed};
+pub use no_std_io2::trace;
 pub use pieces::{run_lines, run_split};
 pub use runs::{Op, Reply, run_writes};
 pub use sink::Sink;

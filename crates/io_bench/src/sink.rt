@@ -1,8 +1,8 @@
 // A writer that takes all.
 ghost use Rattle.std.specs.Prelude.{◌≡◌, [], ⊤};
 
-use crate::trace::Trace;
 use no_std_io2::io::{Result, Write};
+use no_std_io2::trace::Trace;
 use std::fmt;
 
 /// A writer that takes every byte and never fails. It keeps nothing: its bytes are seen by

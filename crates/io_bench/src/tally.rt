@@ -4,8 +4,8 @@ ghost use Rattle.no_std_io2_base.specs.Events.{given, Reads, SpendsTurn};
 ghost use Rattle.no_std_io2_base.specs.Writes.{Moves, taken, write_mishap, call_mishap};
 ghost use Rattle.io_bench.specs.Calls.{IsWrite, IsFlush};
 
-use crate::trace::Trace;
 use no_std_io2::io::{Read, Result, Stored, Write};
+use no_std_io2::trace::Trace;
 use std::fmt;
 
 /// Hands each call on to an inner stream, and counts the calls of `write`, and those of `read` with

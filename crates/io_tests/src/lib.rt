@@ -1,4 +1,5 @@
-//! The tests of `no_std_io2_base` (`streams`), of `no_std_io2` (`buffers`) and of `io_bench` (`runs`).
+//! The tests of `no_std_io2_base` (`streams`), of `no_std_io2` (`buffers`), of `io_bench` (`runs`),
+//! of `system_streams` (`system`) and of the devices of `examples` (`own_devices`).
 //!
 //! They stand in a crate of their own, as Rust's integration tests do, since a check with tests
 //! proves the crate that they stand in once more. Most of them are rows of tables: a line of text is a
@@ -10,6 +11,10 @@ mod buffers;
 #[cfg(test)]
 mod kit;
 #[cfg(test)]
+mod own_devices;
+#[cfg(test)]
 mod runs;
 #[cfg(test)]
 mod streams;
+#[cfg(test)]
+mod system;

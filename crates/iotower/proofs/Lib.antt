@@ -1,3 +1,2 @@
-mod CopyLemmas
 mod ScriptLemmas
 mod PlayLemmas

@@ -1,6 +1,3 @@
-pub mod Turns
-pub mod Patient
-pub mod Copies
 pub mod Script
 pub mod Report
 pub mod Faults

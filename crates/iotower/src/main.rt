@@ -10,7 +10,6 @@ mod patient;
 mod play;
 mod report;
 mod script;
-mod tells;
 #[cfg(test)]
 mod tests;
 

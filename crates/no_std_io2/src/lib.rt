@@ -3,6 +3,7 @@
 #![tactic(auto)]
 
 pub mod buffered;
+pub mod trace;
 pub mod util;
 
 /// The standard trait of errors.

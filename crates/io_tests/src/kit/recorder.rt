@@ -4,7 +4,7 @@ ghost use Rattle.std.specs.Prelude.{[], length, ◌+◌};
 ghost use Rattle.no_std_io2_base.specs.Errors.{IsFault};
 
 use super::journal::Journal;
-use io_bench::trace::Trace;
+use no_std_io2::trace::Trace;
 use no_std_io2_base::error::{Error, Result};
 use no_std_io2_base::traits::{BufRead, Read, Seek, SeekFrom, Stored, Write};
 use std::cell::RefCell;

@@ -1,0 +1,65 @@
+// A reader with a budget of turns.
+ghost use Rattle.std.specs.Prelude.{[]};
+
+use no_std_io2::io::{Error, ErrorKind, Read, Result, Stored};
+
+/// The receiving half of a port.
+pub trait Source {
+    /// The next byte, or none for now.
+    fn receive(&mut self) -> Option<u8>;
+}
+
+/// A reader with a budget of turns: what its source will give is not known, so each answer spends a turn, and the
+/// last turn is the answer that none is left.
+#[derive(Drop)]
+pub struct Inbox<S> {
+    /// Where the bytes come from.
+    pub source: S,
+    /// How many answers are left.
+    pub turns: u64,
+}
+
+impl<S> Stored for Inbox<S> {
+    ghost has_store = { λ _. ⊥ };
+
+    ghost content = { λ _. [] };
+
+    ghost position = { λ _. 0 };
+}
+
+impl<S: Source> Read for Inbox<S> {
+    ghost tells = { λ _. ⊥ };
+
+    ghost events = { λ _. [] };
+
+    ghost turns = { λ r. r.turns };
+
+    ghost cost = { λ _. 0 };
+
+    ghost is_metered = { λ _. ⊥ };
+
+    ghost is_filling = { λ _. ⊥ };
+
+    ghost may_take_none = { λ _. ⊥ };
+
+    fn read(&mut self, buf: &mut [u8]) -> Result<usize> {
+        if buf.is_empty() || self.turns == 0 {
+            return Ok(0);
+        }
+        self.turns -= 1;
+        if self.turns == 0 {
+            return Err(Error::new(ErrorKind::TimedOut, "no turns left"));
+        }
+        let Some(byte) = self.source.receive() else {
+            return Err(Error::from(ErrorKind::WouldBlock));
+        };
+        buf[0] = byte;
+        Ok(1)
+    }
+
+    ghost filling_tells = { λ r h. absurd h };
+
+    ghost store_tells = { λ r h. absurd h };
+
+    ghost store_fits = { λ r h. absurd h };
+}

@@ -1,0 +1,37 @@
+//! Reads frames from standard input, and prints a line for each: its payload, with each byte that is no printable ASCII
+//! escaped. A frame is a length, a `u32` in four bytes, the lowest first, and that many bytes.
+//!
+//! The status is 0 where the input ends behind a frame, and 1 for a fault, with its text on standard error.
+#![tactic(auto)]
+
+use framing::FrameReader;
+use no_std_io2::io::{LineWriter, Result, Write};
+use std::io;
+use std::process::ExitCode;
+use system_streams::Patient;
+
+// The longest payload, in bytes.
+const LIMIT: u32 = 65_536;
+
+fn print_frames(rt: &HostRuntime) -> Result<()> {
+    let input = Patient::new(rt.reader(), u64::MAX);
+    let output = Patient::new(io::writer(rt), u64::MAX);
+    let mut frames = FrameReader::<_, 512>::new(rt.alloc(), input, LIMIT);
+    let mut lines = LineWriter::<_, 512>::new(output);
+    'frames: while let Some(payload) = frames.next()? {
+        let text = payload.escape_ascii();
+        let line = format!(in rt.alloc(); "{text}\n")?;
+        lines.write_all(line.as_bytes())?;
+    }
+    lines.flush()
+}
+
+fn main(rt: HostRuntime) -> ExitCode {
+    match print_frames(&rt) {
+        Ok(()) => ExitCode::SUCCESS,
+        Err(error) => {
+            let _ = eprintln!(rt; "frame_lines: {error}");
+            ExitCode::FAILURE
+        }
+    }
+}

@@ -1,0 +1,109 @@
+// The devices that `examples` shows, through a buffer and alone.
+use crate::kit::kinds::refusal;
+use examples::{Broken, Inbox, Narrow, Port, Serial, Source};
+use io_bench::Tally;
+use no_std_io2::io::{BufWriter, Error, ErrorKind, Read, Write};
+use no_std_io2::trace::Trace;
+use std::test::Fail;
+
+// A port that refuses each third byte.
+#[derive(Drop)]
+struct Shy {
+    sent: Vec<u8>,
+    left: u8,
+}
+
+impl Port for Shy {
+    fn send(&mut self, byte: u8) -> bool {
+        if self.left == 0 {
+            self.left = 2;
+            return false;
+        }
+        self.left -= 1;
+        self.sent.push(byte).is_ok()
+    }
+}
+
+// A source of these bytes.
+#[derive(Drop)]
+struct Letters(&'static [u8]);
+
+impl Source for Letters {
+    fn receive(&mut self) -> Option<u8> {
+        let (first, rest) = self.0.split_first()?;
+        self.0 = rest;
+        Some(*first)
+    }
+}
+
+#[test]
+fn a_narrow_device_takes_all_in_pieces(rt: HostRuntime) -> Result<(), Fail> {
+    for (most, writes, refused) in [(4, 15, None), (0, 1, Some(ErrorKind::WriteZero))] {
+        let device = Narrow {
+            taken: Vec::new(rt.alloc()),
+            most,
+        };
+        let mut w = BufWriter::<Tally<Narrow>, 64>::new(Tally::new(device));
+        w.write_all(&[7u8; 60])?;
+        assert_eq!(rt; refusal(w.flush()), refused);
+        assert_eq!(rt; w.get_ref().writes(), writes);
+        assert_eq!(rt; w.buffer().len() + w.get_ref().get_ref().taken.len(), 60);
+    }
+    Ok(())
+}
+
+#[test]
+fn a_serial_line_gets_each_byte_once(rt: HostRuntime) -> Result<(), Fail> {
+    let device = Serial {
+        port: Shy {
+            sent: Vec::new(rt.alloc()),
+            left: 2,
+        },
+        taken: Trace::new(),
+    };
+    let mut w = BufWriter::<Serial<Shy>, 8>::new(device);
+    w.write_all(b"abcdefg")?;
+    for want in [
+        Some(ErrorKind::WouldBlock),
+        Some(ErrorKind::WouldBlock),
+        Some(ErrorKind::WouldBlock),
+        None,
+    ] {
+        assert_eq!(rt; refusal(w.flush()), want);
+    }
+    assert_eq!(rt; w.get_ref().port.sent.as_slice(), b"abcdefg".as_slice());
+    Ok(())
+}
+
+// What a read into two bytes gave, or its error's kind.
+fn read<R: Read>(r: &mut R) -> Result<[u8; 2], ErrorKind> {
+    let mut buf = [0u8; 2];
+    match r.read(&mut buf) {
+        Ok(_) => Ok(buf),
+        Err(e) => Err(e.kind()),
+    }
+}
+
+#[test]
+fn readers_give_these(rt: HostRuntime) -> Result<(), Fail> {
+    let mut inbox = Inbox {
+        source: Letters(b"ab"),
+        turns: 4,
+    };
+    for want in [
+        Ok(*b"a\0"),
+        Ok(*b"b\0"),
+        Err(ErrorKind::WouldBlock),
+        Err(ErrorKind::TimedOut),
+        Ok([0, 0]),
+    ] {
+        assert_eq!(rt; read(&mut inbox), want);
+    }
+    let mut broken = Broken {
+        fault: Some(Error::from(ErrorKind::NotFound)),
+    };
+    for want in [Err(ErrorKind::NotFound), Ok([0, 0])] {
+        assert_eq!(rt; read(&mut broken), want);
+    }
+    Ok(())
+}

@@ -1,0 +1,14 @@
+use Rattle.std.proofs.Common.{subst, sym}
+use Rattle.no_std_io2.specs.Events.{HasNoFault}
+use Rattle.system_streams.proofs.CopyLemmas.{ok_unless, no_failure}
+use Rattle.system_streams.proofs.copy.copy_through.Goals as goal
+
+pub returns-then-line-clause-steady : goal.returns-then-line-clause-steady
+returns-then-line-clause-steady g c = λ t none steady.
+    let tells = subst g.R.Read.tells (sym c.new-input.ensures.inner) t in
+    ok_unless _ _ (c.through_lines.ensures.err tells) (no_failure _ _ (subst HasNoFault (sym c.new-input.ensures.events) none) steady)
+
+pub returns-clause-steady : goal.returns-clause-steady
+returns-clause-steady g c = λ t none steady.
+    let tells = subst g.R.Read.tells (sym c.new-input.ensures.inner) t in
+    ok_unless _ _ (c.through_buffer.ensures.err tells) (no_failure _ _ (subst HasNoFault (sym c.new-input.ensures.events) none) steady)

@@ -1,0 +1,30 @@
+-- What a copy through a buffered writer does.
+use Rattle.std.specs.Prelude.{◌≡◌, ℕ, List, [], ◌∷◌, ◌++◌}
+use Rattle.no_std_io2.specs.declared.io.Error.{Error}
+use Rattle.no_std_io2.specs.Errors.{error_kind}
+use Rattle.no_std_io2.specs.Events.{Event, EndsInFault}
+use Rattle.no_std_io2.specs.Writes.{Told, Moves}
+use Rattle.no_std_io2.specs.Copy.{counted}
+
+-- A writer accepted b without a mishap, and n counts it.
+pub record Passes (old : Told) (b : List ℕ) (n : ℕ) (new : Told) : Type 0 where
+  pub moves : Moves old b [] new
+  pub count : n ≡ counted b
+
+-- A writer accepted some bytes without a mishap, and n counts them.
+pub record PassesSome (old : Told) (n : ℕ) (new : Told) : Type 0 where
+  pub accepted : List ℕ
+  pub passes : Passes old accepted n new
+
+-- The first fault of E is e.
+pub record HasFirstFault (E : List Event) (e : Error) : Type 0 where
+  pub front : List Event
+  pub rest : List Event
+  pub split : E ≡ front ++ rest
+  pub ends : EndsInFault front e
+
+-- After some bytes a writer answered e, and so one of its mishaps to come has happened.
+pub record HasFailed (old : Told) (e : Error) : Type 0 where
+  pub accepted : List ℕ
+  pub new : Told
+  pub moves : Moves old accepted (error_kind e ∷ []) new

@@ -1,0 +1,87 @@
+// The copy from a reader to a writer, with a buffer at each.
+ghost use Rattle.std.specs.Prelude.{◌≡◌, ◌⊎◌, [], Some, IfOk, IsOk, IfErr};
+ghost use Rattle.no_std_io2.specs.Events.{bytes, HasNoFault};
+ghost use Rattle.no_std_io2.specs.Reading.{reader_inner, reader_events};
+ghost use Rattle.system_streams.specs.Copies.{Passes, PassesSome, HasFirstFault, HasFailed};
+ghost use Rattle.no_std_io2.specs.Fits.{BufReaderFits, BufWriterFits, LineWriterFits};
+
+use no_std_io2::io::{BufReader, BufWriter, LineWriter, Read, Result, Write, copy};
+
+// The room of each buffer, in bytes.
+const ROOM: usize = 64;
+
+fn through_buffer<R: Read, W: Write + Drop>(
+    input: &mut BufReader<R, ROOM>,
+    output: W,
+) -> Result<(u64, W)>
+    requires reader_fits { BufReaderFits R.row 64 }
+    requires fits { BufWriterFits W.row 64 }
+    ensures some { IfOk result (λ r. PassesSome (W.told output) r.0 (W.told r.1)) }
+    ensures all { R.tells (reader_inner input.old) → IfOk result
+        (λ r. HasNoFault (reader_events R.events input.old)
+        × Passes (W.told output) (bytes (reader_events R.events input.old)) r.0 (W.told r.1)) }
+    ensures empty { IfOk result (λ r. (W.told r.1).held ≡ []) }
+    ensures err { R.tells (reader_inner input.old) → IfErr result
+        (λ e. HasFirstFault (reader_events R.events input.old) e ⊎ HasFailed (W.told output) e) }
+{
+    let mut tower = BufWriter::<W, ROOM>::new(output);
+    let count = copy::<BufReader<R, ROOM>, BufWriter<W, ROOM>, ROOM>(input, &mut tower)?;
+    tower.flush()?;
+    let output = tower.into_inner()?;
+    Ok((count, output))
+}
+
+// The same, but each line is sent as it ends.
+fn through_lines<R: Read, W: Write + Drop>(
+    input: &mut BufReader<R, ROOM>,
+    output: W,
+) -> Result<(u64, W)>
+    requires reader_fits { BufReaderFits R.row 64 }
+    requires fits { LineWriterFits W.row 64 }
+    ensures some { IfOk result (λ r. PassesSome (W.told output) r.0 (W.told r.1)) }
+    ensures all { R.tells (reader_inner input.old) → IfOk result
+        (λ r. HasNoFault (reader_events R.events input.old)
+        × Passes (W.told output) (bytes (reader_events R.events input.old)) r.0 (W.told r.1)) }
+    ensures empty { IfOk result (λ r. (W.told r.1).held ≡ []) }
+    ensures err { R.tells (reader_inner input.old) → IfErr result
+        (λ e. HasFirstFault (reader_events R.events input.old) e ⊎ HasFailed (W.told output) e) }
+{
+    let mut tower = LineWriter::<W, ROOM>::new(output);
+    let count = copy::<BufReader<R, ROOM>, LineWriter<W, ROOM>, ROOM>(input, &mut tower)?;
+    tower.flush()?;
+    let output = tower.into_inner()?;
+    Ok((count, output))
+}
+
+/// Copies all of `input` to `output` through a buffer of 64 bytes, sends and flushes it, and answers
+/// how many bytes these were, at most the greatest `u64`, with the output. With `line`, each line is
+/// sent as it ends. The reader's interruptions are passed over.
+///
+/// # Errors
+/// The first fault of `input`, or the first failure of `output`, an interruption of its flush too.
+/// The output is dropped then, with what its buffer had left sent once more.
+pub fn copy_through<R: Read + Drop, W: Write + Drop>(
+    input: R,
+    output: W,
+    line: bool,
+) -> Result<(u64, W)>
+    // The language's: each buffer fits in memory.
+    requires reader_fits { BufReaderFits R.row 64 }
+    requires buffer_fits { BufWriterFits W.row 64 }
+    requires lines_fit { LineWriterFits W.row 64 }
+    ensures some { IfOk result (λ r. PassesSome (W.told output) r.0 (W.told r.1)) }
+    ensures all { R.tells input → IfOk result (λ r. HasNoFault (R.events input)
+        × Passes (W.told output) (bytes (R.events input)) r.0 (W.told r.1)) }
+    ensures empty { IfOk result (λ r. (W.told r.1).held ≡ []) }
+    ensures err { R.tells input → IfErr result (λ e. HasFirstFault (R.events input) e
+        ⊎ HasFailed (W.told output) e) }
+    ensures steady { R.tells input → HasNoFault (R.events input) → (W.told output).mishaps ≡ Some []
+        → IsOk result }
+{
+    let mut input = BufReader::<R, ROOM>::new(input);
+    if line {
+        through_lines(&mut input, output)
+    } else {
+        through_buffer(&mut input, output)
+    }
+}

@@ -1,0 +1,25 @@
+//! Readers and writers of the system's, as streams of `no_std_io2`.
+//!
+//! A real device tells nothing of what it will give or take, and may be interrupted for ever. [`Patient`] makes a
+//! reader or writer of Rust's `std::io` one of this library's, with a number of turns that bounds every loop over it.
+//! [`copy_through`] copies one stream to another with a buffer at each.
+//!
+//! ```
+//! use std::io;
+//! use system_streams::{Patient, copy_through};
+//!
+//! fn main(rt: HostRuntime) -> no_std_io2::io::Result<()> {
+//!     let input = Patient::new(rt.reader(), u64::MAX);
+//!     let output = Patient::new(io::writer(&rt), u64::MAX);
+//!     copy_through(input, output, false)?;
+//!     Ok(())
+//! }
+//! ```
+#![tactic(auto)]
+
+mod copy;
+mod patient;
+mod tells;
+
+pub use copy::copy_through;
+pub use patient::Patient;

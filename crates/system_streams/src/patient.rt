@@ -1,0 +1,239 @@
+// A reader or a writer of the system's, with a number of turns that bounds every loop over it.
+ghost use Rattle.std.specs.Prelude.{◌≡◌, ◌+◌, ◌<◌, ◌≤◌, ◌⊎◌, ◌++◌, [], Ok, IfOk, IsErrAnd, length, OnOk};
+ghost use Rattle.std.specs.Io.KnownBytes.{ReadConsumes, WriteAppends, Keeps};
+ghost use Rattle.no_std_io2.specs.Events.{SpendsTurn};
+ghost use Rattle.no_std_io2.specs.Writes.{Moves, taken, write_mishap, call_mishap};
+ghost use Rattle.system_streams.specs.Turns.{IsOutOfTurns, IsPlainInterruption, IsDeviceFault, AnswersRead, AnswersWrite};
+
+use no_std_io2::io::{Error, ErrorKind, Read, Result, Stored, Write};
+use no_std_io2::trace::Trace;
+use std::io;
+use std::io::ErrorKind as SystemKind;
+
+/// A reader or writer of Rust's `std::io` as one of this library's.
+///
+/// What such a device does is not known, so a number of turns bounds how often it is asked again: a
+/// reader spends one with each answer but its end, a writer one with each interruption. As a
+/// writer, the bytes that the device answered for are out, as contracts see it.
+///
+/// # Errors
+/// Of a call: `Interrupted` where the device was interrupted; `TimedOut`, `no turns left`, at a
+/// reader's last turn, and where a writer without turns is interrupted; `Other`, `device fault`, for
+/// any other fault of the device. What the device took or gave before stands.
+///
+/// ```
+/// let mut p = Patient::new(&b"abcdef"[..], 3);
+/// let mut buf = [0u8; 4];
+/// p.read(&mut buf);    // Ok(4)
+/// p.read(&mut buf);    // Ok(2)
+/// p.read(&mut buf);    // Err: no turns left
+/// p.read(&mut buf);    // Ok(0)
+/// ```
+#[derive(Drop)]
+pub struct Patient<D> {
+    device: D,
+    turns: u64,
+    taken: Trace,
+}
+
+impl<D> Patient<D> {
+    ghost use Rattle.system_streams.specs.Patient.{patient_device, patient_turns, patient_taken};
+
+    /// The device with this many turns, from 0 up. A reader's last turn is its last answer: that no
+    /// turns are left.
+    pub fn new(device: D, turns: u64) -> Patient<D>
+        ensures device { patient_device result ≡ device }
+        ensures turns { patient_turns result ≡ turns }
+        ensures taken { patient_taken result ≡ [] }
+    {
+        Patient {
+            device,
+            turns,
+            taken: Trace::new(),
+        }
+    }
+
+    /// The device, where it stands.
+    pub fn into_inner(self) -> D
+        ensures { result ≡ patient_device self }
+    {
+        self.device
+    }
+
+    // What a writer answers in place of its device's error.
+    fn refuse(&mut self, kind: SystemKind) -> Error
+        ensures taken { patient_taken self.new ≡ patient_taken self.old }
+        ensures device { patient_device self.new ≡ patient_device self.old }
+        ensures fault { (kind ≡ SystemKind.Interrupted → ⊥) → IsDeviceFault result }
+        ensures interrupted { kind ≡ SystemKind.Interrupted → IsPlainInterruption result ⊎ IsOutOfTurns result }
+        ensures answer { (IsPlainInterruption result × (patient_turns self.new + 1 ≡ patient_turns self.old))
+            ⊎ (IsOutOfTurns result × (patient_turns self.old ≡ 0) × (patient_turns self.new ≡ 0))
+            ⊎ (IsDeviceFault result × (patient_turns self.new ≡ patient_turns self.old)) }
+    {
+        if kind != SystemKind::Interrupted {
+            return device_fault();
+        }
+        if self.turns == 0 {
+            return no_turns_left();
+        }
+        self.turns -= 1;
+        interruption()
+    }
+}
+
+fn no_turns_left() -> Error
+    ensures { IsOutOfTurns result }
+{
+    Error::new(ErrorKind::TimedOut, "no turns left")
+}
+
+fn interruption() -> Error
+    ensures { IsPlainInterruption result }
+{
+    Error::from(ErrorKind::Interrupted)
+}
+
+fn device_fault() -> Error
+    ensures { IsDeviceFault result }
+{
+    Error::new(ErrorKind::Other, "device fault")
+}
+
+// What a reader answers in place of its device's error.
+fn device_error(kind: SystemKind) -> Error
+    ensures fault { (kind ≡ SystemKind.Interrupted → ⊥) → IsDeviceFault result }
+    ensures interrupted { kind ≡ SystemKind.Interrupted → IsPlainInterruption result }
+{
+    if kind == SystemKind::Interrupted {
+        interruption()
+    } else {
+        device_fault()
+    }
+}
+
+/// A patient tells no store.
+impl<D> Stored for Patient<D> {
+    ghost has_store = { λ _. ⊥ };
+
+    ghost content = { λ _. [] };
+
+    ghost position = { λ _. 0 };
+}
+
+/// A patient tells no events: its device's are not known.
+impl<D: io::Read> Read for Patient<D> {
+    ghost use Rattle.system_streams.specs.Patient.{patient_device, patient_turns, patient_taken};
+
+    ghost tells = { λ _. ⊥ };
+
+    ghost events = { λ _. [] };
+
+    ghost turns = { patient_turns };
+
+    ghost cost = { λ _. 0 };
+
+    ghost is_metered = { λ _. ⊥ };
+
+    ghost is_filling = { λ _. ⊥ };
+
+    ghost may_take_none = { λ _. ⊥ };
+
+    fn read(&mut self, buf: &mut [u8]) -> Result<usize>
+        // The trait's.
+        ensures bound { IfOk result (λ n. n ≤ length buf.new) }
+        ensures turns { patient_turns self.new ≤ patient_turns self.old }
+        ensures turn { SpendsTurn result (patient_turns self.old) (patient_turns self.new) }
+
+        // Into an empty buffer, or with no turns, it reads nothing.
+        ensures empty { length buf.old ≡ 0 → (result ≡ Ok 0) × (self.new ≡ self.old) }
+        ensures over { patient_turns self.old ≡ 0 → (result ≡ Ok 0) × (self.new ≡ self.old) }
+
+        // The last turn is an answer of its own.
+        ensures last { 0 < length buf.old → patient_turns self.old ≡ 1 → IsErrAnd result IsOutOfTurns
+            × (patient_turns self.new ≡ 0) × (patient_device self.new ≡ patient_device self.old) }
+
+        // With more turns the device is asked.
+        ensures asked { 0 < length buf.old → 1 < patient_turns self.old
+            → AnswersRead result (patient_turns self.old) (patient_turns self.new) }
+        ensures bytes { 1 < patient_turns self.old → ReadConsumes (D.remaining (patient_device self.old))
+            (D.remaining (patient_device self.new)) result buf.new }
+        ensures taken { patient_taken self.new ≡ patient_taken self.old }
+    {
+        if buf.is_empty() || self.turns == 0 {
+            return Ok(0);
+        }
+        if self.turns == 1 {
+            self.turns = 0;
+            return Err(no_turns_left());
+        }
+        match self.device.read(buf) {
+            Ok(0) => Ok(0),
+            Ok(n) => {
+                self.turns -= 1;
+                Ok(n)
+            }
+            Err(e) => {
+                self.turns -= 1;
+                Err(device_error(e.kind()))
+            }
+        }
+    }
+
+    ghost filling_tells = { λ p h. absurd h };
+
+    ghost store_tells = { λ p h. absurd h };
+
+    ghost store_fits = { λ p h. absurd h };
+}
+
+/// The bytes that the device answered for are out, nothing is held, and mishaps are not told.
+impl<D: io::Write> Write for Patient<D> {
+    ghost use Rattle.system_streams.specs.Patient.{patient_device, patient_turns, patient_taken, patient_told};
+
+    ghost told = { patient_told };
+
+    ghost takes_all = { λ _. ⊥ };
+
+    ghost cost = { λ _. 0 };
+
+    ghost is_metered = { λ _. ⊥ };
+
+    fn write(&mut self, buf: &[u8]) -> Result<usize>
+        // The trait's.
+        ensures bound { IfOk result (λ n. n ≤ length buf.now) }
+        ensures moves { Moves (patient_told self.old) (taken result buf.now) (write_mishap result buf.now)
+            (patient_told self.new) }
+
+        // What the device answered for is out.
+        ensures taken { patient_taken self.new ≡ patient_taken self.old ++ taken result buf.now }
+        ensures asked { AnswersWrite result (patient_turns self.old) (patient_turns self.new) }
+        ensures bytes { WriteAppends (D.contents (patient_device self.old))
+            (D.contents (patient_device self.new)) result buf.now }
+    {
+        match self.device.write(buf) {
+            Ok(n) => {
+                self.taken.add(&buf[..n]);
+                Ok(n)
+            }
+            Err(e) => Err(self.refuse(e.kind())),
+        }
+    }
+
+    fn flush(&mut self) -> Result<()>
+        // The trait's.
+        ensures empty { OnOk result ((patient_told self.new).held ≡ []) }
+        ensures moves { Moves (patient_told self.old) [] (call_mishap result) (patient_told self.new) }
+
+        // It takes no byte.
+        ensures taken { patient_taken self.new ≡ patient_taken self.old }
+        ensures asked { AnswersWrite result (patient_turns self.old) (patient_turns self.new) }
+        ensures bytes { Keeps (D.contents (patient_device self.old)) (D.contents (patient_device self.new)) }
+    {
+        match self.device.flush() {
+            Ok(()) => Ok(()),
+            Err(e) => Err(self.refuse(e.kind())),
+        }
+    }
+
+    ghost steady = { λ p h. absurd h };
+}
