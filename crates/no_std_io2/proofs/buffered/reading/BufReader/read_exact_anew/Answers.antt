@@ -163,8 +163,8 @@ returns-in-Ok-eq0 g c =
           let end = told.1 zero (omega arith) in
           let held = length (reader_held c.read.new.self) in
           let left = exact_left-end g.row.S _ _ _ _ _ _ held (length c.reads.buf - c.reads.at) so_far.1 (omega arith)
-              (omega (arith, gives.1, come, zero)) (λ h. ap length (read.direct so_far.0 empty (omega arith)))
-              (λ h. omega (arith, read.filled so_far.0 empty (omega arith), zero)) (omega (arith, c.requires)) in
+          (omega (arith, gives.1, come, zero)) (λ h. ap length (read.direct so_far.0 empty (omega arith)))
+          (λ h. omega (arith, read.filled so_far.0 empty (omega arith), zero)) (omega (arith, c.requires)) in
           (gives.0, left.0, ap length (sym (nothing_read _ _ _ _ told zero) ∙ end) ∙ left.1);
     }
 
