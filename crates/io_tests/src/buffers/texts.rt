@@ -1,5 +1,6 @@
 // What buffers print and tell of themselves, and the example of README.md.
 use crate::kit::texts::debug_text;
+use examples::save;
 use no_std_io2::buffered::{BufReader, BufWriter, LineWriter};
 use no_std_io2_base::error::Result;
 use no_std_io2_base::traits::{BufRead, Write};
@@ -93,18 +94,6 @@ fn capacities_are_what_was_asked_for(rt: HostRuntime) {
     let r: BufReader<&[u8], 4> = BufReader::new(b"abc");
     assert_eq!(rt; capacity_of_reader(&r), 4);
     assert_eq!(rt; r.into_inner(), b"abc".as_slice());
-}
-
-// Writes a record through a buffer of 64 bytes, and gives the device back with every byte out: the
-// example of README.md.
-fn save(device: Vec<u8>, record: &[u8]) -> Result<Vec<u8>> {
-    let mut w = BufWriter::<Vec<u8>, 64>::new(device);
-    w.write_all(record)?;
-    w.flush()?;
-    match w.into_inner() {
-        Ok(device) => Ok(device),
-        Err(e) => Err(e.into()),
-    }
 }
 
 #[test]
