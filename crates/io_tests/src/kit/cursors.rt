@@ -215,6 +215,16 @@ pub struct BufferedWriter {
     writer: BufWriter<Cursor<Vec<u8>>, 8>,
 }
 
+// Puts the cursor below somewhere, where a row says so. It stands apart, so that what a loan writes
+// back is proved in few lines.
+fn place_below(
+    writer: &mut BufWriter<Cursor<Vec<u8>>, 8>,
+    call: &Call,
+    line: &mut Line,
+) -> Result<bool, AllocError> {
+    place(writer.get_mut(), call, line)
+}
+
 impl Subject for BufferedWriter {
     fn make(alloc: Global, words: &'static str) -> Result<BufferedWriter, Fail> {
         Ok(BufferedWriter {
@@ -224,7 +234,7 @@ impl Subject for BufferedWriter {
 
     fn play(mut self, call: &Call, line: &mut Line) -> Result<BufferedWriter, Fail> {
         line.column()?;
-        if !place(self.writer.get_mut(), call, line)? {
+        if !place_below(&mut self.writer, call, line)? {
             call_writer(&mut self.writer, call, line)?;
         }
         show(self.writer.get_ref(), line)?;
@@ -241,6 +251,15 @@ pub struct BufferedReader {
     reader: BufReader<Cursor<&'static [u8]>, 4>,
 }
 
+// As `place_below`.
+fn place_inner(
+    reader: &mut BufReader<Cursor<&'static [u8]>, 4>,
+    call: &Call,
+    line: &mut Line,
+) -> Result<bool, AllocError> {
+    place(reader.get_mut(), call, line)
+}
+
 impl Subject for BufferedReader {
     fn make(alloc: Global, words: &'static str) -> Result<BufferedReader, Fail> {
         Ok(BufferedReader {
@@ -251,7 +270,7 @@ impl Subject for BufferedReader {
 
     fn play(mut self, call: &Call, line: &mut Line) -> Result<BufferedReader, Fail> {
         line.column()?;
-        if !place(self.reader.get_mut(), call, line)? {
+        if !place_inner(&mut self.reader, call, line)? {
             call_reader(self.alloc, &mut self.reader, call, line)?;
         }
         show(self.reader.get_ref(), line)?;
