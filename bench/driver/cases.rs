@@ -156,7 +156,7 @@ fn lines_of(len: usize) -> &'static [u8] {
 fn add_pieces(cases: &mut Vec<Case>) {
     macro_rules! add {
         ($of:literal, $len:expr, $text:expr, $read_until:ident, $lines:ident $(, $size:literal)?) => {
-            let name = |call: &str| format!("{}, `{call}` of {} bytes", $of, $len);
+            let name = |call: &str| format!("{}, `{call}` of {}", $of, $len);
             cases.push(case_of_two!(name("read_until"), PIECES, $read_until $(::<$size>)? ($text)));
             cases.push(case_of_two!(name("lines"), PIECES, $lines $(::<$size>)? ($text)));
         };
