@@ -73,7 +73,11 @@ fn a_line_goes_on_where_it_stopped(rt: HostRuntime) -> std::result::Result<(), F
             log.retry()?;
         }
         assert!(rt; !log.is_under_way(), "after {left} calls");
-        assert_eq!(rt; log.get_ref().out.as_slice(), b"started\n".as_slice(), "after {left} calls");
+        assert_eq!(rt;
+            log.get_ref().out.as_slice(),
+            b"started\n".as_slice(),
+            "after {left} calls"
+        );
     }
     Ok(())
 }
@@ -98,7 +102,11 @@ fn lines_go_out_once_wherever_the_device_fails(rt: HostRuntime) -> std::result::
             log.flush()?;
         }
         let device = log.into_inner()?;
-        assert_eq!(rt; device.out.as_slice(), b"one\n\nthree\n".as_slice(), "after {left} calls");
+        assert_eq!(rt;
+            device.out.as_slice(),
+            b"one\n\nthree\n".as_slice(),
+            "after {left} calls"
+        );
     }
     Ok(())
 }
@@ -108,7 +116,10 @@ fn a_newline_inside_is_refused(rt: HostRuntime) -> std::result::Result<(), Fail>
     for text in ["\n", "a\n", "\na", "a\nb"] {
         let mut log = LineLog::<Vec<u8>, 4>::new(rt.alloc(), Vec::new(rt.alloc()));
         let refused = log.log(text);
-        assert!(rt; matches!(refused, Err(e) if e.kind() == ErrorKind::InvalidInput), "{text:?}");
+        assert!(rt;
+            matches!(refused, Err(e) if e.kind() == ErrorKind::InvalidInput),
+            "{text:?}"
+        );
         assert!(rt; !log.is_under_way(), "{text:?}");
         assert!(rt; log.get_ref().is_empty(), "{text:?}");
     }
