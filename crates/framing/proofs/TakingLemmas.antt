@@ -69,4 +69,4 @@ gathers_behind E after old new want (Err e) header four (inr h) = inr (gathered_
 pub gathers_alone : (E after : List Event) (old new payload : List ℕ) (want : ℕ) (reply : Result Bool Error) → payload ≡ [] → Gathers want E reply old new after → Gathers want E reply (old ++ payload) (new ++ payload) after
 gathers_alone E after old new payload want reply none h =
     subst (λ p. Gathers want E reply (old ++ p) (new ++ p) after) (sym none)
-        (subst (λ l. Gathers want E reply l (new ++ []) after) (sym (append-nil old)) (subst (λ l. Gathers want E reply old l after) (sym (append-nil new)) h))
+    (subst (λ l. Gathers want E reply l (new ++ []) after) (sym (append-nil old)) (subst (λ l. Gathers want E reply old l after) (sym (append-nil new)) h))

@@ -62,9 +62,11 @@ returns-then-not-branch-2-clause-told g c = λ t.
     let same = c.in_ok-fill_payload.ensures.header in
     let four : length (part_header part) ≡ 4 = ap length same ∙ c.in_ok-fill_header.ensures.whole b in
     let told = c.told_len-len.ensures.value ∙ ap (from_le_bytes w32) (sym same) in
-    let some : 0 < length (part_bytes part) = omega (arith, four, length-append (part_header part) (part_payload part)) in
-    (said.0, ended (most c.args.self.now) (4 + len) _ _ _ _ _ _ c.in_ok-fill_payload.field-0 c.ended_inside-then-not-branch-2.result c.if-not-branch-2.true whole.0 said.1
-        (part_short (part_header part) (part_payload part) len four told) some c.ended_inside-then-not-branch-2.ensures)
+    let some : 0 < length (part_bytes part) = omega (arith, four, length-append (part_header part) (part_payload part)) in (
+      said.0,
+      ended (most c.args.self.now) (4 + len) _ _ _ _ _ _ c.in_ok-fill_payload.field-0 c.ended_inside-then-not-branch-2.result c.if-not-branch-2.true whole.0 said.1
+          (part_short (part_header part) (part_payload part) len four told) some c.ended_inside-then-not-branch-2.ensures,
+    )
 
 pub returns-clause-told : goal.returns-clause-told
 returns-clause-told g c = λ t.

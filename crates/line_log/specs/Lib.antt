@@ -1,0 +1,4 @@
+pub mod Lines
+pub mod Pending
+pub mod Log
+pub mod Logging

@@ -1,0 +1,19 @@
+-- What a line of a log is.
+use Rattle.std.specs.Prelude.{◌≡◌, ◌⊎◌, ℕ, List, [], ◌∷◌, ◌++◌, map}
+use Rattle.std.specs.List.{concat}
+use Rattle.no_std_io2.specs.Errors.{error_kind, IsOutOfMemory}
+use Rattle.no_std_io2.specs.Lines.{HasNewline}
+use Rattle.no_std_io2.specs.declared.io.Error.{Error}
+use Rattle.no_std_io2.specs.declared.io.ErrorKind.TheVariants.{InvalidInput}
+
+-- a line as it goes out
+abbrev pub line_of : List ℕ → List ℕ
+line_of text = text ++ 10 ∷ []
+
+-- lines as they go out
+abbrev pub lines_of : List (List ℕ) → List ℕ
+lines_of texts = concat (map line_of texts)
+
+-- a text was refused: a newline stands in it, or there was no memory for it
+abbrev pub IsRefusal : List ℕ → Error → Type 0
+IsRefusal text e = (HasNewline text × (error_kind e ≡ InvalidInput)) ⊎ IsOutOfMemory e

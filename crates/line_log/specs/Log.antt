@@ -1,0 +1,26 @@
+-- What a clause reads of a log.
+use Rattle.std.specs.Prelude.{ℕ, List}
+use Rattle.no_std_io2.specs.Writes.{Told}
+use Rattle.no_std_io2.specs.LineWriter.{line_inner, line_told, line_buffer}
+use Rattle.line_log.specs.Pending.{pending_line, pending_rest}
+use Rattle.line_log.specs.declared.LineLog.{LineLog}
+
+-- the writer below
+abbrev pub log_inner : {W : Type 0} {S : ℕ} → LineLog W S → W
+log_inner l = line_inner l.lines
+
+-- what is held here
+abbrev pub log_buffer : {W : Type 0} {S : ℕ} → LineLog W S → List ℕ
+log_buffer l = line_buffer l.lines
+
+-- what a log tells, where the writer below tells `told`
+abbrev pub log_told : {W : Type 0} {S : ℕ} → (W → Told) → LineLog W S → Told
+log_told told l = line_told told l.lines
+
+-- the line that is under way, with its newline; no byte where there is none
+abbrev pub under_way : {W : Type 0} {S : ℕ} → LineLog W S → List ℕ
+under_way l = pending_line l.pending
+
+-- what is still to go of it
+abbrev pub still_to_go : {W : Type 0} {S : ℕ} → LineLog W S → List ℕ
+still_to_go l = pending_rest l.pending

@@ -1,0 +1,192 @@
+//! A log of lines over any `Write`: each line goes out once, as soon as it is complete.
+#![tactic(auto)]
+
+ghost use Rattle.std.specs.Prelude.{◌≡◌, ◌<◌, [], ◌∷◌, ◌++◌, ℕ, List, map, length, nat_lt, OnOk, OnErr, IfOk, IfErr, IsOk, string_bytes};
+ghost use Rattle.no_std_io2.specs.Errors.{error_kind, IsNoInterruption, IsFault};
+ghost use Rattle.no_std_io2.specs.Writes.{Moves, Sends};
+ghost use Rattle.no_std_io2.specs.Buffered.{into_inner_error_writer, into_inner_error_cause};
+ghost use Rattle.no_std_io2.specs.LineState.{HasNoNewline};
+ghost use Rattle.no_std_io2.specs.LineWriter.{line_told};
+ghost use Rattle.line_log.specs.Lines.{lines_of};
+ghost use Rattle.line_log.specs.Log.{log_inner, log_told, log_buffer, under_way, still_to_go};
+ghost use Rattle.line_log.specs.Logging.{LogsLine, LogsLines, RefusesFirst, TakesOff};
+
+mod pending;
+
+use no_std_io2::io::{IntoInnerError, LineWriter, Result, Write};
+use pending::Pending;
+use std::alloc::Global;
+
+/// A log of lines, through a `LineWriter` of `S` bytes in front of any writer.
+///
+/// A line that was not whole when the device failed is *under way*: [`retry`](LineLog::retry), and likewise
+/// `log_all` and `flush`, go on where it stopped, so no byte goes out twice. What the device took, then what
+/// is held, then what is still to go of the line under way is always what it was, followed by exactly the
+/// lines that were logged, each with its newline.
+///
+/// Dropping it sends what is held once, ignores a fault, and cuts off the line under way.
+#[derive(Drop)]
+pub struct LineLog<W: Write + Drop, const S: usize> {
+    lines: LineWriter<W, S>,
+    pending: Pending,
+}
+
+impl<W: Write + Drop, const S: usize> LineLog<W, S> {
+    /// An empty log that goes to `inner`. The line under way is kept by `alloc`.
+    pub fn new(alloc: Global, inner: W) -> LineLog<W, S>
+        ensures inner { log_inner result ≡ inner }
+        ensures empty { log_buffer result ≡ [] }
+        ensures idle { under_way result ≡ [] }
+        ensures none { still_to_go result ≡ [] }
+    {
+        LineLog {
+            lines: LineWriter::new(inner),
+            pending: Pending::new(alloc),
+        }
+    }
+
+    /// The writer below.
+    pub fn get_ref(&self) -> &W
+        ensures { result.now ≡ log_inner self.now }
+    {
+        self.lines.get_ref()
+    }
+
+    /// Whether a line is under way.
+    pub fn is_under_way(&self) -> bool
+        ensures { result ≡ nat_lt 0 (length (under_way self.now)) }
+    {
+        self.pending.is_some()
+    }
+
+    /// Goes on with the line that is under way, where it stopped. With none it makes no call. After `Ok`
+    /// nothing of the line is held here: all is with the writer below.
+    ///
+    /// # Errors
+    /// The device's first fault, or `WriteZero` where it took no byte of some; never `Interrupted`. The line
+    /// is still under way, from the first byte on that was not accepted.
+    pub fn retry(&mut self) -> Result<()>
+        ensures sends { Sends (log_told W.told self.old) (still_to_go self.old) result
+            (log_told W.told self.new) (still_to_go self.new) }
+        ensures done { OnOk result (under_way self.new ≡ []) }
+        ensures none { OnOk result (still_to_go self.new ≡ []) }
+        ensures passed { (lines : List ℕ) → 0 < length (under_way self.old)
+            → (log_told W.told self.old).out ++ (log_told W.told self.old).held ++ still_to_go self.old ≡ lines ++ 10 ∷ []
+            → OnOk result (log_buffer self.new ≡ []) }
+        ensures err { OnErr result (under_way self.new ≡ under_way self.old) }
+        ensures some { OnErr result (0 < length (under_way self.new)) }
+        ensures idle { under_way self.old ≡ [] → IsOk result × (self.new ≡ self.old) }
+        ensures fault { IsNoInterruption result }
+    {
+        if !self.is_under_way() {
+            return Ok(());
+        }
+        let mut rest = self.pending.rest();
+        let reply = self.lines.write_rest(&mut rest);
+        let left = rest.len();
+        self.pending.keep_last(left);
+        reply?;
+        // The end of the line may be held: a write of nothing sends it.
+        self.lines.write_all(b"")?;
+        self.pending.clear();
+        Ok(())
+    }
+
+    /// Logs a line: the text, and a newline behind it. After `Ok` all of it is with the writer below, and
+    /// nothing waits here. No other line may be under way: `retry` first where
+    /// [`is_under_way`](LineLog::is_under_way).
+    ///
+    /// # Errors
+    /// `InvalidInput` where a newline stands in the text, and `OutOfMemory`: nothing was accepted, and no line
+    /// is under way. Else those of `retry`, and the line is under way.
+    ///
+    /// ```
+    /// let mut log = LineLog::<W, 64>::new(alloc, device);
+    /// if log.log("started").is_err() && log.is_under_way() {
+    ///     log.retry()?;
+    /// }
+    /// ```
+    pub fn log(&mut self, line: &str) -> Result<()>
+        requires { under_way self.old ≡ [] }
+        ensures sends { LogsLine (log_told W.told self.old) line.now result
+            (under_way self.new) (still_to_go self.new) (log_told W.told self.new) }
+        ensures passed { OnOk result (log_buffer self.new ≡ []) }
+        ensures plain { OnOk result (HasNoNewline line.now) }
+        ensures fault { IsNoInterruption result }
+    {
+        self.pending.stage(line)?;
+        self.retry()
+    }
+
+    /// Goes on with the line under way, then logs these lines in order, and takes each off the front of
+    /// `rest` once it is accepted or under way. So after an error the same call goes on: each line goes out
+    /// once.
+    ///
+    /// # Errors
+    /// Those of `retry`, with a line under way. `InvalidInput` and `OutOfMemory` as of `log`, with no line
+    /// under way and the refused line at the front of `rest`.
+    ///
+    /// ```
+    /// let mut rest = lines.as_slice();
+    /// while log.log_all(&mut rest).is_err() {
+    ///     wait_for_the_device()?;
+    /// }
+    /// ```
+    pub fn log_all(&mut self, rest: &mut &[String]) -> Result<()>
+        ensures sends { LogsLines (log_told W.told self.old)
+            (still_to_go self.old ++ lines_of (map string_bytes rest.old.now)) result (under_way self.new)
+            (log_told W.told self.new) (still_to_go self.new ++ lines_of (map string_bytes rest.new.now)) }
+        ensures rest { TakesOff (map string_bytes rest.old.now) (map string_bytes rest.new.now) }
+        ensures refused { IfErr result (λ e. under_way self.new ≡ [] → RefusesFirst (map string_bytes rest.new.now) e) }
+        ensures done { OnOk result ((under_way self.new ≡ []) × (still_to_go self.new ≡ []) × (rest.new.now ≡ [])) }
+        ensures fault { IsNoInterruption result }
+    {
+        'lines: loop {
+            self.retry()?;
+            let Some((line, others)) = rest.split_first() else {
+                return Ok(());
+            };
+            self.pending.stage(line.as_str())?;
+            *rest = others;
+        }
+    }
+
+    /// Goes on with the line under way, then hands on all that is held: after `Ok` nothing is held, and no
+    /// line is under way.
+    ///
+    /// # Errors
+    /// Those of `retry`, or the device's own. What was not handed on is still held or to go, and a later
+    /// call goes on there.
+    pub fn flush(&mut self) -> Result<()>
+        ensures sends { Sends (log_told W.told self.old) (still_to_go self.old) result
+            (log_told W.told self.new) (still_to_go self.new) }
+        ensures done { OnOk result ((under_way self.new ≡ []) × (still_to_go self.new ≡ [])
+            × ((log_told W.told self.new).held ≡ [])) }
+    {
+        self.retry()?;
+        self.lines.flush()
+    }
+
+    /// Sends what is held, and gives the writer below, which isn't flushed. No line may be under way: `retry`
+    /// first where [`is_under_way`](LineLog::is_under_way).
+    ///
+    /// # Errors
+    /// The device's first fault, or `WriteZero`; never `Interrupted`. The error holds the line writer, which
+    /// holds what was not sent.
+    pub fn into_inner(self) -> std::result::Result<W, IntoInnerError<LineWriter<W, S>>>
+        requires { under_way self ≡ [] }
+        ensures ok { IfOk result (λ w. Moves (log_told W.told self) [] [] (W.told w)) }
+        ensures err { IfErr result (λ e. Moves (log_told W.told self) []
+            (error_kind (into_inner_error_cause e) ∷ []) (line_told W.told (into_inner_error_writer e))) }
+        ensures fault { IfErr result (λ e. IsFault (into_inner_error_cause e)) }
+    {
+        let LineLog {
+            lines,
+            pending: _pending,
+        } = self;
+        lines.into_inner()
+    }
+}
+
+#[cfg(test)]
+mod tests;
