@@ -65,7 +65,8 @@ frame_mishap (Err e) [] = []
 frame_mishap (Err e) (b ∷ bs) = error_kind e ∷ []
 
 -- Frames were sent: what is no longer to go was accepted, each byte once, in order.
-pub record SendsFrames (old : Told) (to_go : List ℕ) (reply : Result (Unit {0}) Error) (under_way : List ℕ) (new : Told) (left : List ℕ) : Type 0 where
+pub record SendsFrames (old : Told) (to_go : List ℕ) (reply : Result (Unit {0}) Error)
+    (under_way : List ℕ) (new : Told) (left : List ℕ) : Type 0 where
   pub sent : List ℕ
   pub split : to_go ≡ sent ++ left
   pub moves : Moves old sent (frame_mishap reply under_way) new

@@ -1,5 +1,6 @@
 -- What a reader of frames takes of what is to come.
-use Rattle.std.specs.Prelude.{◌≡◌, ◌⊎◌, ◌<◌, ◌≤◌, List, ℕ, [], ◌∷◌, ◌++◌, length, drop, All, Bool, true, false, Option, Some, None, Result, Ok, Err, OnOk, IfErr}
+use Rattle.std.specs.Prelude.{◌≡◌, ◌⊎◌, ℕ, ◌<◌, ◌≤◌, List, [], ◌∷◌, ◌++◌, length, drop, All}
+use Rattle.std.specs.Prelude.{Bool, true, false, Option, Some, None, Result, Ok, Err, OnOk, IfErr}
 use Rattle.no_std_io2.specs.Errors.{error_kind, IsFault, IsOutOfMemory}
 use Rattle.no_std_io2.specs.Events.{Event, fails, events_of, bytes, HasNoFault}
 use Rattle.no_std_io2.specs.declared.io.Error.{Error}
@@ -95,8 +96,10 @@ pub record IsFirstFault (E : List Event) (e : Error) : Type 0 where
   pub passes : Passes E seen (fails e ∷ rest)
   pub fault : IsFault e
 
--- Where the frames of `sent` are to come, these were given, and the others are still to come: none at `Ok`, and an error is the first fault or want of memory.
-pub record ComesBack (sent : List (List ℕ)) (E : List Event) (reply : Result (Unit {0}) Error) (given : List (List ℕ)) (left : List ℕ) : Type 0 where
+-- Where the frames of `sent` are to come, these were given, and the others are still to come: none at `Ok`,
+-- and an error is the first fault or want of memory.
+pub record ComesBack (sent : List (List ℕ)) (E : List Event) (reply : Result (Unit {0}) Error)
+    (given : List (List ℕ)) (left : List ℕ) : Type 0 where
   pub more : List (List ℕ)
   pub split : sent ≡ given ++ more
   pub rest : left ≡ frames more

@@ -32,6 +32,11 @@ impl<W: Write + Drop, const S: usize> FrameWriter<W, S> {
     /// # Errors
     /// The device's fault after the last try: the same call goes on. `InvalidInput` and `OutOfMemory` as of
     /// [`send`](FrameWriter::send), at once, with the refused payload at the front of `rest`.
+    ///
+    /// ```
+    /// let mut rest = payloads.as_slice();
+    /// w.deliver(&mut rest, 3)?;
+    /// ```
     pub fn deliver(&mut self, rest: &mut &[Vec<u8>], tries: u32) -> Result<()>
         ensures sends { Delivers (writer_tells W.told self.old)
             (still_to_go self.old ++ frames (map (λ v. v.items) rest.old.now))

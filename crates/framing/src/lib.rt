@@ -13,3 +13,6 @@ mod writer;
 pub use reader::FrameReader;
 pub use round::{Shown, round_trip};
 pub use writer::FrameWriter;
+
+#[cfg(test)]
+mod tests;

@@ -119,6 +119,11 @@ impl<R: Read, const S: usize> FrameReader<R, S> {
     /// # Errors
     /// Those of [`next`](FrameReader::next). The payloads that were given before it are appended, and all
     /// other frames are still to come, so the same call goes on.
+    ///
+    /// ```
+    /// let mut payloads = Vec::new(alloc);
+    /// r.read_all(&mut payloads)?;
+    /// ```
     pub fn read_all(&mut self, payloads: &mut Vec<Vec<u8>>) -> Result<()>
         ensures appends { payloads.new.items ≡ payloads.old.items ++ appended payloads.old.items payloads.new.items }
         ensures told { R.tells (reads_from self.old) → R.tells (reads_from self.new)

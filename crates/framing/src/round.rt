@@ -34,6 +34,12 @@ impl<W: Shown + Drop, const S: usize> Shown for LineWriter<W, S> {
     }
 }
 
+impl<W: Shown> Shown for &mut W {
+    fn shown(&self) -> &[u8] {
+        (**self).shown()
+    }
+}
+
 /// Sends these payloads, with at most `tries` tries after faults, and gives what a reader of frames reads
 /// of the bytes that went out: these payloads, in order, each once, whatever tower of buffers and whatever
 /// device is below. Over a device that tells at most `tries` mishaps to come, and with payloads of fewer
@@ -41,6 +47,11 @@ impl<W: Shown + Drop, const S: usize> Shown for LineWriter<W, S> {
 ///
 /// # Errors
 /// Those of [`FrameWriter::deliver`], and `OutOfMemory` of the reader.
+///
+/// ```
+/// let mut w = FrameWriter::<Vec<u8>, 64>::new(alloc, Vec::new(alloc));
+/// let given = round_trip(alloc, &mut w, &payloads, 0)?;    // given == payloads
+/// ```
 pub fn round_trip<W: Shown + Drop, const S: usize>(
     alloc: Global,
     w: &mut FrameWriter<W, S>,

@@ -4,7 +4,8 @@ ghost use Rattle.no_std_io2.specs.Errors.{error_kind, IsNoInterruption, IsFault}
 ghost use Rattle.no_std_io2.specs.Writes.{Moves, Sends};
 ghost use Rattle.no_std_io2.specs.Buffered.{writer_told, into_inner_error_writer, into_inner_error_cause};
 ghost use Rattle.framing.specs.Frames.{frames};
-ghost use Rattle.framing.specs.Sending.{writes_to, frames_held, writer_tells, under_way, still_to_go, SendsFrame, SendsFrames, RefusesFirst, TakesOff};
+ghost use Rattle.framing.specs.Sending.{writes_to, frames_held, writer_tells, under_way, still_to_go};
+ghost use Rattle.framing.specs.Sending.{SendsFrame, SendsFrames, RefusesFirst, TakesOff};
 
 mod pending;
 
@@ -114,6 +115,13 @@ impl<W: Write + Drop, const S: usize> FrameWriter<W, S> {
     /// # Errors
     /// Those of `retry`, with a frame under way. `InvalidInput` and `OutOfMemory` as of `send`, with no
     /// frame under way and the refused payload at the front of `rest`.
+    ///
+    /// ```
+    /// let mut rest = payloads.as_slice();
+    /// while w.send_all(&mut rest).is_err() {
+    ///     wait_for_the_device()?;
+    /// }
+    /// ```
     pub fn send_all(&mut self, rest: &mut &[Vec<u8>]) -> Result<()>
         ensures sends { SendsFrames (writer_tells W.told self.old)
             (still_to_go self.old ++ frames (map (λ v. v.items) rest.old.now)) result (under_way self.new)

@@ -1,13 +1,13 @@
 -- How the items of a run of `split` or `lines` come to be all pieces: once, by what one `next` yields.
-use Rattle.std.proofs.Common.{◌≡◌, ℕ, ◌<◌, ◌⊎◌, true, false, Bool, if◌then◌else◌, Option, Some, None, Result, Ok, Err, List, [], ◌∷◌, ◌++◌, map, filter, refl, sym, ap, ◌∙◌, subst, append-nil, append_assoc, inl, inr, ⊎_elim, true≢false}
+use Rattle.std.proofs.Common.{◌≡◌, ℕ, true, false, Bool, if◌then◌else◌, Option, Some, None, Result, Ok, Err, List, [], ◌∷◌, ◌++◌, map, filter, refl, sym, ap, ◌∙◌, subst, append-nil, append_assoc, inl, inr, ⊎_elim}
 use Rattle.no_std_io2_base.specs.declared.error.Error.{Error}
 use Rattle.no_std_io2_base.specs.Errors.{error_kind, is_interruption, IsFault, IsOutOfMemory}
 use Rattle.no_std_io2_base.specs.Events.{Event, byte, fails, bytes, HasNoFault}
-use Rattle.no_std_io2_base.specs.Pieces.{ends_in, pieces, GivesPiece, StopsInPiece, bytes_to_fault, first_fault, pieces_before, pieces_given}
-use Rattle.no_std_io2_base.specs.PieceItems.{TakesSome, YieldsPiece}
+use Rattle.no_std_io2_base.specs.Pieces.{ends_in, pieces, bytes_to_fault, first_fault, pieces_before, pieces_given}
+use Rattle.no_std_io2_base.specs.PieceItems.{YieldsPiece}
 use Rattle.no_std_io2_base.proofs.GivenPieces.{given_next, given_none, given_fault}
 use Rattle.io_bench.specs.Runs.{appended}
-use Rattle.io_bench.specs.PieceRuns.{AllPieces, PiecesToFault, PiecesToRefused, PiecesToMemory, GathersPieces}
+use Rattle.io_bench.specs.PieceRuns.{AllPieces, GathersPieces}
 
 -- the pieces in front are gathered, trimmed, and the others are to come
 pub record GatheredSoFar (trim : List ℕ → List ℕ) (d : ℕ) (E : List Event) (items : List (List ℕ)) (after : List Event) : Type 0 where

@@ -32,7 +32,8 @@ line_mishap (Err e) [] = []
 line_mishap (Err e) (b ∷ bs) = error_kind e ∷ []
 
 -- Lines were logged: what is no longer to go was accepted, each byte once, in order.
-pub record LogsLines (old : Told) (to_go : List ℕ) (reply : Result (Unit {0}) Error) (under_way : List ℕ) (new : Told) (left : List ℕ) : Type 0 where
+pub record LogsLines (old : Told) (to_go : List ℕ) (reply : Result (Unit {0}) Error)
+    (under_way : List ℕ) (new : Told) (left : List ℕ) : Type 0 where
   pub sent : List ℕ
   pub split : to_go ≡ sent ++ left
   pub moves : Moves old sent (line_mishap reply under_way) new

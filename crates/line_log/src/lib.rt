@@ -125,6 +125,13 @@ impl<W: Write + Drop, const S: usize> LineLog<W, S> {
     /// # Errors
     /// Those of `retry`, with a line under way. `InvalidInput` and `OutOfMemory` as of `log`, with no line
     /// under way and the refused line at the front of `rest`.
+    ///
+    /// ```
+    /// let mut rest = lines.as_slice();
+    /// while log.log_all(&mut rest).is_err() {
+    ///     wait_for_the_device()?;
+    /// }
+    /// ```
     pub fn log_all(&mut self, rest: &mut &[String]) -> Result<()>
         ensures sends { LogsLines (log_told W.told self.old)
             (still_to_go self.old ++ lines_of (map string_bytes rest.old.now)) result (under_way self.new)
@@ -180,3 +187,6 @@ impl<W: Write + Drop, const S: usize> LineLog<W, S> {
         lines.into_inner()
     }
 }
+
+#[cfg(test)]
+mod tests;

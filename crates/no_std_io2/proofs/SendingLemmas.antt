@@ -1,14 +1,13 @@
 -- The three ends of a write through a buffer: what was held could not be sent, the bytes go past it, or they are held.
-use Rattle.std.proofs.Common.{◌≡◌, false, true, ℕ, ◌+◌, ◌<◌, ◌≤◌, ◌∙◌, List, [], ◌++◌, length, take, Result, Ok, Err, Some, IsOk, IfOk, OnOk, refl, sym, ap, subst, inl, inr, rules, arith, le_refl, take_all, append-nil, ⊎_elim}
+use Rattle.std.proofs.Common.{◌≡◌, false, true, ℕ, ◌+◌, ◌<◌, ◌≤◌, ◌∙◌, List, [], ◌++◌, length, Result, Ok, Err, Some, IfOk, OnOk, refl, sym, ap, subst, inl, inr, rules, arith, le_refl, take_all, append-nil, ⊎_elim}
 use Rattle.std.proofs.lemmas.Bool.{cases_lt}
 use Rattle.std.proofs.lemmas.Bool.Decides.{nat_tests}
 use Rattle.no_std_io2_base.specs.declared.error.Error.{Error}
-use Rattle.no_std_io2_base.specs.declared.error.ErrorKind.{ErrorKind}
 use Rattle.no_std_io2_base.specs.Errors.{IsNoInterruption}
 use Rattle.no_std_io2_base.specs.Writes.{Told, Moves, MovesFront, taken, write_mishap, call_mishap, calls_for}
 use Rattle.no_std_io2_base.proofs.MovesLemmas.{IsFront-refl, Moves-then, Moves-ends, zero_write-whole}
 use Rattle.no_std_io2.specs.declared.buffered.sender.Sender.{Sender}
-use Rattle.no_std_io2.specs.Buffered.{sender_inner, sender_buffer, sender_told, sender_with_inner, with_buffer, way_calls, writing_calls, buffer_after, IsEnd}
+use Rattle.no_std_io2.specs.Buffered.{sender_inner, sender_buffer, sender_with_inner, way_calls, writing_calls, buffer_after}
 use Rattle.no_std_io2.specs.Sending.{Sent, MakesWay, Buffers, BuffersAll, Flushes}
 use Rattle.no_std_io2.proofs.BufferLemmas.{Moves-kept, Moves-passed, Moves-sent, IsEnd-none, IsEnd-held, call_steady}
 use Rattle.no_std_io2.proofs.LineLemmas.{MovesFront-then, MovesFront-passed, onok}

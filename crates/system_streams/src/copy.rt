@@ -55,7 +55,12 @@ fn through_lines<R: Read, W: Write + Drop>(
 
 /// Copies all of `input` to `output` through a buffer of 64 bytes, sends and flushes it, and answers
 /// how many bytes these were, at most the greatest `u64`, with the output. With `line`, each line is
-/// sent as it ends. The reader's interruptions are passed over.
+/// sent as it ends. The reader's interruptions are passed over. As `std::io::copy`, with a buffer at each end.
+///
+/// ```
+/// let (count, out) = copy_through(&b"abc\nde"[..], Vec::<u8>::new(alloc), true)?;
+/// // count is 6, and out has the six bytes
+/// ```
 ///
 /// # Errors
 /// The first fault of `input`, or the first failure of `output`, an interruption of its flush too.

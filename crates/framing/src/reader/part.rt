@@ -87,7 +87,8 @@ impl Part {
         ensures fault { IfErr result IsFault }
         ensures turns { B.turns from.new ≤ B.turns from.old }
         ensures turn { length (part_bytes self.old) < length (part_bytes self.new) → B.turns from.new < B.turns from.old }
-        ensures some { IfOk result (λ b. b ≡ true → length (part_bytes self.old) < length (part_bytes self.new) ⊎ (0 < length (part_bytes self.old))) }
+        ensures some { IfOk result (λ b. b ≡ true → length (part_bytes self.old) < length (part_bytes self.new)
+            ⊎ (0 < length (part_bytes self.old))) }
     {
         if self.header.len() == HEADER {
             return Ok(true);

@@ -1,9 +1,8 @@
-use Rattle.std.proofs.Common.{◌≡◌, ℕ, ◌∙◌, ap, ⊎_elim, sym, refl, map, vec_items, Global, List, [], ◌∷◌, ◌++◌, Some, None, Ok, Err}
-use Rattle.std.proofs.lemmas.Result.{err_from_is_err_and}
+use Rattle.std.proofs.Common.{◌≡◌, ℕ, ◌∙◌, ap, map, vec_items, Global, [], ◌∷◌, ◌++◌, Some, Ok}
 use Rattle.no_std_io2_base.specs.Pieces.{without}
 use Rattle.no_std_io2_base.specs.PieceItems.{split_reader, split_delim, ends_at}
 use Rattle.io_bench.specs.Runs.{appended}
-use Rattle.io_bench.proofs.PieceRunLemmas.{none_gathered, one_gathered, all_gathered, gathered_to, gathered_full, appended-none, appended-more, shown-one, yields_at}
+use Rattle.io_bench.proofs.PieceRunLemmas.{one_gathered, all_gathered, gathered_to, appended-more, shown-one, yields_at}
 use Rattle.io_bench.proofs.pieces.run_split.Goals as goal
 
 pub items-preserved : goal.items-preserved
