@@ -1,6 +1,6 @@
 // Devices by themselves.
-use crate::kit::texts::debug_text;
 use super::writers::Closed;
+use crate::kit::texts::debug_text;
 use io_bench::{Act, Faulty, Sink, Tally};
 use no_std_io2::io::{ErrorKind, Write};
 use std::test::Fail;

@@ -2,10 +2,10 @@
 //
 // A row is a call, its answer, the bytes that it gave (dots where nothing was written), the limit where
 // there is one, and the calls that reached the devices.
-use crate::kit::texts::debug_text;
 use crate::kit::readers::{Reading, Singles};
 use crate::kit::recorder::Recorder;
 use crate::kit::rows::play;
+use crate::kit::texts::debug_text;
 use no_std_io2_base::cursor::Cursor;
 use no_std_io2_base::error::ErrorKind;
 use no_std_io2_base::traits::{BufRead, Chain, Read, Take};
