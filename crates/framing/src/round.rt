@@ -40,6 +40,12 @@ impl<W: Shown> Shown for &mut W {
     }
 }
 
+impl<W: Shown> Shown for Box<W> {
+    fn shown(&self) -> &[u8] {
+        (**self).shown()
+    }
+}
+
 /// Sends these payloads, with at most `tries` tries after faults, and gives what a reader of frames reads
 /// of the bytes that went out: these payloads, in order, each once, whatever tower of buffers and whatever
 /// device is below. Over a device that tells at most `tries` mishaps to come, and with payloads of fewer

@@ -167,6 +167,16 @@ fn a_frame_goes_on_where_it_stopped(rt: HostRuntime) -> std::result::Result<(), 
 }
 
 #[test]
+fn a_frame_that_fits_is_held(rt: HostRuntime) -> std::result::Result<(), Fail> {
+    let mut w = FrameWriter::<Vec<u8>, 10>::new(rt.alloc(), Vec::new(rt.alloc()));
+    w.send(b"hello")?;
+    assert!(rt; w.get_ref().is_empty());
+    w.flush()?;
+    assert_eq!(rt; w.get_ref().shown(), b"\x05\0\0\0hello".as_slice());
+    Ok(())
+}
+
+#[test]
 fn frames_go_out_once_wherever_the_device_fails(rt: HostRuntime) -> std::result::Result<(), Fail> {
     let payloads = payloads(rt.alloc())?;
     for left in 0..12 {
