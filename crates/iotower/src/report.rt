@@ -1,5 +1,5 @@
 // What `play` prints: a line for each reply, and then what is out and what is held.
-ghost use Rattle.std.specs.Prelude.{◌≡◌, ◌++◌, OnOk, IfOk, IfErr};
+ghost use Rattle.std.specs.Prelude.{◌≡◌, ◌++◌, ℕ, codes, List, Some, OnOk, IfOk, IfErr};
 ghost use Rattle.no_std_io2_base.specs.declared.error.ErrorKind.TheVariants.{OutOfMemory};
 ghost use Rattle.no_std_io2_base.specs.Errors.{error_kind};
 ghost use Rattle.iotower.specs.Script.{escaped};
@@ -8,6 +8,7 @@ ghost use Rattle.iotower.specs.Report.{reply_line, report};
 use io_bench::Reply;
 use no_std_io2::io::{Error, ErrorKind, Result};
 use std::alloc::Allocator;
+use std::fmt::Display;
 use std::io::Write;
 
 /// Appends the line of a reply.
@@ -18,12 +19,35 @@ pub fn push_reply<A: Allocator>(text: &mut Vec<u8, A>, reply: &Reply) -> Result<
     ensures ok { OnOk result (text.new.items ≡ text.old.items ++ reply_line reply.now) }
     ensures kind { IfErr result (λ e. error_kind e ≡ OutOfMemory) }
 {
-    let written = match reply {
-        Reply::Took(count) => writeln!(text, "took={count}"),
-        Reply::Done => writeln!(text, "done"),
-        Reply::Failed(error) => writeln!(text, "failed={error}"),
-    };
-    match written {
+    match reply {
+        Reply::Took(count) => push_line(text, b"took=", count),
+        Reply::Done => push(text, b"done\n"),
+        Reply::Failed(error) => push_line(text, b"failed=", error),
+    }
+}
+
+// Appends a line: a name, and what a value prints.
+fn push_line<A: Allocator, D: Display>(
+    text: &mut Vec<u8, A>,
+    name: &[u8],
+    value: &D,
+) -> Result<()>
+    ensures ok { (shown : List ℕ) → D.output value.now ≡ Some shown
+        → OnOk result (text.new.items ≡ text.old.items ++ (name.now ++ (shown ++ codes "\n"))) }
+    ensures kind { IfErr result (λ e. error_kind e ≡ OutOfMemory) }
+{
+    push(text, name)?;
+    push_shown(text, value)?;
+    push(text, b"\n")?;
+    Ok(())
+}
+
+// Appends what a value prints.
+fn push_shown<A: Allocator, D: Display>(text: &mut Vec<u8, A>, value: &D) -> Result<()>
+    ensures ok { (shown : List ℕ) → D.output value.now ≡ Some shown → OnOk result (text.new.items ≡ text.old.items ++ shown) }
+    ensures kind { IfErr result (λ e. error_kind e ≡ OutOfMemory) }
+{
+    match write!(text, "{value}") {
         Ok(()) => Ok(()),
         Err(_refused) => Err(Error::from(ErrorKind::OutOfMemory)),
     }
