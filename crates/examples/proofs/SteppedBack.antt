@@ -20,8 +20,8 @@ pub stepped_back : (n : ℕ) (behind held header behind1 held1 behind2 held2 : L
     → behind1 ≡ behind ++ header → behind2 ++ held2 ≡ behind1 ++ held1 → length behind2 + n ≡ length behind1 → (held2 ≡ held) × (behind2 ≡ behind)
 stepped_back n behind held header behind1 held1 behind2 held2 is enough left after whole back =
     let joined : behind2 ++ held2 ≡ behind ++ held =
-        whole ∙ ap (λ l. l ++ held1) after ∙ ap (λ l. (behind ++ header) ++ l) left ∙ ap (λ l. (behind ++ l) ++ drop n held) is
-        ∙ append_assoc behind (take n held) (drop n held) ∙ ap (λ l. behind ++ l) (take-append-drop n held) in
+    whole ∙ ap (λ l. l ++ held1) after ∙ ap (λ l. (behind ++ header) ++ l) left ∙ ap (λ l. (behind ++ l) ++ drop n held) is
+    ∙ append_assoc behind (take n held) (drop n held) ∙ ap (λ l. behind ++ l) (take-append-drop n held) in
     let cut = same_cut behind2 held2 behind held joined (omega (arith, given_behind n behind held header behind1 is enough after)) in
     (cut.1, cut.0)
 

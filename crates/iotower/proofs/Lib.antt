@@ -1,3 +1,4 @@
 mod CopyLemmas
 mod ScriptLemmas
 mod PlayLemmas
+mod Escapes

@@ -1,8 +1,8 @@
 // What `play` prints: a line for each reply, and then what is out and what is held.
-ghost use Rattle.std.specs.Prelude.{◌≡◌, ◌++◌, ℕ, codes, List, Some, OnOk, IfOk, IfErr};
+ghost use Rattle.std.specs.Prelude.{◌≡◌, ◌∷◌, [], ◌++◌, ℕ, codes, List, Some, IfSome, IfNone, OnOk, IfOk, IfErr};
 ghost use Rattle.no_std_io2_base.specs.declared.error.ErrorKind.TheVariants.{OutOfMemory};
 ghost use Rattle.no_std_io2_base.specs.Errors.{error_kind};
-ghost use Rattle.iotower.specs.Script.{escaped};
+ghost use Rattle.iotower.specs.Script.{escaped, escaped_byte};
 ghost use Rattle.iotower.specs.Report.{reply_line, report};
 
 use io_bench::Reply;
@@ -27,11 +27,7 @@ pub fn push_reply<A: Allocator>(text: &mut Vec<u8, A>, reply: &Reply) -> Result<
 }
 
 // Appends a line: a name, and what a value prints.
-fn push_line<A: Allocator, D: Display>(
-    text: &mut Vec<u8, A>,
-    name: &[u8],
-    value: &D,
-) -> Result<()>
+fn push_line<A: Allocator, D: Display>(text: &mut Vec<u8, A>, name: &[u8], value: &D) -> Result<()>
     ensures ok { (shown : List ℕ) → D.output value.now ≡ Some shown
         → OnOk result (text.new.items ≡ text.old.items ++ (name.now ++ (shown ++ codes "\n"))) }
     ensures kind { IfErr result (λ e. error_kind e ≡ OutOfMemory) }
@@ -61,14 +57,31 @@ pub fn push_escaped<A: Allocator>(text: &mut Vec<u8, A>, bytes: &[u8]) -> Result
     ensures ok { OnOk result (text.new.items ≡ text.old.items ++ escaped bytes.now) }
     ensures kind { IfErr result (λ e. error_kind e ≡ OutOfMemory) }
 {
-    'bytes: for b in bytes {
-        match *b {
-            b'\n' => push(text, b"\\n")?,
-            b'\\' => push(text, b"\\\\")?,
-            b => push(text, &[b])?,
+    let mut start = 0;
+    'bytes: for i in 0..bytes.len() {
+        match escape_of(bytes[i]) {
+            Some(shown) => {
+                push(text, &bytes[start..i])?;
+                push(text, shown)?;
+                start = i + 1;
+            }
+            None => {}
         }
     }
+    push(text, &bytes[start..])?;
     Ok(())
+}
+
+// What stands for a byte that is not shown as it is.
+fn escape_of(byte: u8) -> Option<&'static [u8]>
+    ensures some { IfSome result (λ shown. shown.now ≡ escaped_byte byte) }
+    ensures none { IfNone result (escaped_byte byte ≡ byte ∷ []) }
+{
+    match byte {
+        b'\n' => Some(b"\\n"),
+        b'\\' => Some(b"\\\\"),
+        _ => None,
+    }
 }
 
 /// The text of a play: the line of each reply, and then what is out and what is held, the inner
