@@ -1,2 +1,3 @@
 mod ScriptLemmas
 mod PlayLemmas
+mod Escapes
