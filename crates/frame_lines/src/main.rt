@@ -5,7 +5,8 @@
 #![tactic(auto)]
 
 use framing::FrameReader;
-use no_std_io2::io::{LineWriter, Result, Write};
+use line_log::LineLog;
+use no_std_io2::io::Result;
 use std::io;
 use std::process::ExitCode;
 use system_streams::Patient;
@@ -17,11 +18,11 @@ fn print_frames(rt: &HostRuntime) -> Result<()> {
     let input = Patient::new(rt.reader(), u64::MAX);
     let output = Patient::new(io::writer(rt), u64::MAX);
     let mut frames = FrameReader::<_, 512>::new(rt.alloc(), input, LIMIT);
-    let mut lines = LineWriter::<_, 512>::new(output);
+    let mut lines = LineLog::<_, 512>::new(rt.alloc(), output);
     'frames: while let Some(payload) = frames.next()? {
         let text = payload.escape_ascii();
-        let line = format!(in rt.alloc(); "{text}\n")?;
-        lines.write_all(line.as_bytes())?;
+        let line = format!(in rt.alloc(); "{text}")?;
+        lines.log(line.as_str())?;
     }
     lines.flush()
 }
