@@ -1,5 +1,5 @@
 -- How calls of a writer follow one another.
-use Rattle.std.proofs.Common.{◌≡◌, refl, Result, Ok, Err, ℕ, ◌+◌, length, Bool, true, subst, List, [], ◌∷◌, ◌++◌, Option, None, Some, sym, ap, ◌∙◌, arith, count_by, append_assoc, append-nil}
+use Rattle.std.proofs.Common.{◌≡◌, Result, Ok, Err, ℕ, ◌+◌, length, Bool, true, subst, List, [], ◌∷◌, ◌++◌, Option, None, Some, sym, ap, ◌∙◌, arith, count_by, append_assoc, append-nil}
 use Rattle.std.proofs.lemmas.List.Sums.{sum_by-append, sum_by-cons}
 use Rattle.std.proofs.lemmas.Bool.Decides.{nat_tests}
 use Rattle.no_std_io2_base.specs.declared.error.ErrorKind.{ErrorKind}

@@ -1,6 +1,6 @@
-use Rattle.std.proofs.Common.{◌≡◌, length, take, sym, ap, ◌∙◌, arith}
+use Rattle.std.proofs.Common.{length, ap, ◌∙◌, arith}
 use Rattle.std.proofs.lemmas.List.{length-take-le}
-use Rattle.no_std_io2.specs.Reading.{reader_held, reader_behind, reader_inner}
+use Rattle.no_std_io2.specs.Reading.{reader_held, reader_behind}
 use Rattle.examples.proofs.SteppedBack.{given_behind, stepped_back, both_items}
 use Rattle.examples.proofs.records.peek_header.Goals as goal
 
