@@ -65,6 +65,7 @@ impl<R: Read, const S: usize> FrameReader<R, S> {
             (part_payload self.new.part) (reader_events R.events self.new.inner) }
         ensures limit { most self.new ≡ most self.old }
         ensures fault { IfErr result IsFault }
+        ensures within { IfOk result (λ b. b ≡ true → length (part_payload self.new.part) ≤ most self.old) }
         ensures turn { IfOk result (λ b. b ≡ true → reader_turns R.turns self.new.inner < frame_turns R.turns self.old) }
     {
         if !self.part.fill_header(&mut self.inner)? {
@@ -102,6 +103,7 @@ impl<R: Read, const S: usize> FrameReader<R, S> {
     pub fn next(&mut self) -> Result<Option<Vec<u8>>>
         ensures told { R.tells (reads_from self.old) → R.tells (reads_from self.new)
             × TakesFrame (λ v. v.items) (most self.old) (frame_events R.events self.old) result (frame_events R.events self.new) }
+        ensures within { IfOk result (λ o. IfSome o (λ payload. length payload.items ≤ most self.old)) }
         ensures kept { R.tells (reads_from self.old)
             → IfErr result (λ _. bytes (frame_events R.events self.new) ≡ bytes (frame_events R.events self.old)) }
         ensures limit { most self.new ≡ most self.old }
