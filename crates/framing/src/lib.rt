@@ -13,6 +13,3 @@ mod writer;
 pub use reader::FrameReader;
 pub use round::{Shown, round_trip};
 pub use writer::FrameWriter;
-
-#[cfg(test)]
-mod tests;

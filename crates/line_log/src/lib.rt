@@ -187,6 +187,3 @@ impl<W: Write + Drop, const S: usize> LineLog<W, S> {
         lines.into_inner()
     }
 }
-
-#[cfg(test)]
-mod tests;
