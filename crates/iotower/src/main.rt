@@ -10,8 +10,6 @@ mod patient;
 mod play;
 mod report;
 mod script;
-#[cfg(test)]
-mod tests;
 
 use copy::copy_through;
 use patient::Patient;
