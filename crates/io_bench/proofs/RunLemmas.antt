@@ -8,7 +8,8 @@ use Rattle.io_bench.specs.declared.runs.Op.{Op}
 use Rattle.io_bench.specs.declared.runs.Reply.{Reply}
 use Rattle.io_bench.specs.Runs.{appended, Accepts, Run, mishap_of, mishaps_of, IsFlushed, EndsFlushed, IsWhole, AreWhole, Answers, Ran}
 
-Run-more : (ops : List Op) (replies : List Reply) (xs : List ℕ) (op : Op) (reply : Reply) (ys : List ℕ) → Run ops replies xs → Accepts op reply ys → Run (ops ++ op ∷ []) (replies ++ reply ∷ []) (xs ++ ys)
+-- one call more
+pub Run-more : (ops : List Op) (replies : List Reply) (xs : List ℕ) (op : Op) (reply : Reply) (ys : List ℕ) → Run ops replies xs → Accepts op reply ys → Run (ops ++ op ∷ []) (replies ++ reply ∷ []) (xs ++ ys)
 Run-more [] [] xs op reply ys r a = (ys, [], a, refl, ap (λ l. l ++ ys) r ∙ sym (append-nil ys))
 Run-more (o ∷ ops) (q ∷ replies) xs op reply ys r a =
     (r.0, r.1 ++ ys, r.2, Run-more ops replies r.1 op reply ys r.3 a, ap (λ l. l ++ ys) r.4 ∙ append_assoc r.0 r.1 ys)

@@ -3,6 +3,7 @@ pub mod Calls
 pub mod Closed
 pub mod Faulty
 pub mod Feed
+pub mod Joined
 pub mod PieceRuns
 pub mod Runs
 pub mod Sink

@@ -3,12 +3,14 @@
 //! [`run_writes`] makes a list of calls on any writer and notes each reply; its contract says what
 //! such a run does to the writer, whatever the writer is. [`Sink`], [`Faulty`] and [`Tally`] are
 //! writers to put below: one that takes all, one that fails as it is told, and one that counts.
-//! [`run_closed`] is a run through one `BufWriter` with a bound on the inner writes.
+//! [`run_closed`] is a run through one `BufWriter` with a bound on the inner writes. [`joined`] is what a run accepted, by
+//! its replies.
 //!
 //! [`run_reads`] is a list of reads through one `BufReader` with a bound on the inner reads. [`Feed`]
 //! is a reader to put below, which gives what its script says; `Tally` counts its reads too.
 #![tactic(auto)]
 
+mod accepted;
 mod asks;
 mod closed;
 mod faulty;
@@ -20,6 +22,7 @@ mod tally;
 mod tells;
 mod towers;
 
+pub use accepted::joined;
 pub use asks::{Ask, ReadTotals, run_reads};
 pub use closed::run_closed;
 pub use faulty::{Act, Faulty};

@@ -1,0 +1,7 @@
+-- Each of the calls so far has a reply that says what was accepted.
+use Rattle.std.proofs.Common.{take}
+use Rattle.io_bench.specs.Joined.{AreClear}
+use Rattle.io_bench.proofs.accepted.are_clear.Given as goal
+
+abbrev pub invariant-loop-i : goal.invariant-loop-i
+invariant-loop-i l = AreClear (take l.i l.ops) (take l.i l.replies)

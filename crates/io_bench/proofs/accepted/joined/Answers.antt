@@ -1,0 +1,34 @@
+use Rattle.std.proofs.Common.{arith, ◌+◌, [], take, length, refl, subst, sym}
+use Rattle.io_bench.specs.Joined.{IsJoined, IsClear}
+use Rattle.io_bench.proofs.JoinedLemmas.{joined_none, joined_next, all_through, clear_at, clear_length, unclear}
+use Rattle.io_bench.proofs.accepted.joined.Goals as goal
+use Rattle.io_bench.proofs.accepted.joined.Goals.{in-Some+in_ok-extend_from_slice, in_default}
+
+pub loop-i-init : goal.loop-i-init
+loop-i-init c = subst (λ bytes. IsJoined [] [] bytes) (sym c.new-bytes.ensures.items) joined_none
+
+pub bounds-replies-i : goal.bounds-replies-i
+bounds-replies-i c = omega (arith, c.loop-i-test.true, clear_length _ _ (c.are_clear.ensures.yes c.if-not-are_clear.false))
+
+pub loop-i-preserved : goal.loop-i-preserved
+loop-i-preserved c =
+    let clear = c.are_clear.ensures.yes c.if-not-are_clear.false in
+    let same = clear_length _ _ clear in
+    elim c.match-front_of.branch [
+      | in-Some+in_ok-extend_from_slice w ↦
+          let front = w.in-Some.ensures.some in
+          let ops = take (c.loop-i.i + 1) c.args.ops.now in
+          let replies = take (c.loop-i.i + 1) c.args.replies.now in
+          subst (λ bytes. IsJoined ops replies bytes.items) (sym w.bytes-is)
+          (subst (λ bytes. IsJoined ops replies bytes) (sym w.in_ok-extend_from_slice.ensures.items)
+          (joined_next _ _ _ _ _ _ _ c.loop-i-test.true same c.loop-i.invariant front.0 front.1))
+      | in_default w ↦ absurd (w.in_default.ensures.none refl (clear_at _ _ _ _ _ c.loop-i-test.true clear))
+    ]
+
+pub returns-clause-known : goal.returns-clause-known
+returns-clause-known c =
+    all_through (λ ops replies. IsJoined ops replies c.loop-i.bytes.items) _ _ c.loop-i.i (omega (arith, c.loop-i-test.false))
+    (clear_length _ _ (c.are_clear.ensures.yes c.if-not-are_clear.false)) c.loop-i.invariant
+
+pub returns-then-not-are_clear-clause-no_one : goal.returns-then-not-are_clear-clause-no_one
+returns-then-not-are_clear-clause-no_one c e bytes j = unclear _ _ bytes j (c.are_clear.ensures.no c.if-not-are_clear.true)

@@ -1,0 +1,7 @@
+-- The bytes so far are what the calls so far accepted, and no others.
+use Rattle.std.proofs.Common.{take}
+use Rattle.io_bench.specs.Joined.{IsJoined}
+use Rattle.io_bench.proofs.accepted.joined.Given as goal
+
+abbrev pub invariant-loop-i : goal.invariant-loop-i
+invariant-loop-i l = IsJoined (take l.i l.ops) (take l.i l.replies) l.bytes.items

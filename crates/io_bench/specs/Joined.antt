@@ -1,0 +1,44 @@
+-- What a run accepted, where its replies leave no doubt.
+use Rattle.std.specs.Prelude.{◌≡◌, ◌⊎◌, ℕ, ◌≤◌, List, [], ◌∷◌, length, ⊤}
+use Rattle.io_bench.specs.declared.runs.Op.{Op}
+use Rattle.io_bench.specs.declared.runs.Op.TheVariants.{Write, WriteAll, Flush}
+use Rattle.io_bench.specs.declared.runs.Reply.{Reply}
+use Rattle.io_bench.specs.declared.runs.Reply.TheVariants.{Took, Done, Failed}
+use Rattle.io_bench.specs.Runs.{Run}
+
+-- such a call gives such a reply, and the reply says what was accepted: a `write_all` that failed does not
+abbrev pub IsClear : Op → Reply → Type 0
+IsClear (Write x) (Took n) = n ≤ length x.now
+IsClear (Write x) (Failed e) = ⊤
+IsClear (WriteAll x) Done = ⊤
+IsClear Flush Done = ⊤
+IsClear Flush (Failed e) = ⊤
+IsClear (Write x) Done = ⊥
+IsClear (WriteAll x) (Took n) = ⊥
+IsClear (WriteAll x) (Failed e) = ⊥
+IsClear Flush (Took n) = ⊥
+
+-- each call has one reply, and each says what was accepted
+abbrev pub AreClear : List Op → List Reply → Type 0
+AreClear [] [] = ⊤
+AreClear (op ∷ ops) (reply ∷ replies) = IsClear op reply × AreClear ops replies
+AreClear [] (reply ∷ replies) = ⊥
+AreClear (op ∷ ops) [] = ⊥
+
+-- a run with these replies accepted these bytes, and no run with them accepted others
+abbrev pub IsJoined : List Op → List Reply → List ℕ → Type 0
+IsJoined ops replies bytes = Run ops replies bytes × ((other : List ℕ) → Run ops replies other → other ≡ bytes)
+
+-- a `write_all` of nothing failed: the one kind of failed `write_all` of which it is known what it accepted
+abbrev pub IsIdleFailure : Op → Reply → Type 0
+IsIdleFailure (WriteAll x) (Failed e) = x.now ≡ []
+IsIdleFailure (WriteAll x) (Took n) = ⊥
+IsIdleFailure (WriteAll x) Done = ⊥
+IsIdleFailure (Write x) reply = ⊥
+IsIdleFailure Flush reply = ⊥
+
+-- some call was one
+abbrev pub HasIdleFailure : List Op → List Reply → Type 0
+HasIdleFailure [] replies = ⊥
+HasIdleFailure (op ∷ ops) [] = ⊥
+HasIdleFailure (op ∷ ops) (reply ∷ replies) = IsIdleFailure op reply ⊎ HasIdleFailure ops replies

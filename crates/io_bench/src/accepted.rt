@@ -1,0 +1,75 @@
+// What a run accepted, out of its calls and replies.
+ghost use Rattle.std.specs.Prelude.{◌≡◌, ℕ, List, Some, None, true, false, IfSome, IfOk, IfErr};
+ghost use Rattle.no_std_io2_base.specs.Errors.{IsOutOfMemory};
+ghost use Rattle.io_bench.specs.Runs.{Accepts};
+ghost use Rattle.io_bench.specs.Joined.{IsClear, AreClear, IsJoined, HasIdleFailure};
+
+use crate::runs::{Op, Reply};
+use no_std_io2::io::Result;
+use std::alloc::Global;
+
+// What a call with this reply accepted, where the reply says it.
+fn front_of<'a>(op: &Op<'a>, reply: &Reply) -> Option<&'a [u8]>
+    ensures some { IfSome result (λ front. IsClear op.now reply.now × Accepts op.now reply.now front.now) }
+    ensures none { result ≡ None → IsClear op.now reply.now → ⊥ }
+{
+    match (op, reply) {
+        (Op::Write(x), Reply::Took(n)) if *n <= x.len() => Some(&x[..*n]),
+        (Op::WriteAll(x), Reply::Done) => Some(x),
+        (Op::Write(_) | Op::Flush, Reply::Failed(_)) | (Op::Flush, Reply::Done) => Some(&[]),
+        _ => None,
+    }
+}
+
+// Whether each call has one reply, and each says what was accepted.
+fn are_clear(ops: &[Op<'_>], replies: &[Reply]) -> bool
+    ensures yes { result ≡ true → AreClear ops.now replies.now }
+    ensures no { result ≡ false → AreClear ops.now replies.now → ⊥ }
+{
+    if ops.len() != replies.len() {
+        return false;
+    }
+    for i in 0..ops.len() {
+        let Some(_) = front_of(&ops[i], &replies[i]) else {
+            return false;
+        };
+    }
+    true
+}
+
+/// The bytes that a run of these calls with these replies accepted, in order: `Some`, and no run with these
+/// replies accepted others. So out and then held of a writer is what it was, followed by these bytes.
+///
+/// `None` where the replies leave it open: the lists differ in length, a reply is none that such a call gives (a
+/// `write` that took more than it had, say), or a `write_all` failed, of whose bytes any front may be accepted.
+/// Nothing is allocated for that answer.
+///
+/// # Errors
+/// `OutOfMemory` where there is no room for the bytes.
+///
+/// ```
+/// let ops = [Op::Write(b"abc"), Op::Flush];
+/// let replies = [Reply::Took(2), Reply::Done];
+/// assert_eq!(rt; joined(rt.alloc(), &ops, &replies)?, Some(vec![in rt.alloc(); b'a', b'b']?));
+/// ```
+pub fn joined(alloc: Global, ops: &[Op<'_>], replies: &[Reply]) -> Result<Option<Vec<u8>>>
+    // Exactly where each reply says what was accepted, there is such a list, and it is the answer.
+    ensures known { IfOk result (λ answer. IfSome answer (λ bytes. IsJoined ops.now replies.now bytes.items)) }
+    ensures clear { IfOk result (λ answer. IfSome answer (λ _. AreClear ops.now replies.now)) }
+    ensures open { IfOk result (λ answer. answer ≡ None → AreClear ops.now replies.now → ⊥) }
+    // So where it is left open there is no one such list, but for a `write_all` of nothing that failed.
+    ensures no_one { IfOk result (λ answer. answer ≡ None → (bytes : List ℕ) → IsJoined ops.now replies.now bytes
+        → HasIdleFailure ops.now replies.now) }
+    ensures err { IfErr result (λ e. IsOutOfMemory e × AreClear ops.now replies.now) }
+{
+    if !are_clear(ops, replies) {
+        return Ok(None);
+    }
+    let mut bytes = Vec::new(alloc);
+    for i in 0..ops.len() {
+        if let Some(front) = front_of(&ops[i], &replies[i]) {
+            bytes.extend_from_slice(front)?;
+        }
+    }
+    Ok(Some(bytes))
+}
