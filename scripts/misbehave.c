@@ -1,0 +1,74 @@
+// Makes one call of a program fail: LD_PRELOAD of this, and in the environment
+//   MISBEHAVE=memory, read or write   of what kind the call is: an allocation, a read of standard input, a write to standard output
+//   MISBEHAVE_AT=N                    which of them
+//   MISBEHAVE_BY=short or a number    a read or write then moves one byte; or it fails with this number of errno
+//   MISBEHAVE_TOLD=PATH               the file that is made when the call has come
+#define _GNU_SOURCE
+#include <dlfcn.h>
+#include <errno.h>
+#include <fcntl.h>
+#include <stdlib.h>
+#include <string.h>
+#include <sys/uio.h>
+#include <unistd.h>
+
+void *__libc_malloc(size_t size);
+void *__libc_realloc(void *pointer, size_t size);
+
+static const char *kind = "", *path;
+// How many calls there are up to the one that fails; 0 where none is left.
+static long left;
+// The number of errno, or 0 for a call that moves one byte.
+static int number;
+
+__attribute__((constructor)) static void begin(void)
+{
+    const char *at = getenv("MISBEHAVE_AT"), *by = getenv("MISBEHAVE_BY");
+    kind = getenv("MISBEHAVE") ? getenv("MISBEHAVE") : "";
+    path = getenv("MISBEHAVE_TOLD");
+    number = by ? atoi(by) : 0;
+    left = at ? atol(at) : 0;
+}
+
+static int has_come(const char *of)
+{
+    if (left == 0 || strcmp(kind, of) != 0 || --left != 0)
+        return 0;
+    if (path)
+        close(open(path, O_WRONLY | O_CREAT, 0644));
+    return 1;
+}
+
+void *malloc(size_t size)
+{
+    return has_come("memory") ? NULL : __libc_malloc(size);
+}
+
+void *realloc(void *pointer, size_t size)
+{
+    return has_come("memory") ? NULL : __libc_realloc(pointer, size);
+}
+
+ssize_t read(int file, void *buffer, size_t size)
+{
+    ssize_t (*next)(int, void *, size_t) = (ssize_t (*)(int, void *, size_t))dlsym(RTLD_NEXT, "read");
+    if (file == 0 && size > 0 && has_come("read")) {
+        if (number == 0)
+            return next(file, buffer, 1);
+        errno = number;
+        return -1;
+    }
+    return next(file, buffer, size);
+}
+
+ssize_t write(int file, const void *buffer, size_t size)
+{
+    ssize_t (*next)(int, const void *, size_t) = (ssize_t (*)(int, const void *, size_t))dlsym(RTLD_NEXT, "write");
+    if (file == 1 && size > 0 && has_come("write")) {
+        if (number == 0)
+            return next(file, buffer, 1);
+        errno = number;
+        return -1;
+    }
+    return next(file, buffer, size);
+}
