@@ -12,8 +12,10 @@ mod report;
 mod script;
 
 use copy::copy_through;
+use no_std_io2::io::{Error, ErrorKind};
 use patient::Patient;
 use play::{Fault, Shape, play};
+use std::alloc::Global;
 use std::process::ExitCode;
 use std::rt::Env;
 use std::{env, io};
@@ -27,16 +29,34 @@ enum Command {
     Play(Shape),
 }
 
-// `None` where the words are no command, or no text.
-fn parse_words<R: Env + Alloc>(rt: &R) -> Option<Command> {
-    let mut words = env::args(rt).ok()?;
+// The words behind the program's name, where there are two.
+fn two_words(mut words: env::Args) -> Option<(String, String)> {
     let _program = words.next();
     let verb = words.next()?;
     let mode = words.next()?;
     if words.next().is_some() {
         return None;
     }
-    match (verb.as_str(), mode.as_str()) {
+    Some((verb, mode))
+}
+
+// `None` where the words are no command, or no text.
+fn parse_words<R: Env + Alloc<A = Global>>(rt: &R) -> Result<Option<Command>, Fault> {
+    let words = match env::args(rt) {
+        Ok(words) => words,
+        Err(e) if e.kind() == io::ErrorKind::OutOfMemory => {
+            return Err(Fault::Io(Error::from(ErrorKind::OutOfMemory)));
+        }
+        Err(_) => return Ok(None),
+    };
+    let Some((verb, mode)) = two_words(words) else {
+        return Ok(None);
+    };
+    Ok(command_of(verb.as_str(), mode.as_str()))
+}
+
+fn command_of(verb: &str, mode: &str) -> Option<Command> {
+    match (verb, mode) {
         ("copy", "buf") => Some(Command::Copy(false)),
         ("copy", "line") => Some(Command::Copy(true)),
         ("play", "buf") => Some(Command::Play(Shape::Buf)),
@@ -61,16 +81,24 @@ fn run(rt: &HostRuntime, command: Command) -> Result<(), Fault> {
     Ok(())
 }
 
-fn main(rt: HostRuntime) -> ExitCode {
-    let Some(command) = parse_words(&rt) else {
-        let _ = eprintln!(rt; "{USAGE}");
-        return ExitCode::from(2);
-    };
-    match run(&rt, command) {
+// The status of a run, whose fault is told on standard error.
+fn told(rt: &HostRuntime, answer: Result<(), Fault>) -> ExitCode {
+    match answer {
         Ok(()) => ExitCode::SUCCESS,
         Err(fault) => {
             let _ = eprintln!(rt; "iotower: {fault}");
             ExitCode::FAILURE
         }
+    }
+}
+
+fn main(rt: HostRuntime) -> ExitCode {
+    match parse_words(&rt) {
+        Ok(Some(command)) => told(&rt, run(&rt, command)),
+        Ok(None) => {
+            let _ = eprintln!(rt; "{USAGE}");
+            ExitCode::from(2)
+        }
+        Err(fault) => told(&rt, Err(fault)),
     }
 }
