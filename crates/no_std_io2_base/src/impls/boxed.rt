@@ -63,6 +63,10 @@ impl<T: Read, A: Allocator> Read for Box<T, A> {
         self.as_mut().read_exact(buf)
     }
 
+    fn read_to_end<B: Allocator>(&mut self, buf: &mut Vec<u8, B>) -> Result<usize> {
+        Read::read_to_end(&mut **self, buf)
+    }
+
     ghost filling_tells = { λ b h. T.filling_tells b.value h };
 
     ghost store_tells = { λ b h. T.store_tells b.value h };

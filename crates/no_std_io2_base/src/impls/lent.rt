@@ -63,6 +63,10 @@ impl<T: Read> Read for &mut T {
         Read::read_exact(&mut **self, buf)
     }
 
+    fn read_to_end<A: Allocator>(&mut self, buf: &mut Vec<u8, A>) -> Result<usize> {
+        Read::read_to_end(&mut **self, buf)
+    }
+
     ghost filling_tells = { λ r h. T.filling_tells r.now h };
 
     ghost store_tells = { λ r h. T.store_tells r.now h };

@@ -4,7 +4,7 @@ ghost use Rattle.no_std_io2_base.specs.Events.{events_of, ReadsExact};
 ghost use Rattle.no_std_io2_base.specs.Laws.{bytes_alone};
 
 use crate::error::{Result, failed_to_fill};
-use crate::traits::{BufRead, Read, Stored};
+use crate::traits::{BufRead, LEAST_ROOM, Read, Stored, reserve_room};
 use std::alloc::Allocator;
 
 // Copies as many bytes as both have, and returns how many.
@@ -68,10 +68,19 @@ impl Read for &[u8] {
         Ok(())
     }
 
-    // One growth, for exactly the bytes that are left.
+    // A slice knows what it has: once the room for 32 bytes is full, it asks for the rest and 32 more at once.
     fn read_to_end<A: Allocator>(&mut self, buf: &mut Vec<u8, A>) -> Result<usize> {
         let all: &[u8] = *self;
-        buf.extend_from_slice(all)?;
+        reserve_room(buf, LEAST_ROOM)?;
+        let room = buf.capacity() - buf.len();
+        let n = all.len().min(room);
+        buf.extend_from_slice(&all[..n])?;
+        *self = &all[n..];
+        if n < room {
+            return Ok(n);
+        }
+        reserve_room(buf, (all.len() - n).saturating_add(LEAST_ROOM))?;
+        buf.extend_from_slice(&all[n..])?;
         *self = &all[all.len()..];
         Ok(all.len())
     }
