@@ -1,5 +1,5 @@
 -- What each exit of a loop of reads into a vector says of the vector and of the reader's store.
-use Rattle.std.proofs.Common.{◌≡◌, ℕ, ◌+◌, ◌-◌, ◌<◌, ◌≤◌, List, Result, Ok, length, take, drop, sym, ap, subst, ◌∙◌, arith, take_all, length-take, length-take-le, length-drop}
+use Rattle.std.proofs.Common.{◌≡◌, ℕ, ◌+◌, ◌-◌, ◌<◌, ◌≤◌, List, ◌++◌, Result, Ok, Err, append_assoc, length, take, drop, sym, ap, subst, ◌∙◌, arith, take_all, length-take, length-take-le, length-drop}
 use lib.Seq.{take-take}
 use Rattle.no_std_io2_base.specs.declared.error.Error.{Error}
 use Rattle.no_std_io2_base.specs.Events.{Event, given, Reads, ReadsToEnd}
@@ -45,3 +45,11 @@ pub stays_at_end : (E E' : List Event) (reply : Result ℕ Error) (n : ℕ) (buf
     → Reads E reply buf E' → reply ≡ Ok n → n ≡ 0 → p' ≡ p + given reply → p + length E ≡ all → p' + length E' ≡ all
 stays_at_end E E' reply n buf p p' all read is none move whole =
     moved_read E E' n buf p p' all (omega (arith, none)) (subst (λ r. Reads E r buf E') is read).0 (move ∙ ap (λ r. p + given r) is) whole
+
+-- what the first of two calls appended stays at the front
+pub front_then : (k n : ℕ) (old mid new : List ℕ) → k ≤ n → take k mid ≡ old → take n new ≡ mid → take k new ≡ old
+front_then k n old mid new below first next = sym (take-take k n new below) ∙ ap (take k) next ∙ first
+
+-- an error of the first of two readers
+pub stopped_first : (E F : List Event) (old new : List ℕ) (after : List Event) (e : Error) → ReadsToEnd E (Err e) old new after → ReadsToEnd (E ++ F) (Err e) old new (after ++ F)
+stopped_first E F old new after e read = (read.0, ap (λ l. l ++ F) read.1 ∙ append_assoc read.0 after F, read.2, read.3)
