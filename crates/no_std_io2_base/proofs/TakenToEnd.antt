@@ -8,7 +8,8 @@ use Rattle.no_std_io2_base.proofs.Along.{along_none}
 use Rattle.no_std_io2_base.proofs.Gathered.{Gathered, gathered_end}
 
 -- a read that gave nothing into some room: nothing was to come, and nothing is
-pub nothing_read : (E E' : List Event) (reply : Result ℕ Error) (n : ℕ) (buf : List ℕ) → Reads E reply buf E' → reply ≡ Ok n → n ≡ 0 → 0 < length buf → (E ≡ []) × (E' ≡ [])
+pub nothing_read : (E E' : List Event) (reply : Result ℕ Error) (n : ℕ) (buf : List ℕ) → Reads E reply buf E' → reply ≡ Ok n → n ≡ 0
+    → 0 < length buf → (E ≡ []) × (E' ≡ [])
 nothing_read E E' reply n buf read is none some =
     let now : Reads E (Ok 0) buf E' = subst (λ r. Reads E r buf E') (is ∙ ap Ok none) read in
     (now.1 refl some, sym now.0 ∙ now.1 refl some)
@@ -58,5 +59,6 @@ pub limit_cut : (k k' filled len first start : ℕ) → k' ≡ k → len ≡ fil
 limit_cut k k' filled len first start same long falls = omega (arith, same, long, falls)
 
 -- at limit 0 the vector doesn't grow
-pub none_filled : (k filled first start was : ℕ) → k + filled ≡ first + was → was ≤ filled → start ≡ was → first ≡ 0 → (filled - start ≡ 0) × (k ≡ 0)
+pub none_filled : (k filled first start was : ℕ) → k + filled ≡ first + was → was ≤ filled → start ≡ was → first ≡ 0
+    → (filled - start ≡ 0) × (k ≡ 0)
 none_filled k filled first start was falls grows from none = (omega (arith, falls, grows, from, none), omega (arith, falls, grows, none))

@@ -29,15 +29,18 @@ is_empty b left is h = drop_of_length-le left {i = 0} (omega (arith, eqb-true (l
 
 -- no byte was taken of some
 pub sends_zero : (a b c : Told) (start left : List ℕ) (reply : Result ℕ Error) (n : ℕ) (e : Error)
-    → SentSoFar a start b left → Moves b (taken reply left) (write_mishap reply left) c → reply ≡ Ok n → n ≡ 0 → 0 < length left → error_kind e ≡ WriteZero
+    → SentSoFar a start b left → Moves b (taken reply left) (write_mishap reply left) c → reply ≡ Ok n → n ≡ 0 → 0 < length left
+    → error_kind e ≡ WriteZero
     → Sends a start (Err e) c left
 sends_zero a b c start left reply n e so_far moves is none some kind =
     let zero : Moves b [] (zero_write 0 left) c = subst (λ r. Moves b (taken r left) (write_mishap r left) c) (is ∙ ap Ok none) moves in
-    let told : Moves b [] (error_kind e ∷ []) c = subst (λ k. Moves b [] k c) (zero_write-some left some ∙ ap (λ k. k ∷ []) (sym kind)) zero in
+    let told : Moves b [] (error_kind e ∷ []) c = subst (λ k. Moves b [] k c)
+    (zero_write-some left some ∙ ap (λ k. k ∷ []) (sym kind)) zero in
     record { sent = so_far.0; split = so_far.1; moves = Moves-ends so_far.2 told }
 
 -- a fault stopped it
-pub sends_fault : (a b c : Told) (start left : List ℕ) (e : Error) → SentSoFar a start b left → Moves b [] (error_kind e ∷ []) c → Sends a start (Err e) c left
+pub sends_fault : (a b c : Told) (start left : List ℕ) (e : Error) → SentSoFar a start b left → Moves b [] (error_kind e ∷ []) c
+    → Sends a start (Err e) c left
 sends_fault a b c start left e so_far moves = record { sent = so_far.0; split = so_far.1; moves = Moves-ends so_far.2 moves }
 
 -- all was sent
@@ -45,7 +48,8 @@ pub sends_done : (a b : Told) (start left : List ℕ) → SentSoFar a start b le
 sends_done a b start left so_far = record { sent = so_far.0; split = so_far.1; moves = so_far.2 }
 
 -- an interruption is passed over
-pub sent_interruption : (a b c : Told) (start left : List ℕ) (k : List ErrorKind) → SentSoFar a start b left → Moves b [] k c → SentSoFar a start c left
+pub sent_interruption : (a b c : Told) (start left : List ℕ) (k : List ErrorKind) → SentSoFar a start b left → Moves b [] k c
+    → SentSoFar a start c left
 sent_interruption a b c start left k so_far moves =
     (so_far.0, so_far.1, subst (λ s. Moves a s [] c) (append-nil so_far.0) (Moves-more so_far.2 moves))
 
@@ -58,16 +62,19 @@ pub sent_more : (a b c : Told) (start left : List ℕ) (k : List ErrorKind) (n :
     → SentSoFar a start b left → Moves b (take n left) k c → SentSoFar a start c (take (length left - n) (drop n left))
 sent_more a b c start left k n so_far moves = (
   so_far.0 ++ take n left,
-  so_far.1 ∙ ap (λ l. so_far.0 ++ l) (sym (take-append-drop n left) ∙ ap (λ l. take n left ++ l) (sym (rest_is n left))) ∙ sym (append_assoc so_far.0 (take n left) (take (length left - n) (drop n left))),
+  so_far.1 ∙ ap (λ l. so_far.0 ++ l) (sym (take-append-drop n left) ∙ ap (λ l. take n left ++ l) (sym (rest_is n left)))
+      ∙ sym (append_assoc so_far.0 (take n left) (take (length left - n) (drop n left))),
   Moves-more so_far.2 moves,
 )
 
 -- some bytes fewer are left, or a turn fewer is
-pub fewer_left : (n turns turns' k : ℕ) (left : List ℕ) → (n ≡ 0 → ⊥) → n ≤ length left → turns' + k ≤ turns → turns' + length (take (length left - n) (drop n left)) < turns + length left
+pub fewer_left : (n turns turns' k : ℕ) (left : List ℕ) → (n ≡ 0 → ⊥) → n ≤ length left → turns' + k ≤ turns
+    → turns' + length (take (length left - n) (drop n left)) < turns + length left
 fewer_left n turns turns' k left some fits spent = omega (arith, some, fits, spent, ap length (rest_is n left), length-drop n left)
 
 -- an interruption spends a turn
-pub fewer_turns : (e : Error) (turns turns' len : ℕ) → turns' + count_by is_interruption (error_kind e ∷ []) ≤ turns → IsInterruption e → turns' + len < turns + len
+pub fewer_turns : (e : Error) (turns turns' len : ℕ) → turns' + count_by is_interruption (error_kind e ∷ []) ≤ turns → IsInterruption e
+    → turns' + len < turns + len
 fewer_turns e turns turns' len spent again =
     let one : count_by is_interruption (error_kind e ∷ []) ≡ 1 = ap (λ b. 0 + (if b then 1 else 0)) again in
     omega (arith, spent, one)
@@ -86,7 +93,8 @@ takes_some reply n left all is none some =
     omega (arith, same, none, some)
 
 -- and counts one call for them
-pub one_call : (n : ℕ) (left : List ℕ) (cost cost' was for_all : ℕ) → n ≡ length left → 0 < length left → cost' ≡ cost + 1 → cost + calls_for left ≡ was + for_all
+pub one_call : (n : ℕ) (left : List ℕ) (cost cost' was for_all : ℕ) → n ≡ length left → 0 < length left → cost' ≡ cost + 1
+    → cost + calls_for left ≡ was + for_all
     → cost' + calls_for (take (length left - n) (drop n left)) ≡ was + for_all
 one_call n left cost cost' was for_all whole some counted so_far =
     let none : take (length left - n) (drop n left) ≡ [] = rest_is n left ∙ drop_of_length-le left {i = n} (omega (arith, whole)) in

@@ -66,7 +66,8 @@ returns-in-Ok-eq0 g c =
     let opened = c.open_room.new.buf in
     let mid = c.reads.buf.items in
     let new = c.truncate.new.self in
-    let kept = take-written_below filled opened.len filled c.deref_mut.result.now opened.items c.read.new.buf (le_refl _) c.open_room.ensures.within opened.ok.0 c.deref_mut.ensures.value in
+    let kept = take-written_below filled opened.len filled c.deref_mut.result.now opened.items c.read.new.buf
+    (le_refl _) c.open_room.ensures.within opened.ok.0 c.deref_mut.ensures.value in
     let same = c.truncate.ensures.items ∙ kept ∙ c.open_room.ensures.front in
     let within : filled ≤ length mid = omega (arith, before.within, c.reads.buf.ok.0) in
     let some = some_room filled opened.len _ c.read.new.buf c.in_ok-open_room.ensures.room c.deref_mut.ensures.len c.read.auto.buf in
@@ -98,7 +99,8 @@ returns-in-Err-2 g c =
     let filled = c.reads.filled in
     let start = c.args.buf.now.len in
     let opened = c.open_room.new.buf in
-    let kept = take-written_below filled opened.len filled c.deref_mut.result.now opened.items c.read.new.buf (le_refl _) c.open_room.ensures.within opened.ok.0 c.deref_mut.ensures.value in
+    let kept = take-written_below filled opened.len filled c.deref_mut.result.now opened.items c.read.new.buf
+    (le_refl _) c.open_room.ensures.within opened.ok.0 c.deref_mut.ensures.value in
     let same = c.truncate-in-Err-2.ensures.items ∙ kept ∙ c.open_room.ensures.front in
     let fault = sym c.is_interrupted.ensures ∙ c.if-is_interrupted.false in
     record {
@@ -159,6 +161,9 @@ reads-preserved g c =
       turns = le_trans read.turns before.turns;
       told = λ t.
           let so_far = before.told t in
-          let now = read.told so_far.0 in
-          (now.0, gathered_interruption _ _ _ _ _ _ (gathered_same _ _ _ _ _ so_far.1 (kept ∙ c.open_room.ensures.front)) now.1 (sym c.is_interrupted.ensures ∙ c.if-is_interrupted.true));
+          let now = read.told so_far.0 in (
+            now.0,
+            gathered_interruption _ _ _ _ _ _ (gathered_same _ _ _ _ _ so_far.1 (kept ∙ c.open_room.ensures.front)) now.1
+                (sym c.is_interrupted.ensures ∙ c.if-is_interrupted.true),
+          );
     }

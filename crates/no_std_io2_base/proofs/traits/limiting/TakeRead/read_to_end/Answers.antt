@@ -107,7 +107,8 @@ returns-in-Err-2 g c =
     let filled = c.reads.filled in
     let start = c.args.buf.now.len in
     let opened = c.open_room.new.buf in
-    let kept = take-written_below filled opened.len filled c.deref_mut.result.now opened.items c.read.new.buf (le_refl _) c.open_room.ensures.within opened.ok.0 c.deref_mut.ensures.value in
+    let kept = take-written_below filled opened.len filled c.deref_mut.result.now opened.items c.read.new.buf
+    (le_refl _) c.open_room.ensures.within opened.ok.0 c.deref_mut.ensures.value in
     let same = c.truncate.ensures.items ∙ kept ∙ c.open_room.ensures.front in
     let fault = sym c.is_interrupted.ensures ∙ c.if-is_interrupted.false in
     let mid = c.reads.buf.items in
@@ -123,7 +124,8 @@ returns-in-Err-2 g c =
       fault = fault;
       turns = le_trans read.turns before.turns;
       filling = λ f. (read.fills (before.is_filling f)).0;
-      limit = limit_cut _ _ _ _ _ _ (limit_same _ _ _ read.limit refl) (filled_length filled new.len _ mid new.ok.0 same within) before.limit;
+      limit = limit_cut _ _ _ _ _ _ (limit_same _ _ _ read.limit refl)
+          (filled_length filled new.len _ mid new.ok.0 same within) before.limit;
       at_limit = λ none. absurd (no_turn _ _ _ _ before.limit before.grows none c.reads-test.true);
       along = λ t. along_then _ _ _ _ _ _ (before.along t) (read.along (before.told t).0);
     }
@@ -147,8 +149,11 @@ reads-preserved g c =
       turns = le_trans read.turns before.turns;
       told = λ t.
           let so_far = before.told t in
-          let now = read.told so_far.0 in
-          (now.0, gathered_interruption _ _ _ _ _ _ (gathered_same _ _ _ _ _ so_far.1 (kept ∙ c.open_room.ensures.front)) now.1 (sym c.is_interrupted.ensures ∙ c.if-is_interrupted.true));
+          let now = read.told so_far.0 in (
+            now.0,
+            gathered_interruption _ _ _ _ _ _ (gathered_same _ _ _ _ _ so_far.1 (kept ∙ c.open_room.ensures.front)) now.1
+                (sym c.is_interrupted.ensures ∙ c.if-is_interrupted.true),
+          );
       is_filling = λ f. (read.fills (before.is_filling f)).0;
       limit = omega (arith, before.limit, read.limit);
       at_limit = λ none. absurd (read.at_limit (omega (arith, before.limit, before.grows, none))).0;
@@ -166,7 +171,8 @@ returns g c =
       | else-reads-test w ↦ ap (λ b. take filled b.items) w.buf-is
       | then-reads-test+in_ok-open_room+in-Ok-eq0 w ↦
           let opened = w.open_room.new.buf in
-          ap (λ b. take filled b.items) w.buf-is ∙ take-written_below filled opened.len filled w.deref_mut.result.now opened.items w.read.new.buf (le_refl _) w.open_room.ensures.within opened.ok.0 w.deref_mut.ensures.value ∙ w.open_room.ensures.front
+          ap (λ b. take filled b.items) w.buf-is ∙ take-written_below filled opened.len filled w.deref_mut.result.now opened.items
+          w.read.new.buf (le_refl _) w.open_room.ensures.within opened.ok.0 w.deref_mut.ensures.value ∙ w.open_room.ensures.front
     ] in
     let ended : Ended T.tells T.is_filling T.turns T.events c.reads.self c.reads-test.self = elim c.reads-test.branch [
       | else-reads-test w ↦ ended_at_limit _ _ _ _ _ _ w.self-is (omega (arith, w.reads-test.false))
@@ -174,7 +180,8 @@ returns g c =
           let read = w.read.ensures in
           let is = w.in-Ok-eq0.is in
           let none = w.in-Ok-eq0.field-0-test in
-          let some = some_room filled w.open_room.new.buf.len _ w.read.new.buf w.in_ok-open_room.ensures.room w.deref_mut.ensures.len w.read.auto.buf in
+          let some = some_room filled w.open_room.new.buf.len _ w.read.new.buf w.in_ok-open_room.ensures.room w.deref_mut.ensures.len
+          w.read.auto.buf in
           subst (Ended T.tells T.is_filling T.turns T.events c.reads.self) (sym w.self-is) (record {
             spent = read.turns;
             told = λ t.

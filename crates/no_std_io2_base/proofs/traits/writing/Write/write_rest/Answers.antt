@@ -37,12 +37,16 @@ writes-preserved-in-Ok g c =
       all = λ a. (wrote.all (before.all a)).0;
       cost = λ m a.
           let so_far = before.cost m a in
-          let now = wrote.cost so_far.0 (before.all a) in
-          (now.0, one_call n left _ _ _ _ (same_count _ _ _ refl (wrote.all (before.all a)).1) (not_empty _ left c.is_empty.ensures c.writes-test.true) now.1 so_far.1);
+          let now = wrote.cost so_far.0 (before.all a) in (
+            now.0,
+            one_call n left _ _ _ _ (same_count _ _ _ refl (wrote.all (before.all a)).1)
+                (not_empty _ left c.is_empty.ensures c.writes-test.true) now.1 so_far.1,
+          );
     }
 
 pub writes-smaller : goal.writes-smaller
-writes-smaller g c = fewer_turns c.in-Err.e _ _ (length c.writes.rest.now) c.in-Err.ensures.moves.turns (sym c.is_interrupted.ensures ∙ c.if-is_interrupted.true)
+writes-smaller g c = fewer_turns c.in-Err.e _ _ (length c.writes.rest.now) c.in-Err.ensures.moves.turns
+    (sym c.is_interrupted.ensures ∙ c.if-is_interrupted.true)
 
 pub writes-preserved : goal.writes-preserved
 writes-preserved g c =
