@@ -10,7 +10,7 @@ returns-then-is_empty g c =
     record {
       fault = tt;
       moves = moves_none _ _ none;
-      all = λ h. absurd h;
+      all = λ h. h;
       cost = λ h. absurd h;
       puts = puts_all_none _ _ _ none;
       reference = refl;
@@ -23,7 +23,7 @@ returns-in_err-write_at g c =
     rw (p.1, p.2) (record {
       fault = refused_fault _ _ _ put.1;
       moves = puts_moves_none _ _ _ _ _ _ put;
-      all = λ h. absurd h;
+      all = λ h. h;
       cost = λ h. absurd h;
       puts = put;
       reference = refl;
@@ -36,7 +36,7 @@ returns g c =
     record {
       fault = tt;
       moves = puts_moves_all _ _ _ _ _ _ put;
-      all = λ h. absurd h;
+      all = λ h. h;
       cost = λ h. absurd h;
       puts = puts_all_some _ _ _ _ _ _ put some;
       reference = refl;

@@ -17,8 +17,8 @@ returns-in_err-reserve_room g c =
       count = tt;
       fault = memory_fault _ refused;
       turns = le_refl _;
-      metered = λ h. absurd h;
-      filling = λ h. absurd h;
+      metered = λ h. h;
+      filling = λ h. h;
       store = λ h. absurd h;
     })
 
@@ -51,8 +51,8 @@ returns-in_err-open_room g c =
       count = tt;
       fault = memory_fault _ refused;
       turns = before.turns;
-      metered = λ h. absurd h;
-      filling = λ h. absurd h;
+      metered = λ h. h;
+      filling = λ h. h;
       store = λ h. absurd h;
     })
 
@@ -81,8 +81,8 @@ returns-in-Ok-eq0 g c =
       count = len_cut c.len-start.result filled new.len _ _ mid c.len-start.ensures before.grows new.ok.0 same within;
       fault = tt;
       turns = le_trans read.turns before.turns;
-      metered = λ h. absurd h;
-      filling = λ h. absurd h;
+      metered = λ h. h;
+      filling = λ h. h;
       store = λ h. absurd h;
     }
 
@@ -112,8 +112,8 @@ returns-in-Err-2 g c =
       count = tt;
       fault = fault;
       turns = le_trans read.turns before.turns;
-      metered = λ h. absurd h;
-      filling = λ h. absurd h;
+      metered = λ h. h;
+      filling = λ h. h;
       store = λ h. absurd h;
     }
 

@@ -13,8 +13,8 @@ returns-then-self g c =
       count = read.count;
       fault = read.fault;
       turns = omega (arith, read.turns);
-      metered = λ h. absurd h;
-      filling = λ h. absurd h;
+      metered = λ h. h;
+      filling = λ h. h;
       store = λ h. absurd h;
     }
 
@@ -31,8 +31,8 @@ returns-in_err-read_to_end g c =
       count = tt;
       fault = first.fault;
       turns = omega (arith, first.turns);
-      metered = λ h. absurd h;
-      filling = λ h. absurd h;
+      metered = λ h. h;
+      filling = λ h. h;
       store = λ h. absurd h;
     })
 
@@ -51,8 +51,8 @@ returns-in_err-read_to_end-2 g c =
       count = tt;
       fault = second.fault;
       turns = omega (arith, first.turns, second.turns);
-      metered = λ h. absurd h;
-      filling = λ h. absurd h;
+      metered = λ h. h;
+      filling = λ h. h;
       store = λ h. absurd h;
     })
 
@@ -73,7 +73,7 @@ returns g c =
       count = omega (arith, first.count, second.count);
       fault = tt;
       turns = omega (arith, first.turns, second.turns);
-      metered = λ h. absurd h;
-      filling = λ h. absurd h;
+      metered = λ h. h;
+      filling = λ h. h;
       store = λ h. absurd h;
     }

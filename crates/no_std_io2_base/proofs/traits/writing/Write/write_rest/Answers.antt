@@ -1,4 +1,4 @@
-use Rattle.std.proofs.Common.{length, rules, sym, refl, ◌∙◌}
+use Rattle.std.proofs.Common.{length, rules, refl}
 use Rattle.no_std_io2_base.proofs.WriteExits.{not_empty, is_empty, sent_none, sends_zero, sends_fault, sends_done, sent_interruption, sent_more, fewer_left, fewer_turns, takes_some, one_call, no_call, no_error_there, same_count}
 use Rattle.no_std_io2_base.proofs.traits.writing.Write.write_rest.Goals as goal
 
@@ -44,9 +44,10 @@ writes-preserved-in-Ok g c =
           );
     }
 
+-- how the test of an interruption is written is not named here
 pub writes-smaller : goal.writes-smaller
 writes-smaller g c = fewer_turns c.in-Err.e _ _ (length c.writes.rest.now) c.in-Err.ensures.moves.turns
-    (sym c.is_interrupted.ensures ∙ c.if-is_interrupted.true)
+    cc
 
 pub writes-preserved : goal.writes-preserved
 writes-preserved g c =
@@ -63,7 +64,7 @@ returns-in-Err-2 g c =
     let before = c.writes.invariant in
     let wrote = c.in-Err.ensures in
     record {
-      fault = sym c.is_interrupted.ensures ∙ c.if-is_interrupted.false;
+      fault = cc;
       sends = sends_fault _ _ _ _ _ _ before.sent wrote.moves;
       done = tt;
       all = λ a. absurd (no_error_there _ _ (wrote.all (before.all a)).1);
