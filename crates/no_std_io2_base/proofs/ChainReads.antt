@@ -41,6 +41,7 @@ past_read tells tells_second turns events events_second was now first is going s
           ∙ ap (λ E. E ++ events_second was.second) (none (t.0 going));
     })
 
+-- no call raises the turns of both
 pub both_turns : (first first' second second' : ℕ) → first' ≤ first → second' ≤ second → first' + second' ≤ first + second
 both_turns first first' second second' a b = omega (arith, a, b)
 
@@ -50,5 +51,6 @@ pub second_turn : (reply : Result ℕ Error) (first first' second second' : ℕ)
 second_turn (Ok n) first first' second second' stays spent = λ some. let now = spent some in omega (arith, stays, now)
 second_turn (Err e) first first' second second' stays spent = omega (arith, stays, spent)
 
+-- and one of the first too
 pub first_turn : (n first first' second : ℕ) → (0 < n → first' < first) → 0 < n → first' + second < first + second
 first_turn n first first' second spent some = let now = spent some in omega arith

@@ -131,7 +131,8 @@ fits_moves_all bs place x bs' place' room h =
     (x, ([], sym (append-nil x)), refl, appends_moves _ _ _ _ (fitting_goes_out bs place x bs' place' h ∙ ap (λ l. bytes_before place bs ++ l) whole) refl)
 
 -- an error of a vector: none was accepted
-pub puts_moves_none : (bs : List ℕ) (place : ℕ) (x : List ℕ) (e : Error) (bs' : List ℕ) (place' : ℕ) → PutsWhole bs place x (Err e) bs' place'
+pub puts_moves_none : (bs : List ℕ) (place : ℕ) (x : List ℕ) (e : Error) (bs' : List ℕ) (place' : ℕ)
+    → PutsWhole bs place x (Err e) bs' place'
     → MovesFront (told_out (bytes_before place bs)) x (Err e) (told_out (bytes_before place' bs'))
 puts_moves_none bs place x e bs' place' h =
     ([], (x, refl), tt, puts_moves bs place x (Err e) bs' place' h)
@@ -142,7 +143,8 @@ refused_fault place x e (inl h) = ap is_interruption h.1
 refused_fault place x e (inr h) = ap is_interruption h.1
 
 -- `write_all` of some bytes that were put
-pub puts_all_some : (bs : List ℕ) (place : ℕ) (x : List ℕ) (n : ℕ) (bs' : List ℕ) (place' : ℕ) → PutsWhole bs place x (Ok n) bs' place' → 0 < length x
+pub puts_all_some : (bs : List ℕ) (place : ℕ) (x : List ℕ) (n : ℕ) (bs' : List ℕ) (place' : ℕ) → PutsWhole bs place x (Ok n) bs' place'
+    → 0 < length x
     → PutsAll bs place x (Ok tt) bs' place'
 puts_all_some bs place x n bs' place' h some = (λ _. (h.0, h.2), λ none. absurd (omega (arith, none, some)), h.3)
 
@@ -151,6 +153,7 @@ pub moves_none : (old x : List ℕ) → x ≡ [] → MovesFront (told_out old) x
 moves_none old x none =
     (x, ([], sym (append-nil x)), refl, appends_moves old old x [] (sym (append-nil old) ∙ ap (λ l. old ++ l) (sym none)) refl)
 
+-- and nothing is put
 pub puts_all_none : (bs : List ℕ) (place : ℕ) (x : List ℕ) → x ≡ [] → PutsAll bs place x (Ok tt) bs place
 puts_all_none bs place x none =
     let zero : length x ≡ 0 = ap length none in

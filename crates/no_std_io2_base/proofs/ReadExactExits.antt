@@ -26,6 +26,7 @@ pub within_part : (at n : ℕ) (xs ys now : List ℕ) → at ≤ length xs → n
 within_part at n xs ys now within fits same stays =
     omega (arith, within, fits, same, stays, length-take (length xs - at) (drop at xs), length-drop at xs)
 
+-- a place within a buffer is within one as long
 pub le_same : (at len now : ℕ) → at ≤ len → now ≡ len → at ≤ now
 le_same at len now within same = omega (arith, within, same)
 

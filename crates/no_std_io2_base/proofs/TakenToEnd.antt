@@ -14,6 +14,7 @@ nothing_read E E' reply n buf read is none some =
     let now : Reads E (Ok 0) buf E' = subst (λ r. Reads E r buf E') (is ∙ ap Ok none) read in
     (now.1 refl some, sym now.0 ∙ now.1 refl some)
 
+-- a read that gave nothing gave no byte
 pub given_none : (reply : Result ℕ Error) (n : ℕ) → reply ≡ Ok n → n ≡ 0 → given reply ≡ 0
 given_none reply n is none = ap given is ∙ none
 

@@ -12,6 +12,7 @@ use Rattle.no_std_io2_base.proofs.MovesLemmas.{Moves-more, Moves-ends, Moves-ref
 abbrev pub SentSoFar : Told → List ℕ → Told → List ℕ → Type 0
 SentSoFar old start new left = (sent : List ℕ) × (start ≡ sent ++ left) × Moves old sent [] new
 
+-- at the start nothing is sent
 pub sent_none : (a : Told) (start : List ℕ) → SentSoFar a start a start
 sent_none a start = ([], refl, Moves-refl a)
 
@@ -24,6 +25,7 @@ pub not_empty : (b : Bool) (left : List ℕ) → b ≡ (length left == 0) → b 
 not_empty b [] is h = absurd (true≢false (sym is ∙ h))
 not_empty b (x ∷ left) is h = omega arith
 
+-- and what it says at the end
 pub is_empty : (b : Bool) (left : List ℕ) → b ≡ (length left == 0) → b ≡ true → left ≡ []
 is_empty b left is h = drop_of_length-le left {i = 0} (omega (arith, eqb-true (length left) 0 (sym is ∙ h)))
 
@@ -83,6 +85,7 @@ fewer_turns e turns turns' len spent again =
 pub no_error_there : (e : Error) (n : ℕ) → Err e ≡ Ok n → ⊥
 no_error_there e n same = cc
 
+-- an answer has one count
 pub same_count : (reply : Result ℕ Error) (n m : ℕ) → reply ≡ Ok n → reply ≡ Ok m → n ≡ m
 same_count reply n m is same = cc
 
