@@ -7,9 +7,9 @@ use Rattle.std.proofs.lemmas.Bool.Decides.{nat_tests}
 use Rattle.no_std_io2_base.specs.declared.error.Error.{Error}
 use Rattle.no_std_io2_base.specs.declared.error.ErrorKind.{ErrorKind}
 use Rattle.no_std_io2_base.specs.declared.error.ErrorKind.TheVariants.{WriteZero}
-use Rattle.no_std_io2_base.specs.Errors.{error_kind, is_interruption}
+use Rattle.no_std_io2_base.specs.Errors.{error_kind, is_interruption, IsFault}
 use Rattle.no_std_io2_base.specs.Writes.{Moves, MovesFront, told_out, taken, write_mishap, zero_write}
-use Rattle.no_std_io2_base.specs.Cursor.{bytes_before, put_at, put_over, fitting, IsRefusal, PutsWhole, PutsFitting}
+use Rattle.no_std_io2_base.specs.Cursor.{bytes_before, put_at, put_over, fitting, IsRefusal, PutsWhole, PutsAll, PutsFitting}
 
 -- n bytes further on
 pub left_after : (all : List ℕ) (place n : ℕ) → drop (place + n) all ≡ drop n (drop place all)
@@ -129,3 +129,32 @@ pub fits_moves_all : (bs : List ℕ) (place : ℕ) (x bs' : List ℕ) (place' : 
 fits_moves_all bs place x bs' place' room h =
     let whole : fitting place x bs ≡ x = take_all (length bs - place) x room in
     (x, ([], sym (append-nil x)), refl, appends_moves _ _ _ _ (fitting_goes_out bs place x bs' place' h ∙ ap (λ l. bytes_before place bs ++ l) whole) refl)
+
+-- an error of a vector: none was accepted
+pub puts_moves_none : (bs : List ℕ) (place : ℕ) (x : List ℕ) (e : Error) (bs' : List ℕ) (place' : ℕ)
+    → PutsWhole bs place x (Err e) bs' place'
+    → MovesFront (told_out (bytes_before place bs)) x (Err e) (told_out (bytes_before place' bs'))
+puts_moves_none bs place x e bs' place' h =
+    ([], (x, refl), tt, puts_moves bs place x (Err e) bs' place' h)
+
+-- a refusal is no interruption
+pub refused_fault : (place : ℕ) (x : List ℕ) (e : Error) → IsRefusal place x e → IsFault e
+refused_fault place x e (inl h) = ap is_interruption h.1
+refused_fault place x e (inr h) = ap is_interruption h.1
+
+-- `write_all` of some bytes that were put
+pub puts_all_some : (bs : List ℕ) (place : ℕ) (x : List ℕ) (n : ℕ) (bs' : List ℕ) (place' : ℕ) → PutsWhole bs place x (Ok n) bs' place'
+    → 0 < length x
+    → PutsAll bs place x (Ok tt) bs' place'
+puts_all_some bs place x n bs' place' h some = (λ _. (h.0, h.2), λ none. absurd (omega (arith, none, some)), h.3)
+
+-- `write_all` of none
+pub moves_none : (old x : List ℕ) → x ≡ [] → MovesFront (told_out old) x (Ok tt) (told_out old)
+moves_none old x none =
+    (x, ([], sym (append-nil x)), refl, appends_moves old old x [] (sym (append-nil old) ∙ ap (λ l. old ++ l) (sym none)) refl)
+
+-- and nothing is put
+pub puts_all_none : (bs : List ℕ) (place : ℕ) (x : List ℕ) → x ≡ [] → PutsAll bs place x (Ok tt) bs place
+puts_all_none bs place x none =
+    let zero : length x ≡ 0 = ap length none in
+    (λ some. absurd (omega (arith, zero, some)), λ _. refl, omega (arith, zero))

@@ -1,16 +1,19 @@
 -- Reads under a limit.
-use Rattle.std.proofs.Common.{◌≡◌, ℕ, zero, suc, ◌-◌, ◌<◌, ◌≤◌, min, List, [], ◌∷◌, ◌++◌, Ok, length, take, refl, sym, ap, ◌∙◌, arith, length-take-le}
+use Rattle.std.proofs.Common.{◌≡◌, ℕ, zero, suc, ◌-◌, ◌<◌, ◌≤◌, min, List, [], ◌∷◌, ◌++◌, Ok, length, take, refl, sym, ap, ◌∙◌, arith, drop, ◌+◌, length-take, length-take-le, length-append, length-drop}
 use lib.Seq.{take-append-le}
-use Rattle.no_std_io2_base.specs.Events.{Event, events_of, bytes, cut, Reads}
+use Rattle.no_std_io2_base.specs.declared.error.Error.{Error}
+use Rattle.no_std_io2_base.specs.Events.{Event, fails, events_of, bytes, cut, Reads}
 use Rattle.no_std_io2_base.proofs.Events.{cut-bytes, length-events_of}
 
 -- the cut loses what the inner reader loses
-pub cut_reads : (E E' : List Event) (k n : ℕ) (part kept : List ℕ) → n ≤ length part → length part ≤ k → (0 < length (part ++ kept) → 0 < length part)
+pub cut_reads : (E E' : List Event) (k n : ℕ) (part kept : List ℕ) → n ≤ length part → length part ≤ k → (0 < length (part ++ kept)
+    → 0 < length part)
     → Reads E (Ok n) part E' → Reads (cut k E) (Ok n) (part ++ kept) (cut (k - n) E')
 cut_reads E E' k n part kept fits within room read =
     let long = length-take-le n part fits in
     let rest : k - length (take n part) ≡ k - n = ap (λ m. k - m) long in (
-      ap (cut k) read.0 ∙ cut-bytes (take n part) E' k (omega (arith, long)) ∙ ap (λ m. events_of (take n part) ++ cut m E') rest ∙ ap (λ l. events_of l ++ cut (k - n) E') (sym (take-append-le n part kept fits)),
+      ap (cut k) read.0 ∙ cut-bytes (take n part) E' k (omega (arith, long)) ∙ ap (λ m. events_of (take n part) ++ cut m E') rest
+          ∙ ap (λ l. events_of l ++ cut (k - n) E') (sym (take-append-le n part kept fits)),
       λ zero some. ap (cut k) (read.1 zero (room some)) ∙ cut-none k,
     )
   where
@@ -24,10 +27,35 @@ cut-length_bytes (suc k) [] = omega arith
 cut-length_bytes (suc k) (b ∷ bs) = omega (arith, cut-length_bytes k bs)
 
 pub cut-length : (k : ℕ) (E : List Event) → E ≡ events_of (bytes E) → length (cut k E) ≡ min k (length E)
-cut-length k E h = ap (λ l. length (cut k l)) h ∙ cut-length_bytes k (bytes E) ∙ ap (min k) (sym (length-events_of (bytes E)) ∙ ap length (sym h))
+cut-length k E h = ap (λ l. length (cut k l)) h ∙ cut-length_bytes k (bytes E)
+    ∙ ap (min k) (sym (length-events_of (bytes E)) ∙ ap length (sym h))
 
 -- bytes that are consumed go from the cut and from the limit
-pub cut_consumes : (E E' : List Event) (held : List ℕ) (n k : ℕ) → n ≤ k → n ≤ length held → E ≡ events_of (take n held) ++ E' → cut k E ≡ events_of (take n held) ++ cut (k - n) E'
+pub cut_consumes : (E E' : List Event) (held : List ℕ) (n k : ℕ) → n ≤ k → n ≤ length held → E ≡ events_of (take n held) ++ E'
+    → cut k E ≡ events_of (take n held) ++ cut (k - n) E'
 cut_consumes E E' held n k within fits is =
     let long = length-take-le n held fits in
     ap (cut k) is ∙ cut-bytes (take n held) E' k (omega (arith, long)) ∙ ap (λ m. events_of (take n held) ++ cut (k - m) E') long
+
+-- an error that stood first, where the limit isn't 0
+pub cut_error : (k : ℕ) (E E' : List Event) (e : Error) → E ≡ fails e ∷ E' → 0 < k → cut k E ≡ fails e ∷ cut k E'
+cut_error zero E E' e is some = absurd (omega arith)
+cut_error (suc k) E E' e is some = ap (cut (suc k)) is
+
+-- a part of a buffer that is cut to the limit has no more bytes than that
+pub part_within : (most k : ℕ) (buf part : List ℕ) → most ≡ min (length buf) k → length part ≡ length (take most buf) → length part ≤ k
+part_within most k buf part is same = omega (arith, is, same, length-take most buf)
+
+-- and some, where the buffer has some
+pub part_room : (most k : ℕ) (buf part : List ℕ) → most ≡ min (length buf) k → length part ≡ length (take most buf) → 0 < k
+    → 0 < length (part ++ drop most buf) → 0 < length part
+part_room most k buf part is same some room =
+    omega (arith, is, same, some, room, length-append part (drop most buf), length-take most buf, length-drop most buf)
+
+-- what fits into the part fits into the buffer
+pub fits_whole : (n : ℕ) (part kept : List ℕ) → n ≤ length part → n ≤ length (part ++ kept)
+fits_whole n part kept fits = omega (arith, fits, length-append part kept)
+
+-- the limit falls by what was given
+pub limit_falls : (k n len : ℕ) → n ≤ len → len ≤ k → k - n + n ≡ k
+limit_falls k n len fits within = omega (arith, fits, within)

@@ -1,0 +1,64 @@
+-- What each exit of a loop of reads into a vector says of the vector and of the reader's store.
+use Rattle.std.proofs.Common.{◌≡◌, ℕ, ◌+◌, ◌-◌, ◌<◌, ◌≤◌, List, ◌++◌, Result, Ok, Err, append_assoc, length, take, drop, sym, ap, subst, ◌∙◌, arith, take_all, length-take, length-take-le, length-drop}
+use lib.Seq.{take-take}
+use Rattle.no_std_io2_base.specs.declared.error.Error.{Error}
+use Rattle.no_std_io2_base.specs.Events.{Event, given, Reads, ReadsToEnd}
+use Rattle.no_std_io2_base.proofs.Gathered.{Gathered, gathered_end}
+use Rattle.no_std_io2_base.proofs.Taken.{moved_read}
+
+-- nothing was appended
+pub front_whole : (n : ℕ) (old new : List ℕ) → n ≡ length old → new ≡ old → take n new ≡ old
+front_whole n old new long is = ap (take n) is ∙ take_all n old (omega (arith, long))
+
+-- the bytes behind the filled ones were cut off
+pub front_cut : (start filled : ℕ) (new mid old : List ℕ) → start ≤ filled → new ≡ take filled mid → take start mid ≡ old
+    → take start new ≡ old
+front_cut start filled new mid old below is front = ap (take start) is ∙ take-take start filled mid below ∙ front
+
+-- no room was opened behind the filled bytes
+pub none_opened : (filled len : ℕ) (new mid : List ℕ) → len ≡ filled → len ≡ length new → take filled new ≡ take filled mid
+    → new ≡ take filled mid
+none_opened filled len new mid full long front = sym (take_all filled new (omega (arith, full, long))) ∙ front
+
+-- how many bytes were filled, where all others were cut off
+pub count_cut : (start filled : ℕ) (new mid old : List ℕ) → start ≡ length old → new ≡ take filled mid → filled ≤ length mid
+    → filled - start ≡ length new - length old
+count_cut start filled new mid old long is within = omega (arith, long, ap length is, length-take-le filled mid within)
+
+-- and how long the vector is then
+pub len_cut : (start filled len was : ℕ) (new mid : List ℕ) → start ≡ was → was ≤ filled → len ≡ length new → new ≡ take filled mid
+    → filled ≤ length mid → len ≡ was + (filled - start)
+len_cut start filled len was new mid from grows long is within =
+    omega (arith, from, grows, long, ap length is, length-take-le filled mid within)
+
+-- the vector of the filled bytes alone is as long as they are
+pub filled_length : (filled len : ℕ) (new mid : List ℕ) → len ≡ length new → new ≡ take filled mid → filled ≤ length mid → len ≡ filled
+filled_length filled len new mid long is within = long ∙ ap length is ∙ length-take-le filled mid within
+
+-- the part of a vector's slice behind the filled bytes has room
+pub some_room : (filled len : ℕ) (slice part : List ℕ) → filled < len → length slice ≡ len
+    → length part ≡ length (take (length slice - filled) (drop filled slice)) → 0 < length part
+some_room filled len slice part room long is =
+    omega (arith, room, long, is, length-take (length slice - filled) (drop filled slice), length-drop filled slice)
+
+-- a read that gave nothing ends the loop
+pub gathered_stops : (E : List Event) (old new : List ℕ) (after rest : List Event) (reply : Result ℕ Error) (n k : ℕ) (buf : List ℕ)
+    → Gathered E old new after → Reads after reply buf rest → reply ≡ Ok n → n ≡ 0 → 0 < length buf → k ≡ length new - length old
+    → ReadsToEnd E (Ok k) old new rest
+gathered_stops E old new after rest reply n k buf t read is none some count =
+    gathered_end E old new after rest n k buf t (subst (λ r. Reads after r buf rest) is read) none some count
+
+-- and the position stays where it was
+pub stays_at_end : (E E' : List Event) (reply : Result ℕ Error) (n : ℕ) (buf : List ℕ) (p p' all : ℕ)
+    → Reads E reply buf E' → reply ≡ Ok n → n ≡ 0 → p' ≡ p + given reply → p + length E ≡ all → p' + length E' ≡ all
+stays_at_end E E' reply n buf p p' all read is none move whole =
+    moved_read E E' n buf p p' all (omega (arith, none)) (subst (λ r. Reads E r buf E') is read).0 (move ∙ ap (λ r. p + given r) is) whole
+
+-- what the first of two calls appended stays at the front
+pub front_then : (k n : ℕ) (old mid new : List ℕ) → k ≤ n → take k mid ≡ old → take n new ≡ mid → take k new ≡ old
+front_then k n old mid new below first next = sym (take-take k n new below) ∙ ap (take k) next ∙ first
+
+-- an error of the first of two readers
+pub stopped_first : (E F : List Event) (old new : List ℕ) (after : List Event) (e : Error) → ReadsToEnd E (Err e) old new after
+    → ReadsToEnd (E ++ F) (Err e) old new (after ++ F)
+stopped_first E F old new after e read = (read.0, ap (λ l. l ++ F) read.1 ∙ append_assoc read.0 after F, read.2, read.3)
