@@ -9,7 +9,7 @@ pub returns-in-Ok-clause-answers : goal.returns-in-Ok-clause-answers
 returns-in-Ok-clause-answers g c = rw c.in-Write.is (Answers-write _ _ c.in-Ok.ensures.bound c.in-Ok.ensures.moves)
 
 pub returns-in-Ok-clause-all : goal.returns-in-Ok-clause-all
-returns-in-Ok-clause-all g c = 
+returns-in-Ok-clause-all g c =
     let all = c.in-Ok.ensures.all c.requires.all in
     rw c.in-Write.is (all.0, ok_same all.1)
 
@@ -32,37 +32,37 @@ pub returns-in-Err-clause-buffer : goal.returns-in-Err-clause-buffer
 returns-in-Err-clause-buffer g c = absurd (Moves-steady (g.met.W.Write.steady _ c.requires.all) c.in-Err.ensures.moves)
 
 pub returns-in-Ok-write_all-clause-answers : goal.returns-in-Ok-write_all-clause-answers
-returns-in-Ok-write_all-clause-answers g c = 
+returns-in-Ok-write_all-clause-answers g c =
     rw c.in-WriteAll.is (Answers-write_all _ c.in-Ok-write_all.field-0 c.in-Ok-write_all.ensures.moves)
 
 pub returns-in-Ok-write_all-clause-all : goal.returns-in-Ok-write_all-clause-all
 returns-in-Ok-write_all-clause-all g c = rw c.in-WriteAll.is (c.in-Ok-write_all.ensures.all c.requires.all, tt)
 
 pub returns-in-Ok-write_all-clause-calls : goal.returns-in-Ok-write_all-clause-calls
-returns-in-Ok-write_all-clause-calls g c = 
+returns-in-Ok-write_all-clause-calls g c =
     rw c.in-WriteAll.is (c.in-Ok-write_all.ensures.calls c.requires.some tt c.requires.all).1
 
 pub returns-in-Ok-write_all-clause-buffer : goal.returns-in-Ok-write_all-clause-buffer
 returns-in-Ok-write_all-clause-buffer g c = rw c.in-WriteAll.is (c.in-Ok-write_all.ensures.after c.requires.all)
 
 pub returns-in-Err-write_all-clause-answers : goal.returns-in-Err-write_all-clause-answers
-returns-in-Err-write_all-clause-answers g c = 
+returns-in-Err-write_all-clause-answers g c =
     absurd (Moves-steady (g.met.W.Write.steady _ c.requires.all) c.in-Err-write_all.ensures.moves.3)
 
 pub returns-in-Err-write_all-clause-all : goal.returns-in-Err-write_all-clause-all
-returns-in-Err-write_all-clause-all g c = 
+returns-in-Err-write_all-clause-all g c =
     absurd (Moves-steady (g.met.W.Write.steady _ c.requires.all) c.in-Err-write_all.ensures.moves.3)
 
 pub returns-in-Err-write_all-clause-calls : goal.returns-in-Err-write_all-clause-calls
-returns-in-Err-write_all-clause-calls g c = 
+returns-in-Err-write_all-clause-calls g c =
     absurd (Moves-steady (g.met.W.Write.steady _ c.requires.all) c.in-Err-write_all.ensures.moves.3)
 
 pub returns-in-Err-write_all-clause-buffer : goal.returns-in-Err-write_all-clause-buffer
-returns-in-Err-write_all-clause-buffer g c = 
+returns-in-Err-write_all-clause-buffer g c =
     absurd (Moves-steady (g.met.W.Write.steady _ c.requires.all) c.in-Err-write_all.ensures.moves.3)
 
 pub returns-in-Ok-flush-clause-answers : goal.returns-in-Ok-flush-clause-answers
-returns-in-Ok-flush-clause-answers g c = 
+returns-in-Ok-flush-clause-answers g c =
     rw c.in-Flush.is (Answers-flush c.in-Ok-flush.ensures.moves c.in-Ok-flush.ensures.empty)
 
 pub returns-in-Ok-flush-clause-all : goal.returns-in-Ok-flush-clause-all

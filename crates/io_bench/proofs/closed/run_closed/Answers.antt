@@ -66,7 +66,7 @@ pub returns-in-Ok-clause-appends : goal.returns-in-Ok-clause-appends
 returns-in-Ok-clause-appends g c = appended_back _ _ c.calls.invariant.ran.0 c.calls.invariant.ran.1
 
 pub returns-in-Ok-clause-whole : goal.returns-in-Ok-clause-whole
-returns-in-Ok-clause-whole g c = 
+returns-in-Ok-clause-whole g c =
     let ran = c.calls.invariant.ran in
     all_made AreWhole _ c.calls.op-index _ _ ran.0 (omega arith) ran.1 ran.3
 

@@ -34,21 +34,21 @@ pub returns-clause-appends : goal.returns-clause-appends
 returns-clause-appends g c = appended_back _ _ c.calls.invariant.ran.0 c.calls.invariant.ran.1
 
 pub returns-clause-ran : goal.returns-clause-ran
-returns-clause-ran g c = 
+returns-clause-ran g c =
     let ran = c.calls.invariant.ran in
     let told = g.W.Write.told in
     all_made (λ o r. Ran (told c.args.w.now) o r (told c.calls.w)) _ c.calls.op-index _ _ ran.0 (omega arith) ran.1
     ran.2
 
 pub returns-clause-flushed : goal.returns-clause-flushed
-returns-clause-flushed g c = 
+returns-clause-flushed g c =
     let ran = c.calls.invariant.ran in
     let told = g.W.Write.told in
     all_made (λ o r. EndsFlushed o r → (told c.calls.w).held ≡ []) _ c.calls.op-index _ _ ran.0 (omega arith) ran.1
     ran.3
 
 pub returns-clause-failures : goal.returns-clause-failures
-returns-clause-failures g c = 
+returns-clause-failures g c =
     let ran = c.calls.invariant.ran in
     let told = g.W.Write.told in
     all_made (λ o r. IsShorterBy (failures o r) (told c.args.w.now).mishaps (told c.calls.w).mishaps) _ c.calls.op-index _ _ ran.0 (omega arith) ran.1
@@ -68,7 +68,7 @@ returns-clause-steady g c = λ none.
     (failures_none _ ran.0 _ _ ran.2.moves.mishaps none)
 
 pub returns-clause-all : goal.returns-clause-all
-returns-clause-all g c = 
+returns-clause-all g c =
     let ran = c.calls.invariant.ran in
     all_made (λ o r. g.W.Write.takes_all c.args.w.now → g.W.Write.takes_all c.calls.w × AreWhole o r) _ c.calls.op-index _ _ ran.0 (omega arith) ran.1
     ran.4
