@@ -49,8 +49,9 @@ none_left n (Some new) h = omega (arith, h)
 pub failures_none : (ops : List Op) (replies : List Reply) (old new : Option (List ErrorKind)) → HasSpent old (mishaps_of ops replies) new → old ≡ Some [] → failures ops replies ≡ 0
 failures_none ops replies old new h e = none_left _ new (subst (λ o. IsShorterBy (failures ops replies) o new) e (failures_told ops replies old new h))
 
--- of each kind too
-pub fewer_of : (kind : ErrorKind) (ops : List Op) (replies : List Reply) (old new : Option (List ErrorKind)) → HasSpent old (mishaps_of ops replies) new
+-- and of each kind there are fewer to come by those that failed with it
+pub fewer_of : (kind : ErrorKind) (ops : List Op) (replies : List Reply) (old new : Option (List ErrorKind))
+    → HasSpent old (mishaps_of ops replies) new
     → HasFewer kind (failures_of kind ops replies) old new
 fewer_of kind ops replies None new h = tt
 fewer_of kind ops replies (Some old) None h = absurd h

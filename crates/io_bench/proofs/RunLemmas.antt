@@ -68,10 +68,12 @@ pub all_made : (P : List Op → List Reply → Type 0) (ops : List Op) (i : ℕ)
 all_made P ops i old new more h e p =
     subst (λ made. P made (appended old new)) (take_all i ops h) (subst (P (take i ops)) (sym (ap (drop (length old)) e ∙ drop-append_seam old more)) p)
 
--- the answers of one call that succeeded
-pub Answers-write : {a b : Told} (x : Bor (List ℕ)) (n : ℕ) → n ≤ length x.now → Moves a (take n x.now) (zero_write n x.now) b → Answers a (Write x) (Took n) b
+-- a `write` that took n bytes
+pub Answers-write : {a b : Told} (x : Bor (List ℕ)) (n : ℕ) → n ≤ length x.now → Moves a (take n x.now) (zero_write n x.now) b
+    → Answers a (Write x) (Took n) b
 Answers-write x n bound moves = record { accepted = take n x.now; accepts = (bound, refl); moves = moves; flushed = λ no. absurd no }
 
+-- a `write_all` that answered `Ok`
 pub Answers-write_all : {a b : Told} (x : Bor (List ℕ)) (u : Unit {0}) → MovesFront a x.now (Ok u) b → Answers a (WriteAll x) Done b
 Answers-write_all {a} {b} x u moves = record {
   accepted = x.now;
@@ -80,6 +82,7 @@ Answers-write_all {a} {b} x u moves = record {
   flushed = λ no. absurd no;
 }
 
+-- a `flush` that answered `Ok`
 pub Answers-flush : {a b : Told} → Moves a [] [] b → b.held ≡ [] → Answers a Flush Done b
 Answers-flush moves empty = record { accepted = []; accepts = refl; moves = moves; flushed = λ _. empty }
 

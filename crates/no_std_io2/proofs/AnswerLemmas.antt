@@ -10,11 +10,12 @@ pub IsOk-from_and : {A E : Type 0} (r : Result A E) (P : A → Type 0) → IsOkA
 IsOk-from_and (Ok y) P h = refl
 IsOk-from_and (Err err) P h = absurd h
 
--- what holds of each value, or of each error, holds of the answer's
+-- what holds of each value holds of the answer's
 pub ifok_map : {E : Type 0} (r : Result ℕ E) {P Q : ℕ → Type 0} → ((n : ℕ) → P n → Q n) → IfOk r P → IfOk r Q
 ifok_map (Ok n) f p = f n p
 ifok_map (Err e) f p = tt
 
+-- what holds of each error holds of the answer's
 pub iferr : {A E : Type 0} (r : Result A E) {P : E → Type 0} → ((e : E) → P e) → IfErr r P
 iferr (Ok x) f = tt
 iferr (Err e) f = f e

@@ -120,5 +120,6 @@ pub HasNoNewline-none : (xs : List ℕ) → xs ≡ [] → HasNoNewline xs
 HasNoNewline-none xs e k h is = absurd (omega (arith, ap length e))
 
 -- a write that took all of some lines took some
-pub took_some : {T : Type 0} (x : List ℕ) (len n : ℕ) → ◌≡◌ {A = Result ℕ Error} (Ok n) (Ok (length (take len x))) → n ≡ 0 → 0 < len → len ≤ length x → T
+pub took_some : {T : Type 0} (x : List ℕ) (len n : ℕ) → ◌≡◌ {A = Result ℕ Error} (Ok n) (Ok (length (take len x))) → n ≡ 0 → 0 < len
+    → len ≤ length x → T
 took_some x len n all none some within = absurd (omega (arith, ok_same all, none, some, within, length-take len x))

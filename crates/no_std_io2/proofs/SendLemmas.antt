@@ -13,7 +13,8 @@ use Rattle.no_std_io2.specs.Sending.{Sent}
 use Rattle.no_std_io2.proofs.BufferLemmas.{none_left, gone_more, drop_whole, sending_none, sending_some, ok_same}
 
 -- so far a front of what was held was sent
-pub record Sending {W : Type 0} {S : ℕ} (told : W → Told) (takes_all is_metered : W → Type 0) (cost : W → ℕ) (old new : Sender W S) : Type 0 where
+pub record Sending {W : Type 0} {S : ℕ} (told : W → Told) (takes_all is_metered : W → Type 0) (cost : W → ℕ)
+    (old new : Sender W S) : Type 0 where
   pub sent : List ℕ
   pub split : sender_buffer old ≡ sent ++ sender_buffer new
   pub moves : Moves (told (sender_inner old)) sent [] (told (sender_inner new))
@@ -37,11 +38,13 @@ sending_begins {told} old = record {
 }
 
 -- the inner writer took n bytes of what was held
-pub sending_took : {W : Type 0} {S : ℕ} {told : W → Told} {takes_all is_metered : W → Type 0} {cost : W → ℕ} (old mid new : Sender W S) (x : List ℕ) (n : ℕ)
+pub sending_took : {W : Type 0} {S : ℕ} {told : W → Told} {takes_all is_metered : W → Type 0} {cost : W → ℕ} (old mid new : Sender W S)
+    (x : List ℕ) (n : ℕ)
     → Sending told takes_all is_metered cost old mid → 0 < length (sender_buffer mid) → x ≡ sender_buffer mid
     → Moves (told (sender_inner mid)) (take n x) (zero_write n x) (told (sender_inner new))
     → (takes_all (sender_inner mid) → takes_all (sender_inner new) × (◌≡◌ {A = Result ℕ Error} (Ok n) (Ok (length x))))
-    → (is_metered (sender_inner mid) → takes_all (sender_inner mid) → is_metered (sender_inner new) × (cost (sender_inner new) ≡ cost (sender_inner mid) + 1))
+    → (is_metered (sender_inner mid) → takes_all (sender_inner mid) → is_metered (sender_inner new) ×
+    (cost (sender_inner new) ≡ cost (sender_inner mid) + 1))
     → sender_buffer new ≡ drop n (sender_buffer mid) → new.window.bytes ≡ mid.window.bytes
     → Sending told takes_all is_metered cost old new
 sending_took old mid new x n before some given moves all calls rest unmoved =
@@ -64,11 +67,13 @@ sending_took old mid new x n before some given moves all calls rest unmoved =
 no_err : {x : Error} {n : ℕ} {T : Type 0} → ◌≡◌ {A = Result ℕ Error} (Err x) (Ok n) → T
 no_err e = absurd (let no : ⊥ = cc in no)
 
+-- so a writer that answered one does not take all
 pub takes_not_all : {A : Type 0} {x : Error} {n : ℕ} → A × (◌≡◌ {A = Result ℕ Error} (Err x) (Ok n)) → ⊥
 takes_not_all h = no_err h.1
 
 -- the inner writer was interrupted
-pub sending_again : {W : Type 0} {S : ℕ} {told : W → Told} {takes_all is_metered : W → Type 0} {cost : W → ℕ} (old mid : Sender W S) (inner : W) (x : List ℕ) (e : Error)
+pub sending_again : {W : Type 0} {S : ℕ} {told : W → Told} {takes_all is_metered : W → Type 0} {cost : W → ℕ} (old mid : Sender W S)
+    (inner : W) (x : List ℕ) (e : Error)
     → Sending told takes_all is_metered cost old mid → 0 < length (sender_buffer mid)
     → Moves (told (sender_inner mid)) [] (error_kind e ∷ []) (told inner)
     → (takes_all (sender_inner mid) → takes_all inner × (◌≡◌ {A = Result ℕ Error} (Err e) (Ok (length x))))
@@ -98,7 +103,8 @@ sending_ends old new before none = record {
 }
 
 -- a fault came
-pub sending_fails : {W : Type 0} {S : ℕ} {told : W → Told} {takes_all is_metered : W → Type 0} {cost : W → ℕ} (old mid : Sender W S) (inner : W) (e : Error)
+pub sending_fails : {W : Type 0} {S : ℕ} {told : W → Told} {takes_all is_metered : W → Type 0} {cost : W → ℕ} (old mid : Sender W S)
+    (inner : W) (e : Error)
     → Sending told takes_all is_metered cost old mid → 0 < length (sender_buffer mid) → IsFault e
     → Moves (told (sender_inner mid)) [] (error_kind e ∷ []) (told inner)
     → (takes_all (sender_inner mid) → ⊥)
@@ -119,7 +125,8 @@ zero_write-none : (x : List ℕ) → 0 < length x → zero_write 0 x ≡ WriteZe
 zero_write-none x some = grind (arith, nat_tests)
 
 -- the inner writer took no byte of some
-pub sending_stuck : {W : Type 0} {S : ℕ} {told : W → Told} {takes_all is_metered : W → Type 0} {cost : W → ℕ} (old mid : Sender W S) (inner : W) (x : List ℕ) (r : Result ℕ Error) (n : ℕ) (e : Error)
+pub sending_stuck : {W : Type 0} {S : ℕ} {told : W → Told} {takes_all is_metered : W → Type 0} {cost : W → ℕ} (old mid : Sender W S)
+    (inner : W) (x : List ℕ) (r : Result ℕ Error) (n : ℕ) (e : Error)
     → Sending told takes_all is_metered cost old mid → 0 < length (sender_buffer mid) → x ≡ sender_buffer mid
     → r ≡ Ok n → n ≡ 0 → error_kind e ≡ WriteZero
     → Moves (told (sender_inner mid)) (taken r x) (write_mishap r x) (told inner)
@@ -130,7 +137,8 @@ sending_stuck {told} old mid inner x r n e before some given is zero kind moves 
     let long : 0 < length x = omega (arith, some, ap length given) in
     let none = subst (λ a. Moves (told (sender_inner mid)) (taken a x) (write_mishap a x) (told inner)) answer moves in
     let mishap : zero_write 0 x ≡ error_kind e ∷ [] = zero_write-none x long ∙ ap (λ k. k ∷ []) (sym kind) in
-    sending_fails old mid inner e before some (ap is_interruption kind) (subst (λ k. Moves (told (sender_inner mid)) [] k (told inner)) mishap none)
+    sending_fails old mid inner e before some (ap is_interruption kind)
+    (subst (λ k. Moves (told (sender_inner mid)) [] k (told inner)) mishap none)
     (λ t. omega (arith, long, ok_same (sym answer ∙ (all t).1)))
 
 -- fewer turns and bytes are left after a write that took some

@@ -77,7 +77,8 @@ pub way_free : {W : Type 0} {S : ℕ} {told : W → Told} {takes_all is_metered 
 way_free old x short room = way_kept old (length x) room
 
 -- they don't, and what was held was sent
-pub way_sent : {W : Type 0} {S : ℕ} {told : W → Told} {takes_all is_metered : W → Type 0} {cost : W → ℕ} {r : Result (Unit {0}) Error} (old new : Sender W S) (more : ℕ)
+pub way_sent : {W : Type 0} {S : ℕ} {told : W → Told} {takes_all is_metered : W → Type 0} {cost : W → ℕ} {r : Result (Unit {0}) Error}
+    (old new : Sender W S) (more : ℕ)
     → Sent told takes_all is_metered cost old r new → S < length (sender_buffer old) + more
     → MakesWay told takes_all is_metered cost old more r new
 way_sent {S} {cost} {r} old new more sent over =
@@ -97,10 +98,12 @@ way_sent {S} {cost} {r} old new more sent over =
     }
 
 -- all that was held was sent, and the buffer is gone
-pub all_sent : {W : Type 0} {S : ℕ} {told : W → Told} {takes_all is_metered : W → Type 0} {cost : W → ℕ} {old mid : Sender W S} {inner : W} {u : Unit {0}}
+pub all_sent : {W : Type 0} {S : ℕ} {told : W → Told} {takes_all is_metered : W → Type 0} {cost : W → ℕ} {old mid : Sender W S}
+    {inner : W} {u : Unit {0}}
     → Sent told takes_all is_metered cost old (Ok u) mid → inner ≡ sender_inner mid → Moves (sender_told told old) [] [] (told inner)
 all_sent {told} {old} sent same =
-    subst (λ w. Moves (sender_told told old) [] [] (told w)) (sym same) (Moves-out {k = []} _ sent.sends.sent _ sent.sends.split sent.empty sent.sends.moves)
+    subst (λ w. Moves (sender_told told old) [] [] (told w)) (sym same)
+    (Moves-out {k = []} _ sent.sends.sent _ sent.sends.split sent.empty sent.sends.moves)
 
 -- `write`: sending failed, and nothing was accepted
 pub refused : {W : Type 0} {S : ℕ} {told : W → Told} {takes_all is_metered : W → Type 0} {cost : W → ℕ} (old mid : Sender W S) (x : List ℕ) (e : Error)

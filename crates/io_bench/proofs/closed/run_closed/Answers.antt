@@ -57,7 +57,8 @@ returns-in-Ok-clause-bound g c =
     let before = c.calls.invariant in
     let last = c.in-Ok.ensures.calls tt before.all in
     let bound = Paid-all g.row.S before.paid.0 c.args.ops.now c.calls.op-index _ (omega arith) before.paid.2 in
-    paid_bound _ _ _ _ _ _ _ _ last.1 before.paid.1 (ap tally_writes c.new-buffered.ensures.inner) (calls_for-min (writer_buffer c.calls.buffered)) bound
+    paid_bound _ _ _ _ _ _ _ _ last.1 before.paid.1 (ap tally_writes c.new-buffered.ensures.inner)
+    (calls_for-min (writer_buffer c.calls.buffered)) bound
 
 pub returns-in-Ok-clause-all : goal.returns-in-Ok-clause-all
 returns-in-Ok-clause-all g c = c.in-Ok.ensures.all c.calls.invariant.all

@@ -58,7 +58,8 @@ pub returns-clause-kinds : goal.returns-clause-kinds
 returns-clause-kinds g c = λ kind.
     let ran = c.calls.invariant.ran in
     let told = g.W.Write.told in
-    all_made (λ o r. HasFewer kind (failures_of kind o r) (told c.args.w.now).mishaps (told c.calls.w).mishaps) _ c.calls.op-index _ _ ran.0 (omega arith) ran.1
+    all_made (λ o r. HasFewer kind (failures_of kind o r) (told c.args.w.now).mishaps (told c.calls.w).mishaps) _ c.calls.op-index _ _
+    ran.0 (omega arith) ran.1
     (fewer_of kind _ ran.0 _ _ ran.2.moves.mishaps)
 
 pub returns-clause-steady : goal.returns-clause-steady
@@ -70,5 +71,6 @@ returns-clause-steady g c = λ none.
 pub returns-clause-all : goal.returns-clause-all
 returns-clause-all g c =
     let ran = c.calls.invariant.ran in
-    all_made (λ o r. g.W.Write.takes_all c.args.w.now → g.W.Write.takes_all c.calls.w × AreWhole o r) _ c.calls.op-index _ _ ran.0 (omega arith) ran.1
+    all_made (λ o r. g.W.Write.takes_all c.args.w.now → g.W.Write.takes_all c.calls.w × AreWhole o r) _ c.calls.op-index _ _ ran.0
+    (omega arith) ran.1
     ran.4

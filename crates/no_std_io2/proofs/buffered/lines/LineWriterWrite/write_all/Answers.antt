@@ -74,4 +74,10 @@ pub write_all_plain-requires : goal.write_all_plain-requires
 write_all_plain-requires g c = (search rules, (c.args.self.now.core.line, c.lines_len-len.ensures.plain c.if-len-eq0.true))
 
 pub write_all_lines-requires : goal.write_all_lines-requires
-write_all_lines-requires g c = (search rules, (c.args.self.now.core.line, (omega (arith, c.if-len-eq0.false), c.lines_len-len.ensures.lines)))
+write_all_lines-requires g c = (
+  search rules,
+  (
+    c.args.self.now.core.line,
+    (omega (arith, c.if-len-eq0.false), c.lines_len-len.ensures.lines),
+  ),
+)

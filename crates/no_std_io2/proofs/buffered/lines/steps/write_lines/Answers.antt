@@ -145,15 +145,18 @@ returns-then-n-eq0-clause-line g c = IsLineState-plain _ (HasNoNewline-none _ c.
 
 pub returns-then-n-eq0-clause-all : goal.returns-then-n-eq0-clause-all
 returns-then-n-eq0-clause-all g c = λ t.
-    took_some c.args.x.now c.args.len _ (c.in_ok-n.ensures.all (c.in_ok-send.ensures.all t).0).1 c.if-n-eq0.true c.requires.some c.requires.lines.within
+    took_some c.args.x.now c.args.len _ (c.in_ok-n.ensures.all (c.in_ok-send.ensures.all t).0).1 c.if-n-eq0.true c.requires.some
+    c.requires.lines.within
 
 pub returns-then-n-eq0-clause-after : goal.returns-then-n-eq0-clause-after
 returns-then-n-eq0-clause-after g c = λ t.
-    took_some c.args.x.now c.args.len _ (c.in_ok-n.ensures.all (c.in_ok-send.ensures.all t).0).1 c.if-n-eq0.true c.requires.some c.requires.lines.within
+    took_some c.args.x.now c.args.len _ (c.in_ok-n.ensures.all (c.in_ok-send.ensures.all t).0).1 c.if-n-eq0.true c.requires.some
+    c.requires.lines.within
 
 pub returns-then-n-eq0-clause-calls : goal.returns-then-n-eq0-clause-calls
 returns-then-n-eq0-clause-calls g c = λ _ t.
-    took_some c.args.x.now c.args.len _ (c.in_ok-n.ensures.all (c.in_ok-send.ensures.all t).0).1 c.if-n-eq0.true c.requires.some c.requires.lines.within
+    took_some c.args.x.now c.args.len _ (c.in_ok-n.ensures.all (c.in_ok-send.ensures.all t).0).1 c.if-n-eq0.true c.requires.some
+    c.requires.lines.within
 
 pub returns-clause-bound : goal.returns-clause-bound
 returns-clause-bound g c = c.tail_end-end.ensures.within
