@@ -5,7 +5,7 @@ use Rattle.std.proofs.lemmas.List.{take_more}
 use Rattle.no_std_io2_base.specs.Writes.{Told, Moves, MovesFront, zero_write}
 use Rattle.no_std_io2_base.proofs.MovesLemmas.{Moves-trans, Moves-refl}
 use Rattle.io_bench.specs.declared.runs.Op.{Op}
-use Rattle.io_bench.specs.declared.runs.Op.TheVariants.{Write, WriteAll, Flush}
+use Rattle.io_bench.specs.declared.runs.Op.TheVariants.{Write, WriteAll}
 use Rattle.io_bench.specs.declared.runs.Reply.{Reply}
 use Rattle.io_bench.specs.declared.runs.Reply.TheVariants.{Took, Done}
 use Rattle.io_bench.specs.Runs.{appended, Accepts, Run, mishap_of, mishaps_of, IsFlushed, EndsFlushed, IsWhole, AreWhole, Answers, Ran}
@@ -81,10 +81,6 @@ Answers-write_all {a} {b} x u moves = record {
   moves = subst (λ l. Moves a l [] b) moves.2 moves.3;
   flushed = λ no. absurd no;
 }
-
--- a `flush` that answered `Ok`
-pub Answers-flush : {a b : Told} → Moves a [] [] b → b.held ≡ [] → Answers a Flush Done b
-Answers-flush moves empty = record { accepted = []; accepts = refl; moves = moves; flushed = λ _. empty }
 
 -- replies that were put behind the old ones
 pub appended_back : (old new more : List Reply) → new ≡ old ++ more → new ≡ old ++ appended old new

@@ -2,7 +2,7 @@
 use Rattle.std.proofs.Common.{refl}
 use Rattle.no_std_io2_base.proofs.MovesLemmas.{Moves-steady}
 use Rattle.no_std_io2.proofs.BufferLemmas.{ok_same}
-use Rattle.io_bench.proofs.RunLemmas.{Answers-write, Answers-write_all, Answers-flush}
+use Rattle.io_bench.proofs.RunLemmas.{Answers-write, Answers-write_all}
 use Rattle.io_bench.proofs.closed.make_counted_call.Goals as goal
 
 pub returns-in-Ok-clause-answers : goal.returns-in-Ok-clause-answers
@@ -61,10 +61,6 @@ pub returns-in-Err-write_all-clause-buffer : goal.returns-in-Err-write_all-claus
 returns-in-Err-write_all-clause-buffer g c =
     absurd (Moves-steady (g.met.W.Write.steady _ c.requires.all) c.in-Err-write_all.ensures.moves.3)
 
-pub returns-in-Ok-flush-clause-answers : goal.returns-in-Ok-flush-clause-answers
-returns-in-Ok-flush-clause-answers g c =
-    rw c.in-Flush.is (Answers-flush c.in-Ok-flush.ensures.moves c.in-Ok-flush.ensures.empty)
-
 pub returns-in-Ok-flush-clause-all : goal.returns-in-Ok-flush-clause-all
 returns-in-Ok-flush-clause-all g c = rw c.in-Flush.is (c.in-Ok-flush.ensures.all c.requires.all, tt)
 
@@ -73,9 +69,6 @@ returns-in-Ok-flush-clause-calls g c = rw c.in-Flush.is (c.in-Ok-flush.ensures.c
 
 pub returns-in-Ok-flush-clause-buffer : goal.returns-in-Ok-flush-clause-buffer
 returns-in-Ok-flush-clause-buffer g c = rw c.in-Flush.is c.in-Ok-flush.ensures.sent
-
-pub returns-in-Err-flush-clause-answers : goal.returns-in-Err-flush-clause-answers
-returns-in-Err-flush-clause-answers g c = absurd (Moves-steady (g.met.W.Write.steady _ c.requires.all) c.in-Err-flush.ensures.moves)
 
 pub returns-in-Err-flush-clause-all : goal.returns-in-Err-flush-clause-all
 returns-in-Err-flush-clause-all g c = absurd (Moves-steady (g.met.W.Write.steady _ c.requires.all) c.in-Err-flush.ensures.moves)
