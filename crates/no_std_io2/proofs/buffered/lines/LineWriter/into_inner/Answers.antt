@@ -2,15 +2,12 @@ use Rattle.std.proofs.Common.{Ok, refl, sym, ap, subst, ◌∙◌}
 use Rattle.no_std_io2_base.proofs.MovesLemmas.{Moves-steady}
 use Rattle.no_std_io2.proofs.BufferLemmas.{Moves-sent_part}
 use Rattle.no_std_io2.proofs.LineLemmas.{IsLineState-end}
-use Rattle.no_std_io2.proofs.SendingLemmas.{all_sent, no_ok}
+use Rattle.no_std_io2.proofs.SendingLemmas.{no_ok}
 use Rattle.no_std_io2.proofs.buffered.lines.LineWriter.into_inner.Goals as goal
 
 pub invariant_of-self : goal.invariant_of-self
 invariant_of-self g c =
     record { line = IsLineState-end _ _ (c.send.ensures.sends.sent, c.send.ensures.sends.split) c.args.self.core.line }
-
-pub returns-in-Ok-clause-ok : goal.returns-in-Ok-clause-ok
-returns-in-Ok-clause-ok g c = all_sent c.in-Ok.ensures c.into_parts.ensures
 
 pub returns-in-Ok-clause-empty : goal.returns-in-Ok-clause-empty
 returns-in-Ok-clause-empty g c = λ e. ap Ok (c.into_parts.ensures ∙ (c.in-Ok.ensures.idle e).0)

@@ -20,9 +20,6 @@ returns-then-len-eq0-clause-cost g c = λ no. absurd no
 pub returns-then-len-eq0-clause-open : goal.returns-then-len-eq0-clause-open
 returns-then-len-eq0-clause-open g c = c.write_all_plain.ensures.open
 
-pub returns-then-len-eq0-clause-fits : goal.returns-then-len-eq0-clause-fits
-returns-then-len-eq0-clause-fits g c = λ _ none short room. c.write_all_plain.ensures.fits none short room
-
 pub returns-then-len-eq0-clause-lasts : goal.returns-then-len-eq0-clause-lasts
 returns-then-len-eq0-clause-lasts g c = λ t. c.write_all_plain.ensures.all t
 
