@@ -9,7 +9,7 @@ use Rattle.io_bench.specs.declared.runs.Op.{Op}
 use Rattle.io_bench.specs.declared.runs.Op.TheVariants.{Write, WriteAll, Flush}
 use Rattle.io_bench.specs.declared.runs.Reply.{Reply}
 use Rattle.io_bench.specs.declared.runs.Reply.TheVariants.{Took, Done, Failed}
-use Rattle.io_bench.specs.Runs.{mishap_of, mishaps_of, is_failure, failures, IsShorterBy}
+use Rattle.io_bench.specs.Runs.{mishap_of, mishaps_of, is_failure, failures, failures_of, IsShorterBy, HasFewer}
 
 count_by-all : {X : Type 0} (xs : List X) → count_by (λ _. true) xs ≡ length xs
 count_by-all [] = refl
@@ -48,3 +48,11 @@ none_left n (Some new) h = omega (arith, h)
 -- over no mishap to come no call fails
 pub failures_none : (ops : List Op) (replies : List Reply) (old new : Option (List ErrorKind)) → HasSpent old (mishaps_of ops replies) new → old ≡ Some [] → failures ops replies ≡ 0
 failures_none ops replies old new h e = none_left _ new (subst (λ o. IsShorterBy (failures ops replies) o new) e (failures_told ops replies old new h))
+
+-- and of each kind there are fewer to come by those that failed with it
+pub fewer_of : (kind : ErrorKind) (ops : List Op) (replies : List Reply) (old new : Option (List ErrorKind))
+    → HasSpent old (mishaps_of ops replies) new
+    → HasFewer kind (failures_of kind ops replies) old new
+fewer_of kind ops replies None new h = tt
+fewer_of kind ops replies (Some old) None h = absurd h
+fewer_of kind ops replies (Some old) (Some new) h = h _

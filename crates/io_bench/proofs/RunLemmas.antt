@@ -1,11 +1,13 @@
 -- A run goes on by one call.
-use Rattle.std.proofs.Common.{◌≡◌, ℕ, ◌+◌, ◌<◌, ◌≤◌, take_all, length, take, drop, get_or, List, [], ◌∷◌, ◌++◌, refl, sym, ap, ◌∙◌, subst, append_assoc, append-nil}
+use Rattle.std.proofs.Common.{◌≡◌, ℕ, Bor, Ok, ◌+◌, ◌<◌, ◌≤◌, take_all, length, take, drop, get_or, List, [], ◌∷◌, ◌++◌, refl, sym, ap, ◌∙◌, subst, append_assoc, append-nil}
 use Rattle.std.proofs.Math.Seq.{drop-append_seam}
 use Rattle.std.proofs.lemmas.List.{take_more}
-use Rattle.no_std_io2_base.specs.Writes.{Told, Moves}
+use Rattle.no_std_io2_base.specs.Writes.{Told, Moves, MovesFront, zero_write}
 use Rattle.no_std_io2_base.proofs.MovesLemmas.{Moves-trans, Moves-refl}
 use Rattle.io_bench.specs.declared.runs.Op.{Op}
+use Rattle.io_bench.specs.declared.runs.Op.TheVariants.{Write, WriteAll}
 use Rattle.io_bench.specs.declared.runs.Reply.{Reply}
+use Rattle.io_bench.specs.declared.runs.Reply.TheVariants.{Took, Done}
 use Rattle.io_bench.specs.Runs.{appended, Accepts, Run, mishap_of, mishaps_of, IsFlushed, EndsFlushed, IsWhole, AreWhole, Answers, Ran}
 
 -- one call more
@@ -66,3 +68,21 @@ EndsFlushed-next {reply} ops i d replies h r s e =
 pub all_made : (P : List Op → List Reply → Type 0) (ops : List Op) (i : ℕ) (old new more : List Reply) → length ops ≤ i → new ≡ old ++ more → P (take i ops) more → P ops (appended old new)
 all_made P ops i old new more h e p =
     subst (λ made. P made (appended old new)) (take_all i ops h) (subst (P (take i ops)) (sym (ap (drop (length old)) e ∙ drop-append_seam old more)) p)
+
+-- a `write` that took n bytes
+pub Answers-write : {a b : Told} (x : Bor (List ℕ)) (n : ℕ) → n ≤ length x.now → Moves a (take n x.now) (zero_write n x.now) b
+    → Answers a (Write x) (Took n) b
+Answers-write x n bound moves = record { accepted = take n x.now; accepts = (bound, refl); moves = moves; flushed = λ no. absurd no }
+
+-- a `write_all` that answered `Ok`
+pub Answers-write_all : {a b : Told} (x : Bor (List ℕ)) (u : Unit {0}) → MovesFront a x.now (Ok u) b → Answers a (WriteAll x) Done b
+Answers-write_all {a} {b} x u moves = record {
+  accepted = x.now;
+  accepts = refl;
+  moves = subst (λ l. Moves a l [] b) moves.2 moves.3;
+  flushed = λ no. absurd no;
+}
+
+-- replies that were put behind the old ones
+pub appended_back : (old new more : List Reply) → new ≡ old ++ more → new ≡ old ++ appended old new
+appended_back old new more e = e ∙ ap (λ l. old ++ l) (sym (ap (drop (length old)) e ∙ drop-append_seam old more))

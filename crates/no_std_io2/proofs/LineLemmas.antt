@@ -9,7 +9,7 @@ use Rattle.std.proofs.lemmas.Bool.Decides.{nat_tests}
 use Rattle.no_std_io2_base.specs.declared.error.Error.{Error}
 use Rattle.no_std_io2_base.specs.Writes.{Told, Moves, MovesFront, IsFront, taken, zero_write, call_mishap}
 use Rattle.no_std_io2_base.proofs.MovesLemmas.{IsFront-refl, IsFront-trans, Moves-then, Moves-ends}
-use Rattle.no_std_io2.proofs.BufferLemmas.{Moves-buffered}
+use Rattle.no_std_io2.proofs.BufferLemmas.{Moves-buffered, ok_same}
 use Rattle.no_std_io2.specs.Buffered.{with_buffer}
 use Rattle.std.specs.Result.{OnOk}
 use Rattle.no_std_io2.specs.LineState.{IsLineState, HasNoNewline}
@@ -118,3 +118,8 @@ MovesFront-rest {a} {b} {c} n x rest r d m f =
 
 pub HasNoNewline-none : (xs : List ℕ) → xs ≡ [] → HasNoNewline xs
 HasNoNewline-none xs e k h is = absurd (omega (arith, ap length e))
+
+-- a write that took all of some lines took some
+pub took_some : {T : Type 0} (x : List ℕ) (len n : ℕ) → ◌≡◌ {A = Result ℕ Error} (Ok n) (Ok (length (take len x))) → n ≡ 0 → 0 < len
+    → len ≤ length x → T
+took_some x len n all none some within = absurd (omega (arith, ok_same all, none, some, within, length-take len x))

@@ -1,10 +1,10 @@
 -- What one inner read does to a reader with a buffer in front that held nothing.
-use Rattle.std.proofs.Common.{◌≡◌, ℕ, ◌+◌, ◌-◌, ◌*◌, ◌<◌, ◌≤◌, Bool, true, false, nat_le, if◌then◌else◌, List, [], ◌∷◌, ◌++◌, Ok, Err, Result, length, take, min, refl, sym, ap, subst, ◌∙◌, arith}
+use Rattle.std.proofs.Common.{◌≡◌, ℕ, ◌+◌, ◌*◌, ◌<◌, ◌≤◌, true, false, nat_le, if◌then◌else◌, List, [], ◌∷◌, ◌++◌, Ok, Err, Result, length, min, refl, sym, ap, subst, ◌∙◌, arith}
 use Rattle.std.specs.Result.{OnOk, OnErr, IsOk}
 use Rattle.std.proofs.Math.Nat.{mul-le-mul_left}
 use Rattle.std.proofs.lemmas.Bool.Decides.{nat_tests}
 use Rattle.no_std_io2_base.specs.declared.error.Error.{Error}
-use Rattle.no_std_io2_base.specs.Events.{Event, events_of, fails, given, Reads, SpendsTurn}
+use Rattle.no_std_io2_base.specs.Events.{Event, events_of, fails, Reads, SpendsTurn}
 use Rattle.no_std_io2.specs.ReadAhead.{ReadsAhead}
 use Rattle.no_std_io2.specs.Reading.{FillsFrom, behind_anew, filled_length}
 use Rattle.no_std_io2.specs.Sound.{IsSound}

@@ -1,5 +1,5 @@
 -- The three ends of a write through a buffer: what was held could not be sent, the bytes go past it, or they are held.
-use Rattle.std.proofs.Common.{◌≡◌, false, true, ℕ, ◌+◌, ◌<◌, ◌≤◌, ◌∙◌, List, [], ◌++◌, length, Result, Ok, Err, Some, IfOk, OnOk, refl, sym, ap, subst, inl, inr, rules, arith, le_refl, take_all, append-nil, ⊎_elim}
+use Rattle.std.proofs.Common.{◌≡◌, false, true, ℕ, ◌+◌, ◌<◌, ◌≤◌, ◌∙◌, List, [], ◌++◌, length, Result, Ok, Err, Some, IfOk, OnOk, refl, sym, ap, subst, inl, inr, arith, le_refl, take_all, append-nil, ⊎_elim}
 use Rattle.std.proofs.lemmas.Bool.{cases_lt}
 use Rattle.std.proofs.lemmas.Bool.Decides.{nat_tests}
 use Rattle.no_std_io2_base.specs.declared.error.Error.{Error}
@@ -7,10 +7,10 @@ use Rattle.no_std_io2_base.specs.Errors.{IsNoInterruption}
 use Rattle.no_std_io2_base.specs.Writes.{Told, Moves, MovesFront, taken, write_mishap, call_mishap, calls_for}
 use Rattle.no_std_io2_base.proofs.MovesLemmas.{IsFront-refl, Moves-then, Moves-ends, zero_write-whole}
 use Rattle.no_std_io2.specs.declared.buffered.sender.Sender.{Sender}
-use Rattle.no_std_io2.specs.Buffered.{sender_inner, sender_buffer, sender_with_inner, way_calls, writing_calls, buffer_after}
+use Rattle.no_std_io2.specs.Buffered.{sender_inner, sender_buffer, sender_told, sender_with_inner, way_calls, writing_calls, buffer_after}
 use Rattle.no_std_io2.specs.Sending.{Sent, MakesWay, Buffers, BuffersAll, Flushes}
-use Rattle.no_std_io2.proofs.BufferLemmas.{Moves-kept, Moves-passed, Moves-sent, IsEnd-none, IsEnd-held, call_steady}
-use Rattle.no_std_io2.proofs.LineLemmas.{MovesFront-then, MovesFront-passed, onok}
+use Rattle.no_std_io2.proofs.BufferLemmas.{Moves-kept, Moves-passed, Moves-sent, Moves-sent_part, Moves-out, none_of_length, IsEnd-none, IsEnd-held, call_steady}
+use Rattle.no_std_io2.proofs.LineLemmas.{MovesFront-then, MovesFront-passed, onok, onok_map}
 
 -- the buffer after a write, case by case
 after_fits : (S : ℕ) (held x : List ℕ) → length x < S → length held + length x ≤ S → buffer_after S held x ≡ held ++ x
@@ -35,6 +35,9 @@ way_calls-le S n held = grind (arith, nat_tests)
 way_calls-none : (S n : ℕ) (held : List ℕ) → length held + n ≤ S → way_calls S held n ≡ 0
 way_calls-none S n held h = grind (arith, nat_tests)
 
+way_calls-over : (S n : ℕ) (held : List ℕ) → S < length held + n → way_calls S held n ≡ calls_for held
+way_calls-over S n held h = grind (arith, nat_tests)
+
 calls_for-some : (x : List ℕ) → 0 < length x → calls_for x ≡ 1
 calls_for-some x h = grind (arith, nat_tests)
 
@@ -42,8 +45,8 @@ calls_for-le : (x : List ℕ) → calls_for x ≤ 1
 calls_for-le x = grind (arith, nat_tests)
 
 -- an error is not `Ok`
-no_ok : false ≡ true → ⊥
-no_ok h = search rules
+pub no_ok : {T : Type 0} → false ≡ true → T
+no_ok h = absurd (let no : ⊥ = cc in no)
 
 onok_both : (r : Result (Unit {0}) Error) (P Q : Type 0) → OnOk r P → (P → Q) → OnOk r Q
 onok_both (Ok u) P Q p f = f p
@@ -53,20 +56,54 @@ ifok : {P : ℕ → Type 0} (r : Result ℕ Error) → ((n : ℕ) → P n) → I
 ifok (Ok n) f = f n
 ifok (Err e) f = tt
 
--- both fit: nothing has to be sent
-pub way_free : {W : Type 0} {S : ℕ} {told : W → Told} {takes_all is_metered : W → Type 0} {cost : W → ℕ} (old : Sender W S) (x : List ℕ)
-    → length x < S → length (sender_buffer old) + length x ≤ S → MakesWay told takes_all is_metered cost old (length x) (Ok tt) old
-way_free {told} old x short room = record {
+-- there is room beside what is held: nothing has to be sent
+pub way_kept : {W : Type 0} {S : ℕ} {told : W → Told} {takes_all is_metered : W → Type 0} {cost : W → ℕ} (old : Sender W S) (more : ℕ)
+    → length (sender_buffer old) + more ≤ S → MakesWay told takes_all is_metered cost old more (Ok tt) old
+way_kept {told} old more room = record {
   fault = tt;
   moves = Moves-kept told _ _ (sender_buffer old) (sender_buffer old) [] refl (sym (append-nil _));
   rest = ([], refl);
   room = λ _. room;
-  empty = λ long. absurd (omega (arith, short, long));
+  empty = λ long. none_of_length _ (omega (arith, long, room));
   fits = λ _. (refl, refl, refl);
   sent = λ over. absurd (omega (arith, over, room));
   all = λ t. (t, refl);
   calls = λ m t. (m, omega (arith, way_calls-none _ _ (sender_buffer old) room));
 }
+
+-- both fit
+pub way_free : {W : Type 0} {S : ℕ} {told : W → Told} {takes_all is_metered : W → Type 0} {cost : W → ℕ} (old : Sender W S) (x : List ℕ)
+    → length x < S → length (sender_buffer old) + length x ≤ S → MakesWay told takes_all is_metered cost old (length x) (Ok tt) old
+way_free old x short room = way_kept old (length x) room
+
+-- they don't, and what was held was sent
+pub way_sent : {W : Type 0} {S : ℕ} {told : W → Told} {takes_all is_metered : W → Type 0} {cost : W → ℕ} {r : Result (Unit {0}) Error}
+    (old new : Sender W S) (more : ℕ)
+    → Sent told takes_all is_metered cost old r new → S < length (sender_buffer old) + more
+    → MakesWay told takes_all is_metered cost old more r new
+way_sent {S} {cost} {r} old new more sent over =
+    let sends = sent.sends in
+    record {
+      fault = sent.fault;
+      moves = Moves-sent_part sends.sent _ _ sends.split sends.moves;
+      rest = (sends.sent, sends.split);
+      room = onok_map r _ _ (λ none short. omega (arith, short, ap length none)) sent.empty;
+      empty = onok_map r _ _ (λ none _. none) sent.empty;
+      fits = λ room. absurd (omega (arith, over, room));
+      sent = λ _. sent.empty;
+      all = sent.all;
+      calls = λ m t.
+          let spent = sent.calls m t in
+          (spent.0, spent.1 ∙ ap (λ n. cost (sender_inner old) + n) (sym (way_calls-over S more (sender_buffer old) over)));
+    }
+
+-- all that was held was sent, and the buffer is gone
+pub all_sent : {W : Type 0} {S : ℕ} {told : W → Told} {takes_all is_metered : W → Type 0} {cost : W → ℕ} {old mid : Sender W S}
+    {inner : W} {u : Unit {0}}
+    → Sent told takes_all is_metered cost old (Ok u) mid → inner ≡ sender_inner mid → Moves (sender_told told old) [] [] (told inner)
+all_sent {told} {old} sent same =
+    subst (λ w. Moves (sender_told told old) [] [] (told w)) (sym same)
+    (Moves-out {k = []} _ sent.sends.sent _ sent.sends.split sent.empty sent.sends.moves)
 
 -- `write`: sending failed, and nothing was accepted
 pub refused : {W : Type 0} {S : ℕ} {told : W → Told} {takes_all is_metered : W → Type 0} {cost : W → ℕ} (old mid : Sender W S) (x : List ℕ) (e : Error)
@@ -75,13 +112,13 @@ refused old mid x e way = record {
   bound = tt;
   moves = way.moves;
   rest = rw (append-nil (sender_buffer old)) way.rest;
-  fits = λ _ room. absurd (no_ok (way.fits room).0);
+  fits = λ _ room. no_ok (way.fits room).0;
   sent = λ _. tt;
   whole = λ _. tt;
   calm = λ _. way.fault;
-  all = λ t. absurd (no_ok (way.all t).1);
-  after = λ t. absurd (no_ok (way.all t).1);
-  calls = λ _ t. absurd (no_ok (way.all t).1);
+  all = λ t. no_ok (way.all t).1;
+  after = λ t. no_ok (way.all t).1;
+  calls = λ _ t. no_ok (way.all t).1;
 }
 
 -- `write`: one inner write, past the empty buffer
@@ -148,13 +185,13 @@ refused_all old mid x e way = record {
   fault = way.fault;
   moves = ([], (x, refl), tt, way.moves);
   rest = inr way.rest;
-  fits = λ _ room. absurd (no_ok (way.fits room).0);
+  fits = λ _ room. no_ok (way.fits room).0;
   sent = λ _. tt;
   none = λ _. (way.rest, way.moves);
-  all = λ t. absurd (no_ok (way.all t).1);
-  after = λ t. absurd (no_ok (way.all t).1);
-  calls = λ _ _ t. absurd (no_ok (way.all t).1);
-  few = λ _ t. absurd (no_ok (way.all t).1);
+  all = λ t. no_ok (way.all t).1;
+  after = λ t. no_ok (way.all t).1;
+  calls = λ _ _ t. no_ok (way.all t).1;
+  few = λ _ t. no_ok (way.all t).1;
 }
 
 -- `write_all`: one inner `write_all`, past the empty buffer

@@ -4,9 +4,10 @@ use Rattle.no_std_io2_base.specs.Writes.{Moves}
 use Rattle.io_bench.specs.Closed.{given_bytes}
 use Rattle.no_std_io2.proofs.BufferLemmas.{buffer-le, Moves-bare}
 use Rattle.no_std_io2.specs.Buffered.{writer_inner, writer_buffer}
+use Rattle.io_bench.specs.Runs.{AreWhole}
 use Rattle.io_bench.specs.Tally.{tally_inner, tally_writes}
-use Rattle.io_bench.proofs.RunLemmas.{Ran-next, AreWhole-next, Ran-none}
-use Rattle.io_bench.proofs.ClosedLemmas.{Paid-on, Paid-all, given_all}
+use Rattle.io_bench.proofs.RunLemmas.{Ran-next, AreWhole-next, Ran-none, all_made, appended_back}
+use Rattle.io_bench.proofs.ClosedLemmas.{Paid-on, Paid-all, paid_bound, given_all}
 use Rattle.io_bench.proofs.PaidLemmas.{Paid-empty, calls_for-min}
 use Rattle.io_bench.proofs.closed.run_closed.Goals as goal
 
@@ -54,11 +55,25 @@ returns-in-Ok-clause-bytes g c =
 pub returns-in-Ok-clause-bound : goal.returns-in-Ok-clause-bound
 returns-in-Ok-clause-bound g c =
     let before = c.calls.invariant in
-    let ops = c.args.ops.now in
     let last = c.in-Ok.ensures.calls tt before.all in
-    let bound = Paid-all g.row.S before.paid.0 ops c.calls.op-index _ (omega arith) before.paid.2 in
-    let first = ap tally_writes c.new-buffered.ensures.inner in
-    omega (arith, last.1, bound, first, before.paid.1, calls_for-min (writer_buffer c.calls.buffered))
+    let bound = Paid-all g.row.S before.paid.0 c.args.ops.now c.calls.op-index _ (omega arith) before.paid.2 in
+    paid_bound _ _ _ _ _ _ _ _ last.1 before.paid.1 (ap tally_writes c.new-buffered.ensures.inner)
+    (calls_for-min (writer_buffer c.calls.buffered)) bound
 
 pub returns-in-Ok-clause-all : goal.returns-in-Ok-clause-all
 returns-in-Ok-clause-all g c = c.in-Ok.ensures.all c.calls.invariant.all
+
+pub returns-in-Ok-clause-appends : goal.returns-in-Ok-clause-appends
+returns-in-Ok-clause-appends g c = appended_back _ _ c.calls.invariant.ran.0 c.calls.invariant.ran.1
+
+pub returns-in-Ok-clause-whole : goal.returns-in-Ok-clause-whole
+returns-in-Ok-clause-whole g c =
+    let ran = c.calls.invariant.ran in
+    all_made AreWhole _ c.calls.op-index _ _ ran.0 (omega arith) ran.1 ran.3
+
+-- the base takes all, so the sending does not fail
+pub returns-in-Err-clause-kind : goal.returns-in-Err-clause-kind
+returns-in-Err-clause-kind g c = absurd (c.in-Err.ensures.all c.calls.invariant.all)
+
+pub returns-in-Err-clause-err : goal.returns-in-Err-clause-err
+returns-in-Err-clause-err g c = absurd (c.in-Err.ensures.all c.calls.invariant.all)

@@ -1,7 +1,7 @@
 use Rattle.std.proofs.Common.{◌≡◌, ◌<◌, ◌++◌, ◌∷◌, [], length, rules, arith, ap, ◌∙◌, sym, append-nil, append_assoc}
-use Rattle.io_bench.proofs.RunLemmas.{Ran-none, Ran-next, AreWhole-next, EndsFlushed-next, all_made}
-use Rattle.io_bench.specs.Runs.{failures, IsShorterBy}
-use Rattle.io_bench.proofs.FailureLemmas.{failures_told, failures_none}
+use Rattle.io_bench.proofs.RunLemmas.{Ran-none, Ran-next, AreWhole-next, EndsFlushed-next, all_made, appended_back}
+use Rattle.io_bench.specs.Runs.{Ran, EndsFlushed, AreWhole, failures, failures_of, IsShorterBy, HasFewer}
+use Rattle.io_bench.proofs.FailureLemmas.{failures_told, failures_none, fewer_of}
 use Rattle.io_bench.proofs.runs.run_writes.Goals as goal
 
 pub calls-init : goal.calls-init
@@ -30,6 +30,23 @@ calls-preserved g c =
       room = omega (arith, c.push_reserved.ensures.len, c.push_reserved.ensures.capacity, before.room);
     }
 
+pub returns-clause-appends : goal.returns-clause-appends
+returns-clause-appends g c = appended_back _ _ c.calls.invariant.ran.0 c.calls.invariant.ran.1
+
+pub returns-clause-ran : goal.returns-clause-ran
+returns-clause-ran g c =
+    let ran = c.calls.invariant.ran in
+    let told = g.W.Write.told in
+    all_made (λ o r. Ran (told c.args.w.now) o r (told c.calls.w)) _ c.calls.op-index _ _ ran.0 (omega arith) ran.1
+    ran.2
+
+pub returns-clause-flushed : goal.returns-clause-flushed
+returns-clause-flushed g c =
+    let ran = c.calls.invariant.ran in
+    let told = g.W.Write.told in
+    all_made (λ o r. EndsFlushed o r → (told c.calls.w).held ≡ []) _ c.calls.op-index _ _ ran.0 (omega arith) ran.1
+    ran.3
+
 pub returns-clause-failures : goal.returns-clause-failures
 returns-clause-failures g c =
     let ran = c.calls.invariant.ran in
@@ -37,8 +54,23 @@ returns-clause-failures g c =
     all_made (λ o r. IsShorterBy (failures o r) (told c.args.w.now).mishaps (told c.calls.w).mishaps) _ c.calls.op-index _ _ ran.0 (omega arith) ran.1
     (failures_told _ ran.0 _ _ ran.2.moves.mishaps)
 
+pub returns-clause-kinds : goal.returns-clause-kinds
+returns-clause-kinds g c = λ kind.
+    let ran = c.calls.invariant.ran in
+    let told = g.W.Write.told in
+    all_made (λ o r. HasFewer kind (failures_of kind o r) (told c.args.w.now).mishaps (told c.calls.w).mishaps) _ c.calls.op-index _ _
+    ran.0 (omega arith) ran.1
+    (fewer_of kind _ ran.0 _ _ ran.2.moves.mishaps)
+
 pub returns-clause-steady : goal.returns-clause-steady
-returns-clause-steady g c e =
+returns-clause-steady g c = λ none.
     let ran = c.calls.invariant.ran in
     all_made (λ o r. failures o r ≡ 0) _ c.calls.op-index _ _ ran.0 (omega arith) ran.1
-    (failures_none _ ran.0 _ _ ran.2.moves.mishaps e)
+    (failures_none _ ran.0 _ _ ran.2.moves.mishaps none)
+
+pub returns-clause-all : goal.returns-clause-all
+returns-clause-all g c =
+    let ran = c.calls.invariant.ran in
+    all_made (λ o r. g.W.Write.takes_all c.args.w.now → g.W.Write.takes_all c.calls.w × AreWhole o r) _ c.calls.op-index _ _ ran.0
+    (omega arith) ran.1
+    ran.4

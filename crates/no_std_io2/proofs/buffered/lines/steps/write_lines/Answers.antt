@@ -7,7 +7,9 @@ use Rattle.no_std_io2.specs.Buffered.{sender_told, sender_inner, sender_buffer, 
 use Rattle.no_std_io2.specs.Lines.{WritesLines, unfinished_line}
 use Rattle.no_std_io2.proofs.LastNewline.{writes_lines, writes_none, lines_taken}
 use Rattle.no_std_io2.specs.LineState.{IsLineState}
-use Rattle.no_std_io2.proofs.LineLemmas.{IsLineState-end, held_after, taken_then_held, zero_write-lines, zero_write-some}
+use Rattle.no_std_io2.proofs.LineLemmas.{IsLineState-end, IsLineState-plain, HasNoNewline-none, took_some, held_after, taken_then_held, zero_write-lines, zero_write-some}
+use Rattle.no_std_io2.proofs.SendLemmas.{takes_not_all}
+use Rattle.no_std_io2.proofs.SendingLemmas.{no_ok}
 use Rattle.no_std_io2.proofs.BufferLemmas.{Moves-sent_part, Moves-buffered, ok_same}
 use Rattle.no_std_io2.proofs.CountLemmas.{calls_for-le}
 use Rattle.no_std_io2.proofs.buffered.lines.steps.write_lines.Goals as goal
@@ -97,3 +99,64 @@ pub returns-clause-line : goal.returns-clause-line
 returns-clause-line g c =
     let held = c.hold.ensures.buffer ∙ ap (λ l. l ++ slice_range c.args.x.now c.in_ok-n.n c.tail_end-end.result) c.in_ok-send.ensures.empty in
     subst IsLineState (sym held) c.tail_end-end.ensures.line
+
+-- sending failed, so the inner writer does not take all
+pub returns-in_err-send-clause-bound : goal.returns-in_err-send-clause-bound
+returns-in_err-send-clause-bound g c =
+    rw (err_from_is_err_and c.from_residual.result c.from_residual.ensures.1).1 tt
+
+pub returns-in_err-send-clause-tail : goal.returns-in_err-send-clause-tail
+returns-in_err-send-clause-tail g c =
+    rw (err_from_is_err_and c.from_residual.result c.from_residual.ensures.1).1 tt
+
+pub returns-in_err-send-clause-all : goal.returns-in_err-send-clause-all
+returns-in_err-send-clause-all g c = λ t. no_ok (c.in_err-send.ensures.all t).1
+
+pub returns-in_err-send-clause-after : goal.returns-in_err-send-clause-after
+returns-in_err-send-clause-after g c = λ t. no_ok (c.in_err-send.ensures.all t).1
+
+pub returns-in_err-send-clause-calls : goal.returns-in_err-send-clause-calls
+returns-in_err-send-clause-calls g c = λ _ t. no_ok (c.in_err-send.ensures.all t).1
+
+-- nor does it where its write failed
+pub returns-in_err-n-clause-line : goal.returns-in_err-n-clause-line
+returns-in_err-n-clause-line g c = IsLineState-plain _ (HasNoNewline-none _ c.in_ok-send.ensures.empty)
+
+pub returns-in_err-n-clause-bound : goal.returns-in_err-n-clause-bound
+returns-in_err-n-clause-bound g c =
+    rw (err_from_is_err_and c.from_residual-in_err-n.result c.from_residual-in_err-n.ensures.1).1 tt
+
+pub returns-in_err-n-clause-tail : goal.returns-in_err-n-clause-tail
+returns-in_err-n-clause-tail g c =
+    rw (err_from_is_err_and c.from_residual-in_err-n.result c.from_residual-in_err-n.ensures.1).1 tt
+
+pub returns-in_err-n-clause-all : goal.returns-in_err-n-clause-all
+returns-in_err-n-clause-all g c = λ t. absurd (takes_not_all (c.in_err-n.ensures.all (c.in_ok-send.ensures.all t).0))
+
+pub returns-in_err-n-clause-after : goal.returns-in_err-n-clause-after
+returns-in_err-n-clause-after g c = λ t. absurd (takes_not_all (c.in_err-n.ensures.all (c.in_ok-send.ensures.all t).0))
+
+pub returns-in_err-n-clause-calls : goal.returns-in_err-n-clause-calls
+returns-in_err-n-clause-calls g c = λ _ t. absurd (takes_not_all (c.in_err-n.ensures.all (c.in_ok-send.ensures.all t).0))
+
+-- or took nothing of some
+pub returns-then-n-eq0-clause-line : goal.returns-then-n-eq0-clause-line
+returns-then-n-eq0-clause-line g c = IsLineState-plain _ (HasNoNewline-none _ c.in_ok-send.ensures.empty)
+
+pub returns-then-n-eq0-clause-all : goal.returns-then-n-eq0-clause-all
+returns-then-n-eq0-clause-all g c = λ t.
+    took_some c.args.x.now c.args.len _ (c.in_ok-n.ensures.all (c.in_ok-send.ensures.all t).0).1 c.if-n-eq0.true c.requires.some
+    c.requires.lines.within
+
+pub returns-then-n-eq0-clause-after : goal.returns-then-n-eq0-clause-after
+returns-then-n-eq0-clause-after g c = λ t.
+    took_some c.args.x.now c.args.len _ (c.in_ok-n.ensures.all (c.in_ok-send.ensures.all t).0).1 c.if-n-eq0.true c.requires.some
+    c.requires.lines.within
+
+pub returns-then-n-eq0-clause-calls : goal.returns-then-n-eq0-clause-calls
+returns-then-n-eq0-clause-calls g c = λ _ t.
+    took_some c.args.x.now c.args.len _ (c.in_ok-n.ensures.all (c.in_ok-send.ensures.all t).0).1 c.if-n-eq0.true c.requires.some
+    c.requires.lines.within
+
+pub returns-clause-bound : goal.returns-clause-bound
+returns-clause-bound g c = c.tail_end-end.ensures.within

@@ -1,8 +1,8 @@
 -- A read where nothing is held, by its three ends: past the buffer, a fill that failed, and out of the filled buffer.
-use Rattle.std.proofs.Common.{◌≡◌, ◌+◌, ◌≤◌, ◌<◌, ◌++◌, length, take, rules, arith, sym, ap, subst, ◌∙◌, length-drop}
+use Rattle.std.proofs.Common.{◌≡◌, ◌≤◌, ◌<◌, ◌++◌, length, take, arith, sym, ap, subst, ◌∙◌, length-drop}
 use Rattle.std.proofs.lemmas.Result.{err_from_is_err_and}
 use Rattle.no_std_io2.specs.ReadAhead.{ahead_held, ahead_behind}
-use Rattle.no_std_io2.specs.Reading.{reader_held, reader_behind, reader_inner}
+use Rattle.no_std_io2.specs.Reading.{reader_held, reader_inner}
 use Rattle.no_std_io2.proofs.Behind.{sound_empty}
 use Rattle.no_std_io2.proofs.Exact.{no_bytes}
 use Rattle.no_std_io2.proofs.Turns.{turns_read}

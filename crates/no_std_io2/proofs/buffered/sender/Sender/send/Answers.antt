@@ -1,39 +1,41 @@
 -- Sending: each turn moves a front of what is held from the buffer to what was sent.
-use Rattle.std.proofs.Common.{◌≡◌, ◌<◌, ◌++◌, length, take, drop, rules, arith, sym, ap, ◌∙◌}
-use Rattle.no_std_io2_base.proofs.MovesLemmas.{Moves-more, Moves-ends, Moves-quiet}
-use Rattle.no_std_io2.specs.Buffered.{sender_buffer}
-use Rattle.no_std_io2.proofs.BufferLemmas.{none_left, gone_more, drop_whole, sending_none, sending_some, ok_same}
+use Rattle.std.proofs.Common.{arith, sym, ◌∙◌}
+use Rattle.no_std_io2.proofs.BufferLemmas.{none_of_length}
+use Rattle.no_std_io2.proofs.SendLemmas.{sending_begins, sending_took, sending_again, sending_ends, sending_fails, sending_stuck, takes_not_all, fewer_left, fewer_turns}
 use Rattle.no_std_io2.proofs.buffered.sender.Sender.send.Goals as goal
+
+pub loop-self-init : goal.loop-self-init
+loop-self-init g c = sending_begins c.args.self.now
 
 pub loop-self-preserved-in-Ok : goal.loop-self-preserved-in-Ok
 loop-self-preserved-in-Ok g c =
-    let before = c.loop-self.invariant in
-    let held = sender_buffer c.loop-self.self in
-    let given : c.as_slice.result.now ≡ held = c.as_slice.ensures.value in
-    let some : 0 < length held = search rules in
-    let n = c.in-Ok.n in
-    record {
-      sent = (before.sent.0 ++ take n c.as_slice.result.now, gone_more _ before.sent.0 c.as_slice.result.now n _ (before.sent.1 ∙ ap (λ l. before.sent.0 ++ l) (sym given)) (c.drop_front.ensures.rest ∙ ap (drop n) (sym given)), Moves-more before.sent.2 c.in-Ok.ensures.moves);
-      idle = λ e. absurd (omega (arith, none_left _ before.sent.0 held before.sent.1 e));
-      all = λ t. (c.in-Ok.ensures.all (before.all t)).0;
-      cost = λ m t.
-          let whole = c.in-Ok.ensures.all (before.all t) in
-          let count : n ≡ length c.as_slice.result.now = ok_same whole.1 in
-          let next = drop_whole held _ n (count ∙ ap length given) c.drop_front.ensures.rest in
-          let one = c.in-Ok.ensures.cost (before.cost m t).0 (before.all t) in
-          (one.0, omega (arith, (before.cost m t).1, one.1, sending_none _ next, sending_some held some));
-      unmoved = search rules;
-    }
+    let wrote = c.in-Ok.ensures in
+    sending_took c.args.self.now c.loop-self.self _ c.as_slice.result.now _ c.loop-self.invariant (omega arith) c.as_slice.ensures.value
+    wrote.moves wrote.all wrote.cost c.drop_front.ensures.rest c.drop_front.ensures.unmoved
+
+pub loop-self-smaller-in-Ok : goal.loop-self-smaller-in-Ok
+loop-self-smaller-in-Ok g c =
+    fewer_left c.as_slice.result.now _ _ _ c.in-Ok.ensures.moves c.in-Ok.n-test.1 c.in-Ok.ensures.bound c.as_slice.ensures.value
+    c.drop_front.ensures.rest
 
 pub loop-self-preserved : goal.loop-self-preserved
 loop-self-preserved g c =
-    let before = c.loop-self.invariant in
-    let held = sender_buffer c.loop-self.self in
-    let some : 0 < length held = search rules in
-    record {
-      sent = (before.sent.0, before.sent.1, Moves-ends before.sent.2 (Moves-quiet c.in-Err.ensures.moves));
-      idle = λ e. absurd (omega (arith, none_left _ before.sent.0 held before.sent.1 e));
-      all = λ t. (c.in-Err.ensures.all (before.all t)).0;
-      cost = search rules;
-      unmoved = before.unmoved;
-    }
+    sending_again c.args.self.now c.loop-self.self c.write.new.self c.as_slice.result.now _ c.loop-self.invariant (omega arith)
+    c.in-Err.ensures.moves c.in-Err.ensures.all
+
+pub loop-self-smaller : goal.loop-self-smaller
+loop-self-smaller g c = fewer_turns c.in-Err.e _ (sym c.is_interrupted.ensures ∙ c.if-is_interrupted.true) c.in-Err.ensures.moves
+
+pub returns-in-Ok-eq0 : goal.returns-in-Ok-eq0
+returns-in-Ok-eq0 g c =
+    sending_stuck c.args.self.now c.loop-self.self c.write.new.self c.as_slice.result.now c.write.result _ _ c.loop-self.invariant
+    (omega arith) c.as_slice.ensures.value c.in-Ok-eq0.is c.in-Ok-eq0.field-0-test c.new.ensures.kind c.write.ensures.moves
+    c.write.ensures.all
+
+pub returns-in-Err-2 : goal.returns-in-Err-2
+returns-in-Err-2 g c =
+    sending_fails c.args.self.now c.loop-self.self c.write.new.self _ c.loop-self.invariant (omega arith)
+    (sym c.is_interrupted.ensures ∙ c.if-is_interrupted.false) c.in-Err.ensures.moves (λ t. takes_not_all (c.in-Err.ensures.all t))
+
+pub returns : goal.returns
+returns g c = sending_ends c.args.self.now c.loop-self.self c.loop-self.invariant (none_of_length _ (omega arith))

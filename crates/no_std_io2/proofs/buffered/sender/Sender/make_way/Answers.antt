@@ -1,0 +1,14 @@
+-- What is held was sent, or there was room beside it.
+use Rattle.std.proofs.Common.{arith}
+use Rattle.no_std_io2.proofs.SendingLemmas.{way_kept, way_sent}
+use Rattle.no_std_io2.proofs.buffered.sender.Sender.make_way.Goals as goal
+
+pub overflow_sub-len : goal.overflow_sub-len
+overflow_sub-len g c = c.len.ensures.bound
+
+pub returns-then-more-len : goal.returns-then-more-len
+returns-then-more-len g c =
+    way_sent c.args.self.now c.send.new.self c.args.more c.send.ensures (omega (arith, c.if-more-len.true, c.len.ensures.len))
+
+pub returns : goal.returns
+returns g c = way_kept c.args.self.now c.args.more (omega (arith, c.if-more-len.false, c.len.ensures.len, c.len.ensures.bound))
