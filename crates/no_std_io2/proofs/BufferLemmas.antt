@@ -5,7 +5,7 @@ use Rattle.no_std_io2_base.specs.declared.error.ErrorKind.{ErrorKind}
 use Rattle.no_std_io2_base.specs.declared.error.Error.{Error}
 use Rattle.no_std_io2_base.specs.Writes.{Told, Moves, call_mishap, calls_for}
 use Rattle.no_std_io2_base.proofs.MovesLemmas.{Moves-refl, Moves-steady}
-use Rattle.no_std_io2.specs.declared.buffered.writing.BufWriter.{BufWriter}
+use Rattle.no_std_io2.specs.declared.buffered.buf_writer.BufWriter.{BufWriter}
 use Rattle.no_std_io2.specs.Buffered.{with_buffer, writer_buffer, IsEnd}
 
 -- nothing is left of nothing

@@ -1,6 +1,6 @@
 -- How much a `BufReader` holds.
 use Rattle.std.proofs.Common.{ℕ, ◌-◌, ◌<◌, ◌≤◌, length, drop, arith, length-take}
-use Rattle.no_std_io2.specs.declared.buffered.reading.BufReader.{BufReader}
+use Rattle.no_std_io2.specs.declared.buffered.buf_reader.BufReader.{BufReader}
 use Rattle.no_std_io2.specs.Reading.{reader_held}
 
 -- it has some room

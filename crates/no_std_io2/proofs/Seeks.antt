@@ -3,8 +3,8 @@ use Rattle.std.proofs.Common.{◌≡◌, ℕ, ◌-◌, ◌^◌, ◌<◌, ◌≤�
 use Rattle.std.proofs.lemmas.Int.{ints}
 use Rattle.std.specs.Int.{w64}
 use Rattle.no_std_io2_base.specs.declared.error.Error.{Error}
-use Rattle.no_std_io2_base.specs.declared.traits.seeking.SeekFrom.{SeekFrom}
-use Rattle.no_std_io2_base.specs.declared.traits.seeking.SeekFrom.TheVariants.{Start, End, Current}
+use Rattle.no_std_io2_base.specs.declared.traits.seek.SeekFrom.{SeekFrom}
+use Rattle.no_std_io2_base.specs.declared.traits.seek.SeekFrom.TheVariants.{Start, End, Current}
 use Rattle.no_std_io2_base.specs.Seek.{IsAtOffset, IsTarget, Seeks}
 use Rattle.no_std_io2.specs.Reading.{IsTooFarBack}
 use Rattle.no_std_io2.specs.Sound.{IsSound}

@@ -4,8 +4,8 @@ use Rattle.no_std_io2_base.specs.declared.error.Error.{Error}
 use Rattle.no_std_io2_base.specs.Writes.{Told}
 use Rattle.no_std_io2.specs.Window.{window_bytes}
 use Rattle.no_std_io2.specs.declared.buffered.sender.Sender.{Sender}
-use Rattle.no_std_io2.specs.declared.buffered.writing.BufWriter.{BufWriter}
-use Rattle.no_std_io2.specs.declared.buffered.writing.IntoInnerError.{IntoInnerError}
+use Rattle.no_std_io2.specs.declared.buffered.buf_writer.BufWriter.{BufWriter}
+use Rattle.no_std_io2.specs.declared.buffered.buf_writer.IntoInnerError.{IntoInnerError}
 
 -- the inner writer
 abbrev pub sender_inner : {W : Type 0} {S : ℕ} → Sender W S → W

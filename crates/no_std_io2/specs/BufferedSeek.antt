@@ -1,8 +1,8 @@
 -- Seeking through a buffer.
 use Rattle.std.specs.Prelude.{◌≡◌, ℕ, pos, List, [], length, IsOkAnd, Result, Ok, Err}
 use Rattle.no_std_io2_base.specs.declared.error.Error.{Error}
-use Rattle.no_std_io2_base.specs.declared.traits.seeking.SeekFrom.{SeekFrom}
-use Rattle.no_std_io2_base.specs.declared.traits.seeking.SeekFrom.TheVariants.{Start, Current}
+use Rattle.no_std_io2_base.specs.declared.traits.seek.SeekFrom.{SeekFrom}
+use Rattle.no_std_io2_base.specs.declared.traits.seek.SeekFrom.TheVariants.{Start, Current}
 use Rattle.no_std_io2_base.specs.Seek.{Seeks}
 use Rattle.no_std_io2_base.specs.Writes.{Told, Moves}
 

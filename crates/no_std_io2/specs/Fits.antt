@@ -3,9 +3,9 @@ use Rattle.std.specs.Prelude.{ℕ}
 use denote.Param.{param, number}
 use denote.RattleType.{RattleType}
 use Rattle.std.specs.Mem.{FitsInMemory}
-use Rattle.no_std_io2.specs.contracts.buffered.reading.BufReader.{the_row as reader-row}
-use Rattle.no_std_io2.specs.contracts.buffered.writing.BufWriter.{the_row as writer-row}
-use Rattle.no_std_io2.specs.contracts.buffered.lines.LineWriter.{the_row as lines-row}
+use Rattle.no_std_io2.specs.contracts.buffered.buf_reader.BufReader.{the_row as reader-row}
+use Rattle.no_std_io2.specs.contracts.buffered.buf_writer.BufWriter.{the_row as writer-row}
+use Rattle.no_std_io2.specs.contracts.buffered.line_writer.LineWriter.{the_row as lines-row}
 
 -- a `BufReader<R, S>` fits in memory
 abbrev pub BufReaderFits : RattleType → ℕ → Type 0

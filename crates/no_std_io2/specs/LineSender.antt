@@ -1,6 +1,6 @@
 -- What a clause reads of what a `LineWriter` stands on.
 use Rattle.std.specs.Prelude.{ℕ}
-use Rattle.no_std_io2.specs.declared.buffered.lines.state.LineSender.{LineSender}
+use Rattle.no_std_io2.specs.declared.buffered.line_writer.state.LineSender.{LineSender}
 use Rattle.no_std_io2.specs.Buffered.{sender_with_inner}
 
 -- w with another inner writer

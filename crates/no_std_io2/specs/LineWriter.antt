@@ -1,7 +1,7 @@
 -- What a clause reads of a `LineWriter`.
 use Rattle.std.specs.Prelude.{ℕ, List}
 use Rattle.no_std_io2_base.specs.Writes.{Told}
-use Rattle.no_std_io2.specs.declared.buffered.lines.LineWriter.{LineWriter}
+use Rattle.no_std_io2.specs.declared.buffered.line_writer.LineWriter.{LineWriter}
 use Rattle.no_std_io2.specs.Buffered.{sender_inner, sender_buffer, sender_told}
 use Rattle.no_std_io2.specs.LineSender.{line_sender_with_inner}
 

@@ -5,7 +5,7 @@ use Rattle.no_std_io2_base.specs.declared.error.Error.{Error}
 use Rattle.no_std_io2_base.specs.Errors.{IsFault}
 use Rattle.no_std_io2_base.specs.Events.{Event, given, Reads, ReadsExact, SpendsTurn}
 use Rattle.no_std_io2_base.specs.Lending.{IsNotEmpty, reads_needed}
-use Rattle.no_std_io2.specs.declared.buffered.reading.BufReader.{BufReader}
+use Rattle.no_std_io2.specs.declared.buffered.buf_reader.BufReader.{BufReader}
 use Rattle.no_std_io2.specs.Reading.{reader_held, reader_behind, reader_inner, reader_events, reader_turns, reader_has_store, reader_is_sound, reader_position, reader_lent_length, behind_anew, exact_reads, exact_left, FillsFrom}
 
 -- Where nothing was held, the inner reader was read once into the buffer.

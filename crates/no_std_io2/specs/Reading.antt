@@ -1,10 +1,10 @@
 -- What a clause reads of a `BufReader`.
 use Rattle.std.specs.Prelude.{◌≡◌, ℕ, ◌^◌, ◌<◌, negsuc, ◌+◌, ◌-◌, ◌*◌, ◌&&◌, min, nat_lt, nat_le, if◌then◌else◌, List, [], ◌∷◌, ◌++◌, Ok, Err, Result, length}
 use Rattle.no_std_io2_base.specs.declared.error.Error.{Error}
-use Rattle.no_std_io2_base.specs.declared.traits.seeking.SeekFrom.{SeekFrom}
-use Rattle.no_std_io2_base.specs.declared.traits.seeking.SeekFrom.TheVariants.{Current}
+use Rattle.no_std_io2_base.specs.declared.traits.seek.SeekFrom.{SeekFrom}
+use Rattle.no_std_io2_base.specs.declared.traits.seek.SeekFrom.TheVariants.{Current}
 use Rattle.no_std_io2_base.specs.Events.{Event, events_of, fails}
-use Rattle.no_std_io2.specs.declared.buffered.reading.BufReader.{BufReader}
+use Rattle.no_std_io2.specs.declared.buffered.buf_reader.BufReader.{BufReader}
 use Rattle.no_std_io2.specs.ReadAhead.{ahead_held, ahead_behind}
 use Rattle.no_std_io2.specs.Sound.{IsSound}
 

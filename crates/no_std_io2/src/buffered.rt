@@ -1,13 +1,13 @@
 //! Buffers in front of readers and writers.
-mod lines;
+mod buf_reader;
+mod buf_writer;
+mod line_writer;
 mod read_ahead;
 mod reader_tells;
-mod reading;
 mod sender;
 mod tells;
 mod window;
-mod writing;
 
-pub use lines::LineWriter;
-pub use reading::BufReader;
-pub use writing::{BufWriter, IntoInnerError};
+pub use buf_reader::BufReader;
+pub use buf_writer::{BufWriter, IntoInnerError};
+pub use line_writer::LineWriter;

@@ -1,7 +1,7 @@
 -- What a read of two readers in a row does.
 use Rattle.std.proofs.Common.{◌≡◌, ℕ, ◌+◌, ◌<◌, ◌≤◌, true, false, List, [], ◌++◌, Result, Ok, Err, if◌then◌else◌, refl, sym, ap, subst, ◌∙◌, arith, le_refl}
 use Rattle.no_std_io2_base.specs.declared.error.Error.{Error}
-use Rattle.no_std_io2_base.specs.declared.traits.chaining.Chain.{Chain}
+use Rattle.no_std_io2_base.specs.declared.traits.chain.Chain.{Chain}
 use Rattle.no_std_io2_base.specs.Events.{Event, SpendsTurn}
 use Rattle.no_std_io2_base.specs.Chain.{chain_events, chain_tells}
 

@@ -1,6 +1,6 @@
 -- What a clause reads of a `Chain`.
 use Rattle.std.specs.Prelude.{◌≡◌, ℕ, ◌+◌, false, Bool, List, [], ◌++◌, if◌then◌else◌}
-use Rattle.no_std_io2_base.specs.declared.traits.chaining.Chain.{Chain}
+use Rattle.no_std_io2_base.specs.declared.traits.chain.Chain.{Chain}
 use Rattle.no_std_io2_base.specs.Events.{Event}
 
 -- `c.into_inner().0`

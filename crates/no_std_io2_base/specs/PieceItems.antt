@@ -2,8 +2,8 @@
 use Rattle.std.specs.Prelude.{◌≡◌, ℕ, suc, ◌<◌, ◌⊎◌, true, false, Bool, if◌then◌else◌, List, [], ◌++◌, Option, None, Some, Result, Ok, Err, codes, IsUtf8}
 use Rattle.no_std_io2_base.specs.declared.error.Error.{Error}
 use Rattle.no_std_io2_base.specs.declared.error.ErrorKind.TheVariants.{InvalidData, OutOfMemory}
-use Rattle.no_std_io2_base.specs.declared.traits.splitting.Split.{Split}
-use Rattle.no_std_io2_base.specs.declared.traits.text_lines.Lines.{Lines}
+use Rattle.no_std_io2_base.specs.declared.traits.split.Split.{Split}
+use Rattle.no_std_io2_base.specs.declared.traits.lines.Lines.{Lines}
 use Rattle.no_std_io2_base.specs.Errors.{error_kind, error_text, IsOutOfMemory}
 use Rattle.no_std_io2_base.specs.Events.{Event}
 use Rattle.no_std_io2_base.specs.Pieces.{GivesPiece, StopsInPiece, TakesPiece, line_text}

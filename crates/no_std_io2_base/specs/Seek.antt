@@ -2,8 +2,8 @@
 use Rattle.std.specs.Prelude.{◌≡◌, ℕ, ℤ, pos, negsuc, ◌+◌, ◌^◌, ◌<◌, Ok, Err, Result}
 use Rattle.no_std_io2_base.specs.declared.error.Error.{Error}
 use Rattle.no_std_io2_base.specs.declared.error.ErrorKind.TheVariants.{InvalidInput}
-use Rattle.no_std_io2_base.specs.declared.traits.seeking.SeekFrom.{SeekFrom}
-use Rattle.no_std_io2_base.specs.declared.traits.seeking.SeekFrom.TheVariants.{Start, End, Current}
+use Rattle.no_std_io2_base.specs.declared.traits.seek.SeekFrom.{SeekFrom}
+use Rattle.no_std_io2_base.specs.declared.traits.seek.SeekFrom.TheVariants.{Start, End, Current}
 use Rattle.no_std_io2_base.specs.Errors.{error_kind}
 
 -- n is `base + offset`

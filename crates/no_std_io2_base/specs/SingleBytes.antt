@@ -1,7 +1,7 @@
 -- What `Bytes` yields of its reader.
 use Rattle.std.specs.Prelude.{◌≡◌, ℕ, List, [], ◌∷◌, ◌++◌, Option, None, Some, Result, Ok, Err}
 use Rattle.no_std_io2_base.specs.declared.error.Error.{Error}
-use Rattle.no_std_io2_base.specs.declared.traits.single_bytes.Bytes.{Bytes}
+use Rattle.no_std_io2_base.specs.declared.traits.bytes.Bytes.{Bytes}
 use Rattle.no_std_io2_base.specs.Errors.{IsFault}
 use Rattle.no_std_io2_base.specs.Events.{Event, byte, fails, bytes, HasNoFault}
 

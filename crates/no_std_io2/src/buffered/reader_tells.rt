@@ -7,7 +7,7 @@ ghost use Rattle.no_std_io2.specs.Reading.{reader_held, reader_behind, reader_in
 ghost use Rattle.no_std_io2.specs.Behind.{IsInBuffer, MovesEvents};
 ghost use Rattle.no_std_io2.specs.Sound.{IsSound};
 
-use super::reading::BufReader;
+use super::buf_reader::BufReader;
 use no_std_io2_base::error::Result;
 use no_std_io2_base::traits::{BufRead, Read, Seek, Stored};
 

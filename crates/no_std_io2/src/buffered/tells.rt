@@ -4,7 +4,7 @@
 ghost use Rattle.std.specs.Prelude.{◌≡◌, []};
 ghost use Rattle.no_std_io2.specs.Buffered.{writer_inner, writer_buffer, with_buffer};
 
-use super::writing::BufWriter;
+use super::buf_writer::BufWriter;
 use no_std_io2_base::traits::{Stored, Write};
 
 fn buffered_writer_tells<W: Write + Drop, const S: usize>(w: &BufWriter<W, S>)

@@ -1,0 +1,186 @@
+-- An exact read past the held bytes: its turns, and its three ends.
+use Rattle.std.proofs.Common.{◌≡◌, ◌-◌, ◌≤◌, length, take, rules, arith, sym, ap, subst, ◌∙◌, le_refl, inl, inr, length-take-le, length-drop}
+use Rattle.std.proofs.lemmas.Slice.{take-put_mid_below}
+use Rattle.no_std_io2_base.proofs.Parts.{take-put_mid}
+use Rattle.no_std_io2_base.proofs.Taken.{taken_read, taken_interruption, taken_fault, moved_read}
+use Rattle.no_std_io2_base.specs.Errors.{IsFault}
+use Rattle.no_std_io2.specs.Reading.{reader_held, reader_inner, reader_events}
+use Rattle.no_std_io2.proofs.Exact.{exact_begins, exact_none, exact_first, exact_read, exact_short, exact_left-end, exact_left-full, taken_first, taken_end, taken_whole, nothing_read, length-events, moved_length, no_bytes, gives_to_come, no_error_behind}
+use Rattle.no_std_io2.proofs.buffered.buf_reader.BufReader.read_exact_anew.Goals as goal
+
+pub reads-init : goal.reads-init
+reads-init g c =
+    let old = c.args.self.now in
+    let new = c.give-at.new.self in
+    let n = c.give-at.result in
+    let gave = c.give-at.ensures in
+    let most : n ≤ length c.give-at.new.buf = omega arith in
+    let got = take n c.give-at.new.buf in
+    let long : length got ≡ n = length-take-le n c.give-at.new.buf most in
+    let all : n ≡ length (reader_held old) = omega arith in
+    let left : length (reader_held new) ≡ 0 = omega (arith, ap length gave.held, length-drop n (reader_held old)) in
+    let moved = moved_length (reader_held old) (reader_held new) got (g.R.Read.events (reader_inner old)) (g.R.Read.events (reader_inner new)) n gave.told long in
+    let before = length-events (reader_held old) (g.R.Read.events (reader_inner old)) in
+    let after = length-events (reader_held new) (g.R.Read.events (reader_inner new)) in
+    let same = sym gave.inner in
+    record {
+      long = search rules;
+      within = most;
+      turns = omega (arith, gave.turns);
+      told = λ t. (subst g.R.Read.tells same t, taken_first _ _ got _ gave.told (omega arith));
+      store = λ s.
+          let now = gave.store s in
+          (now.0, ap g.R.Stored.content gave.inner, omega (arith, now.1, moved, before, after));
+      sound = gave.sound;
+      filling = λ f. (subst g.R.Read.is_filling same f, exact_begins _ _ _ _ _ _ _ all left (omega (arith, moved, before)));
+      cost = λ m f. (subst g.R.Read.is_metered same m, omega (arith, ap g.R.Read.cost gave.inner));
+    }
+
+pub reads-preserved-in-Ok : goal.reads-preserved-in-Ok
+reads-preserved-in-Ok g c =
+    let at = c.reads.at in
+    let buf = c.reads.buf in
+    let n = c.in-Ok.n in
+    let old = c.reads.self in
+    let new = c.read.new.self in
+    let read = c.in-Ok.ensures in
+    let shown = take-put_mid at (length buf - at) n buf c.read.new.buf (omega arith) (omega (arith, read.bound)) in
+    record {
+      long = search rules;
+      within = search rules;
+      turns = search rules;
+      told = λ t.
+          let before = c.reads.invariant.told t in
+          let now = read.told before.0 in
+          (now.0, taken_read _ _ _ _ _ _ _ _ before.1 now.1 (omega (arith, read.bound)) (omega arith) shown);
+      store = λ t.
+          let before = c.reads.invariant.store t in
+          let now = read.store before.0 in
+          let tells = g.met.R.Read.store_tells _ before.0.0 in
+          (now.0, now.1 ∙ before.1, moved_read _ _ _ _ _ _ _ (omega (arith, read.bound)) (read.told tells.0).1.0 now.2 before.2);
+      sound = λ h. read.sound (c.reads.invariant.sound h);
+      filling = λ f.
+          let before = c.reads.invariant.filling f in
+          let now = read.gives before.0 in
+          let tells = g.met.R.Read.filling_tells _ before.0 in
+          let none = exact_none _ _ _ _ _ _ _ before.1 (omega arith) in
+          let empty = no_bytes (reader_held old) none in
+          let come = gives_to_come (length (reader_held old)) (length (g.R.Read.events (reader_inner old))) none in
+          let moved = moved_length (reader_held old) (reader_held new) (take n c.read.new.buf) (g.R.Read.events (reader_inner old)) (g.R.Read.events (reader_inner new)) n (read.told tells.0).1.0 (length-take-le n c.read.new.buf read.bound) in
+          (now.0, exact_read _ _ _ _ _ _ _ n _ _ before.1 (omega arith) (omega (arith, now.1, come)) (λ h. ap length (read.direct before.0 empty (omega arith))) (λ h. read.filled before.0 empty (omega arith)) moved (omega arith) (omega (arith, c.requires)));
+      cost = λ m f.
+          let before = c.reads.invariant.cost m f in
+          let so_far = c.reads.invariant.filling f in
+          let now = read.asks before.0 in
+          let gives = read.gives so_far.0 in
+          let none = exact_none _ _ _ _ _ _ _ so_far.1 (omega arith) in
+          let come = gives_to_come (length (reader_held old)) (length (g.R.Read.events (reader_inner old))) none in
+          let first = exact_first _ _ _ _ _ _ _ n so_far.1 (omega arith) (omega (arith, gives.1, come)) (omega arith) (omega (arith, c.requires)) in
+          (now.0, omega (arith, before.1, now.1, none));
+    }
+
+pub reads-preserved : goal.reads-preserved
+reads-preserved g c =
+    let at = c.reads.at in
+    let buf = c.reads.buf in
+    let read = c.in-Err.ensures in
+    record {
+      long = search rules;
+      within = search rules;
+      turns = search rules;
+      told = λ t.
+          let before = c.reads.invariant.told t in
+          let now = read.told before.0 in
+          let long = length-take-le at buf (omega arith) in
+          (now.0, taken_interruption _ _ _ _ _ _ _ before.1 now.1 (search rules) (omega arith) (take-put_mid_below _ _ _ _ _ (le_refl _) (omega arith)));
+      store = λ t.
+          let before = c.reads.invariant.store t in
+          let tells = g.met.R.Read.store_tells _ before.0.0 in
+          absurd (no_error_behind _ _ _ _ _ tells.1 (read.told tells.0).1);
+      sound = λ h. read.sound (c.reads.invariant.sound h);
+      filling = λ f. absurd (read.gives (c.reads.invariant.filling f).0).1;
+      cost = λ m f. absurd (read.gives (c.reads.invariant.filling f).0).1;
+    }
+
+pub returns-in-Err-2 : goal.returns-in-Err-2
+returns-in-Err-2 g c =
+    let read = c.in-Err.ensures in
+    let fault : IsFault c.in-Err.e = search rules in
+    record {
+      told = λ t.
+          let before = c.reads.invariant.told t in
+          let now = read.told before.0 in
+          let long = length-take-le c.reads.at c.reads.buf (omega arith) in
+          (now.0, inl (taken_fault _ _ _ _ _ _ _ before.1 now.1 fault (search (rules, long))));
+      fault = fault;
+      no_later = omega (arith, read.turns, c.reads.invariant.turns);
+      store = λ t.
+          let before = c.reads.invariant.store t in
+          let tells = g.met.R.Read.store_tells _ before.0.0 in
+          absurd (no_error_behind _ _ _ _ _ tells.1 (read.told tells.0).1);
+      sound = λ h. read.sound (c.reads.invariant.sound h);
+      asks = λ m f. absurd (read.gives (c.reads.invariant.filling f).0).1;
+      left = λ f. absurd (read.gives (c.reads.invariant.filling f).0).1;
+    }
+
+-- the inner reader's end, before the buffer was full
+pub returns-in-Ok-eq0 : goal.returns-in-Ok-eq0
+returns-in-Ok-eq0 g c =
+    let old = c.reads.self in
+    let read = c.in-Ok-eq0.ensures-1 in
+    let zero : c.in-Ok-eq0.field-0 ≡ 0 = search rules in
+    record {
+      told = λ t.
+          let before = c.reads.invariant.told t in
+          let now = read.told before.0 in
+          let long = length-take-le c.reads.at c.reads.buf (omega arith) in
+          (now.0, inr (taken_end _ _ _ _ _ c.failed_to_fill.result _ c.in-Ok-eq0.field-0 _ before.1 now.1 zero (omega arith) c.failed_to_fill.ensures (search (rules, long))));
+      fault = search rules;
+      no_later = omega (arith, read.turns, c.reads.invariant.turns);
+      store = λ t.
+          let before = c.reads.invariant.store t in
+          let now = read.store before.0 in
+          let tells = g.met.R.Read.store_tells _ before.0.0 in
+          (now.0, now.1 ∙ before.1, moved_read _ _ _ _ _ _ _ (omega (arith, read.bound)) (read.told tells.0).1.0 now.2 before.2);
+      sound = λ h. read.sound (c.reads.invariant.sound h);
+      asks = λ m f.
+          let before = c.reads.invariant.cost m f in
+          let so_far = c.reads.invariant.filling f in
+          let now = read.asks before.0 in
+          let gives = read.gives so_far.0 in
+          let none = exact_none _ _ _ _ _ _ _ so_far.1 (omega arith) in
+          let come = gives_to_come (length (reader_held old)) (length (g.R.Read.events (reader_inner old))) none in
+          let short = exact_short _ _ _ _ _ _ _ so_far.1 (omega arith) (omega (arith, gives.1, come, zero)) (omega (arith, c.requires)) in
+          (now.0, omega (arith, before.1, now.1, none, short));
+      left = λ f.
+          let so_far = c.reads.invariant.filling f in
+          let gives = read.gives so_far.0 in
+          let none = exact_none _ _ _ _ _ _ _ so_far.1 (omega arith) in
+          let empty = no_bytes (reader_held old) none in
+          let come = gives_to_come (length (reader_held old)) (length (g.R.Read.events (reader_inner old))) none in
+          let tells = g.met.R.Read.filling_tells _ so_far.0 in
+          let told = (read.told tells.0).1 in
+          let end = told.1 zero (omega arith) in
+          let held = length (reader_held c.read.new.self) in
+          let left = exact_left-end g.row.S _ _ _ _ _ _ held (length c.reads.buf - c.reads.at) so_far.1 (omega arith)
+          (omega (arith, gives.1, come, zero)) (λ h. ap length (read.direct so_far.0 empty (omega arith)))
+          (λ h. omega (arith, read.filled so_far.0 empty (omega arith), zero)) (omega (arith, c.requires)) in
+          (gives.0, left.0, ap length (sym (nothing_read _ _ _ _ told zero) ∙ end) ∙ left.1);
+    }
+
+pub returns : goal.returns
+returns g c =
+    let all = c.reads.invariant in
+    record {
+      told = λ t. let now = all.told t in (now.0, taken_whole _ _ c.reads.at c.reads.buf _ now.1 (omega arith) (omega arith));
+      fault = tt;
+      no_later = all.turns;
+      store = all.store;
+      sound = all.sound;
+      asks = search rules;
+      left = λ f.
+          let now = all.filling f in
+          let to_come = length-events (reader_held c.reads.self) (g.R.Read.events (reader_inner c.reads.self)) in
+          let left = exact_left-full _ _ _ _ _ _ _ (length (reader_events g.R.Read.events c.reads.self)) now.1 (omega arith) (omega (arith, c.requires)) to_come in
+          (now.0, left.0, left.1);
+    }

@@ -1,0 +1,28 @@
+-- `read_until` ends with its reader's turns, and has appended what it took, without an end so far.
+use Rattle.std.proofs.Common.{◌≡◌, ◌≤◌, ◌<◌, ◌+◌, length, vec_len}
+use Rattle.no_std_io2_base.specs.Writes.{IsFront}
+use Rattle.no_std_io2_base.proofs.PieceLemmas.{PieceSoFar}
+use Rattle.no_std_io2.specs.Reading.{reader_inner, reader_events, reader_turns, reader_has_store, reader_position}
+use Rattle.no_std_io2.proofs.buffered.buf_reader.lends.BufReaderBufRead.read_until.Given as goal
+
+abbrev pub invariant-pieces : goal.invariant-pieces
+invariant-pieces g l =
+    let R = g.R.Read in
+    let S = g.R.Stored in
+    let events = reader_events R.events in
+    let left = reader_turns R.turns in
+    let has_store = reader_has_store S.has_store S.position S.content in
+    let place = reader_position S.position in
+    record {
+      start : l.start ≡ vec_len l.fn.buf;
+      grows : vec_len l.fn.buf ≤ vec_len l.buf;
+      front : IsFront l.fn.buf.items l.buf.items;
+      turns : left l.self ≤ left l.fn.self;
+      spent : vec_len l.fn.buf < vec_len l.buf → left l.self < left l.fn.self;
+      told : R.tells (reader_inner l.fn.self) → R.tells (reader_inner l.self) × PieceSoFar l.delim (events l.fn.self) l.fn.buf.items l.buf.items (events l.self);
+      store : has_store l.fn.self → has_store l.self × (S.content (reader_inner l.self) ≡ S.content (reader_inner l.fn.self))
+          × (place l.self + length (events l.self) ≡ place l.fn.self + length (events l.fn.self));
+    }
+
+abbrev pub decreases-pieces : goal.decreases-pieces
+decreases-pieces g l = reader_turns g.R.Read.turns l.self

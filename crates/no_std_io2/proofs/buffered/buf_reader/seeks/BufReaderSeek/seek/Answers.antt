@@ -1,0 +1,31 @@
+use Rattle.std.proofs.Common.{length, FitsSigned, rules, sym, ap, ◌∙◌, subst}
+use Rattle.std.proofs.lemmas.Int.{to_z-of_z}
+use Rattle.std.specs.Int.{w64}
+use Rattle.no_std_io2_base.specs.declared.traits.seek.SeekFrom.{SeekFrom}
+use Rattle.no_std_io2_base.specs.declared.traits.seek.SeekFrom.TheVariants.{Current}
+use Rattle.no_std_io2_base.specs.Seek.{Seeks}
+use Rattle.no_std_io2.specs.Reading.{reader_held, reader_inner, reader_position}
+use Rattle.no_std_io2.proofs.Seeks.{sought, elsewhere, not_far}
+use Rattle.no_std_io2.proofs.buffered.buf_reader.seeks.BufReaderSeek.seek.Goals as goal
+
+pub returns-in-Current-clause-store : goal.returns-in-Current-clause-store
+returns-in-Current-clause-store g c = λ s.
+    let now = c.seek_current.ensures.store s in
+    let fits : FitsSigned w64 c.in-Current.offset = search rules in
+    let same = ap Current (to_z-of_z w64 c.in-Current.offset fits) ∙ sym c.in-Current.is in
+    let place = reader_position g.R.Stored.position in
+    let sought_here = λ (target : SeekFrom). Seeks (length (g.R.Stored.content (reader_inner c.args.self.now))) (place c.args.self.now) target c.seek_current.result (place c.seek_current.new.self) in
+    (now.0, now.1, subst sought_here same now.2)
+
+pub returns-in-Start-clause-store : goal.returns-in-Start-clause-store
+returns-in-Start-clause-store g c = λ s.
+    let held = reader_held c.args.self.now in
+    let new = reader_held c.seek_inner.new.self in
+    let seek = c.seek_inner.ensures in
+    let now = seek.store s.0 in
+    let there = elsewhere c.args.target c.in-Start.is in
+    let done = sought c.args.target c.args.target c.seek_inner.result held new _ _ _ _ (λ n. there _ _ _ n) (λ n. there _ _ _ n) s.1 now.1 now.2 seek.empty seek.kept in
+    ((now.0, done.0), now.1, done.1)
+
+pub returns-in-Start-clause-dropped : goal.returns-in-Start-clause-dropped
+returns-in-Start-clause-dropped g c = λ s far. absurd (not_far c.args.target _ c.in-Start.is far)

@@ -1,0 +1,62 @@
+-- Sending failed, with bytes still held, or nothing is held, and the inner writer was sought.
+use Rattle.std.proofs.Common.{[], arith, ap, length}
+use Rattle.std.proofs.lemmas.Result.{err_from_is_err_and}
+use Rattle.no_std_io2.specs.Buffered.{sender_inner}
+use Rattle.no_std_io2.proofs.AnswerLemmas.{ifok_map, iferr}
+use Rattle.no_std_io2.proofs.BufferLemmas.{Moves-out, Moves-sent_part, IsEnd-none}
+use Rattle.no_std_io2.proofs.LineLemmas.{onok}
+use Rattle.no_std_io2.proofs.SendingLemmas.{no_ok}
+use Rattle.no_std_io2.proofs.buffered.buf_writer.seeking.BufWriterSeek.seek.Goals as goal
+
+pub returns-in_err-send-clause-store : goal.returns-in_err-send-clause-store
+returns-in_err-send-clause-store g c = λ s. no_ok (c.in_err-send.ensures.idle s.0).1
+
+pub returns-in_err-send-clause-position : goal.returns-in_err-send-clause-position
+returns-in_err-send-clause-position g c =
+    rw (err_from_is_err_and c.from_residual.result c.from_residual.ensures.1).1 tt
+
+pub returns-in_err-send-clause-rest : goal.returns-in_err-send-clause-rest
+returns-in_err-send-clause-rest g c = (c.in_err-send.ensures.sends.sent, c.in_err-send.ensures.sends.split)
+
+pub returns-in_err-send-clause-refused : goal.returns-in_err-send-clause-refused
+returns-in_err-send-clause-refused g c =
+    let p = err_from_is_err_and c.from_residual.result c.from_residual.ensures.1 in
+    let sends = c.in_err-send.ensures.sends in
+    rw (p.1, p.2) (λ some. Moves-sent_part sends.sent _ _ sends.split sends.moves)
+
+pub returns-in_err-send-clause-empty : goal.returns-in_err-send-clause-empty
+returns-in_err-send-clause-empty g c =
+    rw (err_from_is_err_and c.from_residual.result c.from_residual.ensures.1).1 tt
+
+pub returns-in_err-send-clause-sent : goal.returns-in_err-send-clause-sent
+returns-in_err-send-clause-sent g c = λ none. absurd (omega (arith, c.in_err-send.ensures.left, ap length none))
+
+pub returns-clause-store : goal.returns-clause-store
+returns-clause-store g c = λ s.
+    let sent = c.in_ok-send.ensures in
+    let sought = rw (c.get_mut.ensures.value, (sent.idle s.0).0) at c.seek.ensures.store in
+    let now = sought s.1 in
+    ((sent.empty, now.0), now.1, now.2)
+
+pub returns-clause-position : goal.returns-clause-position
+returns-clause-position g c = ifok_map c.seek.result (λ n at store. at store.1) c.seek.ensures.position
+
+pub returns-clause-rest : goal.returns-clause-rest
+returns-clause-rest g c = IsEnd-none _ _ c.in_ok-send.ensures.empty
+
+pub returns-clause-refused : goal.returns-clause-refused
+returns-clause-refused g c =
+    iferr c.seek.result (λ e some. absurd (omega (arith, some, ap length c.in_ok-send.ensures.empty)))
+
+pub returns-clause-empty : goal.returns-clause-empty
+returns-clause-empty g c = onok c.seek.result _ c.in_ok-send.ensures.empty
+
+pub returns-clause-sent : goal.returns-clause-sent
+returns-clause-sent g c =
+    let sends = c.in_ok-send.ensures.sends in
+    let none = c.in_ok-send.ensures.empty in
+    λ empty. record {
+      sent = sender_inner c.send.new.self;
+      moves = Moves-out {k = []} _ sends.sent _ sends.split none sends.moves;
+      seeks = rw c.get_mut.ensures.value at c.seek.ensures.store;
+    }

@@ -1,0 +1,12 @@
+use Rattle.std.proofs.Common.{length}
+use Rattle.no_std_io2.specs.Buffered.{writer_inner}
+use Rattle.no_std_io2.proofs.Seeks.{stays}
+use Rattle.no_std_io2.proofs.buffered.buf_writer.seeking.BufWriterSeek.stream_position.Goals as goal
+
+pub returns-clause-store : goal.returns-clause-store
+returns-clause-store g c = λ s.
+    let inner = writer_inner c.args.self.now in
+    let now = c.seek.ensures.store s in
+    let fits = g.met.W.Seek.seek_fits inner s.1 in
+    let done = stays c.seek.result (length (g.W.Stored.content inner)) _ _ fits.1 now.2 in
+    (now.0, now.1, done.0, done.1)

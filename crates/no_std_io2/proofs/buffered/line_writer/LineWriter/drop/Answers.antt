@@ -1,0 +1,5 @@
+use Rattle.no_std_io2.proofs.LineLemmas.{IsLineState-end}
+use Rattle.no_std_io2.proofs.buffered.line_writer.LineWriter.drop.Goals as goal
+
+pub invariant_of-self : goal.invariant_of-self
+invariant_of-self g c = record { line = IsLineState-end _ _ (c.send.ensures.sends.sent, c.send.ensures.sends.split) c.args.self.core.line }

@@ -1,5 +1,0 @@
-use Rattle.no_std_io2.proofs.LineLemmas.{IsLineState-end}
-use Rattle.no_std_io2.proofs.buffered.lines.LineWriter.drop.Goals as goal
-
-pub invariant_of-self : goal.invariant_of-self
-invariant_of-self g c = record { line = IsLineState-end _ _ (c.send.ensures.sends.sent, c.send.ensures.sends.split) c.args.self.core.line }

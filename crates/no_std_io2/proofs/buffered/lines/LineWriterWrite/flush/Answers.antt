@@ -1,8 +1,0 @@
-use Rattle.no_std_io2.proofs.LineLemmas.{IsLineState-end}
-use Rattle.no_std_io2.proofs.buffered.lines.LineWriterWrite.flush.Goals as goal
-
-pub invariant_of-self : goal.invariant_of-self
-invariant_of-self g c = record { line = IsLineState-end _ _ c.flush.ensures.rest c.args.self.now.core.line }
-
-pub returns-clause-lasts : goal.returns-clause-lasts
-returns-clause-lasts g c = λ t. c.flush.ensures.all t

@@ -1,0 +1,153 @@
+// A buffer in front of a reader.
+ghost use Rattle.std.specs.Prelude.{◌≡◌, ◌+◌, ◌-◌, ◌<◌, ◌≤◌, ◌^◌, [], ◌++◌, min, length, take, drop, IsOk, OnOk, OnErr};
+ghost use Rattle.std.specs.Borrow.{Lends, sem};
+ghost use Rattle.no_std_io2_base.specs.Events.{events_of};
+ghost use Rattle.no_std_io2_base.specs.Lending.{IsNotEmpty, reads_needed};
+ghost use Rattle.no_std_io2.specs.contracts.buffered.buf_reader.BufReader.{the_row as reader-row};
+ghost use Rattle.no_std_io2.specs.ReaderCalls.{FillsBuffer};
+ghost use Rattle.no_std_io2.specs.Reading.{reader_held, reader_behind, reader_inner, reader_events, reader_turns, reader_has_store, reader_is_sound, reader_position, reader_lent_length, reader_with_inner, FillsFrom};
+
+use super::read_ahead::ReadAhead;
+use no_std_io2_base::error::Result;
+use no_std_io2_base::traits::{Read, Stored};
+use std::fmt::{self, Debug, Formatter};
+
+mod lends;
+mod pieces;
+mod reads;
+mod seeks;
+
+/// A reader with a buffer of `S` bytes in front of another one, so that small reads ask that one
+/// seldom. Follows Rust's `std::io::BufReader`, with its buffer in the value itself.
+///
+/// A call of `read` or `fill_buf` makes one inner read at most, and none while bytes are held.
+/// A read into at least `S` bytes with none held goes straight to the inner reader. An empty read
+/// with none held fills the buffer, and may answer the inner reader's error.
+#[derive(Drop)]
+pub struct BufReader<R, const S: usize> {
+    inner: R,
+    ahead: ReadAhead<S>,
+}
+
+impl<R: Read, const S: usize> BufReader<R, S> {
+    /// A reader of `inner` that holds nothing yet. `S` is from 1 to 2^63 - 1. Follows
+    /// `BufReader::new`.
+    pub fn new(inner: R) -> BufReader<R, S>
+        requires some_room { 0 < S }
+        requires in_memory { S < 2 ^ 63 }
+        ensures inner { reader_inner result ≡ inner }
+        ensures empty { reader_held result ≡ [] }
+        ensures behind { reader_behind result ≡ [] }
+        ensures events { reader_events R.events result ≡ R.events inner }
+    {
+        BufReader {
+            inner,
+            ahead: ReadAhead::new(),
+        }
+    }
+}
+
+impl<R, const S: usize> BufReader<R, S> {
+    /// The inner reader. It is ahead of this one by the bytes held. Follows `BufReader::get_ref`.
+    pub fn get_ref(&self) -> &R
+        ensures { result.now ≡ reader_inner self.now }
+    {
+        &self.inner
+    }
+
+    /// The inner reader, to change it: the bytes held stay. Follows `BufReader::get_mut`.
+    pub fn get_mut(&mut self) -> &mut R
+        ensures value { result.now ≡ reader_inner self.old }
+        ensures* writes_back { sem 𝓛 (Lends (reader-row R.row S.row) R.row self.entry result
+            (reader_with_inner self.old)) }
+    {
+        &mut self.inner
+    }
+
+    /// The bytes held: read and not yet given, at most `S`. Follows `BufReader::buffer`.
+    pub fn buffer(&self) -> &[u8]
+        ensures value { result.now ≡ reader_held self.now }
+        ensures bound { length result.now ≤ S }
+    {
+        self.ahead.as_slice()
+    }
+
+    /// The bytes given since the last inner read that lie right before those held: as far back as
+    /// [`seek_relative`](BufReader::seek_relative) goes without a seek of the inner reader. They are
+    /// no more there after an inner read, whatever it answers, and after a seek that drops the
+    /// buffer. Rust's `BufReader` keeps them and doesn't show them.
+    pub fn behind(&self) -> &[u8]
+        ensures value { result.now ≡ reader_behind self.now }
+        ensures bound { length result.now ≤ S }
+    {
+        self.ahead.behind()
+    }
+
+    /// The buffer's size in bytes, `S`. Follows `BufReader::capacity`.
+    pub fn capacity(&self) -> usize
+        ensures { result ≡ S }
+    {
+        self.ahead.capacity()
+    }
+
+    /// The inner reader. The bytes held are lost. Follows `BufReader::into_inner`.
+    pub fn into_inner(self) -> R
+        ensures { result ≡ reader_inner self }
+    {
+        self.inner
+    }
+}
+
+impl<R: Read, const S: usize> BufReader<R, S> {
+    // Moves as many of the held bytes as fit in `buf`.
+    #[inline(always)]
+    fn give(&mut self, buf: &mut [u8]) -> usize
+        ensures count { result ≡ min (length (reader_held self.old)) (length buf.old) }
+        ensures gave { take result buf.new ≡ take result (reader_held self.old) }
+        ensures held { reader_held self.new ≡ drop result (reader_held self.old) }
+        ensures behind { reader_behind self.new ≡ reader_behind self.old ++ take result buf.new }
+        ensures sound { reader_is_sound R.has_store R.position R.content self.old
+            → reader_is_sound R.has_store R.position R.content self.new }
+        ensures inner { reader_inner self.new ≡ reader_inner self.old }
+        ensures told { reader_events R.events self.old
+            ≡ events_of (take result buf.new) ++ reader_events R.events self.new }
+        ensures turns { reader_turns R.turns self.new + result ≡ reader_turns R.turns self.old }
+        ensures store { reader_has_store R.has_store R.position R.content self.old
+            → reader_has_store R.has_store R.position R.content self.new
+            × (reader_position R.position self.new ≡ reader_position R.position self.old + result) }
+    {
+        self.ahead.give(buf)
+    }
+
+    // Where nothing is held, reads once.
+    #[inline(always)]
+    fn fill(&mut self) -> Result<()>
+        ensures { FillsBuffer R.tells R.events R.turns R.has_store R.position R.content R.is_metered
+            R.cost R.is_filling self.old result self.new }
+    {
+        if self.ahead.len() > 0 {
+            return Ok(());
+        }
+        self.ahead.fill(&mut self.inner)
+    }
+}
+
+// The inner's store, less what is held.
+impl<R: Stored, const S: usize> Stored for BufReader<R, S> {
+    ghost has_store = { reader_has_store R.has_store R.position R.content };
+
+    ghost content = { λ r. R.content (reader_inner r) };
+
+    ghost position = { reader_position R.position };
+}
+
+/// Of the buffer it shows how much is held, and how much could be.
+impl<R: Debug, const S: usize> Debug for BufReader<R, S> {
+    fn fmt<W: fmt::Write>(&self, f: &mut Formatter<W>) -> fmt::Result {
+        let held = self.ahead.len();
+        f.debug_struct("BufReader")
+            .field("reader", &self.inner)
+            .field("buffer", &format_args!("{held}/{S}"))
+            .finish()
+    }
+}

@@ -1,0 +1,302 @@
+//! A buffer in front of a writer.
+ghost use Rattle.std.specs.Prelude.{Some, ◌≡◌, ◌+◌, ◌<◌, ◌≤◌, ◌⊎◌, [], ◌∷◌, ◌++◌, length, take, Ok, IsOk, IfOk, IfErr, IsOkAnd, OnOk, OnErr, false};
+ghost use Rattle.std.specs.Borrow.{Lends, sem};
+ghost use Rattle.no_std_io2.specs.contracts.buffered.buf_writer.BufWriter.{the_row as writer-row};
+ghost use Rattle.no_std_io2_base.specs.Errors.{error_kind, error_display, IsFault, IsNoInterruption};
+ghost use Rattle.no_std_io2_base.specs.Writes.{Moves, MovesFront, taken, write_mishap, call_mishap, Sends, calls_for};
+ghost use Rattle.no_std_io2.specs.Buffered.{writer_inner, writer_buffer, writer_told, into_inner_error_writer, into_inner_error_cause, writing_calls, buffer_after, IsEnd, writer_with_inner};
+
+mod seeking;
+
+use super::sender::Sender;
+use no_std_io2_base::error::{Error, Result};
+use no_std_io2_base::traits::Write;
+use std::fmt;
+use std::fmt::{Debug, Display, Formatter};
+
+/// A buffer of `S` bytes in front of a writer, for programs that write many small pieces: the inner
+/// writer gets few large ones. Follows `std::io::BufWriter`, over an array in place of a vector.
+///
+/// A piece shorter than `S` is held whole; what is held is *sent* first where the two together are
+/// above `S`. A piece of `S` bytes and more goes past the buffer. Sending repeats the inner `write`
+/// with all that is held, passes over interruptions and stops at a fault; what was taken is no
+/// longer held then, so no byte goes out twice. With `S` = 0 each call goes to the inner writer.
+///
+/// Dropping it sends once, ignores a fault, and doesn't flush the inner writer. To see a fault,
+/// call [`flush`](Write::flush) or [`into_inner`](BufWriter::into_inner) first.
+///
+/// To contracts it tells what its inner writer tells, with the buffer's bytes held behind the inner
+/// writer's own.
+pub struct BufWriter<W: Write + Drop, const S: usize> {
+    core: Sender<W, S>,
+}
+
+impl<W: Write + Drop, const S: usize> BufWriter<W, S> {
+    /// Puts an empty buffer of `S` bytes in front of `inner`. Follows `std::io::BufWriter::with_capacity`.
+    pub fn new(inner: W) -> BufWriter<W, S>
+        ensures inner { writer_inner result ≡ inner }
+        ensures empty { writer_buffer result ≡ [] }
+    {
+        BufWriter {
+            core: Sender::new(inner),
+        }
+    }
+
+    /// The inner writer. Follows `std::io::BufWriter::get_ref`.
+    pub fn get_ref(&self) -> &W
+        ensures { result.now ≡ writer_inner self.now }
+    {
+        self.core.get_ref()
+    }
+
+    /// The inner writer, to be changed. The buffer stays. Bytes that are written here go out before
+    /// those that are held. Follows `std::io::BufWriter::get_mut`.
+    pub fn get_mut(&mut self) -> &mut W
+        ensures value { result.now ≡ writer_inner self.old }
+        ensures* writes_back { sem 𝓛 (Lends (writer-row W.row S.row) W.row self.entry result
+            (writer_with_inner self.old)) }
+    {
+        self.core.get_mut()
+    }
+
+    /// The held bytes, at most `S`. Follows `std::io::BufWriter::buffer`.
+    pub fn buffer(&self) -> &[u8]
+        ensures value { result.now ≡ writer_buffer self.now }
+        ensures bound { length result.now ≤ S }
+    {
+        self.core.buffer()
+    }
+
+    /// How many bytes can be held: `S`. Follows `std::io::BufWriter::capacity`.
+    pub fn capacity(&self) -> usize
+        ensures { result ≡ S }
+    {
+        self.core.capacity()
+    }
+
+    /// Sends what is held and gives the inner writer, which isn't flushed. With nothing held it makes
+    /// no inner call. Follows `std::io::BufWriter::into_inner`.
+    ///
+    /// # Errors
+    /// `WriteZero` where the inner writer took no byte of some, else its first fault; never
+    /// `Interrupted`. The writer comes back inside the error, and holds what was not sent.
+    ///
+    /// In a `match`, bind the error to a name: the borrow check refuses `Err(_)` here, and passes
+    /// `Err(_e)`.
+    pub fn into_inner(mut self) -> std::result::Result<W, IntoInnerError<BufWriter<W, S>>>
+        // No byte is lost.
+        ensures ok { IfOk result (λ w. Moves (writer_told W.told self) [] [] (W.told w)) }
+        ensures err { IfErr result (λ e. Moves (writer_told W.told self) []
+            (error_kind (into_inner_error_cause e) ∷ []) (writer_told W.told (into_inner_error_writer e))) }
+        ensures rest { IfErr result (λ e. IsEnd (writer_buffer self)
+            (writer_buffer (into_inner_error_writer e))) }
+
+        // Which errors come, and when none does.
+        ensures fault { IfErr result (λ e. IsFault (into_inner_error_cause e)) }
+        ensures empty { writer_buffer self ≡ [] → result ≡ Ok (writer_inner self) }
+        ensures steady { (W.told (writer_inner self)).mishaps ≡ Some [] → IsOk result }
+
+        // What it costs.
+        ensures all { W.takes_all (writer_inner self) → IsOkAnd result W.takes_all }
+        ensures calls { W.is_metered (writer_inner self) → W.takes_all (writer_inner self)
+            → IfOk result (λ w. W.is_metered w
+            × (W.cost w ≡ W.cost (writer_inner self) + calls_for (writer_buffer self))) }
+    {
+        match self.core.send() {
+            Ok(()) => {
+                let BufWriter { core } = self;
+                Ok(core.into_parts())
+            }
+            Err(error) => Err(IntoInnerError::new(self, error)),
+        }
+    }
+}
+
+/// Sends once and ignores a fault; the inner writer isn't flushed.
+impl<W: Write + Drop, const S: usize> Drop for BufWriter<W, S> {
+    fn drop(mut self) {
+        let _ = self.core.send();
+        let BufWriter { core: _core } = self;
+    }
+}
+
+/// Shows the inner writer, and how many bytes are held of how many can be, as `3/8`.
+impl<W: Write + Drop + Debug, const S: usize> Debug for BufWriter<W, S> {
+    fn fmt<V: fmt::Write>(&self, f: &mut Formatter<V>) -> fmt::Result {
+        let held = self.buffer().len();
+        f.debug_struct("BufWriter")
+            .field("writer", self.get_ref())
+            .field("buffer", &format_args!("{held}/{S}"))
+            .finish()
+    }
+}
+
+/// The error of [`BufWriter::into_inner`]: why the sending failed, and the writer, which holds the
+/// bytes that were not sent. Follows `std::io::IntoInnerError`.
+#[derive(Drop)]
+pub struct IntoInnerError<W> {
+    writer: W,
+    error: Error,
+}
+
+impl<W> IntoInnerError<W> {
+    pub(super) fn new(writer: W, error: Error) -> IntoInnerError<W>
+        ensures writer { into_inner_error_writer result ≡ writer }
+        ensures cause { into_inner_error_cause result ≡ error }
+    {
+        IntoInnerError { writer, error }
+    }
+
+    /// Why the sending failed. Follows `std::io::IntoInnerError::error`.
+    pub fn error(&self) -> &Error
+        ensures { result.now ≡ into_inner_error_cause self.now }
+    {
+        &self.error
+    }
+
+    /// The buffered writer, to be used again. Follows `std::io::IntoInnerError::into_inner`.
+    pub fn into_inner(self) -> W
+        ensures { result ≡ into_inner_error_writer self }
+    {
+        self.writer
+    }
+}
+
+/// The error alone; the writer is dropped, and a buffered one sends once more then.
+impl<W: Drop> From<IntoInnerError<W>> for Error {
+    ghost from_gives = { λ x y. y ≡ into_inner_error_cause x };
+
+    fn from(e: IntoInnerError<W>) -> Error {
+        e.error
+    }
+}
+
+/// Prints what the error prints.
+impl<W> Display for IntoInnerError<W> {
+    ghost output = { λ e. Some (error_display (into_inner_error_cause e)) };
+
+    fn fmt<V: fmt::Write>(&self, f: &mut Formatter<V>) -> fmt::Result {
+        Display::fmt(&self.error, f)
+    }
+}
+
+impl<W: Debug> Debug for IntoInnerError<W> {
+    fn fmt<V: fmt::Write>(&self, f: &mut Formatter<V>) -> fmt::Result {
+        f.debug_struct("IntoInnerError")
+            .field("writer", &self.writer)
+            .field("error", &self.error)
+            .finish()
+    }
+}
+
+impl<W: Debug + Drop> std::error::Error for IntoInnerError<W> {}
+
+/// Tells what its inner writer tells, and holds its buffer behind that.
+impl<W: Write + Drop, const S: usize> Write for BufWriter<W, S> {
+    ghost told = { writer_told W.told };
+
+    ghost takes_all = { λ w. W.takes_all (writer_inner w) };
+
+    ghost cost = { λ w. W.cost (writer_inner w) };
+
+    ghost is_metered = { λ _. ⊥ };
+
+    /// Holds `buf` where it is shorter than `S`, else hands it to the inner `write`. What is held is
+    /// sent first where both together are above `S`; a refusal there accepts nothing of `buf`.
+    ///
+    /// # Errors
+    /// Sending's fault, or the inner `write`'s error. What was not sent is still held.
+    #[inline(always)]
+    fn write(&mut self, buf: &[u8]) -> Result<usize>
+        // The trait's.
+        ensures bound { IfOk result (λ n. n ≤ length buf.now) }
+        ensures moves { Moves (writer_told W.told self.old) (taken result buf.now)
+            (write_mishap result buf.now) (writer_told W.told self.new) }
+        ensures all { W.takes_all (writer_inner self.old)
+            → W.takes_all (writer_inner self.new) × (result ≡ Ok (length buf.now)) }
+        ensures cost { ⊥ → W.takes_all (writer_inner self.old)
+            → ⊥ × (W.cost (writer_inner self.new) ≡ W.cost (writer_inner self.old) + 1) }
+
+        // What is held then.
+        ensures rest { IsEnd (writer_buffer self.old ++ taken result buf.now) (writer_buffer self.new) }
+        ensures fits { length buf.now < S → length (writer_buffer self.old) + length buf.now ≤ S
+            → IsOk result × (writer_inner self.new ≡ writer_inner self.old)
+            × (writer_buffer self.new ≡ writer_buffer self.old ++ buf.now) }
+        ensures sent { S < length (writer_buffer self.old) + length buf.now
+            → IfOk result (λ n. IsEnd (take n buf.now) (writer_buffer self.new)) }
+        ensures whole { length buf.now < S → IfOk result (λ n. n ≡ length buf.now) }
+        ensures calm { length buf.now < S → IsNoInterruption result }
+        ensures after { W.takes_all (writer_inner self.old)
+            → writer_buffer self.new ≡ buffer_after S (writer_buffer self.old) buf.now }
+
+        // What it costs.
+        ensures calls { W.is_metered (writer_inner self.old) → W.takes_all (writer_inner self.old)
+            → W.is_metered (writer_inner self.new) × (W.cost (writer_inner self.new)
+            ≡ W.cost (writer_inner self.old) + writing_calls S (writer_buffer self.old) buf.now) }
+    {
+        self.core.write(buf)
+    }
+
+    /// Sends what is held, then flushes the inner writer.
+    ///
+    /// # Errors
+    /// Sending's fault, with the inner writer not flushed, or the inner `flush`'s error. What was
+    /// not sent is still held.
+    fn flush(&mut self) -> Result<()>
+        // The trait's.
+        ensures empty { OnOk result ((writer_told W.told self.new).held ≡ []) }
+        ensures moves { Moves (writer_told W.told self.old) [] (call_mishap result)
+            (writer_told W.told self.new) }
+        ensures all { W.takes_all (writer_inner self.old) → W.takes_all (writer_inner self.new) }
+        ensures cost { ⊥ → W.takes_all (writer_inner self.old)
+            → ⊥ × (W.cost (writer_inner self.new) ≡ W.cost (writer_inner self.old)) }
+
+        // What is held then, and what it costs.
+        ensures ok { W.takes_all (writer_inner self.old) → IsOk result }
+        ensures sent { OnOk result (writer_buffer self.new ≡ []) }
+        ensures rest { IsEnd (writer_buffer self.old) (writer_buffer self.new) }
+        ensures calls { W.is_metered (writer_inner self.old) → W.takes_all (writer_inner self.old)
+            → W.is_metered (writer_inner self.new) × (W.cost (writer_inner self.new)
+            ≡ W.cost (writer_inner self.old) + calls_for (writer_buffer self.old)) }
+    {
+        self.core.flush()
+    }
+
+    /// As `write`, with the inner `write_all` for a buffer of `S` bytes and more.
+    ///
+    /// # Errors
+    /// Sending's fault, or the inner `write_all`'s error. What was not sent is still held.
+    #[inline(always)]
+    fn write_all(&mut self, buf: &[u8]) -> Result<()>
+        // The trait's.
+        ensures fault { IsNoInterruption result }
+        ensures moves { MovesFront (writer_told W.told self.old) buf.now result (writer_told W.told self.new) }
+        ensures all { W.takes_all (writer_inner self.old) → W.takes_all (writer_inner self.new) }
+        ensures cost { ⊥ → W.takes_all (writer_inner self.old)
+            → ⊥ × (W.cost (writer_inner self.new) ≡ W.cost (writer_inner self.old) + calls_for buf.now) }
+
+        // What is held then.
+        ensures ok { W.takes_all (writer_inner self.old) → IsOk result }
+        ensures rest { IsEnd (writer_buffer self.old ++ buf.now) (writer_buffer self.new)
+            ⊎ IsEnd (writer_buffer self.old) (writer_buffer self.new) }
+        ensures fits { length buf.now < S → length (writer_buffer self.old) + length buf.now ≤ S
+            → IsOk result × (writer_inner self.new ≡ writer_inner self.old)
+            × (writer_buffer self.new ≡ writer_buffer self.old ++ buf.now) }
+        ensures sent { S < length (writer_buffer self.old) + length buf.now
+            → OnOk result (IsEnd buf.now (writer_buffer self.new)) }
+        ensures none { length buf.now < S
+            → OnErr result (IsEnd (writer_buffer self.old) (writer_buffer self.new)
+            × Moves (writer_told W.told self.old) [] (call_mishap result) (writer_told W.told self.new)) }
+        ensures after { W.takes_all (writer_inner self.old)
+            → writer_buffer self.new ≡ buffer_after S (writer_buffer self.old) buf.now }
+
+        // What it costs.
+        ensures calls { 0 < S → W.is_metered (writer_inner self.old) → W.takes_all (writer_inner self.old)
+            → W.is_metered (writer_inner self.new) × (W.cost (writer_inner self.new)
+            ≡ W.cost (writer_inner self.old) + writing_calls S (writer_buffer self.old) buf.now) }
+    {
+        self.core.write_all(buf)
+    }
+
+    ghost steady = { λ w h. W.steady (writer_inner w) h };
+}

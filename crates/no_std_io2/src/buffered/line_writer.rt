@@ -1,0 +1,246 @@
+// A buffer that is sent at the end of each line.
+ghost use Rattle.std.specs.Prelude.{◌≡◌, ◌+◌, ◌-◌, ◌<◌, ◌≤◌, [], ◌∷◌, ◌++◌, length, take, Some, Ok, IsOk, IfOk, IfErr, IsOkAnd, OnOk};
+ghost use Rattle.std.specs.Borrow.{Lends, sem};
+ghost use Rattle.no_std_io2.specs.contracts.buffered.line_writer.LineWriter.{the_row as line-row};
+ghost use Rattle.no_std_io2.specs.LineState.{IsLineState, HasNoNewline};
+ghost use Rattle.no_std_io2.specs.LineWriter.{line_inner, line_buffer, line_told, line_with_inner};
+ghost use Rattle.no_std_io2.specs.Lines.{HasNewline, WritesLines, unfinished_line, whole_if_short};
+ghost use Rattle.no_std_io2.specs.Buffered.{IsEnd, buffer_after, into_inner_error_writer, into_inner_error_cause};
+ghost use Rattle.no_std_io2_base.specs.Errors.{error_kind, IsFault, IsNoInterruption};
+ghost use Rattle.no_std_io2_base.specs.Writes.{Moves, MovesFront, taken, write_mishap, call_mishap, calls_for};
+
+mod state;
+mod steps;
+mod tells;
+
+use super::sender::Sender;
+use super::buf_writer::IntoInnerError;
+use no_std_io2_base::error::Result;
+use no_std_io2_base::traits::Write;
+use state::LineSender;
+use std::fmt;
+use steps::{lines_len, write_all_lines, write_all_plain, write_lines, write_plain};
+
+/// A writer that hands each line on as soon as it is complete, and holds what is no complete line
+/// yet, at most `S` bytes, which may be 0. Follows Rust's `std::io::LineWriter`.
+///
+/// A line ends in a newline byte. The held bytes have no newline, or end in one: where the inner
+/// writer took only a part of the lines, complete ones may be held too, and the next call sends
+/// them first.
+///
+/// A dropped writer sends what it holds once, and ignores a fault: call [`Write::flush`] or
+/// [`LineWriter::into_inner`] to see it.
+pub struct LineWriter<W: Write + Drop, const S: usize> {
+    core: LineSender<W, S>,
+}
+
+impl<W: Write + Drop, const S: usize> LineWriter<W, S> {
+    /// A line writer that holds nothing, in front of `inner`. Its buffer has the capacity `S`.
+    /// Follows `std::io::LineWriter::new`.
+    pub fn new(inner: W) -> LineWriter<W, S>
+        ensures inner { line_inner result ≡ inner }
+        ensures empty { line_buffer result ≡ [] }
+    {
+        LineWriter {
+            core: LineSender::new(Sender::new(inner)),
+        }
+    }
+
+    /// The inner writer. Follows `std::io::LineWriter::get_ref`.
+    pub fn get_ref(&self) -> &W
+        ensures { result.now ≡ line_inner self.now }
+    {
+        self.core.buffered.get_ref()
+    }
+
+    /// The inner writer, to be changed: it alone changes, and the held bytes stay. What is written to
+    /// it here comes before the held bytes. Follows `std::io::LineWriter::get_mut`.
+    pub fn get_mut(&mut self) -> &mut W
+        ensures value { result.now ≡ line_inner self.old }
+        ensures* writes_back { sem 𝓛 (Lends (line-row W.row S.row) W.row self.entry result
+            (line_with_inner self.old)) }
+    {
+        self.core.get_mut()
+    }
+
+    /// The held bytes, at most `S`: they have no newline, or end in one. Rust's `LineWriter` has no
+    /// such call; `std::io::BufWriter::buffer` is its like.
+    pub fn buffer(&self) -> &[u8]
+        ensures value { result.now ≡ line_buffer self.now }
+        ensures bound { length result.now ≤ S }
+        ensures line { IsLineState result.now }
+    {
+        self.core.buffered.buffer()
+    }
+
+    /// Sends what is held, and gives the inner writer, which is not flushed. With nothing held there
+    /// is no inner call. Follows `std::io::LineWriter::into_inner`.
+    ///
+    /// # Errors
+    /// The fault that stopped the sending, never an interruption: the inner writer's own, or
+    /// `WriteZero` where it took no byte of some. The error holds this writer, with the bytes that
+    /// are not yet sent; they have no newline, or end in one.
+    pub fn into_inner(mut self) -> std::result::Result<W, IntoInnerError<LineWriter<W, S>>>
+        // No byte is lost.
+        ensures ok { IfOk result (λ w. Moves (line_told W.told self) [] [] (W.told w)) }
+        ensures err { IfErr result (λ e. Moves (line_told W.told self) []
+            (error_kind (into_inner_error_cause e) ∷ []) (line_told W.told (into_inner_error_writer e))) }
+        ensures rest { IfErr result (λ e. IsEnd (line_buffer self)
+            (line_buffer (into_inner_error_writer e))) }
+        ensures line { IfErr result (λ e. IsLineState (line_buffer (into_inner_error_writer e))) }
+
+        // Which errors come, and when none does.
+        ensures fault { IfErr result (λ e. IsFault (into_inner_error_cause e)) }
+        ensures empty { line_buffer self ≡ [] → result ≡ Ok (line_inner self) }
+        ensures steady { (W.told (line_inner self)).mishaps ≡ Some [] → IsOk result }
+
+        // What it costs.
+        ensures all { W.takes_all (line_inner self) → IsOkAnd result W.takes_all }
+        ensures calls { W.is_metered (line_inner self) → W.takes_all (line_inner self)
+            → IfOk result (λ w. W.is_metered w
+            × (W.cost w ≡ W.cost (line_inner self) + calls_for (line_buffer self))) }
+    {
+        match self.core.buffered.send() {
+            Ok(()) => {
+                let LineWriter { core } = self;
+                let LineSender { buffered } = core;
+                Ok(buffered.into_parts())
+            }
+            Err(error) => Err(IntoInnerError::new(self, error)),
+        }
+    }
+}
+
+/// Sends what is held once, ignores a fault, and does not flush the inner writer.
+impl<W: Write + Drop, const S: usize> Drop for LineWriter<W, S> {
+    fn drop(mut self) {
+        let _ = self.core.buffered.send();
+        let LineWriter { core: _core } = self;
+    }
+}
+
+/// Shows the inner writer, and how many bytes are held of how many that may be.
+impl<W: Write + Drop + fmt::Debug, const S: usize> fmt::Debug for LineWriter<W, S> {
+    fn fmt<F: fmt::Write>(&self, f: &mut fmt::Formatter<F>) -> fmt::Result {
+        let held = self.buffer().len();
+        f.debug_struct("LineWriter")
+            .field("writer", self.get_ref())
+            .field("buffer", &format_args!("{held}/{S}"))
+            .finish()
+    }
+}
+
+/// Bytes go out line by line. What is out is the inner writer's out; what is held is the inner
+/// writer's held bytes, then the buffer.
+impl<W: Write + Drop, const S: usize> Write for LineWriter<W, S> {
+    ghost told = { line_told W.told };
+
+    ghost takes_all = { λ _. ⊥ };
+
+    ghost cost = { λ w. W.cost (line_inner w) };
+
+    ghost is_metered = { λ _. ⊥ };
+
+    /// Writes some front of `x`. Held complete lines are sent first. Without a newline in `x`, it is
+    /// held where it fits behind what is held, else that is sent first, and an `x` of at least `S`
+    /// bytes is then one inner write. With a newline in `x`, what is held is sent, one inner write
+    /// gets the lines of `x`, and of what it left over as much is held as makes up whole lines, or
+    /// no line.
+    ///
+    /// # Errors
+    /// The inner writer's own, or `WriteZero` where it took no byte of some that were held. Nothing
+    /// of `x` was accepted then, and what was not sent is still held.
+    fn write(&mut self, x: &[u8]) -> Result<usize>
+        ensures bound { IfOk result (λ n. n ≤ length x.now) }
+        ensures moves { Moves (line_told W.told self.old) (taken result x.now)
+            (write_mishap result x.now) (line_told W.told self.new) }
+        ensures all { ⊥ → ⊥ × (result ≡ Ok (length x.now)) }
+        ensures cost { ⊥ → ⊥
+            → ⊥ × (W.cost (line_inner self.new) ≡ W.cost (line_inner self.old) + 1) }
+        ensures fits { HasNoNewline x.now → HasNoNewline (line_buffer self.old)
+            → length x.now < S → length (line_buffer self.old) + length x.now ≤ S
+            → IsOk result × (line_inner self.new ≡ line_inner self.old)
+            × (line_buffer self.new ≡ line_buffer self.old ++ x.now) }
+        ensures whole { HasNoNewline x.now → length x.now < S → IfOk result (λ n. n ≡ length x.now) }
+        ensures tail { HasNewline x.now → IfOk result (λ n. WritesLines S (W.told (line_inner self.old))
+            (line_buffer self.old) x.now n (W.told (line_inner self.new)) (line_buffer self.new)) }
+        ensures lasts { W.takes_all (line_inner self.old)
+            → W.takes_all (line_inner self.new) × IsOk result }
+        ensures plain { W.takes_all (line_inner self.old) → HasNoNewline x.now
+            → (result ≡ Ok (length x.now)) × (line_buffer self.new
+            ≡ buffer_after S (unfinished_line (line_buffer self.old)) x.now) }
+        ensures lines { W.takes_all (line_inner self.old) → HasNewline x.now
+            → IsOkAnd result (λ n. n + (length (unfinished_line x.now) - S) ≡ length x.now)
+            × (line_buffer self.new ≡ take S (unfinished_line x.now)) }
+        ensures calls { W.is_metered (line_inner self.old) → W.takes_all (line_inner self.old)
+            → W.is_metered (line_inner self.new)
+            × (W.cost (line_inner self.new) ≤ W.cost (line_inner self.old) + 3) }
+    {
+        let len = lines_len(x);
+        if len == 0 {
+            return write_plain(&mut self.core.buffered, x);
+        }
+        write_lines(&mut self.core.buffered, x, len)
+    }
+
+    /// Sends what is held, then flushes the inner writer.
+    ///
+    /// # Errors
+    /// The inner writer's own, or `WriteZero` where it took no byte of some that were held. What was
+    /// not sent is still held, and a later flush goes on there.
+    fn flush(&mut self) -> Result<()>
+        ensures empty { OnOk result ((line_told W.told self.new).held ≡ []) }
+        ensures moves { Moves (line_told W.told self.old) [] (call_mishap result)
+            (line_told W.told self.new) }
+        ensures all { ⊥ → ⊥ }
+        ensures cost { ⊥ → ⊥
+            → ⊥ × (W.cost (line_inner self.new) ≡ W.cost (line_inner self.old)) }
+        ensures sent { OnOk result (line_buffer self.new ≡ []) }
+        ensures lasts { W.takes_all (line_inner self.old)
+            → W.takes_all (line_inner self.new) × IsOk result }
+        ensures calls { W.is_metered (line_inner self.old) → W.takes_all (line_inner self.old)
+            → W.is_metered (line_inner self.new) × (W.cost (line_inner self.new)
+            ≡ W.cost (line_inner self.old) + calls_for (line_buffer self.old)) }
+    {
+        self.core.buffered.flush()
+    }
+
+    /// Writes all of `x`. Without a newline in `x`, it goes the way of [`LineWriter::write`]. With
+    /// one, what is held and the lines of `x` are sent, and what follows them is held where it is
+    /// shorter than `S`, else it goes to the inner writer. After `Ok` no newline is held.
+    ///
+    /// # Errors
+    /// The inner writer's first fault, or `WriteZero` where it took no byte of some; never
+    /// `Interrupted`. Some front of `x`, possibly empty or whole, was accepted then: it is out or
+    /// held.
+    fn write_all(&mut self, x: &[u8]) -> Result<()>
+        ensures fault { IsNoInterruption result }
+        ensures moves { MovesFront (line_told W.told self.old) x.now result
+            (line_told W.told self.new) }
+        ensures all { ⊥ → ⊥ }
+        ensures cost { ⊥ → ⊥ → ⊥ × (W.cost (line_inner self.new)
+            ≡ W.cost (line_inner self.old) + calls_for x.now) }
+        ensures open { OnOk result (HasNoNewline (line_buffer self.new)) }
+        ensures fits { HasNoNewline x.now → HasNoNewline (line_buffer self.old)
+            → length x.now < S → length (line_buffer self.old) + length x.now ≤ S
+            → IsOk result × (line_inner self.new ≡ line_inner self.old)
+            × (line_buffer self.new ≡ line_buffer self.old ++ x.now) }
+        ensures lasts { W.takes_all (line_inner self.old)
+            → W.takes_all (line_inner self.new) × IsOk result }
+        ensures plain { W.takes_all (line_inner self.old) → HasNoNewline x.now
+            → line_buffer self.new ≡ buffer_after S (unfinished_line (line_buffer self.old)) x.now }
+        ensures lines { W.takes_all (line_inner self.old) → HasNewline x.now
+            → line_buffer self.new ≡ whole_if_short S (unfinished_line x.now) }
+        ensures calls { W.is_metered (line_inner self.old) → W.takes_all (line_inner self.old)
+            → W.is_metered (line_inner self.new)
+            × (W.cost (line_inner self.new) ≤ W.cost (line_inner self.old) + 3) }
+    {
+        let len = lines_len(x);
+        if len == 0 {
+            return write_all_plain(&mut self.core.buffered, x);
+        }
+        write_all_lines(&mut self.core.buffered, x, len)
+    }
+
+    ghost steady = { λ w h. absurd h };
+}

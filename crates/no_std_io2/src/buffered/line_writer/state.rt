@@ -1,0 +1,38 @@
+// What a line writer stands on: its buffer has no newline, or one at the end.
+ghost use Rattle.std.specs.Prelude.{◌≡◌};
+ghost use Rattle.std.specs.Borrow.{Lends, sem};
+ghost use Rattle.std.proofs.Props.{props};
+ghost use Rattle.no_std_io2.specs.LineState.{IsLineState};
+ghost use Rattle.no_std_io2.specs.Buffered.{sender_inner, sender_buffer};
+
+use crate::buffered::sender::Sender;
+use no_std_io2_base::traits::Write;
+
+// A ghost field beside a bound has no proof over a boxed object, so this struct has no bound.
+#[derive(Drop)]
+pub struct LineSender<W, const S: usize> {
+    pub(super) buffered: Sender<W, S>,
+    ghost line: { IsLineState (sender_buffer buffered) } by { Prim.hlevel props },
+}
+
+impl<W: Write + Drop, const S: usize> LineSender<W, S> {
+    ghost use Rattle.no_std_io2.specs.LineSender.{line_sender_with_inner};
+    ghost use Rattle.no_std_io2.specs.contracts.buffered.line_writer.state.LineSender.{the_row as sender-row};
+
+    // Of a sender that holds such a buffer.
+    pub(super) fn new(buffered: Sender<W, S>) -> LineSender<W, S>
+        requires { IsLineState (sender_buffer buffered) }
+        ensures { result.buffered ≡ buffered }
+    {
+        LineSender { buffered }
+    }
+
+    // The buffer stays, whatever is written to the inner writer.
+    pub(super) fn get_mut(&mut self) -> &mut W
+        ensures value { result.now ≡ sender_inner self.old.buffered }
+        ensures* writes_back { sem 𝓛 (Lends (sender-row W.row S.row) W.row self.entry result
+            (line_sender_with_inner self.old)) }
+    {
+        self.buffered.get_mut()
+    }
+}

@@ -1,0 +1,17 @@
+-- `next` ends with its reader's turns, and has passed interruptions alone.
+use Rattle.std.proofs.Common.{◌≡◌, ◌≤◌, length}
+use Rattle.no_std_io2_base.specs.SingleBytes.{bytes_reader}
+use Rattle.no_std_io2_base.proofs.Singles.{Passed}
+use Rattle.no_std_io2_base.proofs.traits.bytes.BytesIterator.next.Given as goal
+
+abbrev pub invariant-reads : goal.invariant-reads
+invariant-reads g l =
+    let R = g.R.Read in
+    record {
+      long : length l.one ≡ 1;
+      turns : R.turns (bytes_reader l.self) ≤ R.turns (bytes_reader l.initial.self);
+      told : R.tells (bytes_reader l.initial.self) → R.tells (bytes_reader l.self) × Passed (R.events (bytes_reader l.initial.self)) (R.events (bytes_reader l.self));
+    }
+
+abbrev pub decreases-reads : goal.decreases-reads
+decreases-reads g l = g.R.Read.turns (bytes_reader l.self)

@@ -1,0 +1,23 @@
+use mathlib.Core.List.{[]}
+use base.Logic.{id⊢, emp}
+use contract.Monad.{fact_i}
+use borrow.Fn.Refines.{by_parts}
+use denote.Param.{param}
+use Rattle.no_std_io2_base.specs.contracts.traits.buf_read.BufRead.fill_buf.{clauses as asked}
+use Rattle.no_std_io2_base.specs.contracts.traits.take.Take.{the_row}
+use Rattle.no_std_io2_base.specs.contracts.traits.take.TakeBufRead.fill_buf.{clauses as given}
+use Rattle.no_std_io2_base.specs.contracts.traits.take.TakeBufRead.TheImpl as BufReads
+use Rattle.no_std_io2_base.specs.contracts.traits.take.TakeRead.TheImpl as Reads
+use Rattle.no_std_io2_base.specs.contracts.traits.take.TakeStored.TheImpl as Stores
+use Rattle.no_std_io2_base.proofs.Strengthened.{lends_more}
+use Rattle.no_std_io2_base.proofs.traits.take.TakeBufRead.TheImpl.Goals as goal
+
+pub fill_buf-meets : goal.fill_buf-meets
+fill_buf-meets g c =
+    let w = g.world in
+    let T = g.T in
+    let more = (given g.row.T T.BufRead T.BufRead-dict T.Read T.Read-dict T.Stored T.Stored-dict w.𝓛 w.𝓜.mem w.𝓡.returns (c.lifetimes.0, (c.lifetimes.1.0, tt)) (c.args.self, tt)).ensures tt in
+    let less = (asked (the_row (param 0 g.row.T)) (BufReads.ghosts g.row.T T.BufRead T.BufRead-dict T.Read T.Read-dict T.Stored T.Stored-dict) (BufReads.dict g.row.T T.BufRead T.BufRead-dict T.Read T.Read-dict T.Stored T.Stored-dict)
+    (Reads.ghosts g.row.T T.Read T.Read-dict T.Stored T.Stored-dict) (Reads.dict g.row.T T.Read T.Read-dict T.Stored T.Stored-dict) (Stores.ghosts g.row.T T.Read T.Read-dict T.Stored T.Stored-dict) (Stores.dict g.row.T T.Read T.Read-dict T.Stored T.Stored-dict)
+    w.𝓛 w.𝓜.mem w.𝓡.returns c.lifetimes (c.args.self, tt)).ensures c.ghost in
+    by_parts w.𝓤 [] [] (emp w.𝓤) (emp w.𝓤) _ _ (λ r e. []) (λ r e. []) more (λ r e. less r (e.0, tt)) (fact_i w.𝓤 _ _ tt) (λ _. id⊢ w.𝓤 (emp w.𝓤)) (λ r e. fact_i w.𝓤 _ _ tt) (λ r e _. lends_more w.𝓛 _ _ _ _ _ _ _ _ _ _ _ _ _ _ (λ _ h. absurd h) (λ new h. record { lends = h.lends; told = h.told; turns = h.turns; turn = h.turn; quiet = h.quiet; counts = λ n. absurd n; stays_sure = λ n. absurd n; metered = λ n. absurd n; filling = h.filling; store = λ n. absurd n })) (λ _. tt) (λ _ r e _. tt)

@@ -1,0 +1,68 @@
+use Rattle.std.proofs.Common.{◌≡◌, length, refl, arith, ap, le_refl, length-take-le}
+use Rattle.std.proofs.lemmas.Result.{err_from_is_err_and}
+use Rattle.no_std_io2_base.specs.Events.{cut}
+use Rattle.no_std_io2_base.proofs.Along.{along_none, along_read, along_error}
+use Rattle.no_std_io2_base.proofs.Cut.{cut_reads, cut-length, cut_error, part_within, part_room, fits_whole, limit_falls}
+use Rattle.no_std_io2_base.proofs.ReadExactExits.{some_bytes}
+use Rattle.no_std_io2_base.proofs.traits.take.TakeRead.read.Goals as goal
+
+pub returns-then-self-eq0 : goal.returns-then-self-eq0
+returns-then-self-eq0 g c =
+    let E = g.T.Read.events c.args.self.now.inner in
+    let zero : c.args.self.now.limit ≡ 0 = c.if-self-eq0.true in
+    record {
+      bound = omega arith;
+      told = λ t. (t, (refl, λ _ _. ap (λ k. cut k E) zero));
+      turns = le_refl _;
+      turn = λ some. absurd (omega arith);
+      fills = λ f. (f, omega (arith, ap (λ k. length (cut k E)) zero));
+      limit = omega arith;
+      at_limit = λ _. (refl, refl);
+      along = λ t. along_none _ _ _ _ refl refl;
+    }
+
+pub returns-in_err-n : goal.returns-in_err-n
+returns-in_err-n g c =
+    let p = err_from_is_err_and c.from_residual.result c.from_residual.ensures.1 in
+    let read = c.in_err-n.ensures in
+    let some = some_bytes _ c.if-self-eq0.false in
+    rw (p.1, p.2) (record {
+      bound = tt;
+      told = λ t. let now = read.told t in (now.0, cut_error _ _ _ _ now.1 some);
+      turns = read.turns;
+      turn = read.turn;
+      fills = λ f. absurd (read.fills f).1;
+      limit = omega arith;
+      at_limit = λ zero. absurd (c.if-self-eq0.false zero);
+      along = λ t. along_error _ _ _ _ (read.told t).1 some;
+    })
+
+pub returns : goal.returns
+returns g c =
+    let buf = c.args.buf.now in
+    let limit = c.args.self.now.limit in
+    let most = c.min_with_limit-most.result in
+    let part = c.read.new.buf in
+    let read = c.in_ok-n.ensures in
+    let some = some_bytes _ c.if-self-eq0.false in
+    let within = part_within most limit buf part c.min_with_limit-most.ensures c.read.auto.buf in
+    let falls = limit_falls limit c.in_ok-n.n _ read.bound within in
+    record {
+      bound = fits_whole _ part _ read.bound;
+      told = λ t.
+          let now = read.told t in (
+            now.0,
+            cut_reads _ _ limit _ part _ read.bound within
+                (part_room most limit buf part c.min_with_limit-most.ensures c.read.auto.buf some) now.1,
+          );
+      turns = read.turns;
+      turn = read.turn;
+      fills = λ f.
+          let now = read.fills f in
+          let alone = g.met.T.Read.filling_tells _ f in
+          let long = length-take-le most buf (omega arith) in
+          (now.0, omega (arith, long, now.1, cut-length limit _ alone.1));
+      limit = falls;
+      at_limit = λ zero. absurd (c.if-self-eq0.false zero);
+      along = λ t. along_read _ _ _ _ _ _ (read.told t).1 read.bound falls;
+    }

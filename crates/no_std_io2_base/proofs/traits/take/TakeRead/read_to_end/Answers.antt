@@ -1,0 +1,215 @@
+use Rattle.std.proofs.Common.{◌≡◌, ◌+◌, ◌≤◌, ◌++◌, length, take, arith, ap, refl, sym, subst, ◌∙◌, le_refl, le_trans}
+use Rattle.std.proofs.lemmas.Result.{err_from_is_err_and}
+use Rattle.no_std_io2_base.proofs.Along.{along_none, along_then}
+use Rattle.no_std_io2_base.proofs.Gathered.{gathered_none, gathered_same, gathered_read, gathered_interruption, gathered_fault, gathered_memory}
+use Rattle.no_std_io2_base.proofs.Parts.{take-written, take-written_below, take-stays}
+use Rattle.no_std_io2_base.proofs.PieceLemmas.{memory_fault}
+use Rattle.no_std_io2_base.proofs.ReadsToEndExits.{front_whole, front_cut, none_opened, count_cut, len_cut, filled_length, some_room}
+use Rattle.no_std_io2_base.proofs.TakenToEnd.{Ended, ended_at_limit, nothing_read, given_none, gathered_done, limit_same, limit_cut, no_turn, none_filled}
+use Rattle.no_std_io2_base.proofs.traits.take.TakeRead.read_to_end.Goals as goal
+use Rattle.no_std_io2_base.proofs.traits.take.TakeRead.read_to_end.Goals.{else-reads-test, then-reads-test+in_ok-open_room+in-Ok-eq0}
+
+pub returns-in_err-reserve_room : goal.returns-in_err-reserve_room
+returns-in_err-reserve_room g c =
+    let p = err_from_is_err_and c.from_residual.result c.from_residual.ensures.1 in
+    let refused = c.in_err-reserve_room.ensures.refused in
+    let same = c.reserve_room.ensures.items in
+    rw (p.1, p.2) (record {
+      told = λ t. (t, gathered_memory _ _ _ _ _ (gathered_none _ _ _ same) refused);
+      appends = front_whole _ _ _ c.args.buf.now.ok.0 same;
+      count = tt;
+      fault = memory_fault _ refused;
+      turns = le_refl _;
+      filling = λ f. f;
+      limit = ap (λ n. c.args.self.now.limit + n) c.reserve_room.ensures.len;
+      at_limit = λ none. absurd (omega (arith, c.args.buf.now.ok.1, c.in_err-reserve_room.ensures.full));
+      along = λ t. along_none _ _ _ _ refl refl;
+    })
+
+pub reads-init : goal.reads-init
+reads-init g c =
+    let start = c.len-start.ensures in
+    let same = c.reserve_room.ensures.items in
+    record {
+      grows = omega arith;
+      within = omega arith;
+      front = front_whole _ _ _ c.args.buf.now.ok.0 same;
+      turns = le_refl _;
+      told = λ t. (t, gathered_none _ _ _ (front_whole _ _ _ (start ∙ c.args.buf.now.ok.0) same));
+      is_filling = λ f. f;
+      limit = ap (λ n. c.args.self.now.limit + n) start;
+      at_limit = λ none. refl;
+      along = λ t. along_none _ _ _ _ refl refl;
+    }
+
+pub returns-in_err-open_room : goal.returns-in_err-open_room
+returns-in_err-open_room g c =
+    let p = err_from_is_err_and c.from_residual-in_err-open_room.result c.from_residual-in_err-open_room.ensures.1 in
+    let before = c.reads.invariant in
+    let filled = c.reads.filled in
+    let opened = c.open_room.new.buf in
+    let full = c.in_err-open_room.ensures.full in
+    let refused = c.in_err-open_room.ensures.refused in
+    let same = none_opened filled opened.len opened.items c.reads.buf.items full.1 opened.ok.0 c.open_room.ensures.front in
+    rw (p.1, p.2) (record {
+      told = λ t.
+          let so_far = before.told t in
+          (so_far.0, gathered_memory _ _ _ _ _ (gathered_same _ _ _ _ _ so_far.1 same) refused);
+      appends = front_cut _ filled _ c.reads.buf.items _ before.grows same before.front;
+      count = tt;
+      fault = memory_fault _ refused;
+      turns = before.turns;
+      filling = before.is_filling;
+      limit = ap (λ n. c.reads.self.limit + n) full.1 ∙ before.limit;
+      at_limit = λ none. absurd (no_turn _ _ _ _ before.limit before.grows none c.reads-test.true);
+      along = before.along;
+    })
+
+pub reads-smaller-in-Ok : goal.reads-smaller-in-Ok
+reads-smaller-in-Ok g c = c.in-Ok.ensures.turn (omega arith)
+
+pub reads-smaller : goal.reads-smaller
+reads-smaller g c = c.in-Err.ensures.turn
+
+pub reads-preserved-in-Ok : goal.reads-preserved-in-Ok
+reads-preserved-in-Ok g c =
+    let before = c.reads.invariant in
+    let read = c.in-Ok.ensures in
+    let n = c.in-Ok.n in
+    let filled = c.reads.filled in
+    let start = c.args.buf.now.len in
+    let opened = c.open_room.new.buf in
+    let slice = c.deref_mut.result.now in
+    let value = c.deref_mut.ensures.value in
+    let within = c.open_room.ensures.within in
+    let fits : filled + n ≤ opened.len = omega (arith, read.bound, c.read.auto.buf) in
+    let front = take-written_below start opened.len filled slice opened.items c.read.new.buf before.grows within opened.ok.0 value in
+    let shown = take-written n opened.len filled slice opened.items c.read.new.buf fits read.bound opened.ok.0 value in
+    record {
+      grows = omega (arith, before.grows);
+      within = fits;
+      front = front ∙ take-stays start filled _ _ before.grows c.open_room.ensures.front ∙ before.front;
+      turns = le_trans read.turns before.turns;
+      told = λ t.
+          let so_far = before.told t in
+          let now = read.told so_far.0 in
+          (now.0, gathered_read _ _ _ _ _ _ _ _ so_far.1 now.1 (shown ∙ ap (λ l. l ++ take n c.read.new.buf) c.open_room.ensures.front));
+      is_filling = λ f. (read.fills (before.is_filling f)).0;
+      limit = omega (arith, before.limit, read.limit);
+      at_limit = λ none. (read.at_limit (omega (arith, before.limit, before.grows, none))).1 ∙ before.at_limit none;
+      along = λ t. along_then _ _ _ _ _ _ (before.along t) (read.along (before.told t).0);
+    }
+
+pub returns-in-Err-2 : goal.returns-in-Err-2
+returns-in-Err-2 g c =
+    let before = c.reads.invariant in
+    let read = c.in-Err.ensures in
+    let filled = c.reads.filled in
+    let start = c.args.buf.now.len in
+    let opened = c.open_room.new.buf in
+    let kept = take-written_below filled opened.len filled c.deref_mut.result.now opened.items c.read.new.buf
+    (le_refl _) c.open_room.ensures.within opened.ok.0 c.deref_mut.ensures.value in
+    let same = c.truncate.ensures.items ∙ kept ∙ c.open_room.ensures.front in
+    let fault = sym c.is_interrupted.ensures ∙ c.if-is_interrupted.false in
+    let mid = c.reads.buf.items in
+    let new = c.truncate.new.self in
+    let within : filled ≤ length mid = omega (arith, before.within, c.reads.buf.ok.0) in
+    record {
+      told = λ t.
+          let so_far = before.told t in
+          let now = read.told so_far.0 in
+          (now.0, gathered_fault _ _ _ _ _ _ (gathered_same _ _ _ _ _ so_far.1 same) now.1 fault);
+      appends = front_cut start filled _ c.reads.buf.items _ before.grows same before.front;
+      count = tt;
+      fault = fault;
+      turns = le_trans read.turns before.turns;
+      filling = λ f. (read.fills (before.is_filling f)).0;
+      limit = limit_cut _ _ _ _ _ _ (limit_same _ _ _ read.limit refl)
+          (filled_length filled new.len _ mid new.ok.0 same within) before.limit;
+      at_limit = λ none. absurd (no_turn _ _ _ _ before.limit before.grows none c.reads-test.true);
+      along = λ t. along_then _ _ _ _ _ _ (before.along t) (read.along (before.told t).0);
+    }
+
+pub reads-preserved : goal.reads-preserved
+reads-preserved g c =
+    let before = c.reads.invariant in
+    let read = c.in-Err.ensures in
+    let filled = c.reads.filled in
+    let start = c.args.buf.now.len in
+    let opened = c.open_room.new.buf in
+    let slice = c.deref_mut.result.now in
+    let value = c.deref_mut.ensures.value in
+    let within = c.open_room.ensures.within in
+    let front = take-written_below start opened.len filled slice opened.items c.read.new.buf before.grows within opened.ok.0 value in
+    let kept = take-written_below filled opened.len filled slice opened.items c.read.new.buf (le_refl _) within opened.ok.0 value in
+    record {
+      grows = before.grows;
+      within = within;
+      front = front ∙ take-stays start filled _ _ before.grows c.open_room.ensures.front ∙ before.front;
+      turns = le_trans read.turns before.turns;
+      told = λ t.
+          let so_far = before.told t in
+          let now = read.told so_far.0 in (
+            now.0,
+            gathered_interruption _ _ _ _ _ _ (gathered_same _ _ _ _ _ so_far.1 (kept ∙ c.open_room.ensures.front)) now.1
+                (sym c.is_interrupted.ensures ∙ c.if-is_interrupted.true),
+          );
+      is_filling = λ f. (read.fills (before.is_filling f)).0;
+      limit = omega (arith, before.limit, read.limit);
+      at_limit = λ none. absurd (read.at_limit (omega (arith, before.limit, before.grows, none))).0;
+      along = λ t. along_then _ _ _ _ _ _ (before.along t) (read.along (before.told t).0);
+    }
+
+pub returns : goal.returns
+returns g c =
+    let T = g.T.Read in
+    let before = c.reads.invariant in
+    let filled = c.reads.filled in
+    let mid = c.reads.buf.items in
+    let new = c.truncate-2.new.self in
+    let front : take filled c.reads-test.buf.items ≡ take filled mid = elim c.reads-test.branch [
+      | else-reads-test w ↦ ap (λ b. take filled b.items) w.buf-is
+      | then-reads-test+in_ok-open_room+in-Ok-eq0 w ↦
+          let opened = w.open_room.new.buf in
+          ap (λ b. take filled b.items) w.buf-is ∙ take-written_below filled opened.len filled w.deref_mut.result.now opened.items
+          w.read.new.buf (le_refl _) w.open_room.ensures.within opened.ok.0 w.deref_mut.ensures.value ∙ w.open_room.ensures.front
+    ] in
+    let ended : Ended T.tells T.is_filling T.turns T.events c.reads.self c.reads-test.self = elim c.reads-test.branch [
+      | else-reads-test w ↦ ended_at_limit _ _ _ _ _ _ w.self-is (omega (arith, w.reads-test.false))
+      | then-reads-test+in_ok-open_room+in-Ok-eq0 w ↦
+          let read = w.read.ensures in
+          let is = w.in-Ok-eq0.is in
+          let none = w.in-Ok-eq0.field-0-test in
+          let some = some_room filled w.open_room.new.buf.len _ w.read.new.buf w.in_ok-open_room.ensures.room w.deref_mut.ensures.len
+          w.read.auto.buf in
+          subst (Ended T.tells T.is_filling T.turns T.events c.reads.self) (sym w.self-is) (record {
+            spent = read.turns;
+            told = λ t.
+                let now = read.told t in
+                let empty = nothing_read _ _ _ _ _ now.1 is none some in
+                (now.0, empty.0, empty.1);
+            fill = λ f. (read.fills f).0;
+            same = limit_same _ _ _ read.limit (given_none _ _ is none);
+            at_limit = λ zero. (read.at_limit zero).1;
+            along = read.along;
+          })
+    ] in
+    let same = c.truncate-2.ensures.items ∙ front in
+    let within : filled ≤ length mid = omega (arith, before.within, c.reads.buf.ok.0) in
+    let count = count_cut c.len-start.result filled _ mid _ (c.len-start.ensures ∙ c.args.buf.now.ok.0) same within in
+    record {
+      told = λ t.
+          let so_far = before.told t in
+          let now = ended.told so_far.0 in
+          (now.0, gathered_done _ _ _ _ _ _ (gathered_same _ _ _ _ _ so_far.1 same) now.1 now.2 count);
+      appends = front_cut _ filled _ mid _ before.grows same before.front;
+      count = len_cut c.len-start.result filled new.len _ _ mid c.len-start.ensures before.grows new.ok.0 same within;
+      fault = tt;
+      turns = le_trans ended.spent before.turns;
+      filling = λ f. ended.fill (before.is_filling f);
+      limit = limit_cut _ _ _ _ _ _ ended.same (filled_length filled new.len _ mid new.ok.0 same within) before.limit;
+      at_limit = λ none.
+          let zero = none_filled _ _ _ c.len-start.result _ before.limit before.grows c.len-start.ensures none in
+          (zero.0, ended.at_limit zero.1 ∙ before.at_limit none);
+      along = λ t. along_then _ _ _ _ _ _ (before.along t) (ended.along (before.told t).0);
+    }

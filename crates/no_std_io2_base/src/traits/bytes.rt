@@ -1,0 +1,53 @@
+ghost use Rattle.std.specs.Prelude.{◌≡◌, ◌≤◌, ◌<◌, IfErr, IfSome, OnSome};
+ghost use Rattle.std.specs.Iterator.{at_most};
+ghost use Rattle.no_std_io2_base.specs.Errors.{IsFault};
+ghost use Rattle.no_std_io2_base.specs.SingleBytes.{bytes_reader, NextByte};
+
+use super::read::Read;
+use crate::error::Result;
+
+/// A reader's bytes, one at a time. Made by [`Read::bytes`]; follows Rust's `std::io::Bytes`.
+///
+/// It yields the reader's bytes and faults in order, and leaves interruptions out. It ends where
+/// the reader does; a fault doesn't end it. Each byte costs a read: over a slow device, read from a
+/// buffered reader.
+#[derive(Debug, Drop)]
+pub struct Bytes<R> {
+    inner: R,
+}
+
+impl<R> Bytes<R> {
+    pub(super) fn new(inner: R) -> Bytes<R>
+        ensures { bytes_reader result ≡ inner }
+    {
+        Bytes { inner }
+    }
+}
+
+impl<R: Read> Iterator for Bytes<R>
+where
+    R: Drop,
+{
+    type Item = Result<u8>;
+
+    ghost next_gives = { λ s r t.
+        (R.tells (bytes_reader s) → R.tells (bytes_reader t)
+        × NextByte (R.events (bytes_reader s)) r (R.events (bytes_reader t)))
+        × IfSome r (λ item. IfErr item IsFault)
+        × (R.turns (bytes_reader t) ≤ R.turns (bytes_reader s))
+        × OnSome r (R.turns (bytes_reader t) < R.turns (bytes_reader s)) };
+
+    ghost remaining = { λ s. at_most (R.turns (bytes_reader s)) };
+
+    fn next(&mut self) -> Option<Result<u8>> {
+        let mut one = [0u8; 1];
+        'reads: loop {
+            match self.inner.read(&mut one) {
+                Ok(0) => return None,
+                Ok(_) => return Some(Ok(one[0])),
+                Err(e) if e.is_interrupted() => {}
+                Err(e) => return Some(Err(e)),
+            }
+        }
+    }
+}

@@ -1,0 +1,146 @@
+ghost use Rattle.std.specs.Prelude.{◌≡◌, false, []};
+ghost use types.Logic.{sem};
+ghost use Rattle.std.specs.Borrow.{LendsBoth};
+ghost use Rattle.no_std_io2_base.specs.contracts.traits.chain.Chain.{the_row as chain-row};
+ghost use Rattle.no_std_io2_base.specs.Chain.{chain_first, chain_second, chain_with_readers, chain_tells, chain_events, chain_turns, chain_held};
+
+use super::buf_read::BufRead;
+use super::read::Read;
+use super::stored::Stored;
+use crate::error::Result;
+use std::alloc::Allocator;
+
+/// Two readers, one after the other. Made by [`Read::chain`]; follows Rust's `std::io::Chain`.
+///
+/// The first is read until it is at its end: a read into some room that gives nothing, or an empty
+/// slice from `fill_buf`, marks it done, and the second is used in the same call. An empty read
+/// never marks it, and the mark is never taken back.
+#[derive(Debug, Drop)]
+pub struct Chain<T, U> {
+    first: T,
+    second: U,
+    done_first: bool,
+}
+
+impl<T, U> Chain<T, U> {
+    pub(crate) fn new(first: T, second: U) -> Chain<T, U>
+        ensures { result ≡ record { first = first; second = second; done_first = false } }
+    {
+        Chain {
+            first,
+            second,
+            done_first: false,
+        }
+    }
+
+    /// The two readers, where they stand. Follows `std::io::Chain::into_inner`.
+    pub fn into_inner(self) -> (T, U)
+        ensures first { result.0 ≡ chain_first self }
+        ensures second { result.1 ≡ chain_second self }
+    {
+        (self.first, self.second)
+    }
+
+    /// The two readers, lent. Follows `std::io::Chain::get_ref`.
+    pub fn get_ref(&self) -> (&T, &U)
+        ensures first { result.0.now ≡ chain_first self.now }
+        ensures second { result.1.now ≡ chain_second self.now }
+    {
+        (&self.first, &self.second)
+    }
+
+    /// The two readers, lent to be changed. The mark of a done first reader stays. Follows
+    /// `std::io::Chain::get_mut`.
+    pub fn get_mut(&mut self) -> (&mut T, &mut U)
+        ensures first { result.0.now ≡ chain_first self.old }
+        ensures second { result.1.now ≡ chain_second self.old }
+        ensures* writes_back { sem 𝓛 (LendsBoth (chain-row T.row U.row) T.row U.row self.entry result (chain_with_readers self.old)) }
+    {
+        (&mut self.first, &mut self.second)
+    }
+}
+
+// A chain tells no store.
+impl<T: Read, U: Read> Stored for Chain<T, U> {
+    ghost has_store = { λ _. ⊥ };
+
+    ghost content = { λ _. [] };
+
+    ghost position = { λ _. 0 };
+}
+
+impl<T: Read, U: Read> Read for Chain<T, U> {
+    ghost tells = { chain_tells T.tells U.tells };
+
+    ghost events = { chain_events T.events U.events };
+
+    ghost turns = { chain_turns T.turns U.turns };
+
+    ghost cost = { λ _. 0 };
+
+    ghost is_metered = { λ _. ⊥ };
+
+    ghost is_filling = { λ _. ⊥ };
+
+    ghost may_take_none = { λ _. ⊥ };
+
+    fn read(&mut self, buf: &mut [u8]) -> Result<usize> {
+        if !self.done_first {
+            match self.first.read(buf)? {
+                0 if !buf.is_empty() => self.done_first = true,
+                n => return Ok(n),
+            }
+        }
+        self.second.read(buf)
+    }
+
+    // Each reader fills the vector in its own way.
+    fn read_to_end<A: Allocator>(&mut self, buf: &mut Vec<u8, A>) -> Result<usize> {
+        if self.done_first {
+            return self.second.read_to_end(buf);
+        }
+        let start = buf.len();
+        self.first.read_to_end(buf)?;
+        self.done_first = true;
+        self.second.read_to_end(buf)?;
+        Ok(buf.len() - start)
+    }
+
+    ghost filling_tells = { λ c h. absurd h };
+
+    ghost store_tells = { λ c h. absurd h };
+
+    ghost store_fits = { λ c h. absurd h };
+}
+
+impl<T: BufRead, U: BufRead> BufRead for Chain<T, U> {
+    ghost held = { chain_held T.held U.held };
+
+    ghost counts_fills = { λ _. ⊥ };
+
+    ghost fills = { λ _. 0 };
+
+    ghost lends_surely = { λ _. ⊥ };
+
+    ghost lent_length = { λ _. 0 };
+
+    #[tactic(auto, using(crate::proofs::Held::begins_append))]
+    fn fill_buf(&mut self) -> Result<&[u8]> {
+        if !self.done_first {
+            self.done_first = self.first.fill_buf()?.is_empty();
+        }
+        if self.done_first {
+            self.second.fill_buf()
+        } else {
+            self.first.fill_buf()
+        }
+    }
+
+    fn consume(&mut self, amount: usize) {
+        if self.done_first {
+            self.second.consume(amount);
+        } else {
+            self.first.consume(amount);
+        }
+    }
+}

@@ -1,0 +1,84 @@
+// Lines of text, one at a time.
+ghost use Rattle.std.specs.Prelude.{◌≡◌, ◌≤◌, ◌<◌, true, false, None, IfSome, IfErr, OnSome, string_bytes};
+ghost use Rattle.std.specs.Iterator.{at_most};
+ghost use Rattle.no_std_io2_base.specs.Errors.{IsFault};
+ghost use Rattle.no_std_io2_base.specs.Pieces.{line_text};
+ghost use Rattle.no_std_io2_base.specs.PieceItems.{lines_reader, lines_is_ended, RefusesLine, YieldsPiece, ends_at, items_left};
+
+use super::buf_read::BufRead;
+use super::pieces::{text_of, trim_line};
+use crate::error::Result;
+use std::alloc::Global;
+
+/// The lines of a reader's text, without the newline and without a carriage return right before
+/// it. Made by [`BufRead::lines`]; follows Rust's `std::io::Lines`.
+///
+/// A last line without a newline is an item too, and keeps its carriage return. A line that isn't
+/// UTF-8 is the item `InvalidData`. After an error it has ended and stays ended, unlike Rust's: what
+/// was taken for that item is lost.
+#[derive(Drop)]
+pub struct Lines<R> {
+    inner: R,
+    alloc: Global,
+    is_ended: bool,
+}
+
+impl<R> Lines<R> {
+    pub(super) fn new(inner: R, alloc: Global) -> Lines<R>
+        ensures reader { lines_reader result ≡ inner }
+        ensures fresh { lines_is_ended result ≡ false }
+    {
+        Lines {
+            inner,
+            alloc,
+            is_ended: false,
+        }
+    }
+}
+
+// The next line of the reader's.
+fn next_line<R: BufRead>(reader: &mut R, alloc: Global) -> Option<Result<String>>
+    ensures told { R.tells reader.old → R.tells reader.new
+        × YieldsPiece string_bytes line_text RefusesLine 10 (R.events reader.old) result (R.events reader.new) }
+    ensures fault { IfSome result (λ item. IfErr item IsFault) }
+    ensures turns { R.turns reader.new ≤ R.turns reader.old }
+    ensures turn { ends_at result ≡ false → OnSome result (R.turns reader.new < R.turns reader.old) }
+{
+    let mut line = Vec::new(alloc);
+    match reader.read_until(b'\n', &mut line) {
+        Ok(0) => None,
+        Ok(_) => {
+            trim_line(&mut line);
+            Some(text_of(line))
+        }
+        Err(e) => Some(Err(e)),
+    }
+}
+
+impl<R: BufRead> Iterator for Lines<R>
+where
+    R: Drop,
+{
+    type Item = Result<String>;
+
+    ghost next_gives = { λ s r t.
+        (lines_is_ended s ≡ true → (r ≡ None) × (t ≡ s))
+        × (lines_is_ended s ≡ false → (lines_is_ended t ≡ ends_at r)
+        × (R.tells (lines_reader s) → R.tells (lines_reader t)
+        × YieldsPiece string_bytes line_text RefusesLine 10
+        (R.events (lines_reader s)) r (R.events (lines_reader t))))
+        × IfSome r (λ item. IfErr item IsFault)
+        × OnSome r (items_left (lines_is_ended t) (R.turns (lines_reader t))
+        < items_left (lines_is_ended s) (R.turns (lines_reader s))) };
+
+    ghost remaining = { λ s. at_most (items_left (lines_is_ended s) (R.turns (lines_reader s))) };
+
+    fn next(&mut self) -> Option<Result<String>> {
+        if self.is_ended {
+            return None;
+        }
+        let line = next_line(&mut self.inner, self.alloc);
+        self.is_ended = matches!(line, Some(Err(_)));
+        line
+    }
+}

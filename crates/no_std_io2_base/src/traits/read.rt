@@ -1,0 +1,186 @@
+ghost use Rattle.std.specs.Prelude.{◌≡◌, ℕ, false, List, ◌++◌, take, drop, ◌+◌, ◌≤◌, ◌<◌, ◌^◌, min, length, IfOk, IfErr, OnOk, OnErr, IsOkAnd, vec_len, vec_capacity};
+ghost use Rattle.no_std_io2_base.specs.Errors.{IsFault, IsOutOfMemory};
+ghost use Rattle.no_std_io2_base.specs.Events.{Event, cut, bytes, events_of, given, Reads, ReadsExact, ReadsToEnd, SpendsTurn};
+ghost use Rattle.no_std_io2_base.specs.Chain.{chain_first, chain_second, chain_is_done, chain_tells, chain_events};
+ghost use Rattle.no_std_io2_base.specs.SingleBytes.{bytes_reader};
+ghost use Rattle.no_std_io2_base.specs.Take.{take_inner, take_limit, take_events};
+
+use super::bytes::Bytes;
+use super::chain::Chain;
+use super::room::{LEAST_ROOM, open_room, reserve_room};
+use super::stored::Stored;
+use super::take::Take;
+use crate::error::{Result, failed_to_fill};
+use std::alloc::Allocator;
+
+/// A source of bytes. Follows Rust's `std::io::Read`.
+///
+/// A reader may tell, to contracts alone, the *events* that are to come: bytes and errors, in
+/// order. Each call then takes exactly a front of them. It also tells a number of *turns*, which
+/// each call that gives bytes or an error lowers, so that every loop of reads ends.
+pub trait Read: Stored {
+    // That the reader tells the events to come, and these.
+    ghost tells: { Self → Type 0 };
+
+    ghost events: { Self → List Event };
+
+    // No call raises it, and each that gives bytes or an error lowers it.
+    ghost turns: { Self → ℕ };
+
+    // How many reads into some room were made, and whether they are counted.
+    ghost cost: { Self → ℕ };
+
+    ghost is_metered: { Self → Type 0 };
+
+    // Bytes alone are to come, and each read gives as many of them as fit.
+    ghost is_filling: { Self → Type 0 };
+
+    // A `read_exact` that falls short may leave all that there was. Else it has taken it.
+    ghost may_take_none: { Self → Type 0 };
+
+    /// Reads some bytes into the front of `buf`: `Ok(n)` gave `n` bytes, `n` at most its length.
+    /// Where `buf` has room, `Ok(0)` means the end, and a reader that tells its events stays there.
+    /// Into an empty buffer nothing is read. Follows `std::io::Read::read`.
+    ///
+    /// # Errors
+    /// The device's own; no byte was taken then. After an interruption the call may be made again.
+    fn read(&mut self, buf: &mut [u8]) -> Result<usize>
+        ensures bound { IfOk result (λ n. n ≤ length buf.new) }
+        ensures told { tells self.old → tells self.new
+            × Reads (events self.old) result buf.new (events self.new) }
+        ensures turns { turns self.new ≤ turns self.old }
+        ensures turn { SpendsTurn result (turns self.old) (turns self.new) }
+        ensures cost { is_metered self.old → is_metered self.new
+            × (cost self.new ≡ cost self.old + min 1 (length buf.old)) }
+        ensures fills { is_filling self.old → is_filling self.new
+            × IsOkAnd result (λ n. n ≡ min (length buf.old) (length (events self.old))) }
+        ensures store { Self.has_store self.old → Self.has_store self.new
+            × (Self.content self.new ≡ Self.content self.old)
+            × (Self.position self.new ≡ Self.position self.old + given result) };
+
+    /// Fills the whole of `buf`, passing over interruptions. Follows `std::io::Read::read_exact`.
+    ///
+    /// # Errors
+    /// The first fault that comes before `buf` is full: the reader stands right after it.
+    /// `UnexpectedEof` where the bytes end too early: all that there was is taken, but slices and
+    /// cursors have taken nothing. Never `Interrupted`.
+    fn read_exact(&mut self, buf: &mut [u8]) -> Result<()>
+        ensures told { tells self.old → tells self.new
+            × ReadsExact (may_take_none self.old) (events self.old) result buf.new (events self.new) }
+        ensures fault { IfErr result IsFault }
+        ensures turns { turns self.new ≤ turns self.old }
+        ensures metered { is_metered self.old → is_metered self.new }
+        ensures filling { is_filling self.old → is_filling self.new }
+        ensures store { Self.has_store self.old → Self.has_store self.new
+            × (Self.content self.new ≡ Self.content self.old)
+            × (Self.position self.new + length (events self.new) ≡ Self.position self.old + length (events self.old)) }
+    {
+        let mut at = 0;
+        'reads: while at < buf.len() {
+            match self.read(&mut buf[at..]) {
+                Ok(0) => return Err(failed_to_fill()),
+                Ok(n) => at += n,
+                Err(e) if e.is_interrupted() => {}
+                Err(e) => return Err(e),
+            }
+        }
+        Ok(())
+    }
+
+    /// Appends all bytes to come to `buf`, passing over interruptions, and answers their number.
+    /// Before its first read, and whenever no room is left, it makes room for at least 32 bytes; a
+    /// slice makes room once, for the bytes that it has. Follows `std::io::Read::read_to_end`.
+    ///
+    /// # Errors
+    /// The first fault: the reader stands right after it. `OutOfMemory` where a growth was refused,
+    /// before the read that it was for. After either, `buf` has its old content and then the bytes
+    /// taken. Never `Interrupted`.
+    fn read_to_end<A: Allocator>(&mut self, buf: &mut Vec<u8, A>) -> Result<usize>
+    where
+        Self: Sized,
+        ensures told { tells self.old → tells self.new
+            × ReadsToEnd (events self.old) result buf.old.items buf.new.items (events self.new) }
+        ensures appends { take (vec_len buf.old) buf.new.items ≡ buf.old.items }
+        ensures count { IfOk result (λ n. vec_len buf.new ≡ vec_len buf.old + n) }
+        ensures fault { IfErr result IsFault }
+        ensures turns { turns self.new ≤ turns self.old }
+        ensures metered { is_metered self.old → is_metered self.new }
+        ensures filling { is_filling self.old → is_filling self.new }
+        ensures store { Self.has_store self.old → Self.has_store self.new
+            × (Self.content self.new ≡ Self.content self.old)
+            × (Self.position self.new + length (events self.new)
+            ≡ Self.position self.old + length (events self.old)) }
+    {
+        let start = buf.len();
+        let mut filled = start;
+        reserve_room(buf, LEAST_ROOM)?;
+        'reads: loop {
+            open_room(buf, filled, filled - start, LEAST_ROOM)?;
+            match self.read(&mut buf[filled..]) {
+                Ok(0) => {
+                    buf.truncate(filled);
+                    return Ok(filled - start);
+                }
+                Ok(n) => filled += n,
+                Err(e) if e.is_interrupted() => {}
+                Err(e) => {
+                    buf.truncate(filled);
+                    return Err(e);
+                }
+            }
+        }
+    }
+
+    /// The reader itself, lent: for an adaptor that would take it by value. Follows
+    /// `std::io::Read::by_ref`.
+    final fn by_ref(&mut self) -> &mut Self
+    where
+        Self: Sized,
+        ensures name { result.ghost_name ≡ self.entry.ghost_name }
+        ensures value { result.now ≡ self.old }
+    {
+        self
+    }
+
+    /// This reader's bytes, one at a time. Follows `std::io::Read::bytes`.
+    final fn bytes(self) -> Bytes<Self>
+    where
+        Self: Sized,
+        ensures { bytes_reader result ≡ self }
+    {
+        Bytes::new(self)
+    }
+
+    /// This reader, and after its end `next`. Follows `std::io::Read::chain`.
+    final fn chain<R: Read>(self, next: R) -> Chain<Self, R>
+    where
+        Self: Sized,
+        ensures first { chain_first result ≡ self }
+        ensures second { chain_second result ≡ next }
+        ensures fresh { chain_is_done result ≡ false }
+        ensures tells { tells self → R.tells next → chain_tells tells R.tells result }
+        ensures events { chain_events events R.events result ≡ events self ++ R.events next }
+    {
+        Chain::new(self, next)
+    }
+
+    /// At most the first `limit` bytes of this reader. Follows `std::io::Read::take`.
+    final fn take(self, limit: u64) -> Take<Self>
+    where
+        Self: Sized,
+        ensures inner { take_inner result ≡ self }
+        ensures limit { take_limit result ≡ limit }
+        ensures events { take_events events result ≡ cut limit (events self) }
+    {
+        Take::new(self, limit)
+    }
+
+    // A filling reader tells, and bytes alone.
+    ghost filling_tells: { (x : Self) → is_filling x → tells x × (events x ≡ events_of (bytes (events x))) };
+
+    // What is to come of a told store is its content from the position on.
+    ghost store_tells: { (x : Self) → Self.has_store x → tells x
+        × (events x ≡ events_of (drop (Self.position x) (Self.content x))) };
+
+    ghost store_fits: { (x : Self) → Self.has_store x → (length (Self.content x) < 2 ^ 64) × (Self.position x < 2 ^ 64) };
+}

@@ -1,0 +1,83 @@
+ghost use Rattle.std.specs.Prelude.{◌≡◌, ◌<◌, ◌^◌, length, IfOk, IsOkAnd, IsOk};
+
+use super::stored::Stored;
+use crate::error::Result;
+
+/// Where a seek goes: so many bytes from the start, from the end or from the current position.
+/// Follows Rust's `std::io::SeekFrom`.
+#[derive(Clone, Copy, Debug, PartialEq, Eq)]
+pub enum SeekFrom {
+    /// This position, from 0 on.
+    Start(u64),
+    /// The length of the content, plus this offset.
+    End(i64),
+    /// The current position, plus this offset.
+    Current(i64),
+}
+
+/// A stream with a position that can be moved. Follows Rust's `std::io::Seek`.
+pub trait Seek: Stored {
+    ghost use Rattle.no_std_io2_base.specs.Seek.{Seeks};
+
+    /// Moves to `pos`, past the end too, and answers the new position from the start. A told store
+    /// keeps its content. Follows `std::io::Seek::seek`.
+    ///
+    /// # Errors
+    /// `InvalidInput` where the target is below 0 or above the greatest `u64`: a told store is as
+    /// it was. Where no store is told, the device's own.
+    fn seek(&mut self, pos: SeekFrom) -> Result<u64>
+        ensures store { Self.has_store self.old → Self.has_store self.new
+            × (Self.content self.new ≡ Self.content self.old)
+            × Seeks (length (Self.content self.old)) (Self.position self.old) pos result (Self.position self.new) }
+        ensures position { IfOk result (λ n. Self.has_store self.new → Self.position self.new ≡ n) };
+
+    /// The position from the start. Follows `std::io::Seek::stream_position`.
+    ///
+    /// # Errors
+    /// Those of `seek(SeekFrom::Current(0))`: none over a told store.
+    fn stream_position(&mut self) -> Result<u64>
+        ensures store { Self.has_store self.old → Self.has_store self.new
+            × (Self.content self.new ≡ Self.content self.old)
+            × (Self.position self.new ≡ Self.position self.old)
+            × IsOkAnd result (λ n. n ≡ Self.position self.old) }
+        ensures position { IfOk result (λ n. Self.has_store self.new → Self.position self.new ≡ n) }
+    {
+        self.seek(SeekFrom::Current(0))
+    }
+
+    /// Moves to the start. Follows `std::io::Seek::rewind`.
+    ///
+    /// # Errors
+    /// Those of `seek(SeekFrom::Start(0))`: none over a told store.
+    fn rewind(&mut self) -> Result<()>
+        ensures { Self.has_store self.old → Self.has_store self.new
+            × (Self.content self.new ≡ Self.content self.old)
+            × (Self.position self.new ≡ 0) × IsOk result }
+    {
+        self.seek(SeekFrom::Start(0))?;
+        Ok(())
+    }
+
+    /// The length of the content in bytes, by a seek to its end and one back, where that is
+    /// elsewhere. Follows `std::io::Seek::stream_len`.
+    ///
+    /// # Errors
+    /// The first error of these seeks, after which the position may be the end: none over a told
+    /// store, which is as it was.
+    fn stream_len(&mut self) -> Result<u64>
+        ensures store { Self.has_store self.old → Self.has_store self.new
+            × (Self.content self.new ≡ Self.content self.old)
+            × (Self.position self.new ≡ Self.position self.old)
+            × IsOkAnd result (λ n. n ≡ length (Self.content self.old)) }
+    {
+        let old = self.stream_position()?;
+        let end = self.seek(SeekFrom::End(0))?;
+        if old != end {
+            self.seek(SeekFrom::Start(old))?;
+        }
+        Ok(end)
+    }
+
+    // A told store fits the numbers that the calls give.
+    ghost seek_fits: { (x : Self) → Self.has_store x → (length (Self.content x) < 2 ^ 64) × (Self.position x < 2 ^ 64) };
+}

@@ -1,0 +1,88 @@
+// Pieces, one at a time.
+ghost use Rattle.std.specs.Prelude.{◌≡◌, ◌≤◌, ◌<◌, true, false, None, IfSome, IfErr, OnSome, vec_items};
+ghost use Rattle.std.specs.Iterator.{at_most};
+ghost use Rattle.no_std_io2_base.specs.Errors.{IsFault};
+ghost use Rattle.no_std_io2_base.specs.Pieces.{without};
+ghost use Rattle.no_std_io2_base.specs.PieceItems.{split_reader, split_delim, split_is_ended, YieldsPiece, ends_at, items_left};
+
+use super::buf_read::BufRead;
+use super::pieces::drop_last;
+use crate::error::Result;
+use std::alloc::Global;
+
+/// The pieces of a reader's bytes, each up to a delimiter and without it. Made by
+/// [`BufRead::split`]; follows Rust's `std::io::Split`.
+///
+/// Where the last piece has no delimiter it is an item too, unless it is empty. After an error, a
+/// fault of the reader or `OutOfMemory`, it has ended and stays ended, unlike Rust's: what was taken
+/// for that item is lost.
+#[derive(Drop)]
+pub struct Split<R> {
+    inner: R,
+    alloc: Global,
+    delim: u8,
+    is_ended: bool,
+}
+
+impl<R> Split<R> {
+    pub(super) fn new(inner: R, alloc: Global, delim: u8) -> Split<R>
+        ensures reader { split_reader result ≡ inner }
+        ensures delim { split_delim result ≡ delim }
+        ensures fresh { split_is_ended result ≡ false }
+    {
+        Split {
+            inner,
+            alloc,
+            delim,
+            is_ended: false,
+        }
+    }
+}
+
+// The next piece of the reader's, without its delimiter.
+fn next_piece<R: BufRead>(reader: &mut R, alloc: Global, delim: u8) -> Option<Result<Vec<u8>>>
+    ensures told { R.tells reader.old → R.tells reader.new
+        × YieldsPiece vec_items (without delim) (λ _ _. ⊥) delim (R.events reader.old) result (R.events reader.new) }
+    ensures fault { IfSome result (λ item. IfErr item IsFault) }
+    ensures turns { R.turns reader.new ≤ R.turns reader.old }
+    ensures turn { ends_at result ≡ false → OnSome result (R.turns reader.new < R.turns reader.old) }
+{
+    let mut piece = Vec::new(alloc);
+    match reader.read_until(delim, &mut piece) {
+        Ok(0) => None,
+        Ok(_) => {
+            drop_last(&mut piece, delim);
+            Some(Ok(piece))
+        }
+        Err(e) => Some(Err(e)),
+    }
+}
+
+impl<R: BufRead> Iterator for Split<R>
+where
+    R: Drop,
+{
+    type Item = Result<Vec<u8>>;
+
+    ghost next_gives = { λ s r t.
+        (split_is_ended s ≡ true → (r ≡ None) × (t ≡ s))
+        × (split_is_ended s ≡ false → (split_is_ended t ≡ ends_at r)
+        × (R.tells (split_reader s) → R.tells (split_reader t)
+        × YieldsPiece vec_items (without (split_delim s)) (λ _ _. ⊥) (split_delim s)
+        (R.events (split_reader s)) r (R.events (split_reader t))))
+        × (split_delim t ≡ split_delim s)
+        × IfSome r (λ item. IfErr item IsFault)
+        × OnSome r (items_left (split_is_ended t) (R.turns (split_reader t))
+        < items_left (split_is_ended s) (R.turns (split_reader s))) };
+
+    ghost remaining = { λ s. at_most (items_left (split_is_ended s) (R.turns (split_reader s))) };
+
+    fn next(&mut self) -> Option<Result<Vec<u8>>> {
+        if self.is_ended {
+            return None;
+        }
+        let piece = next_piece(&mut self.inner, self.alloc, self.delim);
+        self.is_ended = matches!(piece, Some(Err(_)));
+        piece
+    }
+}
