@@ -13,8 +13,8 @@ mod state;
 mod steps;
 mod tells;
 
-use super::sender::Sender;
 use super::buf_writer::IntoInnerError;
+use super::sender::Sender;
 use no_std_io2_base::error::Result;
 use no_std_io2_base::traits::Write;
 use state::LineSender;
