@@ -1,40 +1,64 @@
--- A slice that is read to its end, in one piece or in two.
-use Rattle.std.proofs.Common.{◌≡◌, ℕ, ◌-◌, ◌≤◌, List, [], ◌++◌, Err, length, take, drop, sym, ap, ◌∙◌, arith, inr, append_assoc, take_all, length-drop}
-use Rattle.std.proofs.lemmas.List.{take-append-drop}
+-- Bytes that are taken off a slice and appended, as a reader tells it.
+use Rattle.std.proofs.Common.{◌≡◌, ℕ, ◌+◌, ◌-◌, ◌<◌, ◌^◌, List, [], ◌++◌, Err, length, drop, sym, ap, ◌∙◌, arith, inr, append-nil, length-drop}
+use Rattle.std.proofs.Math.Seq.{drop-append_seam}
+use Rattle.std.proofs.lemmas.List.{length-append}
 use Rattle.no_std_io2_base.specs.declared.error.Error.{Error}
 use Rattle.no_std_io2_base.specs.Errors.{IsOutOfMemory}
 use Rattle.no_std_io2_base.specs.Events.{events_of, bytes, HasNoFault, ReadsToEnd}
-use Rattle.no_std_io2_base.proofs.Events.{HasNoFault-events_of, bytes-events_of, events_of-append}
+use Rattle.no_std_io2_base.specs.Slices.{HasMoved}
+use Rattle.no_std_io2_base.proofs.CursorLemmas.{left_after}
+use Rattle.no_std_io2_base.proofs.Events.{HasNoFault-events_of, bytes-events_of, events_of-append, length-events_of}
 
 -- all of it was appended
-pub taken_whole : (all old new : List ℕ) (n : ℕ) → n ≡ length all → new ≡ old ++ all
-    → HasNoFault (events_of all) × (new ≡ old ++ bytes (events_of all)) × (n ≡ length (bytes (events_of all)))
-    × (events_of (take (length all - n) (drop n all)) ≡ [])
-taken_whole all old new n count grown =
-    let none : length all - n ≡ 0 = omega (arith, count) in (
+pub moved_whole : (all rest old new : List ℕ) → HasMoved all rest old new → rest ≡ []
+    → HasNoFault (events_of all) × (new ≡ old ++ bytes (events_of all)) × (length all ≡ length (bytes (events_of all))) × (events_of rest ≡ [])
+moved_whole all rest old new moved none =
+    let whole : all ≡ moved.0 = moved.1 ∙ ap (λ l. moved.0 ++ l) none ∙ append-nil moved.0 in (
       HasNoFault-events_of all,
-      grown ∙ ap (λ l. old ++ l) (sym (bytes-events_of all)),
-      count ∙ ap length (sym (bytes-events_of all)),
-      ap (λ k. events_of (take k (drop n all))) none,
+      moved.2 ∙ ap (λ l. old ++ l) (sym whole) ∙ ap (λ l. old ++ l) (sym (bytes-events_of all)),
+      ap length (sym (bytes-events_of all)),
+      ap events_of none,
     )
 
--- the rest behind the first n bytes
-rest_of : (all : List ℕ) (n : ℕ) → take (length all - n) (drop n all) ≡ drop n all
-rest_of all n = take_all (length all - n) (drop n all) (omega (arith, length-drop n all))
-
 -- a front of it was appended, and memory was refused for the rest
-pub taken_part : (all old new : List ℕ) (n : ℕ) (e : Error) → new ≡ old ++ take n all → IsOutOfMemory e
-    → ReadsToEnd (events_of all) (Err e) old new (events_of (take (length all - n) (drop n all)))
-taken_part all old new n e grown refused = (
-  events_of (take n all),
-  ap events_of (sym (take-append-drop n all)) ∙ events_of-append (take n all) (drop n all)
-      ∙ ap (λ l. events_of (take n all) ++ events_of l) (sym (rest_of all n)),
-  grown ∙ ap (λ l. old ++ l) (sym (bytes-events_of (take n all))),
-  inr (HasNoFault-events_of (take n all), refused),
+pub moved_part : (all rest old new : List ℕ) (e : Error) → HasMoved all rest old new → IsOutOfMemory e
+    → ReadsToEnd (events_of all) (Err e) old new (events_of rest)
+moved_part all rest old new e moved refused = (
+  events_of moved.0,
+  ap events_of moved.1 ∙ events_of-append moved.0 rest,
+  moved.2 ∙ ap (λ l. old ++ l) (sym (bytes-events_of moved.0)),
+  inr (HasNoFault-events_of moved.0, refused),
 )
 
--- a front of it, and then the rest
-pub appended_both : (all old mid new : List ℕ) (n : ℕ) → mid ≡ old ++ take n all → new ≡ mid ++ take (length all - n) (drop n all) → new ≡ old ++ all
-appended_both all old mid new n first second =
-    second ∙ ap (λ l. mid ++ l) (rest_of all n) ∙ ap (λ l. l ++ drop n all) first ∙ append_assoc old (take n all) (drop n all)
-    ∙ ap (λ l. old ++ l) (take-append-drop n all)
+-- the rest is no longer than the whole was
+pub rest_within : (all rest old new : List ℕ) → HasMoved all rest old new → length all ≡ length rest + (length all - length rest)
+rest_within all rest old new moved = omega (arith, ap length moved.1, length-append moved.0 rest)
+
+-- what a cursor has left, once it stands behind what was taken
+pub left_behind : (content : List ℕ) (place : ℕ) (left rest old new : List ℕ) → left ≡ drop place content → HasMoved left rest old new
+    → drop (place + (length left - length rest)) content ≡ rest
+left_behind content place left rest old new is moved =
+    let n = length left - length rest in
+    let taken : n ≡ length moved.0 = omega (arith, ap length moved.1, length-append moved.0 rest) in
+    left_after content place n ∙ ap (drop n) (sym is ∙ moved.1) ∙ ap (λ k. drop k (moved.0 ++ rest)) taken ∙ drop-append_seam moved.0 rest
+
+-- and where it stands then
+pub place_behind : (content : List ℕ) (place : ℕ) (left rest old new : List ℕ) → length content < 2 ^ 64 → place < 2 ^ 64
+    → left ≡ drop place content → HasMoved left rest old new
+    → (place + (length left - length rest) < 2 ^ 64)
+    × (place + (length left - length rest) + length (events_of (drop (place + (length left - length rest)) content))
+    ≡ place + length (events_of (drop place content)))
+place_behind content place left rest old new small fits is moved =
+    let after = left_behind content place left rest old new is moved in
+    let long = ap length is ∙ length-drop place content in
+    let within = rest_within left rest old new moved in (
+      omega (arith, small, fits, long),
+      omega (
+        arith,
+        within,
+        ap length is,
+        ap length after,
+        length-events_of (drop place content),
+        length-events_of (drop (place + (length left - length rest)) content),
+      ),
+    )

@@ -7,4 +7,4 @@ mod reading_objects;
 mod slices;
 mod vectors;
 
-pub(crate) use slices::copy_prefix;
+pub(crate) use slices::{append_rest, copy_prefix};

@@ -7,8 +7,9 @@ ghost use Rattle.std.proofs.Common.{rules};
 
 use super::{AsSlice, Cursor};
 use crate::error::{Result, failed_to_fill};
-use crate::impls::copy_prefix;
+use crate::impls::{append_rest, copy_prefix};
 use crate::traits::{BufRead, Read, Stored};
+use std::alloc::Allocator;
 
 impl<T: AsSlice<u8>> Stored for Cursor<T> {
     ghost has_store = { cursor_stores T.slice };
@@ -84,6 +85,16 @@ impl<T: AsSlice<u8>> Read for Cursor<T> {
         let n = copy_prefix(left, buf);
         self.pos += n as u64;
         Ok(())
+    }
+
+    fn read_to_end<A: Allocator>(&mut self, buf: &mut Vec<u8, A>) -> Result<usize> {
+        let start = self.pos;
+        let mut rest = self.left();
+        let len = rest.len();
+        let answer = append_rest(&mut rest, buf);
+        self.pos = start + (len - rest.len()) as u64;
+        answer?;
+        Ok(len)
     }
 
     ghost filling_tells = { λ c _. (tt, bytes_alone (cursor_left T.slice c)) };

@@ -1,7 +1,8 @@
 ghost use Rattle.std.specs.Prelude.{◌≡◌, ◌≤◌, ◌<◌, min, ◌++◌, length, take, drop, [], IfErr, OnOk, OnErr};
-ghost use Rattle.no_std_io2_base.specs.Errors.{IsFault};
+ghost use Rattle.no_std_io2_base.specs.Errors.{IsFault, IsOutOfMemory};
 ghost use Rattle.no_std_io2_base.specs.Events.{events_of, ReadsExact};
 ghost use Rattle.no_std_io2_base.specs.Laws.{bytes_alone};
+ghost use Rattle.no_std_io2_base.specs.Slices.{HasMoved};
 
 use crate::error::{Result, failed_to_fill};
 use crate::traits::{BufRead, LEAST_ROOM, Read, Stored, reserve_room};
@@ -13,8 +14,37 @@ pub(crate) fn copy_prefix(from: &[u8], to: &mut [u8]) -> usize
     ensures copied { to.new ≡ take result from.now ++ drop result to.old }
 {
     let n = from.len().min(to.len());
-    to[..n].copy_from_slice(&from[..n]);
+    if n == 1 {
+        // A single byte is written by one instruction, and any other number by a call.
+        to[0] = from[0];
+    } else {
+        to[..n].copy_from_slice(&from[..n]);
+    }
     n
+}
+
+// Takes bytes off the front and appends them: all of them, or as many as there was room for where memory is refused.
+//
+// Who knows its bytes asks for room as any reader does, for 32 bytes first, and once that is full for the rest and 32
+// more at once.
+pub(crate) fn append_rest<A: Allocator>(rest: &mut &[u8], buf: &mut Vec<u8, A>) -> Result<()>
+    ensures moved { HasMoved rest.old.now rest.new.now buf.old.items buf.new.items }
+    ensures done { OnOk result (rest.new.now ≡ []) }
+    ensures refused { IfErr result IsOutOfMemory }
+{
+    reserve_room(buf, LEAST_ROOM)?;
+    let all: &[u8] = *rest;
+    let room = buf.capacity() - buf.len();
+    let n = all.len().min(room);
+    buf.extend_from_slice(&all[..n])?;
+    *rest = &all[n..];
+    if n < room {
+        return Ok(());
+    }
+    reserve_room(buf, rest.len().saturating_add(LEAST_ROOM))?;
+    buf.extend_from_slice(rest)?;
+    *rest = &all[all.len()..];
+    Ok(())
 }
 
 // A slice tells no store: what it left behind is forgotten.
@@ -68,21 +98,10 @@ impl Read for &[u8] {
         Ok(())
     }
 
-    // A slice knows what it has: once the room for 32 bytes is full, it asks for the rest and 32 more at once.
     fn read_to_end<A: Allocator>(&mut self, buf: &mut Vec<u8, A>) -> Result<usize> {
-        let all: &[u8] = *self;
-        reserve_room(buf, LEAST_ROOM)?;
-        let room = buf.capacity() - buf.len();
-        let n = all.len().min(room);
-        buf.extend_from_slice(&all[..n])?;
-        *self = &all[n..];
-        if n < room {
-            return Ok(n);
-        }
-        reserve_room(buf, (all.len() - n).saturating_add(LEAST_ROOM))?;
-        buf.extend_from_slice(&all[n..])?;
-        *self = &all[all.len()..];
-        Ok(all.len())
+        let len = self.len();
+        append_rest(self, buf)?;
+        Ok(len)
     }
 
     ghost filling_tells = { λ s _. (tt, bytes_alone s.now) };
