@@ -1,10 +1,13 @@
-//! Reads a text by `read_line`, `split` and `lines` through a small buffer, for runs in each of which one allocation
-//! fails (`scripts/check_refusals`).
+//! Reads a text by `read_line`, `split` and `lines` through a small buffer, and sends and reads frames and lines of a log,
+//! for runs in each of which one allocation fails (`scripts/check_refusals`).
 //!
 //! The status is 0 where all was read, and 1 where memory was refused and nothing else went wrong. An answer in
 //! place of the refusal is printed, and the status is 0, so that the run differs from one with memory by its output.
 #![tactic(auto)]
 
+mod clients;
+
+use clients::{by_frames, by_given_frames, by_joined, by_log};
 use no_std_io2::io::{BufRead, BufReader, Cursor, Error, ErrorKind, Read};
 use std::alloc::Global;
 use std::process::ExitCode;
@@ -104,7 +107,15 @@ fn by_lines(alloc: Global) -> Outcome {
 
 fn main(rt: HostRuntime) -> ExitCode {
     let alloc = rt.alloc();
-    let outcomes = [by_read_line(alloc), by_split(alloc), by_lines(alloc)];
+    let outcomes = [
+        by_read_line(alloc),
+        by_split(alloc),
+        by_lines(alloc),
+        by_frames(alloc),
+        by_given_frames(alloc),
+        by_log(alloc),
+        by_joined(alloc),
+    ];
     for outcome in outcomes {
         if let Outcome::Wrong(what) = outcome {
             let _ = println!(rt; "{what}");
