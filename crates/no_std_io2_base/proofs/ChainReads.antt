@@ -1,9 +1,10 @@
 -- What a read of two readers in a row does.
-use Rattle.std.proofs.Common.{◌≡◌, ℕ, ◌+◌, ◌<◌, ◌≤◌, true, false, List, [], ◌++◌, Result, Ok, Err, if◌then◌else◌, refl, sym, ap, subst, ◌∙◌, arith, le_refl}
+use Rattle.std.proofs.Common.{◌≡◌, ℕ, ◌+◌, ◌<◌, ◌≤◌, Bool, true, false, List, [], ◌∷◌, ◌++◌, Result, Ok, Err, OnOk, length, take, length-take-le, true≢false, length-append, if◌then◌else◌, refl, sym, ap, subst, ◌∙◌, arith, le_refl}
 use Rattle.no_std_io2_base.specs.declared.error.Error.{Error}
 use Rattle.no_std_io2_base.specs.declared.traits.chain.Chain.{Chain}
-use Rattle.no_std_io2_base.specs.Events.{Event, SpendsTurn}
-use Rattle.no_std_io2_base.specs.Chain.{chain_events, chain_tells}
+use Rattle.no_std_io2_base.specs.Events.{Event, fails, events_of, bytes, HasRoom, Reads, SpendsTurn}
+use Rattle.no_std_io2_base.specs.Chain.{chain_events, chain_tells, InTurn}
+use Rattle.no_std_io2_base.proofs.Events.{bytes-append, length-events_of, HasNoFault-front, HasNoFault-behind}
 
 -- the first reader is at its end: the second is read
 pub record PastFirst {T U : Type 0} (tells : T → Type 0) (tells_second : U → Type 0) (turns : T → ℕ) (events : T → List Event)
@@ -12,6 +13,7 @@ pub record PastFirst {T U : Type 0} (tells : T → Type 0) (tells_second : U →
   pub done : now.done_first ≡ true
   pub second : now.second ≡ was.second
   pub spent : turns now.first ≤ turns was.first
+  pub same : was.done_first ≡ true → now.first ≡ was.first
   pub left : chain_tells tells tells_second was → chain_events events events_second was ≡ events_second was.second
 
 -- it was so before
@@ -23,6 +25,7 @@ past_done tells tells_second turns events events_second was now same done =
       done = done;
       second = refl;
       spent = le_refl _;
+      same = λ _. refl;
       left = λ t. ap (λ b. (if b then [] else events was.first) ++ events_second was.second) done;
     })
 
@@ -37,6 +40,7 @@ past_read tells tells_second turns events events_second was now first is going s
       done = refl;
       second = refl;
       spent = spent;
+      same = λ h. absurd (true≢false (sym h ∙ going));
       left = λ t. ap (λ b. (if b then [] else events was.first) ++ events_second was.second) going
           ∙ ap (λ E. E ++ events_second was.second) (none (t.0 going));
     })
@@ -54,3 +58,76 @@ second_turn (Err e) first first' second second' stays spent = omega (arith, stay
 -- and one of the first too
 pub first_turn : (n first first' second : ℕ) → (0 < n → first' < first) → 0 < n → first' + second < first + second
 first_turn n first first' second spent some = let now = spent some in omega arith
+
+-- so a call that went on with the second used one after the other
+pub turn_past : {T U : Type 0} (tells : T → Type 0) (tells_second : U → Type 0) (turns : T → ℕ) (events : T → List Event)
+    (events_second : U → List Event) (was mid now : Chain T U) → PastFirst tells tells_second turns events events_second was mid
+    → now.done_first ≡ mid.done_first → now.first ≡ mid.first → InTurn was now
+turn_past tells tells_second turns events events_second was mid now past marked same = record {
+  stays_done = λ _. marked ∙ past.done;
+  first_alone = λ h. same ∙ past.same h;
+  second_alone = λ h. absurd (true≢false (sym (marked ∙ past.done) ∙ h));
+}
+
+-- a reader with nothing left gives no byte
+pub gave_none : (E E' : List Event) (n : ℕ) (buf : List ℕ) → Reads E (Ok n) buf E' → n ≤ length buf → E ≡ [] → n ≡ 0
+gave_none E E' n buf read bound none =
+    let gone = ap length (sym none ∙ read.0) ∙ length-append (events_of (take n buf)) E' in
+    omega (arith, gone, length-events_of (take n buf), length-take-le n buf bound)
+
+-- and no error
+pub failed_none : (E E' : List Event) (e : Error) → E ≡ fails e ∷ E' → E ≡ [] → ⊥
+failed_none E E' e failed none = omega (arith, ap length (sym none ∙ failed))
+
+-- where there is room for both, there is room for the first
+pub room_of_first : (E F : List Event) (len capacity : ℕ) → HasRoom (E ++ F) len capacity → HasRoom E len capacity
+room_of_first E F len capacity enough = (
+  HasNoFault-front E F enough.0,
+  omega (arith, enough.1, ap length (bytes-append E F), length-append (bytes E) (bytes F)),
+)
+
+-- and for the second behind it
+pub room_of_second : (E F : List Event) (len capacity n len' capacity' : ℕ) → HasRoom (E ++ F) len capacity → n ≡ length (bytes E)
+    → len' ≡ len + n → capacity ≤ capacity' → HasRoom F len' capacity'
+room_of_second E F len capacity n len' capacity' enough all grown more = (
+  HasNoFault-behind E F enough.0,
+  omega (arith, enough.1, all, grown, more, ap length (bytes-append E F), length-append (bytes E) (bytes F)),
+)
+
+-- the second is all that is left of a chain whose first is done, and both are while it is not
+pub room_when_done : (done : Bool) (E F : List Event) (len capacity : ℕ) → done ≡ true
+    → HasRoom ((if done then [] else E) ++ F) len capacity → HasRoom F len capacity
+room_when_done done E F len capacity is enough = subst (λ b. HasRoom ((if b then [] else E) ++ F) len capacity) is enough
+
+pub room_while_going : (done : Bool) (E F : List Event) (len capacity : ℕ) → done ≡ false
+    → HasRoom ((if done then [] else E) ++ F) len capacity → HasRoom (E ++ F) len capacity
+room_while_going done E F len capacity is enough = subst (λ b. HasRoom ((if b then [] else E) ++ F) len capacity) is enough
+
+-- what holds, holds after an `Ok`
+pub after_ok : {A E : Type 0} {P : Type 0} (reply : Result A E) → P → OnOk reply P
+after_ok (Ok a) p = p
+after_ok (Err e) p = tt
+
+-- the first reader was used alone
+pub turn_of_first : {T U : Type 0} (was now : Chain T U) → was.done_first ≡ false → now.second ≡ was.second → InTurn was now
+turn_of_first was now going same = record {
+  stays_done = λ done. absurd (true≢false (sym done ∙ going));
+  first_alone = λ done. absurd (true≢false (sym done ∙ going));
+  second_alone = λ _. same;
+}
+
+-- the first reader has met its end, and the second was used
+pub turn_of_both : {T U : Type 0} (was now : Chain T U) → was.done_first ≡ false → now.done_first ≡ true → InTurn was now
+turn_of_both was now going done = record {
+  stays_done = λ _. done;
+  first_alone = λ h. absurd (true≢false (sym h ∙ going));
+  second_alone = λ h. absurd (true≢false (sym done ∙ h));
+}
+
+-- the second reader was used alone
+pub turn_of_second : {T U : Type 0} (was now : Chain T U) → now.done_first ≡ true → now.first ≡ was.first → InTurn was now
+turn_of_second was now done same = record {
+  stays_done = λ _. done;
+  first_alone = λ _. same;
+  second_alone = λ h. absurd (true≢false (sym done ∙ h));
+}

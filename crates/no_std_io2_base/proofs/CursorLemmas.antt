@@ -7,7 +7,7 @@ use Rattle.std.proofs.lemmas.Bool.Decides.{nat_tests}
 use Rattle.no_std_io2_base.specs.declared.error.Error.{Error}
 use Rattle.no_std_io2_base.specs.declared.error.ErrorKind.{ErrorKind}
 use Rattle.no_std_io2_base.specs.declared.error.ErrorKind.TheVariants.{WriteZero}
-use Rattle.no_std_io2_base.specs.Errors.{error_kind, is_interruption, IsFault}
+use Rattle.no_std_io2_base.specs.Errors.{error_kind, is_interruption, IsFault, IsOutOfMemory}
 use Rattle.no_std_io2_base.specs.Writes.{Moves, MovesFront, told_out, taken, write_mishap, zero_write}
 use Rattle.no_std_io2_base.specs.Cursor.{bytes_before, put_at, put_over, fitting, IsRefusal, PutsWhole, PutsAll, PutsFitting}
 
@@ -136,6 +136,13 @@ pub puts_moves_none : (bs : List ℕ) (place : ℕ) (x : List ℕ) (e : Error) (
     → MovesFront (told_out (bytes_before place bs)) x (Err e) (told_out (bytes_before place' bs'))
 puts_moves_none bs place x e bs' place' h =
     ([], (x, refl), tt, puts_moves bs place x (Err e) bs' place' h)
+
+-- a vector that was refused memory has accepted none
+pub refused_moves : (old new x : List ℕ) (e : Error) → new ≡ old → IsOutOfMemory e
+    → MovesFront (told_out old) x (Err e) (told_out new)
+refused_moves old new x e same refused =
+    let quiet = ap (λ k. count_by is_interruption (k ∷ [])) refused.0 in
+    ([], (x, refl), tt, appends_moves old new [] _ (same ∙ sym (append-nil old)) quiet)
 
 -- a refusal is no interruption
 pub refused_fault : (place : ℕ) (x : List ℕ) (e : Error) → IsRefusal place x e → IsFault e

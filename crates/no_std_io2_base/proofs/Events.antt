@@ -24,6 +24,18 @@ HasNoFault-append [] Q p q = q
 HasNoFault-append (byte b ∷ P) Q p q = HasNoFault-append P Q p q
 HasNoFault-append (fails e ∷ P) Q p q = (p.0, HasNoFault-append P Q p.1 q)
 
+-- the front of a list with no fault has none
+pub HasNoFault-front : (P Q : List Event) → HasNoFault (P ++ Q) → HasNoFault P
+HasNoFault-front [] Q h = tt
+HasNoFault-front (byte b ∷ P) Q h = HasNoFault-front P Q h
+HasNoFault-front (fails e ∷ P) Q h = (h.0, HasNoFault-front P Q h.1)
+
+-- what is behind the front of a list with no fault has none
+pub HasNoFault-behind : (P Q : List Event) → HasNoFault (P ++ Q) → HasNoFault Q
+HasNoFault-behind [] Q h = h
+HasNoFault-behind (byte b ∷ P) Q h = HasNoFault-behind P Q h
+HasNoFault-behind (fails e ∷ P) Q h = HasNoFault-behind P Q h.1
+
 pub HasNoFault-events_of : (bs : List ℕ) → HasNoFault (events_of bs)
 HasNoFault-events_of [] = tt
 HasNoFault-events_of (b ∷ bs) = HasNoFault-events_of bs

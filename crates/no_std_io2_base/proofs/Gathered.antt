@@ -1,10 +1,10 @@
 -- What a loop of reads has appended so far.
-use Rattle.std.proofs.Common.{◌≡◌, ℕ, ◌-◌, ◌<◌, ◌≤◌, List, [], ◌∷◌, ◌++◌, length, take, refl, sym, ap, ◌∙◌, subst, arith, Ok, Err, append_assoc, append-nil, inl, inr, length-append}
+use Rattle.std.proofs.Common.{◌≡◌, ℕ, ◌-◌, ◌+◌, ◌<◌, ◌≤◌, true≢false, List, [], ◌∷◌, ◌++◌, length, take, refl, sym, ap, ◌∙◌, subst, arith, Ok, Err, append_assoc, append-nil, inl, inr, length-append}
 use lib.Seq.{take-append-le}
 use Rattle.no_std_io2_base.specs.declared.error.Error.{Error}
 use Rattle.no_std_io2_base.specs.Errors.{IsInterruption, IsFault, IsOutOfMemory}
-use Rattle.no_std_io2_base.specs.Events.{Event, fails, events_of, bytes, HasNoFault, Reads, ReadsToEnd}
-use Rattle.no_std_io2_base.proofs.Events.{bytes-append, bytes-events_of, HasNoFault-append, HasNoFault-events_of}
+use Rattle.no_std_io2_base.specs.Events.{Event, fails, events_of, bytes, HasNoFault, HasRoom, Reads, ReadsToEnd}
+use Rattle.no_std_io2_base.proofs.Events.{bytes-append, bytes-events_of, HasNoFault-append, HasNoFault-behind, HasNoFault-events_of}
 
 -- `front`, which has no fault, is gone from E, and its bytes were appended
 pub record Gathered (E : List Event) (old new : List ℕ) (after : List Event) : Type 0 where
@@ -59,6 +59,21 @@ gathered_fault E old new after e rest t read fault = (
 pub gathered_memory : (E : List Event) (old new : List ℕ) (after : List Event) (e : Error)
     → Gathered E old new after → IsOutOfMemory e → ReadsToEnd E (Err e) old new after
 gathered_memory E old new after e t kind = (t.front, t.split, t.gave, inr (t.no_fault, kind))
+
+-- where there is room for all, a loop has not filled it
+pub gathered_fits : (E : List Event) (old new : List ℕ) (after : List Event) (len room now : ℕ)
+    → Gathered E old new after → HasRoom E len room → len ≡ length old → room ≤ now → length new < now
+gathered_fits E old new after len room now t enough long grows =
+    let gave = ap length t.gave ∙ length-append old (bytes t.front) in
+    let all = ap (λ l. length (bytes l)) t.split ∙ ap length (bytes-append t.front after) ∙ length-append (bytes t.front) (bytes after) in
+    omega (arith, enough.1, long, grows, gave, all)
+
+-- where no fault is to come, none came
+pub gathered_no_fault : (E : List Event) (old new : List ℕ) (after : List Event) (e : Error) (rest : List Event)
+    → Gathered E old new after → after ≡ fails e ∷ rest → IsFault e → HasNoFault E → ⊥
+gathered_no_fault E old new after e rest t read fault clean =
+    let left = HasNoFault-behind t.front after (subst HasNoFault t.split clean) in
+    true≢false (sym (subst HasNoFault read left).0 ∙ fault)
 
 -- a whole stream was read, before another one
 pub gathered_first : (E F : List Event) (n : ℕ) (old new : List ℕ) (after : List Event) → ReadsToEnd E (Ok n) old new after → Gathered (E ++ F) old new F

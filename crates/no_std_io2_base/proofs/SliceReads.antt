@@ -4,7 +4,7 @@ use Rattle.std.proofs.Math.Seq.{drop-append_seam}
 use Rattle.std.proofs.lemmas.List.{length-append}
 use Rattle.no_std_io2_base.specs.declared.error.Error.{Error}
 use Rattle.no_std_io2_base.specs.Errors.{IsOutOfMemory}
-use Rattle.no_std_io2_base.specs.Events.{events_of, bytes, HasNoFault, ReadsToEnd}
+use Rattle.no_std_io2_base.specs.Events.{events_of, bytes, HasNoFault, HasRoom, ReadsToEnd}
 use Rattle.no_std_io2_base.specs.Slices.{HasMoved}
 use Rattle.no_std_io2_base.proofs.CursorLemmas.{left_after}
 use Rattle.no_std_io2_base.proofs.Events.{HasNoFault-events_of, bytes-events_of, events_of-append, length-events_of}
@@ -29,6 +29,10 @@ moved_part all rest old new e moved refused = (
   moved.2 ∙ ap (λ l. old ++ l) (sym (bytes-events_of moved.0)),
   inr (HasNoFault-events_of moved.0, refused),
 )
+
+-- where there is room for all of it, and for 32 bytes more, memory is never refused
+pub never_refused : (all : List ℕ) (len capacity : ℕ) → HasRoom (events_of all) len capacity → capacity < len + length all + 32 → ⊥
+never_refused all len capacity enough full = omega (arith, enough.1, full, ap length (bytes-events_of all))
 
 -- the rest is no longer than the whole was
 pub rest_within : (all rest old new : List ℕ) → HasMoved all rest old new → length all ≡ length rest + (length all - length rest)

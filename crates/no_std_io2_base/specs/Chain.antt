@@ -1,5 +1,5 @@
 -- What a clause reads of a `Chain`.
-use Rattle.std.specs.Prelude.{◌≡◌, ℕ, ◌+◌, false, Bool, List, [], ◌++◌, if◌then◌else◌}
+use Rattle.std.specs.Prelude.{◌≡◌, ℕ, ◌+◌, true, false, Bool, List, [], ◌++◌, if◌then◌else◌}
 use Rattle.no_std_io2_base.specs.declared.traits.chain.Chain.{Chain}
 use Rattle.no_std_io2_base.specs.Events.{Event}
 
@@ -26,6 +26,12 @@ chain_tells first second c = (c.done_first ≡ false → first c.first) × secon
 -- the first's events unless it is done, and then the second's
 abbrev pub chain_events : {T U : Type 0} → (T → List Event) → (U → List Event) → Chain T U → List Event
 chain_events first second c = (if c.done_first then [] else first c.first) ++ second c.second
+
+-- a call used one reader after the other: a done first one is left as it is, and the second until then
+pub record InTurn {T U : Type 0} (was now : Chain T U) : Type 0 where
+  pub stays_done : was.done_first ≡ true → now.done_first ≡ true
+  pub first_alone : was.done_first ≡ true → now.first ≡ was.first
+  pub second_alone : now.done_first ≡ false → now.second ≡ was.second
 
 -- no call of either raises its turns, and neither does the mark
 abbrev pub chain_turns : {T U : Type 0} → (T → ℕ) → (U → ℕ) → Chain T U → ℕ

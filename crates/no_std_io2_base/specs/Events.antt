@@ -1,5 +1,5 @@
 -- What a reader has left to give, and what its calls do to that.
-use Rattle.std.specs.Prelude.{◌≡◌, ℕ, zero, suc, ◌<◌, List, [], ◌∷◌, ◌++◌, length, take, ⊤, Ok, Err, Result, ◌⊎◌}
+use Rattle.std.specs.Prelude.{◌≡◌, ℕ, zero, suc, ◌+◌, ◌<◌, ◌≤◌, List, [], ◌∷◌, ◌++◌, length, take, ⊤, Ok, Err, Result, ◌⊎◌}
 use Rattle.no_std_io2_base.specs.declared.error.Error.{Error}
 use Rattle.no_std_io2_base.specs.Errors.{IsInterruption, IsFault, IsUnexpectedEnd, IsOutOfMemory}
 
@@ -68,6 +68,10 @@ StopsAtFault E room e after = (P : List Event) × (E ≡ P ++ after) × EndsInFa
 abbrev pub ReadsExact : {A : Type 0} → Type 0 → List Event → Result A Error → List ℕ → List Event → Type 0
 ReadsExact may_take_none E (Ok _) buf after = Fills E buf after
 ReadsExact may_take_none E (Err e) buf after = StopsAtFault E (length buf) e after ⊎ FallsShort may_take_none E (length buf) e after
+
+-- E has no fault, and a vector of this length and capacity has room for all its bytes, and for 32 more
+abbrev pub HasRoom : List Event → ℕ → ℕ → Type 0
+HasRoom E len capacity = HasNoFault E × (len + length (bytes E) + 32 ≤ capacity)
 
 -- `read_to_end` turned E into after and appended the bytes that it took: all of them, or those up to the first fault or to where memory was refused
 abbrev pub ReadsToEnd : List Event → Result ℕ Error → List ℕ → List ℕ → List Event → Type 0

@@ -1,4 +1,4 @@
-ghost use Rattle.std.specs.Prelude.{◌≡◌, ℕ, ◌+◌, nat_lt, ◌≤◌, ◌<◌, ◌^◌, ◌++◌, [], Ok, IsOk, OnOk, OnErr, IfOk, IfErr, length, take, drop, vec_len, is_ok, if◌then◌else◌};
+ghost use Rattle.std.specs.Prelude.{◌≡◌, ℕ, ◌+◌, nat_lt, ◌≤◌, ◌<◌, ◌^◌, ◌++◌, [], Ok, IsOk, OnOk, OnErr, IfOk, IfErr, length, take, drop, vec_len, vec_capacity, is_ok, false, if◌then◌else◌};
 ghost use Rattle.no_std_io2_base.specs.Cursor.{cursor_place, cursor_inner, cursor_out, put_at, IsRefusal, PutsWhole, PutsAll};
 ghost use Rattle.no_std_io2_base.specs.Errors.{IsNoInterruption};
 ghost use Rattle.no_std_io2_base.specs.Writes.{Moves, MovesFront, taken, write_mishap, call_mishap, told_out};
@@ -20,7 +20,8 @@ fn overwrite(content: &mut [u8], start: usize, buf: &[u8])
 fn pad_and_append<A: Allocator>(content: &mut Vec<u8, A>, start: usize, buf: &[u8]) -> bool
     requires gap { vec_len content.old < start }
     requires fits { start + length buf.now < 2 ^ 64 }
-    ensures { content.new.items ≡ (if result then put_at start buf.now content.old.items else content.old.items) }
+    ensures puts { content.new.items ≡ (if result then put_at start buf.now content.old.items else content.old.items) }
+    ensures full { result ≡ false → vec_capacity content.old < start + length buf.now }
 {
     let more = start - content.len() + buf.len();
     if content.reserve(more).is_err() {
@@ -33,7 +34,8 @@ fn pad_and_append<A: Allocator>(content: &mut Vec<u8, A>, start: usize, buf: &[u
 fn append_and_overwrite<A: Allocator>(content: &mut Vec<u8, A>, start: usize, buf: &[u8]) -> bool
     requires within { start ≤ vec_len content.old }
     requires past { vec_len content.old < start + length buf.now }
-    ensures { content.new.items ≡ (if result then put_at start buf.now content.old.items else content.old.items) }
+    ensures puts { content.new.items ≡ (if result then put_at start buf.now content.old.items else content.old.items) }
+    ensures full { result ≡ false → vec_capacity content.old < start + length buf.now }
 {
     let within = content.len() - start;
     if content.extend_from_slice(&buf[within..]).is_err() {
@@ -52,6 +54,7 @@ fn put_past<A: Allocator>(content: &mut Vec<u8, A>, start: usize, buf: &[u8]) ->
     ensures puts { OnOk result (content.new.items ≡ put_at start buf.now content.old.items) }
     ensures refused { IfErr result (IsRefusal start buf.now) }
     ensures same { OnErr result (content.new.items ≡ content.old.items) }
+    ensures full { OnErr result (vec_capacity content.old < start + length buf.now) }
 {
     if start.checked_add(buf.len()).is_none() {
         let message = "vector position past the greatest usize";
@@ -76,22 +79,26 @@ fn put_past_slowly<A: Allocator>(content: &mut Vec<u8, A>, start: usize, buf: &[
     ensures puts { OnOk result (content.new.items ≡ put_at start buf.now content.old.items) }
     ensures refused { IfErr result (IsRefusal start buf.now) }
     ensures same { OnErr result (content.new.items ≡ content.old.items) }
+    ensures full { OnErr result (vec_capacity content.old < start + length buf.now) }
 {
     put_past(content, start, buf)
 }
 
 // Writes `buf` into the vector at the position, and moves that behind it. Callers inline the two
-// hot paths, over other bytes and right behind the end.
+// hot paths, over other bytes and behind the end.
 #[inline(always)]
 fn write_at<A: Allocator>(content: &mut Vec<u8, A>, pos: &mut u64, buf: &[u8]) -> Result<usize>
-    ensures { PutsWhole content.old.items pos.old buf.now result content.new.items pos.new }
+    ensures puts { PutsWhole content.old.items pos.old buf.now result content.new.items pos.new }
+    ensures full { OnErr result (vec_capacity content.old < pos.old + length buf.now) }
 {
     let start = *pos as usize;
     let end = start.saturating_add(buf.len());
     let len = content.len();
     if end <= len {
         overwrite(content, start, buf);
-    } else if start == len && buf.len() <= content.capacity() - len {
+    } else if end <= content.capacity() && len <= start {
+        // There is room, so neither can be refused.
+        let _ = content.resize(start, 0);
         let _ = content.extend_from_slice(buf);
     } else {
         put_past_slowly(content, start, buf)?;
@@ -125,9 +132,11 @@ impl<A: Allocator> Write for Cursor<Vec<u8, A>> {
         ensures all { ⊥ → ⊥ × (result ≡ Ok (length buf.now)) }
         ensures cost { ⊥ → ⊥ → ⊥ × (0 ≡ 0 + 1) }
 
-        // All of the buffer, at the position, or nothing.
+        // All of the buffer, at the position, or nothing, and that only where it lacks the room.
         ensures puts { PutsWhole (cursor_inner self.old).items (cursor_place self.old) buf.now result
             (cursor_inner self.new).items (cursor_place self.new) }
+        ensures full { OnErr result (vec_capacity (cursor_inner self.old)
+            < cursor_place self.old + length buf.now) }
     {
         write_at(&mut self.inner, &mut self.pos, buf)
     }
@@ -156,9 +165,12 @@ impl<A: Allocator> Write for Cursor<Vec<u8, A>> {
         ensures all { ⊥ → ⊥ }
         ensures cost { ⊥ → ⊥ → ⊥ × (0 ≡ 0 + (if nat_lt 0 (length buf.now) then 1 else 0)) }
 
-        // All of the buffer, at the position, or nothing.
+        // All of the buffer, at the position, or nothing, and that only where it lacks the room.
         ensures puts { PutsAll (cursor_inner self.old).items (cursor_place self.old) buf.now result
             (cursor_inner self.new).items (cursor_place self.new) }
+        ensures empty { length buf.now ≡ 0 → IsOk result × (self.new ≡ self.old) }
+        ensures full { OnErr result (vec_capacity (cursor_inner self.old)
+            < cursor_place self.old + length buf.now) }
     {
         if buf.is_empty() {
             return Ok(());
@@ -193,9 +205,11 @@ impl<A: Allocator> Write for Cursor<&mut Vec<u8, A>> {
         ensures all { ⊥ → ⊥ × (result ≡ Ok (length buf.now)) }
         ensures cost { ⊥ → ⊥ → ⊥ × (0 ≡ 0 + 1) }
 
-        // All of the buffer, at the position, or nothing.
+        // All of the buffer, at the position, or nothing, and that only where it lacks the room.
         ensures puts { PutsWhole (cursor_inner self.old).now.items (cursor_place self.old) buf.now result
             (cursor_inner self.new).now.items (cursor_place self.new) }
+        ensures full { OnErr result (vec_capacity (cursor_inner self.old).now
+            < cursor_place self.old + length buf.now) }
         ensures reference { (cursor_inner self.new).ghost_name ≡ (cursor_inner self.old).ghost_name }
     {
         write_at(self.inner, &mut self.pos, buf)
@@ -225,9 +239,12 @@ impl<A: Allocator> Write for Cursor<&mut Vec<u8, A>> {
         ensures all { ⊥ → ⊥ }
         ensures cost { ⊥ → ⊥ → ⊥ × (0 ≡ 0 + (if nat_lt 0 (length buf.now) then 1 else 0)) }
 
-        // All of the buffer, at the position, or nothing.
+        // All of the buffer, at the position, or nothing, and that only where it lacks the room.
         ensures puts { PutsAll (cursor_inner self.old).now.items (cursor_place self.old) buf.now result
             (cursor_inner self.new).now.items (cursor_place self.new) }
+        ensures empty { length buf.now ≡ 0 → IsOk result × (self.new ≡ self.old) }
+        ensures full { OnErr result (vec_capacity (cursor_inner self.old).now
+            < cursor_place self.old + length buf.now) }
         ensures reference { (cursor_inner self.new).ghost_name ≡ (cursor_inner self.old).ghost_name }
     {
         if buf.is_empty() {

@@ -1,4 +1,4 @@
-ghost use Rattle.std.specs.Prelude.{◌≡◌, ◌≤◌, ◌<◌, min, ◌++◌, length, take, drop, [], IfErr, OnOk, OnErr};
+ghost use Rattle.std.specs.Prelude.{◌≡◌, ◌≤◌, ◌<◌, ◌+◌, min, ◌++◌, length, take, drop, [], IfErr, IsOk, OnOk, OnErr, vec_len, vec_capacity};
 ghost use Rattle.no_std_io2_base.specs.Errors.{IsFault, IsOutOfMemory};
 ghost use Rattle.no_std_io2_base.specs.Events.{events_of, ReadsExact};
 ghost use Rattle.no_std_io2_base.specs.Laws.{bytes_alone};
@@ -30,7 +30,9 @@ pub(crate) fn copy_prefix(from: &[u8], to: &mut [u8]) -> usize
 pub(crate) fn append_rest<A: Allocator>(rest: &mut &[u8], buf: &mut Vec<u8, A>) -> Result<()>
     ensures moved { HasMoved rest.old.now rest.new.now buf.old.items buf.new.items }
     ensures done { OnOk result (rest.new.now ≡ []) }
+    ensures grows { vec_capacity buf.old ≤ vec_capacity buf.new }
     ensures refused { IfErr result IsOutOfMemory }
+    ensures full { OnErr result (vec_capacity buf.old < vec_len buf.old + length rest.old.now + 32) }
 {
     reserve_room(buf, LEAST_ROOM)?;
     let all: &[u8] = *rest;
@@ -83,6 +85,7 @@ impl Read for &[u8] {
         // The trait's.
         ensures told { ReadsExact (Unit {0}) (events_of self.old.now) result buf.new (events_of self.new.now) }
         ensures fault { IfErr result IsFault }
+        ensures empty { length buf.old ≡ 0 → IsOk result × (self.new ≡ self.old) }
         ensures turns { length self.new.now ≤ length self.old.now }
 
         // Its own.

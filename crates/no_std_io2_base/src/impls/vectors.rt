@@ -1,8 +1,8 @@
-ghost use Rattle.std.specs.Prelude.{◌≡◌, ℕ, ◌+◌, ◌≤◌, nat_lt, if◌then◌else◌, [], Ok, IsOk, OnOk, OnErr, IfOk, IfErr, length};
+ghost use Rattle.std.specs.Prelude.{◌≡◌, ℕ, ◌+◌, ◌≤◌, ◌<◌, nat_lt, if◌then◌else◌, [], Ok, IsOk, OnOk, OnErr, IfOk, IfErr, length, vec_len, vec_capacity};
 ghost use Rattle.no_std_io2_base.specs.Errors.{IsNoInterruption, IsOutOfMemory};
 ghost use Rattle.no_std_io2_base.specs.Writes.{Moves, MovesFront, taken, write_mishap, call_mishap, told_out};
 
-use crate::error::Result;
+use crate::error::{Error, ErrorKind, Result};
 use crate::traits::Write;
 use std::alloc::Allocator;
 
@@ -26,11 +26,12 @@ impl<A: Allocator> Write for Vec<u8, A> {
         ensures all { ⊥ → ⊥ × (result ≡ Ok (length buf.now)) }
         ensures cost { ⊥ → ⊥ → ⊥ × (0 ≡ 0 + 1) }
 
-        // All of the buffer or nothing, and memory alone refuses.
+        // All of the buffer or nothing, and memory alone refuses, where the room was missing.
         ensures whole { IfOk result (λ n. n ≡ length buf.now) }
         ensures err { IfErr result IsOutOfMemory }
         ensures same { OnErr result (self.new.items ≡ self.old.items) }
         ensures empty { length buf.now ≡ 0 → IsOk result }
+        ensures full { OnErr result (vec_capacity self.old < vec_len self.old + length buf.now) }
     {
         self.extend_from_slice(buf)?;
         Ok(buf.len())
@@ -44,15 +45,19 @@ impl<A: Allocator> Write for Vec<u8, A> {
         ensures all { ⊥ → ⊥ }
         ensures cost { ⊥ → ⊥ → ⊥ × (0 ≡ 0 + (if nat_lt 0 (length buf.now) then 1 else 0)) }
 
-        // All of the buffer or nothing, and memory alone refuses.
+        // All of the buffer or nothing, and memory alone refuses, where the room was missing.
         ensures err { IfErr result IsOutOfMemory }
         ensures same { OnErr result (self.new.items ≡ self.old.items) }
         ensures empty { length buf.now ≡ 0 → IsOk result }
+        ensures full { OnErr result (vec_capacity self.old < vec_len self.old + length buf.now) }
     {
-        match self.write(buf) {
-            Ok(_) => Ok(()),
-            Err(e) => Err(e),
+        // A single byte is written by one instruction, and any other number by a call.
+        if buf.len() != 1 {
+            self.extend_from_slice(buf)?;
+        } else if self.push(buf[0]).is_err() {
+            return Err(Error::from(ErrorKind::OutOfMemory));
         }
+        Ok(())
     }
 
     fn flush(&mut self) -> Result<()>

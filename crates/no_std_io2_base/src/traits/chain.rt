@@ -1,8 +1,10 @@
-ghost use Rattle.std.specs.Prelude.{◌≡◌, false, []};
+ghost use Rattle.std.specs.Prelude.{◌≡◌, ◌+◌, ◌≤◌, ◌<◌, ◌++◌, true, false, [], length, take, drop, IfOk, IfErr, IsOk, OnOk, vec_len, vec_capacity};
 ghost use types.Logic.{sem};
 ghost use Rattle.std.specs.Borrow.{LendsBoth};
 ghost use Rattle.no_std_io2_base.specs.contracts.traits.chain.Chain.{the_row as chain-row};
-ghost use Rattle.no_std_io2_base.specs.Chain.{chain_first, chain_second, chain_with_readers, chain_tells, chain_events, chain_turns, chain_held};
+ghost use Rattle.no_std_io2_base.specs.Chain.{chain_first, chain_second, chain_is_done, chain_with_readers, chain_tells, chain_events, chain_turns, chain_held, InTurn};
+ghost use Rattle.no_std_io2_base.specs.Errors.{IsFault};
+ghost use Rattle.no_std_io2_base.specs.Events.{events_of, HasRoom, Reads, ReadsToEnd, SpendsTurn};
 
 use super::buf_read::BufRead;
 use super::read::Read;
@@ -84,7 +86,19 @@ impl<T: Read, U: Read> Read for Chain<T, U> {
 
     ghost may_take_none = { λ _. ⊥ };
 
-    fn read(&mut self, buf: &mut [u8]) -> Result<usize> {
+    fn read(&mut self, buf: &mut [u8]) -> Result<usize>
+        // The trait's.
+        ensures bound { IfOk result (λ n. n ≤ length buf.new) }
+        ensures told { chain_tells T.tells U.tells self.old → chain_tells T.tells U.tells self.new
+            × Reads (chain_events T.events U.events self.old) result buf.new (chain_events T.events U.events self.new) }
+        ensures turns { chain_turns T.turns U.turns self.new ≤ chain_turns T.turns U.turns self.old }
+        ensures turn { SpendsTurn result (chain_turns T.turns U.turns self.old) (chain_turns T.turns U.turns self.new) }
+
+        // One reader after the other, and the first is done where it had nothing left.
+        ensures in_turn { InTurn self.old self.new }
+        ensures ended { T.tells (chain_first self.old) → T.events (chain_first self.old) ≡ [] → 0 < length buf.old
+            → chain_is_done self.new ≡ true }
+    {
         if !self.done_first {
             match self.first.read(buf)? {
                 0 if !buf.is_empty() => self.done_first = true,
@@ -95,7 +109,22 @@ impl<T: Read, U: Read> Read for Chain<T, U> {
     }
 
     // Each reader fills the vector in its own way.
-    fn read_to_end<A: Allocator>(&mut self, buf: &mut Vec<u8, A>) -> Result<usize> {
+    fn read_to_end<A: Allocator>(&mut self, buf: &mut Vec<u8, A>) -> Result<usize>
+        // The trait's.
+        ensures told { chain_tells T.tells U.tells self.old → chain_tells T.tells U.tells self.new
+            × ReadsToEnd (chain_events T.events U.events self.old) result buf.old.items buf.new.items (chain_events T.events U.events self.new) }
+        ensures appends { take (vec_len buf.old) buf.new.items ≡ buf.old.items }
+        ensures count { IfOk result (λ n. vec_len buf.new ≡ vec_len buf.old + n) }
+        ensures capacity { vec_capacity buf.old ≤ vec_capacity buf.new }
+        ensures room { chain_tells T.tells U.tells self.old
+            → HasRoom (chain_events T.events U.events self.old) (vec_len buf.old) (vec_capacity buf.old) → IsOk result }
+        ensures fault { IfErr result IsFault }
+        ensures turns { chain_turns T.turns U.turns self.new ≤ chain_turns T.turns U.turns self.old }
+
+        // One reader after the other, to the end of both.
+        ensures in_turn { InTurn self.old self.new }
+        ensures ended { OnOk result (chain_is_done self.new ≡ true) }
+    {
         if self.done_first {
             return self.second.read_to_end(buf);
         }
@@ -136,7 +165,20 @@ impl<T: BufRead, U: BufRead> BufRead for Chain<T, U> {
         }
     }
 
-    fn consume(&mut self, amount: usize) {
+    fn consume(&mut self, amount: usize)
+        // The trait's.
+        requires { amount ≤ length (chain_held T.held U.held self.old) }
+        ensures held { chain_held T.held U.held self.new ≡ drop amount (chain_held T.held U.held self.old) }
+        ensures told { chain_tells T.tells U.tells self.old → chain_tells T.tells U.tells self.new
+            × (chain_events T.events U.events self.old
+            ≡ events_of (take amount (chain_held T.held U.held self.old)) ++ chain_events T.events U.events self.new) }
+        ensures turns { chain_turns T.turns U.turns self.new ≤ chain_turns T.turns U.turns self.old }
+        ensures turn { 0 < amount → chain_turns T.turns U.turns self.new < chain_turns T.turns U.turns self.old }
+
+        // Of the reader that is read now.
+        ensures in_turn { InTurn self.old self.new }
+        ensures mark { chain_is_done self.new ≡ chain_is_done self.old }
+    {
         if self.done_first {
             self.second.consume(amount);
         } else {

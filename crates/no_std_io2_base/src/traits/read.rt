@@ -1,6 +1,6 @@
-ghost use Rattle.std.specs.Prelude.{◌≡◌, ℕ, false, List, ◌++◌, take, drop, ◌+◌, ◌≤◌, ◌<◌, ◌^◌, min, length, IfOk, IfErr, OnOk, OnErr, IsOkAnd, vec_len, vec_capacity};
+ghost use Rattle.std.specs.Prelude.{◌≡◌, ℕ, false, List, ◌++◌, take, drop, ◌+◌, ◌≤◌, ◌<◌, ◌^◌, min, length, IfOk, IfErr, OnOk, OnErr, IsOk, IsOkAnd, vec_len, vec_capacity};
 ghost use Rattle.no_std_io2_base.specs.Errors.{IsFault, IsOutOfMemory};
-ghost use Rattle.no_std_io2_base.specs.Events.{Event, cut, bytes, events_of, given, Reads, ReadsExact, ReadsToEnd, SpendsTurn};
+ghost use Rattle.no_std_io2_base.specs.Events.{Event, cut, bytes, events_of, given, HasRoom, Reads, ReadsExact, ReadsToEnd, SpendsTurn};
 ghost use Rattle.no_std_io2_base.specs.Chain.{chain_first, chain_second, chain_is_done, chain_tells, chain_events};
 ghost use Rattle.no_std_io2_base.specs.SingleBytes.{bytes_reader};
 ghost use Rattle.no_std_io2_base.specs.Take.{take_inner, take_limit, take_events};
@@ -58,7 +58,8 @@ pub trait Read: Stored {
             × (Self.content self.new ≡ Self.content self.old)
             × (Self.position self.new ≡ Self.position self.old + given result) };
 
-    /// Fills the whole of `buf`, passing over interruptions. Follows `std::io::Read::read_exact`.
+    /// Fills the whole of `buf`, passing over interruptions. An empty buffer makes no call. Follows
+    /// `std::io::Read::read_exact`.
     ///
     /// # Errors
     /// The first fault that comes before `buf` is full: the reader stands right after it.
@@ -68,6 +69,7 @@ pub trait Read: Stored {
         ensures told { tells self.old → tells self.new
             × ReadsExact (may_take_none self.old) (events self.old) result buf.new (events self.new) }
         ensures fault { IfErr result IsFault }
+        ensures empty { length buf.old ≡ 0 → IsOk result × (self.new ≡ self.old) }
         ensures turns { turns self.new ≤ turns self.old }
         ensures metered { is_metered self.old → is_metered self.new }
         ensures filling { is_filling self.old → is_filling self.new }
@@ -88,8 +90,9 @@ pub trait Read: Stored {
     }
 
     /// Appends all bytes to come to `buf`, passing over interruptions, and answers their number.
-    /// Before its first read, and whenever no room is left, it makes room for at least 32 bytes; a
-    /// slice makes room once, for the bytes that it has. Follows `std::io::Read::read_to_end`.
+    /// Before its first read, and whenever no room is left, it makes room for at least 32 bytes.
+    /// Where `buf` has room for all that is to come and for 32 bytes more, it is never refused any.
+    /// Follows `std::io::Read::read_to_end`.
     ///
     /// # Errors
     /// The first fault: the reader stands right after it. `OutOfMemory` where a growth was refused,
@@ -102,6 +105,9 @@ pub trait Read: Stored {
             × ReadsToEnd (events self.old) result buf.old.items buf.new.items (events self.new) }
         ensures appends { take (vec_len buf.old) buf.new.items ≡ buf.old.items }
         ensures count { IfOk result (λ n. vec_len buf.new ≡ vec_len buf.old + n) }
+        ensures capacity { vec_capacity buf.old ≤ vec_capacity buf.new }
+        ensures room { tells self.old → HasRoom (events self.old) (vec_len buf.old) (vec_capacity buf.old)
+            → IsOk result }
         ensures fault { IfErr result IsFault }
         ensures turns { turns self.new ≤ turns self.old }
         ensures metered { is_metered self.old → is_metered self.new }

@@ -18,6 +18,7 @@ pub(crate) fn reserve_room<A: Allocator>(buf: &mut Vec<u8, A>, wanted: usize) ->
     ensures items { buf.new.items ≡ buf.old.items }
     ensures len { vec_len buf.new ≡ vec_len buf.old }
     ensures room { OnOk result (vec_len buf.new + wanted ≤ vec_capacity buf.new) }
+    ensures grows { vec_capacity buf.old ≤ vec_capacity buf.new }
     ensures refused { IfErr result IsOutOfMemory }
     ensures full { OnErr result (vec_capacity buf.old < vec_len buf.old + wanted) }
 {
@@ -39,6 +40,7 @@ pub(crate) fn open_room<A: Allocator>(
     ensures within { filled ≤ vec_len buf.new }
     ensures front { take filled buf.new.items ≡ take filled buf.old.items }
     ensures room { OnOk result (filled < vec_len buf.new) }
+    ensures grows { vec_capacity buf.old ≤ vec_capacity buf.new }
     ensures refused { IfErr result IsOutOfMemory }
     ensures full { OnErr result ((vec_capacity buf.old ≡ filled) × (vec_len buf.new ≡ filled)) }
 {

@@ -1,10 +1,10 @@
-ghost use Rattle.std.specs.Prelude.{◌≡◌, ◌≤◌, ◌<◌, ◌+◌, min, ◌++◌, length, take, drop, [], IfOk, IfErr, IsOkAnd, OnOk, vec_len};
+ghost use Rattle.std.specs.Prelude.{◌≡◌, ◌≤◌, ◌<◌, ◌+◌, min, ◌++◌, length, take, drop, [], IfOk, IfErr, IsOk, IsOkAnd, OnOk, vec_len, vec_capacity};
 ghost use types.Logic.{sem};
 ghost use Rattle.std.specs.Borrow.{Lends};
 ghost use Rattle.no_std_io2_base.specs.contracts.traits.take.Take.{the_row as take-row};
 ghost use Rattle.no_std_io2_base.specs.Errors.{IsFault};
 ghost use Rattle.no_std_io2_base.specs.Take.{take_with_inner, take_limit, take_inner, take_events, take_held, TakesAlong};
-ghost use Rattle.no_std_io2_base.specs.Events.{events_of, Reads, ReadsExact, ReadsToEnd, SpendsTurn, given};
+ghost use Rattle.no_std_io2_base.specs.Events.{events_of, HasRoom, Reads, ReadsExact, ReadsToEnd, SpendsTurn, given};
 ghost use Rattle.no_std_io2_base.specs.Lending.{Rests, IsNotEmpty, Lends as LendsHeld, LendsFrom, LendingTurn, BeginsWith};
 ghost use Rattle.no_std_io2_base.specs.Laws.{cut_alone};
 
@@ -139,6 +139,7 @@ impl<T: Read> Read for Take<T> {
         ensures told { T.tells (take_inner self.old) → T.tells (take_inner self.new)
             × ReadsExact ⊥ (take_events T.events self.old) result buf.new (take_events T.events self.new) }
         ensures fault { IfErr result IsFault }
+        ensures empty { length buf.old ≡ 0 → IsOk result × (self.new ≡ self.old) }
         ensures turns { T.turns (take_inner self.new) ≤ T.turns (take_inner self.old) }
         ensures filling { T.is_filling (take_inner self.old) → T.is_filling (take_inner self.new) }
 
@@ -168,6 +169,9 @@ impl<T: Read> Read for Take<T> {
             × ReadsToEnd (take_events T.events self.old) result buf.old.items buf.new.items (take_events T.events self.new) }
         ensures appends { take (vec_len buf.old) buf.new.items ≡ buf.old.items }
         ensures count { IfOk result (λ n. vec_len buf.new ≡ vec_len buf.old + n) }
+        ensures capacity { vec_capacity buf.old ≤ vec_capacity buf.new }
+        ensures room { T.tells (take_inner self.old)
+            → HasRoom (take_events T.events self.old) (vec_len buf.old) (vec_capacity buf.old) → IsOk result }
         ensures fault { IfErr result IsFault }
         ensures turns { T.turns (take_inner self.new) ≤ T.turns (take_inner self.old) }
         ensures filling { T.is_filling (take_inner self.old) → T.is_filling (take_inner self.new) }

@@ -5,8 +5,8 @@ use Rattle.no_std_io2_base.specs.Cursor.{put_at}
 use Rattle.no_std_io2_base.proofs.CursorLemmas.{put_across}
 use Rattle.no_std_io2_base.proofs.cursor.vectors.append_and_overwrite.Goals as goal
 
-pub returns : goal.returns
-returns g c =
+pub returns-clause-puts : goal.returns-clause-puts
+returns-clause-puts g c =
     let new = c.extend_from_slice.new.self in
     let bs = c.args.content.now.items in
     let x = c.args.buf.now in

@@ -1,9 +1,9 @@
-use Rattle.std.proofs.Common.{take, refl, ap, arith}
+use Rattle.std.proofs.Common.{take, refl, ap, arith, le_refl}
 use Rattle.std.proofs.lemmas.Result.{err_from_is_err_and}
 use Rattle.no_std_io2_base.proofs.traits.room.open_room.Goals as goal
 
 pub returns-then-filled-len : goal.returns-then-filled-len
-returns-then-filled-len g c = record { within = omega arith; front = refl; room = omega arith; refused = tt; full = tt }
+returns-then-filled-len g c = record { within = omega arith; front = refl; room = omega arith; grows = le_refl _; refused = tt; full = tt }
 
 pub returns-in_err-reserve_room : goal.returns-in_err-reserve_room
 returns-in_err-reserve_room g c =
@@ -13,6 +13,7 @@ returns-in_err-reserve_room g c =
       within = omega arith;
       front = ap (take c.args.filled) room.items;
       room = tt;
+      grows = room.grows;
       refused = room.refused;
       full = (omega arith, omega arith);
     })

@@ -1,4 +1,4 @@
-use Rattle.std.proofs.Common.{◌<◌, length, refl}
+use Rattle.std.proofs.Common.{◌<◌, length, refl, arith}
 use Rattle.std.proofs.lemmas.Result.{err_from_is_err_and}
 use Rattle.no_std_io2_base.proofs.CursorLemmas.{puts_moves_all, puts_moves_none, refused_fault, puts_all_some, moves_none, puts_all_none}
 use Rattle.no_std_io2_base.proofs.WriteExits.{not_empty, is_empty}
@@ -13,25 +13,30 @@ returns-then-is_empty g c =
       all = λ h. h;
       cost = λ h. absurd h;
       puts = puts_all_none _ _ _ none;
+      empty = λ zero. (refl, refl);
+      full = tt;
       reference = refl;
     }
 
 pub returns-in_err-write_at : goal.returns-in_err-write_at
 returns-in_err-write_at g c =
     let p = err_from_is_err_and c.from_residual.result c.from_residual.ensures.1 in
-    let put = c.in_err-write_at.ensures in
+    let put = c.in_err-write_at.ensures.puts in
+    let some : 0 < length c.args.buf.now = not_empty _ _ c.is_empty.ensures c.if-is_empty.false in
     rw (p.1, p.2) (record {
       fault = refused_fault _ _ _ put.1;
       moves = puts_moves_none _ _ _ _ _ _ put;
       all = λ h. h;
       cost = λ h. absurd h;
       puts = put;
+      empty = λ zero. absurd (omega (arith, some, zero));
+      full = c.in_err-write_at.ensures.full;
       reference = refl;
     })
 
 pub returns : goal.returns
 returns g c =
-    let put = c.in_ok-write_at.ensures in
+    let put = c.in_ok-write_at.ensures.puts in
     let some : 0 < length c.args.buf.now = not_empty _ _ c.is_empty.ensures c.if-is_empty.false in
     record {
       fault = tt;
@@ -39,5 +44,7 @@ returns g c =
       all = λ h. h;
       cost = λ h. absurd h;
       puts = puts_all_some _ _ _ _ _ _ put some;
+      empty = λ zero. absurd (omega (arith, some, zero));
+      full = tt;
       reference = refl;
     }

@@ -1,7 +1,7 @@
-use Rattle.std.proofs.Common.{◌≡◌, ◌≤◌, ◌<◌, ◌++◌, false, true≢false, length, sym, ap, subst, ◌∙◌, arith, rules}
+use Rattle.std.proofs.Common.{◌≡◌, ◌≤◌, ◌<◌, ◌++◌, false, true≢false, length, refl, sym, ap, subst, ◌∙◌, arith, rules}
 use Rattle.std.proofs.lemmas.Result.{err_from_is_err_and}
 use Rattle.no_std_io2_base.specs.Events.{Reads, SpendsTurn}
-use Rattle.no_std_io2_base.proofs.ChainReads.{PastFirst, past_done, past_read, both_turns, second_turn, first_turn}
+use Rattle.no_std_io2_base.proofs.ChainReads.{PastFirst, past_done, past_read, both_turns, second_turn, first_turn, turn_of_first, turn_past, gave_none, failed_none}
 use Rattle.no_std_io2_base.proofs.TakenToEnd.{nothing_read}
 use Rattle.no_std_io2_base.proofs.WriteExits.{not_empty}
 use Rattle.no_std_io2_base.proofs.traits.chain.ChainRead.read.Goals as goal
@@ -19,9 +19,8 @@ returns-in_err-n g c =
           ((λ _. now.0, t.1), rw going (ap (λ E. E ++ g.U.Read.events c.args.self.now.second) now.1));
       turns = omega (arith, read.turns);
       turn = omega (arith, read.turn);
-      cost = λ h. absurd h;
-      fills = λ h. absurd h;
-      store = λ h. absurd h;
+      in_turn = turn_of_first _ _ going refl;
+      ended = λ t none some. absurd (failed_none _ _ _ (read.told t).1 none);
     })
 
 -- what the first gave: how it stood at its end is left to the search
@@ -30,6 +29,12 @@ returns-in_default-clause-turns g c = omega (arith, c.in_ok-n.ensures.turns)
 
 pub returns-in_default-clause-turn : goal.returns-in_default-clause-turn
 returns-in_default-clause-turn g c = first_turn c.in_ok-n.n _ _ _ c.in_ok-n.ensures.turn
+
+pub returns-in_default-clause-ended : goal.returns-in_default-clause-ended
+returns-in_default-clause-ended g c = λ t none some.
+    let read = c.in_ok-n.ensures in
+    let zero = gave_none _ _ _ _ (read.told t).1 read.bound none in
+    search (rules, not_empty)
 
 pub returns : goal.returns
 returns g c =
@@ -56,7 +61,6 @@ returns g c =
       turns = both_turns _ _ _ _ past.spent (subst (λ u. U.turns c.read-2.new.self ≤ U.turns u) past.second read.turns);
       turn = second_turn c.read-2.result _ _ _ _ past.spent (subst
           (λ u. SpendsTurn c.read-2.result (U.turns u) (U.turns c.read-2.new.self)) past.second read.turn);
-      cost = λ h. absurd h;
-      fills = λ h. absurd h;
-      store = λ h. absurd h;
+      in_turn = turn_past _ _ _ _ _ _ c.if-not-self.self (record c.if-not-self.self { second = c.read-2.new.self }) past refl refl;
+      ended = λ t none some. past.done;
     }

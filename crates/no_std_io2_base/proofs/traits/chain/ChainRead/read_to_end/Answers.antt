@@ -1,5 +1,6 @@
-use Rattle.std.proofs.Common.{◌≡◌, ◌-◌, false, length, arith}
+use Rattle.std.proofs.Common.{◌≡◌, ◌-◌, false, length, refl, arith, le_trans}
 use Rattle.std.proofs.lemmas.Result.{err_from_is_err_and}
+use Rattle.no_std_io2_base.proofs.ChainReads.{room_of_first, room_of_second, room_when_done, room_while_going, after_ok, turn_of_first, turn_of_second, turn_of_both}
 use Rattle.no_std_io2_base.proofs.Gathered.{gathered_first, gathered_all, gathered_stop}
 use Rattle.no_std_io2_base.proofs.ReadsToEndExits.{front_then, stopped_first}
 use Rattle.no_std_io2_base.proofs.traits.chain.ChainRead.read_to_end.Goals as goal
@@ -7,15 +8,18 @@ use Rattle.no_std_io2_base.proofs.traits.chain.ChainRead.read_to_end.Goals as go
 pub returns-then-self : goal.returns-then-self
 returns-then-self g c =
     let read = c.read_to_end.ensures in
+    let one = g.T.Read.events c.args.self.now.first in
+    let two = g.U.Read.events c.args.self.now.second in
     record {
       told = λ t. let now = read.told t.1 in ((t.0, now.0), rw c.if-self.true now.1);
       appends = read.appends;
       count = read.count;
+      capacity = read.capacity;
+      room = λ t enough. read.room t.1 (room_when_done _ one two _ _ c.if-self.true enough);
       fault = read.fault;
       turns = omega (arith, read.turns);
-      metered = λ h. h;
-      filling = λ h. h;
-      store = λ h. absurd h;
+      in_turn = turn_of_second _ _ c.if-self.true refl;
+      ended = after_ok c.read_to_end.result c.if-self.true;
     }
 
 pub returns-in_err-read_to_end : goal.returns-in_err-read_to_end
@@ -29,11 +33,14 @@ returns-in_err-read_to_end g c =
       told = λ t. let now = first.told (t.0 going) in ((λ _. now.0, t.1), rw going (stopped_first one two _ _ _ _ now.1));
       appends = first.appends;
       count = tt;
+      capacity = first.capacity;
+      room = λ t enough.
+          let both = room_while_going _ one two _ _ going enough in
+          first.room (t.0 going) (room_of_first one two _ _ both);
       fault = first.fault;
       turns = omega (arith, first.turns);
-      metered = λ h. h;
-      filling = λ h. h;
-      store = λ h. absurd h;
+      in_turn = turn_of_first _ _ going refl;
+      ended = tt;
     })
 
 pub returns-in_err-read_to_end-2 : goal.returns-in_err-read_to_end-2
@@ -42,6 +49,8 @@ returns-in_err-read_to_end-2 g c =
     let p = err_from_is_err_and c.from_residual-in_err-read_to_end-2.result c.from_residual-in_err-read_to_end-2.ensures.1 in
     let first = c.in_ok-read_to_end.ensures in
     let second = c.in_err-read_to_end-2.ensures in
+    let one = g.T.Read.events c.args.self.now.first in
+    let two = g.U.Read.events c.args.self.now.second in
     rw (p.1, p.2) (record {
       told = λ t.
           let one = first.told (t.0 going) in
@@ -49,11 +58,14 @@ returns-in_err-read_to_end-2 g c =
           ((λ _. one.0, two.0), rw going (gathered_stop _ _ _ _ _ _ _ (gathered_first _ _ _ _ _ _ one.1) two.1));
       appends = front_then _ _ _ _ _ (omega (arith, first.count)) first.appends second.appends;
       count = tt;
+      capacity = le_trans first.capacity second.capacity;
+      room = λ t enough.
+          let both = room_while_going _ one two _ _ going enough in
+          second.room t.1 (room_of_second one two _ _ _ _ _ both (first.told (t.0 going)).1.2 first.count first.capacity);
       fault = second.fault;
       turns = omega (arith, first.turns, second.turns);
-      metered = λ h. h;
-      filling = λ h. h;
-      store = λ h. absurd h;
+      in_turn = turn_of_both _ _ going refl;
+      ended = tt;
     })
 
 pub returns : goal.returns
@@ -71,9 +83,10 @@ returns g c =
           ((λ _. before.0, now.0), rw going (gathered_all _ _ _ _ two _ _ _ (gathered_first one two _ _ _ _ before.1) now.1 count));
       appends = front_then _ _ _ _ _ (omega (arith, first.count)) first.appends second.appends;
       count = omega (arith, first.count, second.count);
+      capacity = le_trans first.capacity second.capacity;
+      room = λ t enough. refl;
       fault = tt;
       turns = omega (arith, first.turns, second.turns);
-      metered = λ h. h;
-      filling = λ h. h;
-      store = λ h. absurd h;
+      in_turn = turn_of_both _ _ going refl;
+      ended = refl;
     }

@@ -8,6 +8,7 @@ invariant-reads g l =
     record {
       long : length l.buf ≡ length l.initial.buf;
       within : l.at ≤ length l.buf;
+      untouched : length l.initial.buf ≡ 0 → l.self ≡ l.initial.self;
       turns : g.Self.Read.turns l.self ≤ g.Self.Read.turns l.initial.self;
       told : g.Self.Read.tells l.initial.self → g.Self.Read.tells l.self × Taken (g.Self.Read.events l.initial.self) (length l.initial.buf) (take l.at l.buf) (g.Self.Read.events l.self);
       is_metered : g.Self.Read.is_metered l.initial.self → g.Self.Read.is_metered l.self;

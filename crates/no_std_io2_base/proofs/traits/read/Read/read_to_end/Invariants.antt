@@ -1,5 +1,5 @@
 -- `read_to_end` ends with its reader's turns, and the bytes up to `filled` are what it took.
-use Rattle.std.proofs.Common.{◌≡◌, ◌≤◌, ◌+◌, length, take, vec_len}
+use Rattle.std.proofs.Common.{◌≡◌, ◌≤◌, ◌+◌, length, take, vec_len, vec_capacity}
 use Rattle.no_std_io2_base.proofs.Gathered.{Gathered}
 use Rattle.no_std_io2_base.proofs.traits.read.Read.read_to_end.Given as goal
 
@@ -8,6 +8,7 @@ invariant-reads g l =
     record {
       grows : vec_len l.fn.buf ≤ l.filled;
       within : l.filled ≤ vec_len l.buf;
+      capacity : vec_capacity l.fn.buf ≤ vec_capacity l.buf;
       front : take (vec_len l.fn.buf) l.buf.items ≡ l.fn.buf.items;
       turns : g.Self.Read.turns l.self ≤ g.Self.Read.turns l.initial.self;
       told : g.Self.Read.tells l.initial.self → g.Self.Read.tells l.self

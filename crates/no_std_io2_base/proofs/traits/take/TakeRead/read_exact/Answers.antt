@@ -10,6 +10,7 @@ pub reads-init : goal.reads-init
 reads-init g c = record {
   long = refl;
   within = omega arith;
+  untouched = λ none. refl;
   turns = le_refl _;
   told = λ t. (t, taken_none _ _);
   is_filling = λ f. f;
@@ -38,6 +39,7 @@ returns-in-Ok-eq0 g c =
                 (short_before at _ old below stays)),
           );
       fault = search rules;
+      empty = λ none. absurd (omega (arith, none, before.long, below));
       turns = le_trans read.turns before.turns;
       filling = λ f. (read.fills (before.is_filling f)).0;
       limit = tt;
@@ -53,6 +55,7 @@ returns g c =
     record {
       told = λ t. let so_far = before.told t in (so_far.0, exact_done _ _ _ _ _ so_far.1 before.long test);
       fault = tt;
+      empty = λ none. (refl, before.untouched none);
       turns = before.turns;
       filling = before.is_filling;
       limit = omega (arith, before.limit, before.within, before.long, test);
@@ -79,6 +82,7 @@ reads-preserved-in-Ok g c =
     record {
       long = stays ∙ before.long;
       within = within_part at n old _ _ before.within read.bound c.read.auto.buf stays;
+      untouched = λ none. absurd (omega (arith, none, before.long, c.reads-test.true));
       turns = le_trans read.turns before.turns;
       told = λ t.
           let so_far = before.told t in
@@ -106,6 +110,7 @@ returns-in-Err-2 g c =
                 (short_before at _ old c.reads-test.true (length_stays at old c.read.new.buf c.read.auto.buf))),
           );
       fault = fault;
+      empty = λ none. absurd (omega (arith, none, before.long, c.reads-test.true));
       turns = le_trans read.turns before.turns;
       filling = λ f. (read.fills (before.is_filling f)).0;
       limit = tt;
@@ -125,6 +130,7 @@ reads-preserved g c =
     record {
       long = stays ∙ before.long;
       within = le_same at _ _ before.within stays;
+      untouched = λ none. absurd (omega (arith, none, before.long, c.reads-test.true));
       turns = le_trans read.turns before.turns;
       told = λ t.
           let so_far = before.told t in

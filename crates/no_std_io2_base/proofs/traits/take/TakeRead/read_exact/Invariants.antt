@@ -10,6 +10,7 @@ invariant-reads g l =
     record {
       long : length l.buf ≡ length l.initial.buf;
       within : l.at ≤ length l.buf;
+      untouched : length l.initial.buf ≡ 0 → l.self ≡ l.initial.self;
       turns : T.turns (take_inner l.self) ≤ T.turns (take_inner l.initial.self);
       told : T.tells (take_inner l.initial.self) → T.tells (take_inner l.self)
           × Taken (take_events T.events l.initial.self) (length l.initial.buf) (take l.at l.buf) (take_events T.events l.self);

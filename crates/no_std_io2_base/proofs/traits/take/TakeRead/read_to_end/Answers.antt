@@ -1,10 +1,10 @@
-use Rattle.std.proofs.Common.{◌≡◌, ◌+◌, ◌≤◌, ◌++◌, length, take, arith, ap, refl, sym, subst, ◌∙◌, le_refl, le_trans}
+use Rattle.std.proofs.Common.{◌≡◌, ◌+◌, ◌≤◌, ◌++◌, length, take, vec_capacity, arith, ap, refl, sym, subst, ◌∙◌, le_refl, le_trans}
 use Rattle.std.proofs.lemmas.Result.{err_from_is_err_and}
 use Rattle.no_std_io2_base.proofs.Along.{along_none, along_then}
-use Rattle.no_std_io2_base.proofs.Gathered.{gathered_none, gathered_same, gathered_read, gathered_interruption, gathered_fault, gathered_memory}
+use Rattle.no_std_io2_base.proofs.Gathered.{gathered_none, gathered_same, gathered_read, gathered_interruption, gathered_fault, gathered_memory, gathered_fits, gathered_no_fault}
 use Rattle.no_std_io2_base.proofs.Parts.{take-written, take-written_below, take-stays}
 use Rattle.no_std_io2_base.proofs.PieceLemmas.{memory_fault}
-use Rattle.no_std_io2_base.proofs.ReadsToEndExits.{front_whole, front_cut, none_opened, count_cut, len_cut, filled_length, some_room}
+use Rattle.no_std_io2_base.proofs.ReadsToEndExits.{front_whole, filled_bytes, front_cut, none_opened, count_cut, len_cut, filled_length, some_room}
 use Rattle.no_std_io2_base.proofs.TakenToEnd.{Ended, ended_at_limit, nothing_read, given_none, gathered_done, limit_same, limit_cut, no_turn, none_filled}
 use Rattle.no_std_io2_base.proofs.traits.take.TakeRead.read_to_end.Goals as goal
 use Rattle.no_std_io2_base.proofs.traits.take.TakeRead.read_to_end.Goals.{else-reads-test, then-reads-test+in_ok-open_room+in-Ok-eq0}
@@ -18,6 +18,8 @@ returns-in_err-reserve_room g c =
       told = λ t. (t, gathered_memory _ _ _ _ _ (gathered_none _ _ _ same) refused);
       appends = front_whole _ _ _ c.args.buf.now.ok.0 same;
       count = tt;
+      capacity = c.reserve_room.ensures.grows;
+      room = λ t enough. absurd (omega (arith, enough.1, c.in_err-reserve_room.ensures.full));
       fault = memory_fault _ refused;
       turns = le_refl _;
       filling = λ f. f;
@@ -33,6 +35,7 @@ reads-init g c =
     record {
       grows = omega arith;
       within = omega arith;
+      capacity = c.reserve_room.ensures.grows;
       front = front_whole _ _ _ c.args.buf.now.ok.0 same;
       turns = le_refl _;
       told = λ t. (t, gathered_none _ _ _ (front_whole _ _ _ (start ∙ c.args.buf.now.ok.0) same));
@@ -57,6 +60,10 @@ returns-in_err-open_room g c =
           (so_far.0, gathered_memory _ _ _ _ _ (gathered_same _ _ _ _ _ so_far.1 same) refused);
       appends = front_cut _ filled _ c.reads.buf.items _ before.grows same before.front;
       count = tt;
+      capacity = le_trans before.capacity c.open_room.ensures.grows;
+      room = λ t enough.
+          let left = gathered_fits _ _ _ _ _ _ _ (before.told t).1 enough c.args.buf.now.ok.0 before.capacity in
+          absurd (omega (arith, full.0, left, filled_bytes filled _ _ before.within c.reads.buf.ok.0));
       fault = memory_fault _ refused;
       turns = before.turns;
       filling = before.is_filling;
@@ -88,6 +95,7 @@ reads-preserved-in-Ok g c =
     record {
       grows = omega (arith, before.grows);
       within = fits;
+      capacity = le_trans before.capacity c.open_room.ensures.grows;
       front = front ∙ take-stays start filled _ _ before.grows c.open_room.ensures.front ∙ before.front;
       turns = le_trans read.turns before.turns;
       told = λ t.
@@ -121,6 +129,10 @@ returns-in-Err-2 g c =
           (now.0, gathered_fault _ _ _ _ _ _ (gathered_same _ _ _ _ _ so_far.1 same) now.1 fault);
       appends = front_cut start filled _ c.reads.buf.items _ before.grows same before.front;
       count = tt;
+      capacity = omega (arith, before.capacity, c.open_room.ensures.grows, c.truncate.ensures.capacity);
+      room = λ t enough.
+          let so_far = before.told t in
+          absurd (gathered_no_fault _ _ _ _ _ _ so_far.1 (read.told so_far.0).1 fault enough.0);
       fault = fault;
       turns = le_trans read.turns before.turns;
       filling = λ f. (read.fills (before.is_filling f)).0;
@@ -145,6 +157,7 @@ reads-preserved g c =
     record {
       grows = before.grows;
       within = within;
+      capacity = le_trans before.capacity c.open_room.ensures.grows;
       front = front ∙ take-stays start filled _ _ before.grows c.open_room.ensures.front ∙ before.front;
       turns = le_trans read.turns before.turns;
       told = λ t.
@@ -173,6 +186,10 @@ returns g c =
           let opened = w.open_room.new.buf in
           ap (λ b. take filled b.items) w.buf-is ∙ take-written_below filled opened.len filled w.deref_mut.result.now opened.items
           w.read.new.buf (le_refl _) w.open_room.ensures.within opened.ok.0 w.deref_mut.ensures.value ∙ w.open_room.ensures.front
+    ] in
+    let grown : vec_capacity c.reads.buf ≤ vec_capacity c.reads-test.buf = elim c.reads-test.branch [
+      | else-reads-test w ↦ omega (arith, ap vec_capacity w.buf-is)
+      | then-reads-test+in_ok-open_room+in-Ok-eq0 w ↦ omega (arith, ap vec_capacity w.buf-is, w.open_room.ensures.grows)
     ] in
     let ended : Ended T.tells T.is_filling T.turns T.events c.reads.self c.reads-test.self = elim c.reads-test.branch [
       | else-reads-test w ↦ ended_at_limit _ _ _ _ _ _ w.self-is (omega (arith, w.reads-test.false))
@@ -204,6 +221,8 @@ returns g c =
           (now.0, gathered_done _ _ _ _ _ _ (gathered_same _ _ _ _ _ so_far.1 same) now.1 now.2 count);
       appends = front_cut _ filled _ mid _ before.grows same before.front;
       count = len_cut c.len-start.result filled new.len _ _ mid c.len-start.ensures before.grows new.ok.0 same within;
+      capacity = omega (arith, before.capacity, grown, c.truncate-2.ensures.capacity);
+      room = λ t enough. refl;
       fault = tt;
       turns = le_trans ended.spent before.turns;
       filling = λ f. ended.fill (before.is_filling f);

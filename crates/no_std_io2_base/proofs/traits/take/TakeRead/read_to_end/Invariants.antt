@@ -1,5 +1,5 @@
 -- `read_to_end` ends with its reader's turns, and the bytes up to `filled` are what it took.
-use Rattle.std.proofs.Common.{◌≡◌, ◌≤◌, ◌+◌, take, vec_len}
+use Rattle.std.proofs.Common.{◌≡◌, ◌≤◌, ◌+◌, take, vec_len, vec_capacity}
 use Rattle.no_std_io2_base.specs.Take.{take_inner, take_limit, take_events, TakesAlong}
 use Rattle.no_std_io2_base.proofs.Gathered.{Gathered}
 use Rattle.no_std_io2_base.proofs.traits.take.TakeRead.read_to_end.Given as goal
@@ -10,6 +10,7 @@ invariant-reads g l =
     record {
       grows : vec_len l.fn.buf ≤ l.filled;
       within : l.filled ≤ vec_len l.buf;
+      capacity : vec_capacity l.fn.buf ≤ vec_capacity l.buf;
       front : take (vec_len l.fn.buf) l.buf.items ≡ l.fn.buf.items;
       turns : T.turns (take_inner l.self) ≤ T.turns (take_inner l.initial.self);
       told : T.tells (take_inner l.initial.self) → T.tells (take_inner l.self)
