@@ -1,13 +1,15 @@
 //! What kinds, vectors, references, boxes and boxed objects tell, one function a type: so no
 //! implementation can tell less, which would make every promise over it empty. The functions have
 //! no body of their own; their contracts are proved.
-ghost use Rattle.std.specs.Prelude.{◌≡◌, ◌<◌, ◌↔◌, IsTrue};
+ghost use Rattle.std.specs.Prelude.{◌≡◌, ◌<◌, ◌↔◌, IsTrue, Ok};
+ghost use Rattle.no_std_io2_base.specs.Cursor.{cursor_inner, cursor_place};
 ghost use Rattle.no_std_io2_base.specs.Errors.{kind_number};
 ghost use Rattle.no_std_io2_base.specs.Writes.{told_out};
 
 use crate::cursor::Cursor;
 use crate::error::ErrorKind;
 use crate::traits::{BufRead, Read, SeekFrom, Stored, Write};
+use std::alloc::AllocError;
 
 // Kinds are ordered as they are declared.
 fn kind_is_before(a: ErrorKind, b: ErrorKind) -> bool
@@ -34,6 +36,35 @@ fn cursor_is(a: &Cursor<u64>, b: &Cursor<u64>) -> bool
     ensures { IsTrue result ↔ (a.now ≡ b.now) }
 {
     a == b
+}
+
+// And over bytes too, whatever their capacity.
+fn bytes_cursor_is(a: &Cursor<Vec<u8>>, b: &Cursor<Vec<u8>>) -> bool
+    ensures { IsTrue result ↔ ((cursor_inner a.now).items ≡ (cursor_inner b.now).items)
+        × (cursor_place a.now ≡ cursor_place b.now) }
+{
+    a == b
+}
+
+// By default a cursor stands at the start of the default content.
+fn cursor_by_default() -> Cursor<u64>
+    ensures content { cursor_inner result ≡ 0 }
+    ensures position { cursor_place result ≡ 0 }
+{
+    Cursor::default()
+}
+
+// A clone is the same kind, and the same place.
+fn kind_clone(kind: &ErrorKind) -> std::result::Result<ErrorKind, AllocError>
+    ensures { result ≡ Ok kind.now }
+{
+    kind.clone()
+}
+
+fn place_clone(place: &SeekFrom) -> std::result::Result<SeekFrom, AllocError>
+    ensures { result ≡ Ok place.now }
+{
+    place.clone()
 }
 
 fn vector_tells(v: &Vec<u8>)
