@@ -52,12 +52,15 @@ impl<A: Allocator> Write for Vec<u8, A> {
         ensures full { OnErr result (vec_capacity self.old < vec_len self.old + length buf.now) }
     {
         // A single byte is written by one instruction, and any other number by a call.
-        if buf.len() != 1 {
-            self.extend_from_slice(buf)?;
-        } else if self.push(buf[0]).is_err() {
-            return Err(Error::from(ErrorKind::OutOfMemory));
+        let is_done = if buf.len() == 1 {
+            self.push(buf[0]).is_ok()
+        } else {
+            self.extend_from_slice(buf).is_ok()
+        };
+        if is_done {
+            return Ok(());
         }
-        Ok(())
+        Err(Error::from(ErrorKind::OutOfMemory))
     }
 
     fn flush(&mut self) -> Result<()>
