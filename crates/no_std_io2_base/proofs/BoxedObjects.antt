@@ -7,4 +7,4 @@ pub same_box : {I A : Type 0} {V : I → Type 0} (box : DynBox I A V) (lent : (x
     → lent ≡ (box.vtable, box.value) → record { ptr = box.ptr; vtable = lent.0; alloc = box.alloc; value = new } ≡ box
 same_box box lent new same back =
     ap (λ v. record { ptr = box.ptr; vtable = lent.0; alloc = box.alloc; value = v }) same
-        ∙ ap (λ p. record { ptr = box.ptr; vtable = p.0; alloc = box.alloc; value = p.1 }) back
+    ∙ ap (λ p. record { ptr = box.ptr; vtable = p.0; alloc = box.alloc; value = p.1 }) back

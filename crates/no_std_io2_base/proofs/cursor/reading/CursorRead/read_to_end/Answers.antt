@@ -19,7 +19,7 @@ pub returns-in_err-answer-clause-room : goal.returns-in_err-answer-clause-room
 returns-in_err-answer-clause-room g c = λ _. λ enough.
     let left = c.left-rest.ensures.left in
     absurd (never_refused _ _ _ enough (subst
-        (λ l. vec_capacity c.args.buf.now < vec_len c.args.buf.now + length l + 32) left c.in_err-answer.ensures.full))
+    (λ l. vec_capacity c.args.buf.now < vec_len c.args.buf.now + length l + 32) left c.in_err-answer.ensures.full))
 
 pub returns-clause-told : goal.returns-clause-told
 returns-clause-told g c = λ _.
