@@ -2,7 +2,7 @@
 use Rattle.std.proofs.Common.{◌≡◌, ℕ, ◌+◌, ◌<◌, ◌≤◌, Bool, true, false, List, [], ◌∷◌, ◌++◌, Result, Ok, Err, OnOk, length, take, length-take-le, true≢false, length-append, if◌then◌else◌, refl, sym, ap, subst, ◌∙◌, arith, le_refl}
 use Rattle.no_std_io2_base.specs.declared.error.Error.{Error}
 use Rattle.no_std_io2_base.specs.declared.traits.chain.Chain.{Chain}
-use Rattle.no_std_io2_base.specs.Events.{Event, fails, events_of, bytes, HasRoom, Reads, SpendsTurn}
+use Rattle.no_std_io2_base.specs.Events.{Event, fails, events_of, bytes, HasNoFault, FillsRoom, HasRoom, Reads, SpendsTurn}
 use Rattle.no_std_io2_base.specs.Chain.{chain_events, chain_tells, InTurn}
 use Rattle.no_std_io2_base.proofs.Events.{bytes-append, length-events_of, HasNoFault-front, HasNoFault-behind}
 
@@ -93,6 +93,17 @@ room_of_second E F len capacity n len' capacity' enough all grown more = (
   HasNoFault-behind E F enough.0,
   omega (arith, enough.1, all, grown, more, ap length (bytes-append E F), length-append (bytes E) (bytes F)),
 )
+
+-- and for what a part of it has left
+pub room_left : (E after : List Event) (old new : List ℕ) (len capacity len' capacity' : ℕ) (at_end : Bool)
+    → FillsRoom E (Ok at_end) old new after → HasRoom E len capacity → len ≡ length old → len' ≡ length new → capacity ≤ capacity'
+    → HasRoom after len' capacity'
+room_left E after old new len capacity len' capacity' at_end read enough was is more =
+    let all = ap (λ l. length (bytes l)) read.1 ∙ ap length (bytes-append read.0 after) ∙ length-append (bytes read.0) (bytes after) in
+    let gave = ap length read.3 ∙ length-append old (bytes read.0) in (
+      HasNoFault-behind read.0 after (subst HasNoFault read.1 enough.0),
+      omega (arith, enough.1, was, is, more, all, gave),
+    )
 
 -- the second is all that is left of a chain whose first is done, and both are while it is not
 pub room_when_done : (done : Bool) (E F : List Event) (len capacity : ℕ) → done ≡ true

@@ -1,9 +1,9 @@
 -- What a loop of reads has appended so far.
-use Rattle.std.proofs.Common.{◌≡◌, ℕ, ◌-◌, ◌+◌, ◌<◌, ◌≤◌, true≢false, List, [], ◌∷◌, ◌++◌, length, take, refl, sym, ap, ◌∙◌, subst, arith, Ok, Err, append_assoc, append-nil, inl, inr, length-append}
+use Rattle.std.proofs.Common.{◌≡◌, ℕ, ◌-◌, ◌+◌, ◌<◌, ◌≤◌, Bool, true, true≢false, List, [], ◌∷◌, ◌++◌, length, take, refl, sym, ap, ◌∙◌, subst, arith, Ok, Err, append_assoc, append-nil, inl, inr, length-append}
 use lib.Seq.{take-append-le}
 use Rattle.no_std_io2_base.specs.declared.error.Error.{Error}
 use Rattle.no_std_io2_base.specs.Errors.{IsInterruption, IsFault, IsOutOfMemory}
-use Rattle.no_std_io2_base.specs.Events.{Event, fails, events_of, bytes, HasNoFault, HasRoom, Reads, ReadsToEnd}
+use Rattle.no_std_io2_base.specs.Events.{Event, fails, events_of, bytes, HasNoFault, FillsRoom, HasRoom, Reads, ReadsToEnd}
 use Rattle.no_std_io2_base.proofs.Events.{bytes-append, bytes-events_of, HasNoFault-append, HasNoFault-behind, HasNoFault-events_of}
 
 -- `front`, which has no fault, is gone from E, and its bytes were appended
@@ -60,6 +60,37 @@ pub gathered_memory : (E : List Event) (old new : List ℕ) (after : List Event)
     → Gathered E old new after → IsOutOfMemory e → ReadsToEnd E (Err e) old new after
 gathered_memory E old new after e t kind = (t.front, t.split, t.gave, inr (t.no_fault, kind))
 
+-- an empty read leaves the events as they are
+pub gathered_over : (E : List Event) (old new : List ℕ) (after rest : List Event) → Gathered E old new after → after ≡ rest
+    → Gathered E old new rest
+gathered_over E old new after rest t same = subst (Gathered E old new) same t
+
+-- what was gathered when the room was full, or the end was met
+pub gathered_room : (E : List Event) (old new : List ℕ) (after : List Event) (at_end : Bool)
+    → Gathered E old new after → (at_end ≡ true → after ≡ []) → FillsRoom E (Ok at_end) old new after
+gathered_room E old new after at_end t end = (t.front, t.split, t.no_fault, t.gave, end)
+
+-- or where a fault came
+pub gathered_failed : (E : List Event) (old new : List ℕ) (after : List Event) (e : Error) (rest : List Event)
+    → Gathered E old new after → after ≡ fails e ∷ rest → IsFault e → FillsRoom E (Err e) old new rest
+gathered_failed E old new after e rest t read fault = (
+  t.front ++ fails e ∷ [],
+  t.split ∙ ap (λ l. t.front ++ l) read ∙ sym (append_assoc t.front (fails e ∷ []) rest),
+  t.gave ∙ ap (λ l. old ++ l) (sym (bytes-append t.front (fails e ∷ []) ∙ append-nil (bytes t.front))),
+  (t.front, refl, t.no_fault, fault),
+)
+
+-- a reader went on where another one, or it itself, had stopped
+pub gathered_then : (E : List Event) (old mid new : List ℕ) (after rest : List Event) (at_end : Bool)
+    → Gathered E old mid after → FillsRoom after (Ok at_end) mid new rest → Gathered E old new rest
+gathered_then E old mid new after rest at_end t more = record {
+  front = t.front ++ more.0;
+  split = t.split ∙ ap (λ l. t.front ++ l) more.1 ∙ sym (append_assoc t.front more.0 rest);
+  no_fault = HasNoFault-append t.front more.0 t.no_fault more.2;
+  gave = more.3 ∙ ap (λ l. l ++ bytes more.0) t.gave ∙ append_assoc old (bytes t.front) (bytes more.0)
+      ∙ ap (λ l. old ++ l) (sym (bytes-append t.front more.0));
+}
+
 -- where there is room for all, a loop has not filled it
 pub gathered_fits : (E : List Event) (old new : List ℕ) (after : List Event) (len room now : ℕ)
     → Gathered E old new after → HasRoom E len room → len ≡ length old → room ≤ now → length new < now
@@ -101,6 +132,21 @@ gathered_stop E old mid new after e rest t read = (
   ],
 )
 
+-- a reader that went on where another one had stopped failed
+pub gathered_then_failed : (E : List Event) (old mid new : List ℕ) (after rest : List Event) (e : Error)
+    → Gathered E old mid after → FillsRoom after (Err e) mid new rest → ReadsToEnd E (Err e) old new rest
+gathered_then_failed E old mid new after rest e t more =
+    gathered_stop E old mid new after e rest t (more.0, more.1, more.2, inl more.3)
+
 -- a front stays where more is appended
 pub take-grown : (k : ℕ) (old mid new more : List ℕ) → take k mid ≡ old → k ≤ length mid → new ≡ mid ++ more → take k new ≡ old
 take-grown k old mid new more h fits is = ap (take k) is ∙ take-append-le k mid more fits ∙ h
+
+-- no fault comes of what has none
+pub stopped_clean : (E : List Event) (old new : List ℕ) (after : List Event) (e : Error) → FillsRoom E (Err e) old new after
+    → HasNoFault E → ⊥
+stopped_clean E old new after e stop clean =
+    let f = stop.3 in
+    let whole = stop.1 ∙ ap (λ l. l ++ after) f.1 ∙ append_assoc f.0 (fails e ∷ []) after in
+    let left = HasNoFault-behind f.0 (fails e ∷ after) (subst HasNoFault whole clean) in
+    true≢false (sym left.0 ∙ f.3)

@@ -35,6 +35,10 @@ len_cut start filled len was new mid from grows long is within =
 pub filled_length : (filled len : ℕ) (new mid : List ℕ) → len ≡ length new → new ≡ take filled mid → filled ≤ length mid → len ≡ filled
 filled_length filled len new mid long is within = long ∙ ap length is ∙ length-take-le filled mid within
 
+-- a vector that is full is what was filled
+pub whole_room : (filled len : ℕ) (mid : List ℕ) → filled ≤ len → len ≡ length mid → len ≤ filled → take filled mid ≡ mid
+whole_room filled len mid within long full = take_all filled mid (omega (arith, within, long, full))
+
 -- so many bytes were gathered
 pub filled_bytes : (filled len : ℕ) (mid : List ℕ) → filled ≤ len → len ≡ length mid → length (take filled mid) ≡ filled
 filled_bytes filled len mid within long = length-take-le filled mid (omega (arith, within, long))

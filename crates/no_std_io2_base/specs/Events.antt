@@ -1,5 +1,5 @@
 -- What a reader has left to give, and what its calls do to that.
-use Rattle.std.specs.Prelude.{◌≡◌, ℕ, zero, suc, ◌+◌, ◌<◌, ◌≤◌, List, [], ◌∷◌, ◌++◌, length, take, ⊤, Ok, Err, Result, ◌⊎◌}
+use Rattle.std.specs.Prelude.{◌≡◌, ℕ, zero, suc, ◌+◌, ◌<◌, ◌≤◌, Bool, true, List, [], ◌∷◌, ◌++◌, length, take, ⊤, Ok, Err, Result, ◌⊎◌}
 use Rattle.no_std_io2_base.specs.declared.error.Error.{Error}
 use Rattle.no_std_io2_base.specs.Errors.{IsInterruption, IsFault, IsUnexpectedEnd, IsOutOfMemory}
 
@@ -68,6 +68,13 @@ StopsAtFault E room e after = (P : List Event) × (E ≡ P ++ after) × EndsInFa
 abbrev pub ReadsExact : {A : Type 0} → Type 0 → List Event → Result A Error → List ℕ → List Event → Type 0
 ReadsExact may_take_none E (Ok _) buf after = Fills E buf after
 ReadsExact may_take_none E (Err e) buf after = StopsAtFault E (length buf) e after ⊎ FallsShort may_take_none E (length buf) e after
+
+-- reads into the room of a vector turned E into after and appended the bytes that they took: all of them where the answer is
+-- that the end was met, or those up to the first fault
+abbrev pub FillsRoom : List Event → Result Bool Error → List ℕ → List ℕ → List Event → Type 0
+FillsRoom E (Ok at_end) old new after =
+    (P : List Event) × (E ≡ P ++ after) × HasNoFault P × (new ≡ old ++ bytes P) × (at_end ≡ true → after ≡ [])
+FillsRoom E (Err e) old new after = (P : List Event) × (E ≡ P ++ after) × (new ≡ old ++ bytes P) × EndsInFault P e
 
 -- E has no fault, and a vector of this length and capacity has room for all its bytes, and for 32 more
 abbrev pub HasRoom : List Event → ℕ → ℕ → Type 0

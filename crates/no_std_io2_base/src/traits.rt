@@ -19,6 +19,7 @@ pub use lines::Lines;
 pub use pieces::append;
 pub(crate) use pieces::find_piece;
 pub use read::Read;
+pub use room::fill_room;
 pub(crate) use room::{LEAST_ROOM, open_room, reserve_room};
 pub use seek::{Seek, SeekFrom};
 pub use split::Split;

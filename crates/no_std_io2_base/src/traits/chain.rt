@@ -8,6 +8,7 @@ ghost use Rattle.no_std_io2_base.specs.Events.{events_of, HasRoom, Reads, ReadsT
 
 use super::buf_read::BufRead;
 use super::read::Read;
+use super::room::fill_room;
 use super::stored::Stored;
 use crate::error::Result;
 use std::alloc::Allocator;
@@ -108,7 +109,7 @@ impl<T: Read, U: Read> Read for Chain<T, U> {
         self.second.read(buf)
     }
 
-    // Each reader fills the vector in its own way.
+    // Each reader fills the vector in its own way, but for the room that the first has left.
     fn read_to_end<A: Allocator>(&mut self, buf: &mut Vec<u8, A>) -> Result<usize>
         // The trait's.
         ensures told { chain_tells T.tells U.tells self.old → chain_tells T.tells U.tells self.new
@@ -131,6 +132,10 @@ impl<T: Read, U: Read> Read for Chain<T, U> {
         let start = buf.len();
         self.first.read_to_end(buf)?;
         self.done_first = true;
+        let is_at_end = fill_room(&mut self.second, buf)?;
+        if is_at_end {
+            return Ok(buf.len() - start);
+        }
         self.second.read_to_end(buf)?;
         Ok(buf.len() - start)
     }

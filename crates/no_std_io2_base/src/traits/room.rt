@@ -1,7 +1,9 @@
 // Room in a vector for the reads of `read_to_end`.
-ghost use Rattle.std.specs.Prelude.{◌≡◌, take, ◌+◌, ◌≤◌, ◌<◌, IfErr, OnOk, OnErr, vec_len, vec_capacity};
-ghost use Rattle.no_std_io2_base.specs.Errors.{IsOutOfMemory};
+ghost use Rattle.std.specs.Prelude.{◌≡◌, take, ◌+◌, ◌≤◌, ◌<◌, false, IfOk, IfErr, OnOk, OnErr, vec_len, vec_capacity};
+ghost use Rattle.no_std_io2_base.specs.Errors.{IsFault, IsOutOfMemory};
+ghost use Rattle.no_std_io2_base.specs.Events.{FillsRoom};
 
+use super::read::Read;
 use crate::error::Result;
 use std::alloc::Allocator;
 
@@ -54,4 +56,41 @@ pub(crate) fn open_room<A: Allocator>(
     let end = filled + opened.min(buf.capacity() - filled);
     let _ = buf.resize(end, 0);
     Ok(())
+}
+
+/// Reads into the room that a vector has, until that is full or the reader is at its end, and says
+/// whether it is there. The vector never grows. It passes over interruptions. For a reader of more
+/// readers or pieces than one, before it hands on `read_to_end`.
+///
+/// # Errors
+/// The first fault: the reader stands right after it, and the bytes before it are appended. Never
+/// `Interrupted`.
+pub fn fill_room<R: Read, A: Allocator>(reader: &mut R, buf: &mut Vec<u8, A>) -> Result<bool>
+    ensures told { R.tells reader.old → R.tells reader.new
+        × FillsRoom (R.events reader.old) result buf.old.items buf.new.items (R.events reader.new) }
+    ensures appends { take (vec_len buf.old) buf.new.items ≡ buf.old.items }
+    ensures grows { vec_len buf.old ≤ vec_len buf.new }
+    ensures capacity { vec_capacity buf.old ≤ vec_capacity buf.new }
+    ensures full { IfOk result (λ at_end. at_end ≡ false → vec_len buf.new ≡ vec_capacity buf.new) }
+    ensures fault { IfErr result IsFault }
+    ensures turns { R.turns reader.new ≤ R.turns reader.old }
+{
+    let start = buf.len();
+    let mut filled = start;
+    'reads: while filled < buf.capacity() {
+        open_room(buf, filled, filled - start, LEAST_ROOM)?;
+        match reader.read(&mut buf[filled..]) {
+            Ok(0) => {
+                buf.truncate(filled);
+                return Ok(true);
+            }
+            Ok(n) => filled += n,
+            Err(e) if e.is_interrupted() => {}
+            Err(e) => {
+                buf.truncate(filled);
+                return Err(e);
+            }
+        }
+    }
+    Ok(false)
 }

@@ -1,7 +1,9 @@
 use Rattle.std.proofs.Common.{◌≡◌, ◌-◌, false, length, refl, arith, le_trans}
 use Rattle.std.proofs.lemmas.Result.{err_from_is_err_and}
-use Rattle.no_std_io2_base.proofs.ChainReads.{room_of_first, room_of_second, room_when_done, room_while_going, after_ok, turn_of_first, turn_of_second, turn_of_both}
-use Rattle.no_std_io2_base.proofs.Gathered.{gathered_first, gathered_all, gathered_stop}
+use Rattle.no_std_io2_base.proofs.ChainReads.{room_of_first, room_of_second, room_left, room_when_done, room_while_going, after_ok, turn_of_first, turn_of_second, turn_of_both}
+use Rattle.no_std_io2_base.proofs.Gathered.{gathered_first, gathered_all, gathered_stop, gathered_then, gathered_then_failed, stopped_clean}
+use Rattle.no_std_io2_base.proofs.Events.{HasNoFault-behind}
+use Rattle.no_std_io2_base.proofs.TakenToEnd.{gathered_done}
 use Rattle.no_std_io2_base.proofs.ReadsToEndExits.{front_then, stopped_first}
 use Rattle.no_std_io2_base.proofs.traits.chain.ChainRead.read_to_end.Goals as goal
 
@@ -43,27 +45,83 @@ returns-in_err-read_to_end g c =
       ended = tt;
     })
 
-pub returns-in_err-read_to_end-2 : goal.returns-in_err-read_to_end-2
-returns-in_err-read_to_end-2 g c =
+pub returns-in_err-is_at_end : goal.returns-in_err-is_at_end
+returns-in_err-is_at_end g c =
     let going : c.args.self.now.done_first ≡ false = c.if-self.false in
-    let p = err_from_is_err_and c.from_residual-in_err-read_to_end-2.result c.from_residual-in_err-read_to_end-2.ensures.1 in
+    let p = err_from_is_err_and c.from_residual-in_err-is_at_end.result c.from_residual-in_err-is_at_end.ensures.1 in
     let first = c.in_ok-read_to_end.ensures in
-    let second = c.in_err-read_to_end-2.ensures in
+    let second = c.in_err-is_at_end.ensures in
     let one = g.T.Read.events c.args.self.now.first in
     let two = g.U.Read.events c.args.self.now.second in
     rw (p.1, p.2) (record {
       told = λ t.
-          let one = first.told (t.0 going) in
-          let two = second.told t.1 in
-          ((λ _. one.0, two.0), rw going (gathered_stop _ _ _ _ _ _ _ (gathered_first _ _ _ _ _ _ one.1) two.1));
+          let before = first.told (t.0 going) in
+          let now = second.told t.1 in
+          ((λ _. before.0, now.0), rw going (gathered_then_failed _ _ _ _ _ _ _ (gathered_first one two _ _ _ _ before.1) now.1));
       appends = front_then _ _ _ _ _ (omega (arith, first.count)) first.appends second.appends;
       count = tt;
       capacity = le_trans first.capacity second.capacity;
       room = λ t enough.
           let both = room_while_going _ one two _ _ going enough in
-          second.room t.1 (room_of_second one two _ _ _ _ _ both (first.told (t.0 going)).1.2 first.count first.capacity);
+          absurd (stopped_clean _ _ _ _ _ (second.told t.1).1 (HasNoFault-behind one two both.0));
       fault = second.fault;
       turns = omega (arith, first.turns, second.turns);
+      in_turn = turn_of_both _ _ going refl;
+      ended = tt;
+    })
+
+pub returns-then-is_at_end : goal.returns-then-is_at_end
+returns-then-is_at_end g c =
+    let going : c.args.self.now.done_first ≡ false = c.if-self.false in
+    let first = c.in_ok-read_to_end.ensures in
+    let second = c.in_ok-is_at_end.ensures in
+    let count : c.len.result - c.len-start.result ≡ length c.fill_room.new.buf.items - length c.args.buf.now.items = omega arith in
+    let one = g.T.Read.events c.args.self.now.first in
+    let two = g.U.Read.events c.args.self.now.second in
+    record {
+      told = λ t.
+          let before = first.told (t.0 going) in
+          let now = second.told t.1 in
+          let end = now.1.4 c.if-is_at_end.true in
+          let all = gathered_then _ _ _ _ _ _ _ (gathered_first one two _ _ _ _ before.1) now.1 in
+          ((λ _. before.0, now.0), rw going (gathered_done _ _ _ _ _ _ all end end count));
+      appends = front_then _ _ _ _ _ (omega (arith, first.count)) first.appends second.appends;
+      count = omega (arith, first.count, second.grows);
+      capacity = le_trans first.capacity second.capacity;
+      room = λ t enough. refl;
+      fault = tt;
+      turns = omega (arith, first.turns, second.turns);
+      in_turn = turn_of_both _ _ going refl;
+      ended = refl;
+    }
+
+pub returns-in_err-read_to_end-2 : goal.returns-in_err-read_to_end-2
+returns-in_err-read_to_end-2 g c =
+    let going : c.args.self.now.done_first ≡ false = c.if-self.false in
+    let p = err_from_is_err_and c.from_residual-in_err-read_to_end-2.result c.from_residual-in_err-read_to_end-2.ensures.1 in
+    let first = c.in_ok-read_to_end.ensures in
+    let second = c.in_ok-is_at_end.ensures in
+    let last = c.in_err-read_to_end-2.ensures in
+    let one = g.T.Read.events c.args.self.now.first in
+    let two = g.U.Read.events c.args.self.now.second in
+    rw (p.1, p.2) (record {
+      told = λ t.
+          let before = first.told (t.0 going) in
+          let then = second.told t.1 in
+          let now = last.told then.0 in
+          let so_far = gathered_then _ _ _ _ _ _ _ (gathered_first one two _ _ _ _ before.1) then.1 in
+          ((λ _. before.0, now.0), rw going (gathered_stop _ _ _ _ _ _ _ so_far now.1));
+      appends = front_then _ _ _ _ _ (omega (arith, first.count, second.grows))
+          (front_then _ _ _ _ _ (omega (arith, first.count)) first.appends second.appends) last.appends;
+      count = tt;
+      capacity = le_trans first.capacity (le_trans second.capacity last.capacity);
+      room = λ t enough.
+          let both = room_while_going _ one two _ _ going enough in
+          let behind = room_of_second one two _ _ _ _ _ both (first.told (t.0 going)).1.2 first.count first.capacity in
+          let then = second.told t.1 in
+          last.room then.0 (room_left _ _ _ _ _ _ _ _ _ then.1 behind c.read_to_end-2.new.buf.ok.0 c.fill_room.new.buf.ok.0 second.capacity);
+      fault = last.fault;
+      turns = omega (arith, first.turns, second.turns, last.turns);
       in_turn = turn_of_both _ _ going refl;
       ended = tt;
     })
@@ -72,21 +130,25 @@ pub returns : goal.returns
 returns g c =
     let going : c.args.self.now.done_first ≡ false = c.if-self.false in
     let first = c.in_ok-read_to_end.ensures in
-    let second = c.in_ok-read_to_end-2.ensures in
-    let count : c.len.result - c.len-start.result ≡ length c.read_to_end-3.new.buf.items - length c.args.buf.now.items = omega arith in
+    let second = c.in_ok-is_at_end.ensures in
+    let last = c.in_ok-read_to_end-2.ensures in
+    let count : c.len-2.result - c.len-start.result ≡ length c.read_to_end-3.new.buf.items - length c.args.buf.now.items = omega arith in
     let one = g.T.Read.events c.args.self.now.first in
     let two = g.U.Read.events c.args.self.now.second in
     record {
       told = λ t.
           let before = first.told (t.0 going) in
-          let now = second.told t.1 in
-          ((λ _. before.0, now.0), rw going (gathered_all _ _ _ _ two _ _ _ (gathered_first one two _ _ _ _ before.1) now.1 count));
-      appends = front_then _ _ _ _ _ (omega (arith, first.count)) first.appends second.appends;
-      count = omega (arith, first.count, second.count);
-      capacity = le_trans first.capacity second.capacity;
+          let then = second.told t.1 in
+          let now = last.told then.0 in
+          let so_far = gathered_then _ _ _ _ _ _ _ (gathered_first one two _ _ _ _ before.1) then.1 in
+          ((λ _. before.0, now.0), rw going (gathered_all _ _ _ _ _ _ _ _ so_far now.1 count));
+      appends = front_then _ _ _ _ _ (omega (arith, first.count, second.grows))
+          (front_then _ _ _ _ _ (omega (arith, first.count)) first.appends second.appends) last.appends;
+      count = omega (arith, first.count, second.grows, last.count);
+      capacity = le_trans first.capacity (le_trans second.capacity last.capacity);
       room = λ t enough. refl;
       fault = tt;
-      turns = omega (arith, first.turns, second.turns);
+      turns = omega (arith, first.turns, second.turns, last.turns);
       in_turn = turn_of_both _ _ going refl;
       ended = refl;
     }
