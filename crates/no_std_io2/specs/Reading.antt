@@ -1,6 +1,8 @@
 -- What a clause reads of a `BufReader`.
-use Rattle.std.specs.Prelude.{◌≡◌, ℕ, ◌^◌, ◌<◌, negsuc, ◌+◌, ◌-◌, ◌*◌, ◌&&◌, min, nat_lt, nat_le, if◌then◌else◌, List, [], ◌∷◌, ◌++◌, Ok, Err, Result, length}
+use Rattle.std.specs.Prelude.{◌≡◌, ℕ, ◌^◌, ◌<◌, negsuc, ◌+◌, ◌-◌, ◌*◌, ◌&&◌, min, nat_lt, nat_le, if◌then◌else◌, List, [], ◌∷◌, ◌++◌, Ok, Err, Result, length, ◌⊎◌}
 use Rattle.no_std_io2_base.specs.declared.error.Error.{Error}
+use Rattle.no_std_io2_base.specs.Errors.{IsOutOfMemory}
+use Rattle.no_std_io2_base.specs.Writes.{IsFront}
 use Rattle.no_std_io2_base.specs.declared.traits.seek.SeekFrom.{SeekFrom}
 use Rattle.no_std_io2_base.specs.declared.traits.seek.SeekFrom.TheVariants.{Current}
 use Rattle.no_std_io2_base.specs.Events.{Event, events_of, fails}
@@ -87,6 +89,12 @@ KeepsBuffer old new = (reader_held new ≡ reader_held old) × (reader_behind ne
 -- nothing lies behind, and nothing is held
 abbrev pub HasNoBuffer : {R : Type 0} {S : ℕ} → BufReader R S → Type 0
 HasNoBuffer r = (reader_held r ≡ []) × (reader_behind r ≡ [])
+
+-- what was held stands behind what the vector had and the buffer was dropped, or room for it was refused and nothing was changed
+abbrev pub EmptiesInto : {R : Type 0} {S : ℕ} → BufReader R S → List ℕ → Result ℕ Error → List ℕ → BufReader R S → Type 0
+EmptiesInto old before (Ok n) after new = IsFront (before ++ reader_held old) after × HasNoBuffer new
+EmptiesInto old before (Err e) after new =
+    (IsFront (before ++ reader_held old) after × HasNoBuffer new) ⊎ (IsOutOfMemory e × (new ≡ old) × (after ≡ before))
 
 -- r after `*r.get_mut() = x`
 abbrev pub reader_with_inner : {R : Type 0} {S : ℕ} → BufReader R S → R → BufReader R S

@@ -74,8 +74,8 @@ impl<R, const S: usize> BufReader<R, S> {
 
     /// The bytes given since the last inner read that lie right before those held: as far back as
     /// [`seek_relative`](BufReader::seek_relative) goes without a seek of the inner reader. They are
-    /// no more there after an inner read, whatever it answers, and after a seek that drops the
-    /// buffer. Rust's `BufReader` keeps them and doesn't show them.
+    /// no more there after an inner read, whatever it answers, after a `read_to_end`, and after a seek
+    /// that drops the buffer. Rust's `BufReader` keeps them and doesn't show them.
     pub fn behind(&self) -> &[u8]
         ensures value { result.now ≡ reader_behind self.now }
         ensures bound { length result.now ≤ S }

@@ -1,9 +1,14 @@
 // Bytes that were read, inside an array: those not yet given, and before them those that were.
-ghost use Rattle.std.specs.Prelude.{◌≡◌, ◌+◌, ◌<◌, ◌≤◌, ◌^◌, [], ◌++◌, min, length, take, drop, IsOk, OnErr};
+ghost use Rattle.std.specs.Prelude.{◌≡◌, ◌+◌, ◌<◌, ◌≤◌, ◌^◌, [], ◌++◌, min, length, take, drop, IsOk, IfErr, OnOk, OnErr, vec_len, vec_capacity};
 ghost use Rattle.std.specs.Bool.{OnTrue, OnFalse};
+ghost use Rattle.no_std_io2_base.specs.Errors.{IsOutOfMemory};
 
 use no_std_io2_base::error::Result;
 use no_std_io2_base::traits::Read;
+use std::alloc::Allocator;
+
+// The least room that there is behind the held bytes, once they were appended to a vector.
+const LEAST_ROOM: usize = 32;
 
 #[derive(Drop)]
 pub(super) struct ReadAhead<const S: usize> {
@@ -134,6 +139,23 @@ impl<const S: usize> ReadAhead<S> {
         }
         self.give_whole(&mut buf[..n]);
         n
+    }
+
+    // Appends what is held, and makes room for more behind it at once. Nothing is left here then.
+    pub(super) fn append_to<A: Allocator>(&mut self, buf: &mut Vec<u8, A>) -> Result<()>
+        ensures held { OnOk result (ahead_held self.new ≡ []) }
+        ensures behind { OnOk result (ahead_behind self.new ≡ []) }
+        ensures ok { OnOk result (buf.new.items ≡ buf.old.items ++ ahead_held self.old) }
+        ensures len { OnOk result (vec_len buf.new ≡ vec_len buf.old + length (ahead_held self.old)) }
+        ensures capacity { vec_capacity buf.old ≤ vec_capacity buf.new }
+        ensures err { OnErr result ((self.new ≡ self.old) × (buf.new.items ≡ buf.old.items)) }
+        ensures full { OnErr result (vec_capacity buf.old < vec_len buf.old + length (ahead_held self.old) + 32) }
+        ensures refused { IfErr result IsOutOfMemory }
+    {
+        buf.reserve(self.len() + LEAST_ROOM)?;
+        buf.extend_from_slice(self.as_slice())?;
+        self.clear();
+        Ok(())
     }
 
     // Reads once. What was held before is lost.

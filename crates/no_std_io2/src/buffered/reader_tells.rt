@@ -3,6 +3,7 @@
 // none of them can tell less.
 ghost use Rattle.std.specs.Prelude.{◌≡◌, ◌+◌, ◌-◌, ◌<◌, ◌≤◌, min, nat_lt, if◌then◌else◌, length, drop, ◌++◌, IsOk, IfOk, IsOkAnd};
 ghost use Rattle.no_std_io2_base.specs.Events.{events_of};
+ghost use Rattle.no_std_io2_base.specs.Lending.{BeginsWith};
 ghost use Rattle.no_std_io2.specs.Reading.{reader_held, reader_behind, reader_inner, reader_is_sound};
 ghost use Rattle.no_std_io2.specs.Behind.{IsInBuffer, MovesEvents};
 ghost use Rattle.no_std_io2.specs.Sound.{IsSound};
@@ -43,9 +44,11 @@ fn reader_is_sound_where<R: Stored, const S: usize>(r: &BufReader<R, S>)
         → ⟦<BufReader<R, S> as Stored>⟧.has_store r.now }
 {}
 
-// Over a metered reader its fills are counted, and over a filling one their lengths are known.
+// What it holds stands at the front of what is to come. Over a metered reader its fills are counted, and over a filling one
+// their lengths are known.
 fn reader_lends<R: Read, const S: usize>(r: &BufReader<R, S>)
     ensures held { ⟦<BufReader<R, S> as BufRead>⟧.held r.now ≡ reader_held r.now }
+    ensures front { BeginsWith (⟦<BufReader<R, S> as Read>⟧.events r.now) (⟦<BufReader<R, S> as BufRead>⟧.held r.now) }
     ensures counts { R.is_metered (reader_inner r.now) → ⟦<BufReader<R, S> as BufRead>⟧.counts_fills r.now }
     ensures fills { ⟦<BufReader<R, S> as BufRead>⟧.fills r.now ≡ R.cost (reader_inner r.now) }
     ensures surely { R.is_filling (reader_inner r.now) → ⟦<BufReader<R, S> as BufRead>⟧.lends_surely r.now }
@@ -54,7 +57,7 @@ fn reader_lends<R: Read, const S: usize>(r: &BufReader<R, S>)
         else min S (length (R.events (reader_inner r.now)))) }
 {}
 
-// Lends once. Where nothing is held that is one inner read, else none.
+// Lends once. Where nothing is held that is one inner read, else none, and the inner reader is left alone.
 fn lend_counted<R: Read, const S: usize>(r: &mut BufReader<R, S>) -> Result<usize>
     ensures reads { R.is_metered (reader_inner r.old) → R.is_metered (reader_inner r.new)
         × (R.cost (reader_inner r.new) ≡ R.cost (reader_inner r.old)
@@ -63,6 +66,7 @@ fn lend_counted<R: Read, const S: usize>(r: &mut BufReader<R, S>) -> Result<usiz
         → IsOkAnd result (λ n. n ≡ (if nat_lt 0 (length (reader_held r.old))
         then length (reader_held r.old) else min S (length (R.events (reader_inner r.old))))) }
     ensures held { IfOk result (λ n. length (reader_held r.new) ≡ n) }
+    ensures inner { 0 < length (reader_held r.old) → reader_inner r.new ≡ reader_inner r.old }
 {
     let lent = r.fill_buf()?;
     Ok(lent.len())

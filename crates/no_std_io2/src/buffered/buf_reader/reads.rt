@@ -1,15 +1,16 @@
 // A `BufReader` as a reader.
-ghost use Rattle.std.specs.Prelude.{◌≡◌, ◌+◌, ◌-◌, ◌<◌, ◌≤◌, [], ◌++◌, min, length, take, drop, IsOk, IsOkAnd, IfOk, IfErr, OnErr};
+ghost use Rattle.std.specs.Prelude.{◌≡◌, ◌+◌, ◌-◌, ◌<◌, ◌≤◌, [], ◌++◌, min, length, take, drop, IsOk, IsOkAnd, IfOk, IfErr, OnErr, vec_len};
 ghost use Rattle.no_std_io2_base.specs.Errors.{IsFault};
-ghost use Rattle.no_std_io2_base.specs.Events.{events_of, given, Reads, ReadsExact, SpendsTurn};
+ghost use Rattle.no_std_io2_base.specs.Events.{events_of, given, Reads, ReadsExact, ReadsToEnd, SpendsTurn};
 ghost use Rattle.no_std_io2_base.specs.Lending.{IsNotEmpty, reads_needed};
-ghost use Rattle.no_std_io2.specs.Reading.{reader_held, reader_behind, reader_inner, reader_events, reader_turns, reader_has_store, reader_is_sound, reader_position, behind_anew, held_or_to_come, exact_reads, exact_left};
+ghost use Rattle.no_std_io2.specs.Reading.{reader_held, reader_behind, reader_inner, reader_events, reader_turns, reader_has_store, reader_is_sound, reader_position, behind_anew, held_or_to_come, exact_reads, exact_left, EmptiesInto};
 ghost use Rattle.no_std_io2.specs.ReaderCalls.{ReadsAnew, ReadsExactAnew};
 ghost use Rattle.no_std_io2.specs.Sound.{sound_tells, sound_fits};
 
 use super::BufReader;
 use no_std_io2_base::error::{Result, failed_to_fill};
 use no_std_io2_base::traits::Read;
+use std::alloc::Allocator;
 
 impl<R: Read, const S: usize> BufReader<R, S> {
     // A read where nothing is held: one inner read, into `buf` where that has room for a full
@@ -178,6 +179,34 @@ impl<R: Read, const S: usize> Read for BufReader<R, S> {
         }
         self.ahead.give_whole(buf);
         Ok(())
+    }
+
+    // What is held comes first, and then what the inner reader appends in its own way.
+    fn read_to_end<A: Allocator>(&mut self, buf: &mut Vec<u8, A>) -> Result<usize>
+        // The trait's.
+        ensures told { R.tells (reader_inner self.old) → R.tells (reader_inner self.new)
+            × ReadsToEnd (reader_events R.events self.old) result buf.old.items buf.new.items (reader_events R.events self.new) }
+        ensures appends { take (vec_len buf.old) buf.new.items ≡ buf.old.items }
+        ensures count { IfOk result (λ n. vec_len buf.new ≡ vec_len buf.old + n) }
+        ensures fault { IfErr result IsFault }
+        ensures turns { reader_turns R.turns self.new ≤ reader_turns R.turns self.old }
+        ensures metered { ⊥ → ⊥ }
+        ensures filling { ⊥ → ⊥ }
+        ensures store { reader_has_store R.has_store R.position R.content self.old
+            → reader_has_store R.has_store R.position R.content self.new
+            × (R.content (reader_inner self.new) ≡ R.content (reader_inner self.old))
+            × (reader_position R.position self.new + length (reader_events R.events self.new)
+            ≡ reader_position R.position self.old + length (reader_events R.events self.old)) }
+
+        // What was held is appended whatever the inner reader then answers, and the buffer is dropped.
+        ensures empties { EmptiesInto self.old buf.old.items result buf.new.items self.new }
+        ensures sound { reader_is_sound R.has_store R.position R.content self.old
+            → reader_is_sound R.has_store R.position R.content self.new }
+    {
+        let start = buf.len();
+        self.ahead.append_to(buf)?;
+        self.inner.read_to_end(buf)?;
+        Ok(buf.len() - start)
     }
 
     ghost filling_tells = { λ r h. absurd h };
