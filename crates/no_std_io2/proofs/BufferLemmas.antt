@@ -1,12 +1,12 @@
 -- A buffer in front of a writer.
-use Rattle.std.proofs.Common.{◌≡◌, ℕ, ◌-◌, ◌<◌, ◌≤◌, subst, length-take, Result, Ok, Err, IsOk, Some, List, [], ◌∷◌, refl, ◌++◌, length, take, drop, length-drop, sym, ap, ◌∙◌, arith, length-append, append_assoc, append-nil, take-append-drop}
+use Rattle.std.proofs.Common.{◌≡◌, ◌⊎◌, ⊎_elim, inl, inr, ℕ, ◌-◌, ◌<◌, ◌≤◌, subst, length-take, Result, Ok, Err, IsOk, Some, List, [], ◌∷◌, refl, ◌++◌, length, take, drop, length-drop, sym, ap, ◌∙◌, arith, length-append, append_assoc, append-nil, take-append-drop}
 use Rattle.std.proofs.lemmas.Bool.Decides.{nat_tests}
 use Rattle.no_std_io2_base.specs.declared.error.ErrorKind.{ErrorKind}
 use Rattle.no_std_io2_base.specs.declared.error.Error.{Error}
 use Rattle.no_std_io2_base.specs.Writes.{Told, Moves, call_mishap, calls_for}
-use Rattle.no_std_io2_base.proofs.MovesLemmas.{Moves-refl, Moves-steady}
+use Rattle.no_std_io2_base.proofs.MovesLemmas.{IsFront-refl, Moves-refl, Moves-steady}
 use Rattle.no_std_io2.specs.declared.buffered.buf_writer.BufWriter.{BufWriter}
-use Rattle.no_std_io2.specs.Buffered.{with_buffer, writer_buffer, IsEnd}
+use Rattle.no_std_io2.specs.Buffered.{with_buffer, writer_buffer, IsEnd, HoldsEnd}
 
 -- nothing is left of nothing
 pub none_left : (xs ys zs : List ℕ) → xs ≡ ys ++ zs → xs ≡ [] → length zs ≡ 0
@@ -77,6 +77,44 @@ IsEnd-none whole end e = (whole, sym (append-nil whole) ∙ ap (λ l. whole ++ l
 
 pub IsEnd-held : (old mid new x : List ℕ) → IsEnd old mid → new ≡ mid ++ x → IsEnd (old ++ x) new
 IsEnd-held old mid new x f e = (f.0, ap (λ l. l ++ x) f.1 ∙ append_assoc f.0 mid x ∙ ap (λ l. f.0 ++ l) (sym e))
+
+pub IsEnd-split : (held x front end : List ℕ) → x ≡ front ++ end → IsEnd (held ++ x) end
+IsEnd-split held x front end e = (held ++ front, ap (λ l. held ++ l) e ∙ sym (append_assoc held front end))
+
+-- an end of an end, and with more behind both
+pub IsEnd-trans : (old mid new : List ℕ) → IsEnd old mid → IsEnd mid new → IsEnd old new
+IsEnd-trans old mid new f g = (f.0 ++ g.0, f.1 ∙ ap (λ l. f.0 ++ l) g.1 ∙ sym (append_assoc f.0 g.0 new))
+
+pub IsEnd-through : (old mid x new : List ℕ) → IsEnd old mid → IsEnd (mid ++ x) new → IsEnd (old ++ x) new
+IsEnd-through old mid x new f g = IsEnd-trans (old ++ x) (mid ++ x) new (IsEnd-held old mid (mid ++ x) x f refl) g
+
+-- a whole write of x from mid, an end of old
+pub IsEnd-either : (old mid x new : List ℕ) → IsEnd old mid → IsEnd (mid ++ x) new ⊎ IsEnd mid new → IsEnd (old ++ x) new ⊎ IsEnd old new
+IsEnd-either old mid x new f r = ⊎_elim (λ g. inl (IsEnd-through old mid x new f g)) (λ g. inr (IsEnd-trans old mid new f g)) r
+
+-- the same, to an end of what was held then
+pub IsEnd-sent : (old x mid new : List ℕ) → IsEnd (old ++ x) mid ⊎ IsEnd old mid → IsEnd mid new → IsEnd (old ++ x) new ⊎ IsEnd old new
+IsEnd-sent old x mid new r g = ⊎_elim (λ f. inl (IsEnd-trans (old ++ x) mid new f g)) (λ f. inr (IsEnd-trans old mid new f g)) r
+
+pub HoldsEnd-none : (held x end : List ℕ) → IsEnd held end → HoldsEnd held x end
+HoldsEnd-none held x end f = ([], (x, refl), rw (append-nil held) f)
+
+-- a whole write of the first n bytes of x
+pub HoldsEnd-front : (held x end : List ℕ) (n : ℕ) → IsEnd (held ++ take n x) end ⊎ IsEnd held end → HoldsEnd held x end
+HoldsEnd-front held x end n r = ⊎_elim (λ f. (take n x, (drop n x, sym (take-append-drop n x)), f)) (HoldsEnd-none held x end) r
+
+pub HoldsEnd-whole : (held x end : List ℕ) → IsEnd (held ++ x) end ⊎ IsEnd held end → HoldsEnd held x end
+HoldsEnd-whole held x end r = ⊎_elim (λ f. (x, IsFront-refl x, f)) (HoldsEnd-none held x end) r
+
+-- a whole write of what follows them, with nothing held before
+pub HoldsEnd-rest : (held x mid rest end : List ℕ) (n : ℕ) → mid ≡ [] → rest ≡ drop n x → IsEnd (mid ++ rest) end ⊎ IsEnd mid end → HoldsEnd held x end
+HoldsEnd-rest held x mid rest end n none is r =
+    HoldsEnd-whole held x end (IsEnd-either held mid x end (IsEnd-none held mid none)
+    (⊎_elim (λ f. inl (IsEnd-trans (mid ++ x) (mid ++ rest) end (IsEnd-none_front mid x rest n none is) f)) inr r))
+  where
+    IsEnd-none_front : (mid x rest : List ℕ) (n : ℕ) → mid ≡ [] → rest ≡ drop n x → IsEnd (mid ++ x) (mid ++ rest)
+    IsEnd-none_front mid x rest n none is =
+        (take n x, ap (λ l. l ++ x) none ∙ sym (take-append-drop n x) ∙ ap (λ l. take n x ++ l) (sym is ∙ ap (λ l. l ++ rest) (sym none)))
 
 -- a call of a writer with no mishap to come answers `Ok`
 pub call_steady : {a c : Told} {x : List ℕ} (reply : Result (Unit {0}) Error) → a.mishaps ≡ Some [] → Moves a x (call_mishap reply) c → IsOk reply

@@ -75,7 +75,18 @@ copied_interruption E old mid m after e rest t read again = record {
 none_counted : (m : ℕ) (bs : List ℕ) → m ≡ counted bs → m ≡ 0 → bs ≡ []
 none_counted m bs is zero = drop_of_length-le bs {i = 0} (omega arith)
 
--- the reader's fault ends the copy
+-- the reader's end ends the copy
+pub copied_end : (room : ℕ) (E : List Event) (old mid : Told) (m n : ℕ) (buf : List ℕ) (after rest : List Event)
+    → Copied E old mid m after → Reads after (Ok n) buf rest → n ≡ 0 → length buf ≡ room → (room ≡ 0 → m ≡ 0) → Copies room E (Ok m) rest old mid
+copied_end room E old mid m n buf after rest t read zero long none =
+    let same : after ≡ rest = read.0 ∙ ap (λ k. events_of (take k buf) ++ rest) zero in (
+      t.front,
+      t.split ∙ ap (λ l. t.front ++ l) same,
+      λ no_room. none_counted m (bytes t.front) t.count (none no_room),
+      (t.no_fault, λ some. sym same ∙ read.1 zero (omega (arith, some, long)), t.count, t.moves),
+    )
+
+-- the reader's fault ends it
 pub copied_fault : (room : ℕ) (E : List Event) (old mid : Told) (m : ℕ) (after : List Event) (e : Error) (rest : List Event)
     → Copied E old mid m after → after ≡ fails e ∷ rest → IsFault e → (room ≡ 0 → m ≡ 0) → Copies room E (Err e) rest old mid
 copied_fault room E old mid m after e rest t read fault none =

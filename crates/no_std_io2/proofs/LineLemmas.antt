@@ -11,7 +11,7 @@ use Rattle.no_std_io2_base.specs.Writes.{Told, Moves, MovesFront, IsFront, taken
 use Rattle.no_std_io2_base.proofs.MovesLemmas.{IsFront-refl, IsFront-trans, Moves-then, Moves-ends}
 use Rattle.no_std_io2.proofs.BufferLemmas.{Moves-buffered, ok_same}
 use Rattle.no_std_io2.specs.Buffered.{with_buffer}
-use Rattle.std.specs.Result.{OnOk}
+use Rattle.std.specs.Result.{OnOk, OnErr}
 use Rattle.no_std_io2.specs.LineState.{IsLineState, HasNoNewline}
 use Rattle.no_std_io2.specs.Buffered.{IsEnd}
 
@@ -90,6 +90,10 @@ onok (Err e) P p = tt
 pub onok_map : {T : Type 0} (r : Result T Error) (P Q : Type 0) → (P → Q) → OnOk r P → OnOk r Q
 onok_map (Ok t) P Q f p = f p
 onok_map (Err e) P Q f p = tt
+
+pub onerr_map : {T : Type 0} (r : Result T Error) (P Q : Type 0) → (P → Q) → OnErr r P → OnErr r Q
+onerr_map (Ok t) P Q f p = tt
+onerr_map (Err e) P Q f p = f p
 
 pub MovesFront-then : {a b c : Told} (x : List ℕ) (r : Result (Unit {0}) Error) → Moves a [] [] b → MovesFront b x r c → MovesFront a x r c
 MovesFront-then x r m f = (f.0, f.1, f.2, Moves-then m f.3)

@@ -117,7 +117,7 @@ refused old mid x e way = record {
   whole = λ _. tt;
   calm = λ _. way.fault;
   all = λ t. no_ok (way.all t).1;
-  after = λ t. no_ok (way.all t).1;
+  after = tt;
   calls = λ _ t. no_ok (way.all t).1;
 }
 
@@ -140,7 +140,7 @@ passed {S} old mid x r inner way long bound moves all calls =
       whole = λ short. absurd (omega (arith, short, long));
       calm = λ short. absurd (omega (arith, short, long));
       all = λ t. all (way.all t).0;
-      after = λ _. none ∙ sym (after_long S (sender_buffer old) x long);
+      after = onok r _ (none ∙ sym (after_long S (sender_buffer old) x long));
       calls = λ m t.
           let first = way.calls m t in
           let then = calls first.0 (way.all t).0 in
@@ -172,7 +172,7 @@ held {S} {told} {takes_all} {is_metered} {cost} old mid new x way short same put
       whole = λ _. refl;
       calm = λ _. tt;
       all = λ t. (subst takes_all (sym same) (way.all t).0, refl);
-      after = λ _. held_after old mid new x way short put;
+      after = held_after old mid new x way short put;
       calls = λ m t.
           let first = way.calls m t in
           (subst is_metered (sym same) first.0, omega (arith, first.1, ap cost same, calls_short S (sender_buffer old) x short));
@@ -189,7 +189,7 @@ refused_all old mid x e way = record {
   sent = λ _. tt;
   none = λ _. (way.rest, way.moves);
   all = λ t. no_ok (way.all t).1;
-  after = λ t. no_ok (way.all t).1;
+  after = tt;
   calls = λ _ _ t. no_ok (way.all t).1;
   few = λ _ t. no_ok (way.all t).1;
 }
@@ -213,7 +213,7 @@ passed_all {S} old mid x r inner steady way long fault moves all calls =
       sent = λ _. onok r _ (IsEnd-none _ (sender_buffer mid) none);
       none = λ short. absurd (omega (arith, short, long));
       all = λ t. let mid_all = (way.all t).0 in (all mid_all, call_steady r (steady _ mid_all) moves.3);
-      after = λ _. none ∙ sym (after_long S (sender_buffer old) x long);
+      after = onok r _ (none ∙ sym (after_long S (sender_buffer old) x long));
       calls = λ some m t.
           let first = way.calls m t in
           let then = calls first.0 (way.all t).0 in
@@ -237,7 +237,7 @@ held_all {S} {told} {takes_all} {is_metered} {cost} old mid new x way short same
   sent = λ over. ([], sym (put ∙ ap (λ l. l ++ x) (way.sent over)));
   none = λ _. tt;
   all = λ t. (subst takes_all (sym same) (way.all t).0, refl);
-  after = λ _. held_after old mid new x way short put;
+  after = held_after old mid new x way short put;
   calls = λ _ m t.
       let first = way.calls m t in
       (subst is_metered (sym same) first.0, omega (arith, first.1, ap cost same, calls_short S (sender_buffer old) x short));

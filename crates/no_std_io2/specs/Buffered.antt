@@ -1,7 +1,7 @@
 -- What a clause reads of a `BufWriter` and an `IntoInnerError`, and how a buffer is sent.
 use Rattle.std.specs.Prelude.{◌≡◌, ℕ, ◌+◌, List, [], ◌++◌, length, nat_lt, nat_le, ◌&&◌, if◌then◌else◌}
 use Rattle.no_std_io2_base.specs.declared.error.Error.{Error}
-use Rattle.no_std_io2_base.specs.Writes.{Told}
+use Rattle.no_std_io2_base.specs.Writes.{Told, IsFront}
 use Rattle.no_std_io2.specs.Window.{window_bytes}
 use Rattle.no_std_io2.specs.declared.buffered.sender.Sender.{Sender}
 use Rattle.no_std_io2.specs.declared.buffered.buf_writer.BufWriter.{BufWriter}
@@ -51,7 +51,7 @@ way_calls S buffer n = if nat_lt 0 (length buffer) && nat_lt S (length buffer + 
 abbrev pub writing_calls : ℕ → List ℕ → List ℕ → ℕ
 writing_calls S buffer x = way_calls S buffer (length x) + (if nat_le S (length x) then 1 else 0)
 
--- the buffer after a write of x, where the inner writer takes all
+-- the buffer after a write of x that answered `Ok`
 abbrev pub buffer_after : ℕ → List ℕ → List ℕ → List ℕ
 buffer_after S buffer x =
     if nat_lt (length x) S then (if nat_le (length buffer + length x) S then buffer ++ x else x) else []
@@ -59,6 +59,10 @@ buffer_after S buffer x =
 -- whole ends in end
 abbrev pub IsEnd : List ℕ → List ℕ → Type 0
 IsEnd whole end = (front : List ℕ) × (whole ≡ front ++ end)
+
+-- end is an end of what was held and some front of x
+abbrev pub HoldsEnd : List ℕ → List ℕ → List ℕ → Type 0
+HoldsEnd held x end = (front : List ℕ) × IsFront front x × IsEnd (held ++ front) end
 
 -- w with another inner writer
 abbrev pub sender_with_inner : {W : Type 0} {S : ℕ} → Sender W S → W → Sender W S

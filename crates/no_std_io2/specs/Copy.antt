@@ -1,5 +1,6 @@
 -- What `copy` moves.
 use Rattle.std.specs.Prelude.{◌≡◌, ℕ, ◌+◌, ◌-◌, ◌^◌, ◌≤◌, ◌<◌, min, List, [], ◌∷◌, ◌++◌, length, Ok, Err, Result, ◌⊎◌}
+use Rattle.std.specs.Int.{div_ceil}
 use Rattle.no_std_io2_base.specs.declared.error.Error.{Error}
 use Rattle.no_std_io2_base.specs.Errors.{error_kind}
 use Rattle.no_std_io2_base.specs.Events.{Event, bytes, HasNoFault, EndsInFault}
@@ -34,3 +35,7 @@ Copies room E r after old new =
 abbrev pub CopyMoves : Result ℕ Error → Told → Told → Type 0
 CopyMoves (Ok n) old new = (b : List ℕ) × (n ≡ counted b) × Moves old b [] new
 CopyMoves (Err e) old new = (b : List ℕ) × (Moves old b [] new ⊎ Moves old b (error_kind e ∷ []) new)
+
+-- how many reads a copy of n bytes makes of a reader that fills the room: as many as give bytes, and one that gives none
+abbrev pub copy_reads : ℕ → ℕ → ℕ
+copy_reads room n = div_ceil n room + 1

@@ -52,7 +52,7 @@ pub record Buffers {W : Type 0} {S : ℕ} (told : W → Told) (takes_all is_mete
   pub whole : length x < S → IfOk reply (λ n. n ≡ length x)
   pub calm : length x < S → IsNoInterruption reply
   pub all : takes_all (sender_inner old) → takes_all (sender_inner new) × (reply ≡ Ok (length x))
-  pub after : takes_all (sender_inner old) → sender_buffer new ≡ buffer_after S (sender_buffer old) x
+  pub after : OnOk reply (sender_buffer new ≡ buffer_after S (sender_buffer old) x)
   pub calls : is_metered (sender_inner old) → takes_all (sender_inner old) → is_metered (sender_inner new)
       × (cost (sender_inner new) ≡ cost (sender_inner old) + writing_calls S (sender_buffer old) x)
 
@@ -71,7 +71,7 @@ pub record BuffersAll {W : Type 0} {S : ℕ} (told : W → Told) (takes_all is_m
   pub none : length x < S → OnErr reply (IsEnd (sender_buffer old) (sender_buffer new)
       × Moves (sender_told told old) [] (call_mishap reply) (sender_told told new))
   pub all : takes_all (sender_inner old) → takes_all (sender_inner new) × IsOk reply
-  pub after : takes_all (sender_inner old) → sender_buffer new ≡ buffer_after S (sender_buffer old) x
+  pub after : OnOk reply (sender_buffer new ≡ buffer_after S (sender_buffer old) x)
   pub calls : 0 < S → is_metered (sender_inner old) → takes_all (sender_inner old) → is_metered (sender_inner new)
       × (cost (sender_inner new) ≡ cost (sender_inner old) + writing_calls S (sender_buffer old) x)
   pub few : is_metered (sender_inner old) → takes_all (sender_inner old) → is_metered (sender_inner new)

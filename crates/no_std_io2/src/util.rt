@@ -1,7 +1,7 @@
 //! Whole copies from a reader to a writer.
-ghost use Rattle.std.specs.Prelude.{◌≡◌, ◌+◌, ◌≤◌, ◌<◌, ◌^◌, length, IfErr};
+ghost use Rattle.std.specs.Prelude.{◌≡◌, ◌+◌, ◌≤◌, ◌<◌, ◌^◌, length, IfErr, OnOk};
 ghost use Rattle.no_std_io2_base.specs.Errors.{IsFault};
-ghost use Rattle.no_std_io2.specs.Copy.{Copies, CopyMoves};
+ghost use Rattle.no_std_io2.specs.Copy.{Copies, CopyMoves, copy_reads};
 
 use no_std_io2_base::error::Result;
 use no_std_io2_base::traits::{Read, Write};
@@ -11,6 +11,9 @@ mod steady;
 /// Copies all bytes to come of `reader` to `writer`, through a buffer of `S` bytes on the stack,
 /// and answers their number, or the greatest `u64` where there are more. It passes over the
 /// reader's interruptions, and doesn't flush `writer`. Follows `std::io::copy`.
+///
+/// Of a reader that gives as many bytes as fit, `S` above 0, it makes as many reads as give bytes, and
+/// one more, that gives none.
 ///
 /// `S` is from 0 to 2^63 - 1. With `S` 0 nothing is copied and the answer is 0, or the reader's
 /// fault where it answers one.
@@ -29,6 +32,8 @@ pub fn copy<R: Read, W: Write, const S: usize>(reader: &mut R, writer: &mut W) -
     ensures fault { IfErr result IsFault }
     ensures turns { R.turns reader.new ≤ R.turns reader.old }
     ensures metered { R.is_metered reader.old → R.is_metered reader.new }
+    ensures reads { 0 < S → R.is_metered reader.old → R.is_filling reader.old → OnOk result
+        (R.cost reader.new ≡ R.cost reader.old + copy_reads S (length (R.events reader.old))) }
     ensures filling { R.is_filling reader.old → R.is_filling reader.new }
     ensures store { R.has_store reader.old → R.has_store reader.new
         × (R.content reader.new ≡ R.content reader.old)

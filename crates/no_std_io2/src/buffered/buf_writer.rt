@@ -226,8 +226,8 @@ impl<W: Write + Drop, const S: usize> Write for BufWriter<W, S> {
             → IfOk result (λ n. IsEnd (take n buf.now) (writer_buffer self.new)) }
         ensures whole { length buf.now < S → IfOk result (λ n. n ≡ length buf.now) }
         ensures calm { length buf.now < S → IsNoInterruption result }
-        ensures after { W.takes_all (writer_inner self.old)
-            → writer_buffer self.new ≡ buffer_after S (writer_buffer self.old) buf.now }
+        ensures after { OnOk result (writer_buffer self.new
+            ≡ buffer_after S (writer_buffer self.old) buf.now) }
 
         // What it costs.
         ensures calls { W.is_metered (writer_inner self.old) → W.takes_all (writer_inner self.old)
@@ -287,8 +287,8 @@ impl<W: Write + Drop, const S: usize> Write for BufWriter<W, S> {
         ensures none { length buf.now < S
             → OnErr result (IsEnd (writer_buffer self.old) (writer_buffer self.new)
             × Moves (writer_told W.told self.old) [] (call_mishap result) (writer_told W.told self.new)) }
-        ensures after { W.takes_all (writer_inner self.old)
-            → writer_buffer self.new ≡ buffer_after S (writer_buffer self.old) buf.now }
+        ensures after { OnOk result (writer_buffer self.new
+            ≡ buffer_after S (writer_buffer self.old) buf.now) }
 
         // What it costs.
         ensures calls { 0 < S → W.is_metered (writer_inner self.old) → W.takes_all (writer_inner self.old)

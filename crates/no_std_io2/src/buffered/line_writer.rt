@@ -1,11 +1,11 @@
 // A buffer that is sent at the end of each line.
-ghost use Rattle.std.specs.Prelude.{◌≡◌, ◌+◌, ◌-◌, ◌<◌, ◌≤◌, [], ◌∷◌, ◌++◌, length, take, Some, Ok, IsOk, IfOk, IfErr, IsOkAnd, OnOk};
+ghost use Rattle.std.specs.Prelude.{◌≡◌, ◌+◌, ◌-◌, ◌<◌, ◌≤◌, [], ◌∷◌, ◌++◌, length, take, Some, Ok, IsOk, IfOk, IfErr, IsOkAnd, OnOk, OnErr};
 ghost use Rattle.std.specs.Borrow.{Lends, sem};
 ghost use Rattle.no_std_io2.specs.contracts.buffered.line_writer.LineWriter.{the_row as line-row};
 ghost use Rattle.no_std_io2.specs.LineState.{IsLineState, HasNoNewline};
 ghost use Rattle.no_std_io2.specs.LineWriter.{line_inner, line_buffer, line_told, line_with_inner};
 ghost use Rattle.no_std_io2.specs.Lines.{HasNewline, WritesLines, unfinished_line, whole_if_short};
-ghost use Rattle.no_std_io2.specs.Buffered.{IsEnd, buffer_after, into_inner_error_writer, into_inner_error_cause};
+ghost use Rattle.no_std_io2.specs.Buffered.{IsEnd, HoldsEnd, buffer_after, into_inner_error_writer, into_inner_error_cause};
 ghost use Rattle.no_std_io2_base.specs.Errors.{error_kind, IsFault, IsNoInterruption};
 ghost use Rattle.no_std_io2_base.specs.Writes.{Moves, MovesFront, taken, write_mishap, call_mishap, calls_for};
 
@@ -162,13 +162,16 @@ impl<W: Write + Drop, const S: usize> Write for LineWriter<W, S> {
             → IsOk result × (line_inner self.new ≡ line_inner self.old)
             × (line_buffer self.new ≡ line_buffer self.old ++ x.now) }
         ensures whole { HasNoNewline x.now → length x.now < S → IfOk result (λ n. n ≡ length x.now) }
+        ensures calm { HasNoNewline x.now → length x.now < S → IsNoInterruption result }
+        ensures rest { IsEnd (line_buffer self.old ++ taken result x.now) (line_buffer self.new) }
+        ensures after { HasNoNewline x.now → OnOk result (line_buffer self.new
+            ≡ buffer_after S (unfinished_line (line_buffer self.old)) x.now) }
         ensures tail { HasNewline x.now → IfOk result (λ n. WritesLines S (W.told (line_inner self.old))
             (line_buffer self.old) x.now n (W.told (line_inner self.new)) (line_buffer self.new)) }
         ensures lasts { W.takes_all (line_inner self.old)
             → W.takes_all (line_inner self.new) × IsOk result }
         ensures plain { W.takes_all (line_inner self.old) → HasNoNewline x.now
-            → (result ≡ Ok (length x.now)) × (line_buffer self.new
-            ≡ buffer_after S (unfinished_line (line_buffer self.old)) x.now) }
+            → result ≡ Ok (length x.now) }
         ensures lines { W.takes_all (line_inner self.old) → HasNewline x.now
             → IsOkAnd result (λ n. n + (length (unfinished_line x.now) - S) ≡ length x.now)
             × (line_buffer self.new ≡ take S (unfinished_line x.now)) }
@@ -207,7 +210,8 @@ impl<W: Write + Drop, const S: usize> Write for LineWriter<W, S> {
 
     /// Writes all of `x`. Without a newline in `x`, it goes the way of [`LineWriter::write`]. With
     /// one, what is held and the lines of `x` are sent, and what follows them is held where it is
-    /// shorter than `S`, else it goes to the inner writer. After `Ok` no newline is held.
+    /// shorter than `S`, else it goes to the inner writer. After `Ok` no newline is held, and after an
+    /// `x` that ends in one nothing is.
     ///
     /// # Errors
     /// The inner writer's first fault, or `WriteZero` where it took no byte of some; never
@@ -227,10 +231,14 @@ impl<W: Write + Drop, const S: usize> Write for LineWriter<W, S> {
             × (line_buffer self.new ≡ line_buffer self.old ++ x.now) }
         ensures lasts { W.takes_all (line_inner self.old)
             → W.takes_all (line_inner self.new) × IsOk result }
-        ensures plain { W.takes_all (line_inner self.old) → HasNoNewline x.now
-            → line_buffer self.new ≡ buffer_after S (unfinished_line (line_buffer self.old)) x.now }
-        ensures lines { W.takes_all (line_inner self.old) → HasNewline x.now
-            → line_buffer self.new ≡ whole_if_short S (unfinished_line x.now) }
+        ensures plain { HasNoNewline x.now → OnOk result (line_buffer self.new
+            ≡ buffer_after S (unfinished_line (line_buffer self.old)) x.now) }
+        ensures lines { HasNewline x.now → OnOk result (line_buffer self.new
+            ≡ whole_if_short S (unfinished_line x.now)) }
+        ensures rest { HoldsEnd (line_buffer self.old) x.now (line_buffer self.new) }
+        ensures none { HasNoNewline x.now → length x.now < S → OnErr result (IsEnd
+            (line_buffer self.old) (line_buffer self.new)
+            × Moves (line_told W.told self.old) [] (call_mishap result) (line_told W.told self.new)) }
         ensures calls { W.is_metered (line_inner self.old) → W.takes_all (line_inner self.old)
             → W.is_metered (line_inner self.new)
             × (W.cost (line_inner self.new) ≤ W.cost (line_inner self.old) + 3) }

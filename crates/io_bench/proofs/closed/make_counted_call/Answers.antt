@@ -17,7 +17,7 @@ pub returns-in-Ok-clause-calls : goal.returns-in-Ok-clause-calls
 returns-in-Ok-clause-calls g c = rw c.in-Write.is (c.in-Ok.ensures.calls tt c.requires.all).1
 
 pub returns-in-Ok-clause-buffer : goal.returns-in-Ok-clause-buffer
-returns-in-Ok-clause-buffer g c = rw c.in-Write.is (c.in-Ok.ensures.after c.requires.all)
+returns-in-Ok-clause-buffer g c = rw c.in-Write.is c.in-Ok.ensures.after
 
 pub returns-in-Err-clause-answers : goal.returns-in-Err-clause-answers
 returns-in-Err-clause-answers g c = absurd (Moves-steady (g.met.W.Write.steady _ c.requires.all) c.in-Err.ensures.moves)
@@ -43,7 +43,7 @@ returns-in-Ok-write_all-clause-calls g c =
     rw c.in-WriteAll.is (c.in-Ok-write_all.ensures.calls c.requires.some tt c.requires.all).1
 
 pub returns-in-Ok-write_all-clause-buffer : goal.returns-in-Ok-write_all-clause-buffer
-returns-in-Ok-write_all-clause-buffer g c = rw c.in-WriteAll.is (c.in-Ok-write_all.ensures.after c.requires.all)
+returns-in-Ok-write_all-clause-buffer g c = rw c.in-WriteAll.is c.in-Ok-write_all.ensures.after
 
 pub returns-in-Err-write_all-clause-answers : goal.returns-in-Err-write_all-clause-answers
 returns-in-Err-write_all-clause-answers g c =

@@ -1,7 +1,8 @@
-use Rattle.std.proofs.Common.{rules, ◌∙◌}
+use Rattle.std.proofs.Common.{rules, ◌∙◌, le_trans, inl}
 use Rattle.std.proofs.lemmas.Result.{err_from_is_err_and}
 use Rattle.no_std_io2_base.proofs.Taken.{moved_read, no_error}
-use Rattle.no_std_io2.proofs.Copied.{written_more, copied_more, copied_interruption, copied_fault, copied_refused, written_refused}
+use Rattle.no_std_io2.proofs.CopyReads.{read_length, one_read, last_read}
+use Rattle.no_std_io2.proofs.Copied.{written_more, copied_more, copied_interruption, copied_end, copied_fault, copied_refused, written_refused}
 use Rattle.no_std_io2.proofs.util.copy.Goals as goal
 
 pub reads-preserved : goal.reads-preserved
@@ -17,9 +18,10 @@ reads-preserved g c =
           (now.0, copied_interruption _ _ _ _ _ _ _ so_far.1 now.1 (search rules));
       same = before.same;
       all = before.all;
-      turns = search rules;
-      metered = search rules;
-      filling = search rules;
+      turns = le_trans read.turns before.turns;
+      metered = λ m. (read.cost (before.metered m)).0;
+      reads = λ _ _ f. absurd (read.fills (before.filling f)).1;
+      filling = λ f. (read.fills (before.filling f)).0;
       store = λ s.
           let tells = g.met.R.Read.store_tells _ (before.store s).0 in
           absurd (no_error _ _ _ _ tells.1 (read.told tells.0).1);
@@ -38,16 +40,88 @@ reads-preserved-in-Ok g c =
           let now = read.told so_far.0 in
           (now.0, copied_more _ _ _ _ c.in-Ok.n _ _ c.read.new.buf _ _ so_far.1 now.1 wrote.moves read.bound (search rules));
       same = λ z. absurd (search rules);
-      all = search rules;
-      turns = search rules;
-      metered = search rules;
-      filling = search rules;
+      all = λ t. wrote.all (before.all t);
+      turns = le_trans read.turns before.turns;
+      metered = λ m. (read.cost (before.metered m)).0;
+      reads = λ some m f.
+          let paid = (read.cost (before.metered m)).1 in
+          let gave = (read.fills (before.filling f)).1 in
+          let tells = g.met.R.Read.filling_tells _ (before.filling f) in
+          let fewer = read_length _ _ c.in-Ok.n c.read.new.buf read.bound (read.told tells.0).1.0 in
+          one_read g.row.S _ c.in-Ok.n _ _ _ _ _ some before.long gave (search rules) fewer paid (before.reads some m f);
+      filling = λ f. (read.fills (before.filling f)).0;
       store = λ s.
           let so_far = before.store s in
           let now = read.store so_far.0 in
           let tells = g.met.R.Read.store_tells _ so_far.0 in
           (now.0, now.1 ∙ so_far.1, moved_read _ _ c.in-Ok.n c.read.new.buf _ _ _ read.bound (read.told tells.0).1.0 now.2 so_far.2);
     }
+
+-- the reader's end
+pub returns-in-Ok-eq0-clause-told : goal.returns-in-Ok-eq0-clause-told
+returns-in-Ok-eq0-clause-told g c = λ t.
+    let so_far = c.reads.invariant.told t in
+    let now = c.read.ensures.told so_far.0 in
+    (now.0, copied_end g.row.S _ _ _ _ _ c.read.new.buf _ _ so_far.1 (rw c.in-Ok-eq0.is at now.1) (search rules) (search rules) (λ z. (c.reads.invariant.same z).1))
+
+pub returns-in-Ok-eq0-clause-moves : goal.returns-in-Ok-eq0-clause-moves
+returns-in-Ok-eq0-clause-moves g c = let so_far = c.reads.invariant.written in (so_far.accepted, so_far.count, so_far.moves)
+
+pub returns-in-Ok-eq0-clause-unchanged : goal.returns-in-Ok-eq0-clause-unchanged
+returns-in-Ok-eq0-clause-unchanged g c = λ z. (c.reads.invariant.same z).0
+
+pub returns-in-Ok-eq0-clause-all : goal.returns-in-Ok-eq0-clause-all
+returns-in-Ok-eq0-clause-all g c = c.reads.invariant.all
+
+pub returns-in-Ok-eq0-clause-turns : goal.returns-in-Ok-eq0-clause-turns
+returns-in-Ok-eq0-clause-turns g c = le_trans c.read.ensures.turns c.reads.invariant.turns
+
+pub returns-in-Ok-eq0-clause-metered : goal.returns-in-Ok-eq0-clause-metered
+returns-in-Ok-eq0-clause-metered g c = λ m. (c.read.ensures.cost (c.reads.invariant.metered m)).0
+
+pub returns-in-Ok-eq0-clause-filling : goal.returns-in-Ok-eq0-clause-filling
+returns-in-Ok-eq0-clause-filling g c = λ f. (c.read.ensures.fills (c.reads.invariant.filling f)).0
+
+pub returns-in-Ok-eq0-clause-reads : goal.returns-in-Ok-eq0-clause-reads
+returns-in-Ok-eq0-clause-reads g c = λ some m f.
+    let before = c.reads.invariant in
+    let paid = (c.read.ensures.cost (before.metered m)).1 in
+    let gave = rw c.in-Ok-eq0.is at (c.read.ensures.fills (before.filling f)).1 in
+    last_read g.row.S _ _ _ _ _ _ _ some before.long gave (search rules) paid (before.reads some m f)
+
+pub returns-in-Ok-eq0-clause-store : goal.returns-in-Ok-eq0-clause-store
+returns-in-Ok-eq0-clause-store g c = λ s.
+    let so_far = c.reads.invariant.store s in
+    let now = rw c.in-Ok-eq0.is at c.read.ensures.store so_far.0 in
+    let tells = g.met.R.Read.store_tells _ so_far.0 in
+    let told = rw c.in-Ok-eq0.is at c.read.ensures.told tells.0 in
+    (now.0, now.1 ∙ so_far.1, moved_read _ _ _ c.read.new.buf _ _ _ (rw c.in-Ok-eq0.is at c.read.ensures.bound) told.1.0 now.2 so_far.2)
+
+-- the writer's fault
+pub returns-in_err-write_all-in-Ok-clause-unchanged : goal.returns-in_err-write_all-in-Ok-clause-unchanged
+returns-in_err-write_all-in-Ok-clause-unchanged g c = λ z. absurd (search rules)
+
+pub returns-in_err-write_all-in-Ok-clause-all : goal.returns-in_err-write_all-in-Ok-clause-all
+returns-in_err-write_all-in-Ok-clause-all g c = λ t. c.in_err-write_all-in-Ok.ensures.all (c.reads.invariant.all t)
+
+pub returns-in_err-write_all-in-Ok-clause-fault : goal.returns-in_err-write_all-in-Ok-clause-fault
+returns-in_err-write_all-in-Ok-clause-fault g c =
+    let p = err_from_is_err_and c.from_residual.result c.from_residual.ensures.1 in
+    rw (p.1, p.2) c.in_err-write_all-in-Ok.ensures.fault
+
+pub returns-in_err-write_all-in-Ok-clause-turns : goal.returns-in_err-write_all-in-Ok-clause-turns
+returns-in_err-write_all-in-Ok-clause-turns g c = le_trans c.in-Ok.ensures.turns c.reads.invariant.turns
+
+pub returns-in_err-write_all-in-Ok-clause-metered : goal.returns-in_err-write_all-in-Ok-clause-metered
+returns-in_err-write_all-in-Ok-clause-metered g c = λ m. (c.in-Ok.ensures.cost (c.reads.invariant.metered m)).0
+
+pub returns-in_err-write_all-in-Ok-clause-reads : goal.returns-in_err-write_all-in-Ok-clause-reads
+returns-in_err-write_all-in-Ok-clause-reads g c = λ _ _ _.
+    let p = err_from_is_err_and c.from_residual.result c.from_residual.ensures.1 in
+    rw p.1 tt
+
+pub returns-in_err-write_all-in-Ok-clause-filling : goal.returns-in_err-write_all-in-Ok-clause-filling
+returns-in_err-write_all-in-Ok-clause-filling g c = λ f. (c.in-Ok.ensures.fills (c.reads.invariant.filling f)).0
 
 pub returns-in_err-write_all-in-Ok-clause-store : goal.returns-in_err-write_all-in-Ok-clause-store
 returns-in_err-write_all-in-Ok-clause-store g c = λ s.
@@ -69,6 +143,33 @@ returns-in_err-write_all-in-Ok-clause-told g c = λ t.
     let p = err_from_is_err_and c.from_residual.result c.from_residual.ensures.1 in
     let e = c.in_err-write_all-in-Ok.field-0.0 in
     (now.0, rw (p.1, p.2) (copied_refused g.row.S _ _ _ _ _ c.in-Ok.n c.read.new.buf _ _ e so_far.1 now.1 (search rules) c.in-Ok.ensures.bound (search rules) c.in_err-write_all-in-Ok.ensures.moves))
+
+-- the reader's fault
+pub returns-in-Err-2-clause-moves : goal.returns-in-Err-2-clause-moves
+returns-in-Err-2-clause-moves g c = let so_far = c.reads.invariant.written in (so_far.accepted, inl so_far.moves)
+
+pub returns-in-Err-2-clause-unchanged : goal.returns-in-Err-2-clause-unchanged
+returns-in-Err-2-clause-unchanged g c = λ z. (c.reads.invariant.same z).0
+
+pub returns-in-Err-2-clause-all : goal.returns-in-Err-2-clause-all
+returns-in-Err-2-clause-all g c = c.reads.invariant.all
+
+pub returns-in-Err-2-clause-turns : goal.returns-in-Err-2-clause-turns
+returns-in-Err-2-clause-turns g c = le_trans c.in-Err.ensures.turns c.reads.invariant.turns
+
+pub returns-in-Err-2-clause-metered : goal.returns-in-Err-2-clause-metered
+returns-in-Err-2-clause-metered g c = λ m. (c.in-Err.ensures.cost (c.reads.invariant.metered m)).0
+
+pub returns-in-Err-2-clause-reads : goal.returns-in-Err-2-clause-reads
+returns-in-Err-2-clause-reads g c = λ _ _ _. tt
+
+pub returns-in-Err-2-clause-filling : goal.returns-in-Err-2-clause-filling
+returns-in-Err-2-clause-filling g c = λ f. (c.in-Err.ensures.fills (c.reads.invariant.filling f)).0
+
+pub returns-in-Err-2-clause-store : goal.returns-in-Err-2-clause-store
+returns-in-Err-2-clause-store g c = λ s.
+    let tells = g.met.R.Read.store_tells _ (c.reads.invariant.store s).0 in
+    absurd (no_error _ _ _ _ tells.1 (c.in-Err.ensures.told tells.0).1)
 
 pub returns-in-Err-2-clause-told :
     goal.returns-in-Err-2-clause-told

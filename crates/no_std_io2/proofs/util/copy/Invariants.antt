@@ -1,5 +1,6 @@
 -- `copy` ends with its reader's turns, and the writer accepted the bytes that the reader lost.
-use Rattle.std.proofs.Common.{◌≡◌, ◌≤◌, ◌+◌, length}
+use Rattle.std.proofs.Common.{◌≡◌, ◌≤◌, ◌<◌, ◌+◌, length}
+use Rattle.std.specs.Int.{div_ceil}
 use Rattle.no_std_io2.proofs.Copied.{Written, Copied}
 use Rattle.no_std_io2.proofs.util.copy.Given as goal
 
@@ -13,6 +14,8 @@ invariant-reads g l =
       all : g.W.Write.takes_all l.initial.writer → g.W.Write.takes_all l.writer;
       turns : g.R.Read.turns l.reader ≤ g.R.Read.turns l.initial.reader;
       metered : g.R.Read.is_metered l.initial.reader → g.R.Read.is_metered l.reader;
+      reads : 0 < g.row.S → g.R.Read.is_metered l.initial.reader → g.R.Read.is_filling l.initial.reader
+          → g.R.Read.cost l.reader + div_ceil (length (g.R.Read.events l.reader)) g.row.S ≡ g.R.Read.cost l.initial.reader + div_ceil (length (g.R.Read.events l.initial.reader)) g.row.S;
       filling : g.R.Read.is_filling l.initial.reader → g.R.Read.is_filling l.reader;
       store : g.R.Stored.has_store l.initial.reader → g.R.Stored.has_store l.reader
           × (g.R.Stored.content l.reader ≡ g.R.Stored.content l.initial.reader)

@@ -1,9 +1,9 @@
 // The steps of a line writer's calls.
 ghost use Rattle.std.specs.Bool.{OnTrue, OnFalse};
-ghost use Rattle.std.specs.Prelude.{◌≡◌, ◌≢◌, ◌+◌, ◌-◌, ◌<◌, ◌≤◌, ◌⊎◌, ◌++◌, [], length, Ok, IsOk, IfOk, IsOkAnd, OnOk, drop, take, slice_index, slice_range};
+ghost use Rattle.std.specs.Prelude.{◌≡◌, ◌≢◌, ◌+◌, ◌-◌, ◌<◌, ◌≤◌, ◌⊎◌, ◌++◌, [], length, Ok, IsOk, IfOk, IsOkAnd, OnOk, OnErr, drop, take, slice_index, slice_range};
 ghost use Rattle.no_std_io2.specs.LineState.{IsLineState, HasNoNewline};
 ghost use Rattle.no_std_io2.specs.Lines.{IsLinesLen, WritesLines, unfinished_line, held_tail, whole_if_short};
-ghost use Rattle.no_std_io2.specs.Buffered.{sender_inner, sender_buffer, sender_told, buffer_after, IsEnd};
+ghost use Rattle.no_std_io2.specs.Buffered.{sender_inner, sender_buffer, sender_told, buffer_after, IsEnd, HoldsEnd};
 ghost use Rattle.no_std_io2_base.specs.Errors.{IsNoInterruption};
 ghost use Rattle.no_std_io2_base.specs.Writes.{Moves, MovesFront, taken, write_mishap, call_mishap, calls_for};
 
@@ -61,6 +61,7 @@ fn send_line<W: Write + Drop, const S: usize>(w: &mut Sender<W, S>) -> Result<()
     ensures held { OnOk result (sender_buffer w.new ≡ unfinished_line (sender_buffer w.old)) }
     ensures moves { Moves (sender_told W.told w.old) [] (call_mishap result) (sender_told W.told w.new) }
     ensures fault { IsNoInterruption result }
+    ensures rest { IsEnd (sender_buffer w.old) (sender_buffer w.new) }
     ensures idle { HasNoNewline (sender_buffer w.old)
         → IsOk result × (sender_inner w.new ≡ sender_inner w.old)
         × (sender_buffer w.new ≡ sender_buffer w.old) }
@@ -91,10 +92,12 @@ pub(super) fn write_plain<W: Write + Drop, const S: usize>(
         → IsOk result × (sender_inner w.new ≡ sender_inner w.old)
         × (sender_buffer w.new ≡ sender_buffer w.old ++ x.now) }
     ensures whole { length x.now < S → IfOk result (λ n. n ≡ length x.now) }
+    ensures calm { length x.now < S → IsNoInterruption result }
+    ensures rest { IsEnd (sender_buffer w.old ++ taken result x.now) (sender_buffer w.new) }
     ensures all { W.takes_all (sender_inner w.old)
         → W.takes_all (sender_inner w.new) × (result ≡ Ok (length x.now)) }
-    ensures after { W.takes_all (sender_inner w.old)
-        → sender_buffer w.new ≡ buffer_after S (unfinished_line (sender_buffer w.old)) x.now }
+    ensures after { OnOk result (sender_buffer w.new
+        ≡ buffer_after S (unfinished_line (sender_buffer w.old)) x.now) }
     ensures calls { W.is_metered (sender_inner w.old) → W.takes_all (sender_inner w.old)
         → W.is_metered (sender_inner w.new)
         × (W.cost (sender_inner w.new) ≤ W.cost (sender_inner w.old) + 3) }
@@ -116,6 +119,7 @@ pub(super) fn write_lines<W: Write + Drop, const S: usize>(
     ensures bound { IfOk result (λ n. n ≤ length x.now) }
     ensures moves { Moves (sender_told W.told w.old) (taken result x.now) (write_mishap result x.now)
         (sender_told W.told w.new) }
+    ensures rest { IsEnd (sender_buffer w.old ++ taken result x.now) (sender_buffer w.new) }
     ensures tail { IfOk result (λ n. WritesLines S (W.told (sender_inner w.old))
         (sender_buffer w.old) x.now n (W.told (sender_inner w.new)) (sender_buffer w.new)) }
     ensures all { W.takes_all (sender_inner w.old) → W.takes_all (sender_inner w.new)
@@ -151,9 +155,13 @@ pub(super) fn write_all_plain<W: Write + Drop, const S: usize>(
         → length x.now < S → length (sender_buffer w.old) + length x.now ≤ S
         → IsOk result × (sender_inner w.new ≡ sender_inner w.old)
         × (sender_buffer w.new ≡ sender_buffer w.old ++ x.now) }
+    ensures rest { IsEnd (sender_buffer w.old ++ x.now) (sender_buffer w.new)
+        ⊎ IsEnd (sender_buffer w.old) (sender_buffer w.new) }
+    ensures none { length x.now < S → OnErr result (IsEnd (sender_buffer w.old) (sender_buffer w.new)
+        × Moves (sender_told W.told w.old) [] (call_mishap result) (sender_told W.told w.new)) }
     ensures all { W.takes_all (sender_inner w.old) → W.takes_all (sender_inner w.new) × IsOk result }
-    ensures after { W.takes_all (sender_inner w.old)
-        → sender_buffer w.new ≡ buffer_after S (unfinished_line (sender_buffer w.old)) x.now }
+    ensures after { OnOk result (sender_buffer w.new
+        ≡ buffer_after S (unfinished_line (sender_buffer w.old)) x.now) }
     ensures calls { W.is_metered (sender_inner w.old) → W.takes_all (sender_inner w.old)
         → W.is_metered (sender_inner w.new)
         × (W.cost (sender_inner w.new) ≤ W.cost (sender_inner w.old) + 3) }
@@ -171,6 +179,8 @@ fn send_lines<W: Write + Drop, const S: usize>(w: &mut Sender<W, S>, x: &[u8]) -
     ensures sent { OnOk result (sender_buffer w.new ≡ []) }
     ensures fault { IsNoInterruption result }
     ensures moves { MovesFront (sender_told W.told w.old) x.now result (sender_told W.told w.new) }
+    ensures rest { IsEnd (sender_buffer w.old ++ x.now) (sender_buffer w.new)
+        ⊎ IsEnd (sender_buffer w.old) (sender_buffer w.new) }
     ensures all { W.takes_all (sender_inner w.old) → W.takes_all (sender_inner w.new) × IsOk result }
     ensures calls { W.is_metered (sender_inner w.old) → W.takes_all (sender_inner w.old)
         → W.is_metered (sender_inner w.new)
@@ -196,9 +206,9 @@ pub(super) fn write_all_lines<W: Write + Drop, const S: usize>(
     ensures open { OnOk result (HasNoNewline (sender_buffer w.new)) }
     ensures fault { IsNoInterruption result }
     ensures moves { MovesFront (sender_told W.told w.old) x.now result (sender_told W.told w.new) }
+    ensures rest { HoldsEnd (sender_buffer w.old) x.now (sender_buffer w.new) }
     ensures all { W.takes_all (sender_inner w.old) → W.takes_all (sender_inner w.new) × IsOk result }
-    ensures after { W.takes_all (sender_inner w.old)
-        → sender_buffer w.new ≡ whole_if_short S (unfinished_line x.now) }
+    ensures after { OnOk result (sender_buffer w.new ≡ whole_if_short S (unfinished_line x.now)) }
     ensures calls { W.is_metered (sender_inner w.old) → W.takes_all (sender_inner w.old)
         → W.is_metered (sender_inner w.new)
         × (W.cost (sender_inner w.new) ≤ W.cost (sender_inner w.old) + 3) }

@@ -1,6 +1,6 @@
 //! What a line writer tells, so that its implementation can't tell less, which would make every
 //! promise over it empty; and what two calls in a row come to. The contracts are proved.
-ghost use Rattle.std.specs.Prelude.{◌≡◌, ◌+◌, ◌≤◌, ◌++◌, IsOk};
+ghost use Rattle.std.specs.Prelude.{◌≡◌, ◌+◌, ◌≤◌, ◌++◌, IsOk, OnOk};
 ghost use Rattle.no_std_io2_base.specs.Writes.{Told};
 ghost use Rattle.no_std_io2.specs.LineState.{HasNoNewline};
 ghost use Rattle.no_std_io2.specs.LineWriter.{line_inner, line_buffer};
@@ -34,8 +34,8 @@ fn write_line_and_start<W: Write + Drop, const S: usize>(
     requires line { HasNewline line.now }
     requires start { HasNoNewline start.now }
     ensures lasts { W.takes_all (line_inner w.old) → W.takes_all (line_inner w.new) × IsOk result }
-    ensures buffer { W.takes_all (line_inner w.old) → line_buffer w.new
-        ≡ buffer_after S (unfinished_line (whole_if_short S (unfinished_line line.now))) start.now }
+    ensures buffer { OnOk result (line_buffer w.new
+        ≡ buffer_after S (unfinished_line (whole_if_short S (unfinished_line line.now))) start.now) }
     ensures calls { W.is_metered (line_inner w.old) → W.takes_all (line_inner w.old)
         → W.cost (line_inner w.new) ≤ W.cost (line_inner w.old) + 6 }
 {

@@ -32,7 +32,7 @@ returns-then-len-eq0-clause-lasts g c = λ t.
     let all = c.write_plain.ensures.all t in (all.0, IsOk-from_value c.write_plain.result _ all.1)
 
 pub returns-then-len-eq0-clause-plain : goal.returns-then-len-eq0-clause-plain
-returns-then-len-eq0-clause-plain g c = λ t none. ((c.write_plain.ensures.all t).1, c.write_plain.ensures.after t)
+returns-then-len-eq0-clause-plain g c = λ t none. (c.write_plain.ensures.all t).1
 
 pub returns-then-len-eq0-clause-lines : goal.returns-then-len-eq0-clause-lines
 returns-then-len-eq0-clause-lines g c = λ t has. absurd (none_or_some _ (c.lines_len-len.ensures.plain c.if-len-eq0.true) has)
@@ -85,3 +85,23 @@ write_plain-requires g c = (search rules, (c.args.self.now.core.line, c.lines_le
 
 pub write_lines-requires : goal.write_lines-requires
 write_lines-requires g c = (search rules, (c.args.self.now.core.line, (omega (arith, c.if-len-eq0.false), c.lines_len-len.ensures.lines)))
+
+pub returns-then-len-eq0-clause-calm : goal.returns-then-len-eq0-clause-calm
+returns-then-len-eq0-clause-calm g c = λ _ short. c.write_plain.ensures.calm short
+
+pub returns-then-len-eq0-clause-rest : goal.returns-then-len-eq0-clause-rest
+returns-then-len-eq0-clause-rest g c = c.write_plain.ensures.rest
+
+pub returns-then-len-eq0-clause-after : goal.returns-then-len-eq0-clause-after
+returns-then-len-eq0-clause-after g c = λ _. c.write_plain.ensures.after
+
+pub returns-clause-calm : goal.returns-clause-calm
+returns-clause-calm g c = λ none.
+    absurd (none_or_lines _ _ c.lines_len-len.ensures.lines (omega (arith, c.if-len-eq0.false)) none)
+
+pub returns-clause-rest : goal.returns-clause-rest
+returns-clause-rest g c = c.write_lines.ensures.rest
+
+pub returns-clause-after : goal.returns-clause-after
+returns-clause-after g c = λ none.
+    absurd (none_or_lines _ _ c.lines_len-len.ensures.lines (omega (arith, c.if-len-eq0.false)) none)

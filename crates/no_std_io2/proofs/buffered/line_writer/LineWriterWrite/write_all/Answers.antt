@@ -1,4 +1,5 @@
 use Rattle.std.proofs.Common.{arith, rules}
+use Rattle.no_std_io2.proofs.BufferLemmas.{HoldsEnd-whole}
 use Rattle.no_std_io2.proofs.LastNewline.{none_or_some, none_or_lines}
 use Rattle.no_std_io2.proofs.buffered.line_writer.LineWriterWrite.write_all.Goals as goal
 
@@ -24,10 +25,10 @@ pub returns-then-len-eq0-clause-lasts : goal.returns-then-len-eq0-clause-lasts
 returns-then-len-eq0-clause-lasts g c = λ t. c.write_all_plain.ensures.all t
 
 pub returns-then-len-eq0-clause-plain : goal.returns-then-len-eq0-clause-plain
-returns-then-len-eq0-clause-plain g c = λ t none. c.write_all_plain.ensures.after t
+returns-then-len-eq0-clause-plain g c = λ none. c.write_all_plain.ensures.after
 
 pub returns-then-len-eq0-clause-lines : goal.returns-then-len-eq0-clause-lines
-returns-then-len-eq0-clause-lines g c = λ t has. absurd (none_or_some _ (c.lines_len-len.ensures.plain c.if-len-eq0.true) has)
+returns-then-len-eq0-clause-lines g c = λ has. absurd (none_or_some _ (c.lines_len-len.ensures.plain c.if-len-eq0.true) has)
 
 pub returns-then-len-eq0-clause-calls : goal.returns-then-len-eq0-clause-calls
 returns-then-len-eq0-clause-calls g c = λ m t. c.write_all_plain.ensures.calls m t
@@ -58,11 +59,11 @@ pub returns-clause-lasts : goal.returns-clause-lasts
 returns-clause-lasts g c = λ t. c.write_all_lines.ensures.all t
 
 pub returns-clause-plain : goal.returns-clause-plain
-returns-clause-plain g c = λ t none.
+returns-clause-plain g c = λ none.
     absurd (none_or_lines _ _ c.lines_len-len.ensures.lines (omega (arith, c.if-len-eq0.false)) none)
 
 pub returns-clause-lines : goal.returns-clause-lines
-returns-clause-lines g c = λ t has. c.write_all_lines.ensures.after t
+returns-clause-lines g c = λ has. c.write_all_lines.ensures.after
 
 pub returns-clause-calls : goal.returns-clause-calls
 returns-clause-calls g c = λ m t. c.write_all_lines.ensures.calls m t
@@ -78,3 +79,16 @@ write_all_lines-requires g c = (
     (omega (arith, c.if-len-eq0.false), c.lines_len-len.ensures.lines),
   ),
 )
+
+pub returns-then-len-eq0-clause-rest : goal.returns-then-len-eq0-clause-rest
+returns-then-len-eq0-clause-rest g c = HoldsEnd-whole _ c.args.x.now _ c.write_all_plain.ensures.rest
+
+pub returns-clause-rest : goal.returns-clause-rest
+returns-clause-rest g c = c.write_all_lines.ensures.rest
+
+pub returns-then-len-eq0-clause-none : goal.returns-then-len-eq0-clause-none
+returns-then-len-eq0-clause-none g c = λ _ short. c.write_all_plain.ensures.none short
+
+pub returns-clause-none : goal.returns-clause-none
+returns-clause-none g c = λ none.
+    absurd (none_or_lines _ _ c.lines_len-len.ensures.lines (omega (arith, c.if-len-eq0.false)) none)

@@ -1,4 +1,4 @@
-use Rattle.std.proofs.Common.{◌≡◌, ◌≢◌, ◌-◌, ◌<◌, length, slice_index, sym, ◌∙◌, arith, subst}
+use Rattle.std.proofs.Common.{refl, [], ◌≡◌, ◌≢◌, ◌-◌, ◌<◌, length, slice_index, sym, ◌∙◌, arith, subst}
 use Rattle.no_std_io2.specs.LineState.{HasNoNewline}
 use Rattle.no_std_io2.specs.Buffered.{sender_buffer}
 use Rattle.no_std_io2.proofs.BufferLemmas.{Moves-sent_part}
@@ -40,3 +40,9 @@ returns-clause-open g c = unended g c
 
 pub returns-clause-held : goal.returns-clause-held
 returns-clause-held g c = sym (unfinished_line-none _ (unended g c))
+
+pub returns-then-ends_in_newline-clause-rest : goal.returns-then-ends_in_newline-clause-rest
+returns-then-ends_in_newline-clause-rest g c = (c.send.ensures.sends.sent, c.send.ensures.sends.split)
+
+pub returns-clause-rest : goal.returns-clause-rest
+returns-clause-rest g c = ([], refl)

@@ -1,10 +1,10 @@
-use Rattle.std.proofs.Common.{refl, ◌≡◌, ◌<◌, [], rules, arith, ap}
+use Rattle.std.proofs.Common.{refl, inr, ◌≡◌, ◌<◌, [], rules, arith, ap}
 use Rattle.no_std_io2.specs.Buffered.{sender_buffer}
 use Rattle.no_std_io2_base.specs.Writes.{calls_for}
 use Rattle.no_std_io2.proofs.CountLemmas.{writing_then_sending}
 use Rattle.std.proofs.lemmas.Result.{err_from_is_err_and}
 use Rattle.no_std_io2.proofs.SendingLemmas.{no_ok}
-use Rattle.no_std_io2.proofs.BufferLemmas.{Moves-sent_part, none_of_length, call_steady}
+use Rattle.no_std_io2.proofs.BufferLemmas.{Moves-sent_part, none_of_length, call_steady, IsEnd-sent}
 use Rattle.no_std_io2.proofs.LineLemmas.{IsLineState-end, IsLineState-after, IsLineState-ended, MovesFront-passed, MovesFront-ends, MovesFront-whole, onok}
 use Rattle.no_std_io2.proofs.buffered.line_writer.steps.send_lines.Goals as goal
 
@@ -38,7 +38,7 @@ returns-clause-calls g c = λ m t.
     let some : 0 < S = search rules in
     let first = c.in_ok-write_all.ensures.calls some m t in
     let then = c.send.ensures.calls first.0 (c.in_ok-write_all.ensures.all t).0 in
-    let buffer = c.in_ok-write_all.ensures.after t in
+    let buffer = c.in_ok-write_all.ensures.after in
     (then.0, omega (arith, first.1, then.1, ap calls_for buffer, writing_then_sending S held c.args.x.now))
 
 pub returns-then-is_empty-clause-line : goal.returns-then-is_empty-clause-line
@@ -79,3 +79,13 @@ returns-clause-fault g c = c.send.ensures.fault
 
 pub returns-clause-all : goal.returns-clause-all
 returns-clause-all g c = λ t. c.send.ensures.all (c.in_ok-write_all.ensures.all t).0
+
+pub returns-then-is_empty-clause-rest : goal.returns-then-is_empty-clause-rest
+returns-then-is_empty-clause-rest g c = inr ([], refl)
+
+pub returns-in_err-write_all-clause-rest : goal.returns-in_err-write_all-clause-rest
+returns-in_err-write_all-clause-rest g c = c.in_err-write_all.ensures.rest
+
+pub returns-clause-rest : goal.returns-clause-rest
+returns-clause-rest g c =
+    IsEnd-sent _ c.args.x.now _ _ c.in_ok-write_all.ensures.rest (c.send.ensures.sends.sent, c.send.ensures.sends.split)

@@ -3,7 +3,8 @@ use Rattle.std.proofs.lemmas.List.{take_rest}
 use Rattle.std.proofs.lemmas.Result.{err_from_is_err_and}
 use Rattle.no_std_io2.specs.LineState.{HasNoNewline}
 use Rattle.no_std_io2.specs.Buffered.{sender_buffer, buffer_after}
-use Rattle.no_std_io2.proofs.LineLemmas.{MovesFront-part, MovesFront-whole, MovesFront-rest, HasNoNewline-none, HasNoNewline-take, HasNoNewline-after, IsLineState-plain, onok}
+use Rattle.no_std_io2.proofs.LineLemmas.{MovesFront-part, MovesFront-whole, MovesFront-rest, HasNoNewline-none, HasNoNewline-take, HasNoNewline-after, IsLineState-plain, onok, onok_map}
+use Rattle.no_std_io2.proofs.BufferLemmas.{HoldsEnd-front, HoldsEnd-rest}
 use Rattle.no_std_io2.proofs.CountLemmas.{buffer_after-none}
 use Rattle.no_std_io2.proofs.LastNewline.{unfinished_line-is}
 use Rattle.no_std_io2.proofs.buffered.line_writer.steps.write_all_lines.Goals as goal
@@ -35,10 +36,20 @@ pub returns-clause-all : goal.returns-clause-all
 returns-clause-all g c = λ t. c.write_all.ensures.all (c.in_ok-send_lines.ensures.all t).0
 
 pub returns-clause-after : goal.returns-clause-after
-returns-clause-after g c = λ t.
+returns-clause-after g c =
     let x = c.args.x.now in
     let n = c.args.len in
-    c.write_all.ensures.after (c.in_ok-send_lines.ensures.all t).0
-    ∙ ap (λ h. buffer_after g.row.S h (take (length x - n) (drop n x))) c.in_ok-send_lines.ensures.sent
+    let tail = ap (λ h. buffer_after g.row.S h (take (length x - n) (drop n x))) c.in_ok-send_lines.ensures.sent
     ∙ ap (buffer_after g.row.S []) (take_rest x n ∙ sym (unfinished_line-is x n c.requires.lines))
-    ∙ buffer_after-none g.row.S _
+    ∙ buffer_after-none g.row.S _ in
+    onok_map c.write_all.result _ _ (λ e. e ∙ tail) c.write_all.ensures.after
+
+pub returns-clause-rest : goal.returns-clause-rest
+returns-clause-rest g c =
+    HoldsEnd-rest _ c.args.x.now _ _ _ c.args.len c.in_ok-send_lines.ensures.sent (take_rest c.args.x.now c.args.len) c.write_all.ensures.rest
+
+pub returns-in_err-send_lines-clause-after : goal.returns-in_err-send_lines-clause-after
+returns-in_err-send_lines-clause-after g c = rw (err_from_is_err_and c.from_residual.result c.from_residual.ensures.1).1 tt
+
+pub returns-in_err-send_lines-clause-rest : goal.returns-in_err-send_lines-clause-rest
+returns-in_err-send_lines-clause-rest g c = HoldsEnd-front _ c.args.x.now _ c.args.len c.in_err-send_lines.ensures.rest

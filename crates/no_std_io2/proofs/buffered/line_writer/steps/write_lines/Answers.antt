@@ -10,7 +10,7 @@ use Rattle.no_std_io2.specs.LineState.{IsLineState}
 use Rattle.no_std_io2.proofs.LineLemmas.{IsLineState-end, IsLineState-plain, HasNoNewline-none, took_some, held_after, taken_then_held, zero_write-lines, zero_write-some}
 use Rattle.no_std_io2.proofs.SendLemmas.{takes_not_all}
 use Rattle.no_std_io2.proofs.SendingLemmas.{no_ok}
-use Rattle.no_std_io2.proofs.BufferLemmas.{Moves-sent_part, Moves-buffered, ok_same}
+use Rattle.no_std_io2.proofs.BufferLemmas.{Moves-sent_part, Moves-buffered, ok_same, IsEnd-none, IsEnd-split}
 use Rattle.no_std_io2.proofs.CountLemmas.{calls_for-le}
 use Rattle.no_std_io2.proofs.buffered.line_writer.steps.write_lines.Goals as goal
 
@@ -160,3 +160,24 @@ returns-then-n-eq0-clause-calls g c = λ _ t.
 
 pub returns-clause-bound : goal.returns-clause-bound
 returns-clause-bound g c = c.tail_end-end.ensures.within
+
+-- what is held is an end
+pub returns-in_err-send-clause-rest : goal.returns-in_err-send-clause-rest
+returns-in_err-send-clause-rest g c =
+    let p = err_from_is_err_and c.from_residual.result c.from_residual.ensures.1 in
+    rw (p.1, append-nil (sender_buffer c.args.w.now)) (c.in_err-send.ensures.sends.sent, c.in_err-send.ensures.sends.split)
+
+pub returns-in_err-n-clause-rest : goal.returns-in_err-n-clause-rest
+returns-in_err-n-clause-rest g c = IsEnd-none _ _ c.in_ok-send.ensures.empty
+
+pub returns-then-n-eq0-clause-rest : goal.returns-then-n-eq0-clause-rest
+returns-then-n-eq0-clause-rest g c = IsEnd-none _ _ c.in_ok-send.ensures.empty
+
+pub returns-clause-rest : goal.returns-clause-rest
+returns-clause-rest g c =
+    let x = c.args.x.now in
+    let n = c.in_ok-n.n in
+    let end = c.tail_end-end.result in
+    let whole = taken_then_held x c.args.len n end c.in_ok-n.ensures.bound c.tail_end-end.ensures.after in
+    let held = c.hold.ensures.buffer ∙ ap (λ l. l ++ slice_range x n end) c.in_ok-send.ensures.empty in
+    IsEnd-split (sender_buffer c.args.w.now) (take end x) (take n (take c.args.len x)) _ (whole ∙ ap (λ l. take n (take c.args.len x) ++ l) (sym held))

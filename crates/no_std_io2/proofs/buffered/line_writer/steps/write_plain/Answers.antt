@@ -1,8 +1,10 @@
-use Rattle.std.proofs.Common.{◌++◌, ◌∙◌, length, ap, arith}
+use Rattle.std.proofs.Common.{◌++◌, ◌∙◌, length, ap, arith, append-nil}
+use Rattle.std.proofs.lemmas.Result.{err_from_is_err_and}
 use Rattle.no_std_io2.specs.Buffered.{sender_buffer, buffer_after}
 use Rattle.no_std_io2.proofs.CountLemmas.{writing_calls-le}
 use Rattle.no_std_io2_base.proofs.MovesLemmas.{Moves-then}
-use Rattle.no_std_io2.proofs.LineLemmas.{IsLineState-end, IsLineState-plain, HasNoNewline-append, HasNoNewline-taken}
+use Rattle.no_std_io2.proofs.LineLemmas.{IsLineState-end, IsLineState-plain, HasNoNewline-append, HasNoNewline-taken, onok_map}
+use Rattle.no_std_io2.proofs.BufferLemmas.{IsEnd-through}
 use Rattle.no_std_io2.proofs.buffered.line_writer.steps.write_plain.Goals as goal
 
 pub returns-clause-line : goal.returns-clause-line
@@ -16,8 +18,14 @@ pub returns-clause-all : goal.returns-clause-all
 returns-clause-all g c = λ t. c.write.ensures.all (c.in_ok-send_line.ensures.all t).0
 
 pub returns-clause-after : goal.returns-clause-after
-returns-clause-after g c = λ t.
-    c.write.ensures.after (c.in_ok-send_line.ensures.all t).0 ∙ ap (λ h. buffer_after g.row.S h c.args.x.now) c.in_ok-send_line.ensures.held
+returns-clause-after g c =
+    onok_map c.write.result _ _ (λ e. e ∙ ap (λ h. buffer_after g.row.S h c.args.x.now) c.in_ok-send_line.ensures.held) c.write.ensures.after
+
+pub returns-clause-calm : goal.returns-clause-calm
+returns-clause-calm g c = c.write.ensures.calm
+
+pub returns-clause-rest : goal.returns-clause-rest
+returns-clause-rest g c = IsEnd-through _ _ _ _ c.in_ok-send_line.ensures.rest c.write.ensures.rest
 
 pub returns-clause-calls : goal.returns-clause-calls
 returns-clause-calls g c = λ m t.
@@ -30,3 +38,17 @@ returns-clause-fits g c = λ none short room.
     let kept = c.in_ok-send_line.ensures.idle none in
     let held = c.write.ensures.fits short (omega (arith, room, ap length kept.2)) in
     (held.0, held.1 ∙ kept.1, held.2 ∙ ap (λ l. l ++ c.args.x.now) kept.2)
+
+-- the held line could not be sent
+pub returns-in_err-send_line-clause-after : goal.returns-in_err-send_line-clause-after
+returns-in_err-send_line-clause-after g c = rw (err_from_is_err_and c.from_residual.result c.from_residual.ensures.1).1 tt
+
+pub returns-in_err-send_line-clause-calm : goal.returns-in_err-send_line-clause-calm
+returns-in_err-send_line-clause-calm g c = λ short.
+    let p = err_from_is_err_and c.from_residual.result c.from_residual.ensures.1 in
+    rw (p.1, p.2) c.in_err-send_line.ensures.fault
+
+pub returns-in_err-send_line-clause-rest : goal.returns-in_err-send_line-clause-rest
+returns-in_err-send_line-clause-rest g c =
+    let p = err_from_is_err_and c.from_residual.result c.from_residual.ensures.1 in
+    rw (p.1, append-nil (sender_buffer c.args.w.now)) c.in_err-send_line.ensures.rest
