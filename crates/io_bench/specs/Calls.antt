@@ -1,8 +1,9 @@
--- What one call does: fails, or is handed on, by the laws of `Write`.
-use Rattle.std.specs.Prelude.{◌≡◌, ℕ, ◌+◌, ◌≤◌, List, [], length, None, Result, Ok, IfOk, OnOk, IsErrAnd}
+-- What one call does: fails, or is handed on, by the laws of `Write` and of `Read`; and how many calls a loop makes.
+use Rattle.std.specs.Prelude.{◌≡◌, ℕ, ◌+◌, ◌≤◌, List, [], length, min, None, Result, Ok, Err, IfOk, OnOk, IsOkAnd, IsErrAnd}
 use Rattle.no_std_io2_base.specs.declared.error.Error.{Error}
 use Rattle.no_std_io2_base.specs.declared.error.ErrorKind.{ErrorKind}
 use Rattle.no_std_io2_base.specs.Errors.{error_kind, error_text}
+use Rattle.no_std_io2_base.specs.Events.{Event, Reads, SpendsTurn}
 use Rattle.no_std_io2_base.specs.Writes.{Told, Moves, taken, write_mishap, call_mishap}
 
 -- an error of this kind, without a text
@@ -24,3 +25,24 @@ pub record IsFlush {W : Type 0} (told : W → Told) (takes_all : W → Type 0) (
   pub moves : Moves (told old) [] (call_mishap reply) (told new)
   pub all : takes_all old → takes_all new
   pub counted : is_metered old → takes_all old → is_metered new × (cost new ≡ cost old)
+
+-- a `read` of a reader with these ghost members, from old to new: the buffer had room for so many bytes, and is `buf` then
+pub record IsRead {R : Type 0} (tells : R → Type 0) (events : R → List Event) (turns cost : R → ℕ) (is_metered is_filling : R → Type 0)
+    (old : R) (room : ℕ) (reply : Result ℕ Error) (buf : List ℕ) (new : R) : Type 0 where
+  pub bound : IfOk reply (λ n. n ≤ length buf)
+  pub told : tells old → tells new × Reads (events old) reply buf (events new)
+  pub stays : turns new ≤ turns old
+  pub spends : SpendsTurn reply (turns old) (turns new)
+  pub counted : is_metered old → is_metered new × (cost new ≡ cost old + min 1 room)
+  pub fills : is_filling old → is_filling new × IsOkAnd reply (λ n. n ≡ min room (length (events old)))
+
+-- how many calls a fault stops
+abbrev pub stopped : {A : Type 0} → Result A Error → ℕ
+stopped (Ok _) = 0
+stopped (Err e) = 1
+
+-- A loop made `now - was` calls: one at least where there was something to do, and at most one for each part of its budget that
+-- is gone, and the one that stopped it.
+pub record CountsLoop {A : Type 0} (wanted budget was : ℕ) (reply : Result A Error) (budget' now : ℕ) : Type 0 where
+  pub least : was + min 1 wanted ≤ now
+  pub most : now + budget' ≤ was + budget + stopped reply

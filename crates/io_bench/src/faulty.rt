@@ -1,10 +1,12 @@
 // A writer that fails as it is told.
-ghost use Rattle.std.specs.Prelude.{◌≡◌, ℕ, ◌+◌, ◌<◌, ◌≤◌, [], ◌∷◌, Some, None, Ok, IfOk, OnOk, IsErrAnd, MatchOption, length, take, drop, vec_len};
+ghost use Rattle.std.specs.Prelude.{◌≡◌, ℕ, ◌+◌, ◌<◌, ◌≤◌, [], ◌∷◌, Some, None, Ok, IfOk, OnOk, IsOk, IsErrAnd, MatchOption, length, take, drop, vec_len};
 ghost use Rattle.no_std_io2_base.specs.declared.error.ErrorKind.{ErrorKind};
-ghost use Rattle.no_std_io2_base.specs.Writes.{Moves, taken, write_mishap, call_mishap};
+ghost use Rattle.no_std_io2_base.specs.Errors.{IsNoInterruption};
+ghost use Rattle.no_std_io2_base.specs.Writes.{Moves, MovesFront, Sends, taken, write_mishap, call_mishap};
 ghost use Rattle.io_bench.specs.Calls.{FailsWith, IsWrite, IsFlush};
 
 use no_std_io2::io::{Error, ErrorKind, Result, Write};
+use no_std_io2_base::error::failed_to_write;
 
 /// What a [`Faulty`] does with its next call.
 #[derive(Clone, Copy, Debug, PartialEq, Eq)]
@@ -19,8 +21,8 @@ pub enum Act {
 }
 
 /// A writer in front of another one, that fails as its acts say. Each call of `write` or `flush`
-/// spends the next act; once the acts are spent, calls are handed on whole. `write_all` is the
-/// trait's own.
+/// spends the next act; once the acts are spent, calls are handed on whole. `write_all` and `write_rest`
+/// write through `write`, as the trait's own do.
 #[derive(Debug, Drop)]
 pub struct Faulty<W> {
     inner: W,
@@ -73,7 +75,7 @@ impl<W> Faulty<W> {
 /// that are left. It takes all where the inner writer does and no act is left. Its cost is the
 /// inner writer's, and it is not metered.
 impl<W: Write> Write for Faulty<W> {
-    ghost use Rattle.io_bench.specs.Faulty.{faulty_inner, faulty_told, faulty_steady, acts_left, next_act, LetsFlush};
+    ghost use Rattle.io_bench.specs.Faulty.{faulty_inner, faulty_told, faulty_steady, acts_left, next_act, LetsFlush, SpendsActs};
 
     ghost told = { faulty_told W.told };
 
@@ -142,6 +144,46 @@ impl<W: Write> Write for Faulty<W> {
             Some(Act::Fail(kind)) => Err(Error::from(kind)),
             _ => self.inner.flush(),
         }
+    }
+
+    fn write_all(&mut self, buf: &[u8]) -> Result<()>
+        // The trait's.
+        ensures fault { IsNoInterruption result }
+        ensures moves { MovesFront (faulty_told W.told self.old) buf.now result (faulty_told W.told self.new) }
+        ensures all { W.takes_all (faulty_inner self.old) × (acts_left self.old ≡ [])
+            → W.takes_all (faulty_inner self.new) × (acts_left self.new ≡ []) }
+
+        // Each write spends an act. How many bytes are left is known where all is written.
+        ensures acts { (left : ℕ) × OnOk result (left ≡ 0) × (left ≤ length buf.now)
+            × SpendsActs (acts_left self.old) (length buf.now) (faulty_told W.told self.old).turns
+            result left (faulty_told W.told self.new).turns (acts_left self.new) }
+    {
+        let mut rest = buf;
+        self.write_rest(&mut rest)
+    }
+
+    fn write_rest(&mut self, rest: &mut &[u8]) -> Result<()>
+        // The trait's.
+        ensures fault { IsNoInterruption result }
+        ensures sends { Sends (faulty_told W.told self.old) rest.old.now result
+            (faulty_told W.told self.new) rest.new.now }
+        ensures done { OnOk result (rest.new.now ≡ []) }
+        ensures all { W.takes_all (faulty_inner self.old) × (acts_left self.old ≡ [])
+            → (W.takes_all (faulty_inner self.new) × (acts_left self.new ≡ [])) × IsOk result }
+
+        // Each write spends an act.
+        ensures acts { SpendsActs (acts_left self.old) (length rest.old.now) (faulty_told W.told self.old).turns
+            result (length rest.new.now) (faulty_told W.told self.new).turns (acts_left self.new) }
+    {
+        'writes: while !rest.is_empty() {
+            match self.write(rest) {
+                Ok(0) => return Err(failed_to_write()),
+                Ok(n) => *rest = &rest[n..],
+                Err(e) if e.is_interrupted() => {}
+                Err(e) => return Err(e),
+            }
+        }
+        Ok(())
     }
 
     ghost steady = { λ f h. faulty_steady W.told f (W.steady (faulty_inner f) h.0) h.1 };

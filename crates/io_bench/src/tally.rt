@@ -1,11 +1,13 @@
 // A stream that counts.
-ghost use Rattle.std.specs.Prelude.{◌≡◌, ◌+◌, ◌-◌, ◌^◌, ◌≤◌, [], Ok, IfOk, OnOk, IsOkAnd, ⊤, length, min};
-ghost use Rattle.no_std_io2_base.specs.Events.{given, Reads, SpendsTurn};
-ghost use Rattle.no_std_io2_base.specs.Writes.{Moves, taken, write_mishap, call_mishap};
-ghost use Rattle.io_bench.specs.Calls.{IsWrite, IsFlush};
+ghost use Rattle.std.specs.Prelude.{◌≡◌, ◌+◌, ◌-◌, ◌^◌, ◌≤◌, [], Ok, IfOk, IfErr, OnOk, IsOk, IsOkAnd, ⊤, length, min};
+ghost use Rattle.no_std_io2_base.specs.Events.{given, Reads, ReadsExact, SpendsTurn};
+ghost use Rattle.no_std_io2_base.specs.Errors.{IsFault, IsNoInterruption};
+ghost use Rattle.no_std_io2_base.specs.Writes.{Moves, MovesFront, Sends, taken, write_mishap, call_mishap, calls_for};
+ghost use Rattle.io_bench.specs.Calls.{IsRead, IsWrite, IsFlush, CountsLoop};
 
 use no_std_io2::io::{Read, Result, Stored, Write};
 use no_std_io2::trace::Trace;
+use no_std_io2_base::error::{failed_to_fill, failed_to_write};
 use std::fmt;
 
 /// Hands each call on to an inner stream, and counts the calls of `write`, and those of `read` with
@@ -92,8 +94,8 @@ impl<T> Tally<T> {
     }
 }
 
-/// As the inner writer, and metered: its cost is the exact count. `write_all` is the trait's own,
-/// so each of its writes counts.
+/// As the inner writer, and metered: its cost is the exact count. `write_all` and `write_rest` write through
+/// `write`, as the trait's own do, so each of their writes counts.
 impl<T: Write> Write for Tally<T> {
     ghost use Rattle.io_bench.specs.Tally.{tally_inner, tally_writes, tally_reads};
 
@@ -143,6 +145,53 @@ impl<T: Write> Write for Tally<T> {
         self.inner.flush()
     }
 
+    fn write_all(&mut self, buf: &[u8]) -> Result<()>
+        // The trait's.
+        ensures fault { IsNoInterruption result }
+        ensures moves { MovesFront (T.told (tally_inner self.old)) buf.now result (T.told (tally_inner self.new)) }
+        ensures all { T.takes_all (tally_inner self.old) → T.takes_all (tally_inner self.new) }
+        ensures cost { ⊤ → T.takes_all (tally_inner self.old)
+            → ⊤ × (tally_writes self.new ≡ tally_writes self.old + calls_for buf.now) }
+
+        // Each write of the inner writer counts: at most one for each byte, each turn that is spent, and the fault.
+        ensures counts { CountsLoop (length buf.now)
+            (length buf.now + (T.told (tally_inner self.old)).turns) (tally_writes self.old) result
+            (T.told (tally_inner self.new)).turns (tally_writes self.new) }
+        ensures none { buf.now ≡ [] → self.new ≡ self.old }
+        ensures reads { tally_reads self.new ≡ tally_reads self.old }
+    {
+        let mut rest = buf;
+        self.write_rest(&mut rest)
+    }
+
+    fn write_rest(&mut self, rest: &mut &[u8]) -> Result<()>
+        // The trait's.
+        ensures fault { IsNoInterruption result }
+        ensures sends { Sends (T.told (tally_inner self.old)) rest.old.now result
+            (T.told (tally_inner self.new)) rest.new.now }
+        ensures done { OnOk result (rest.new.now ≡ []) }
+        ensures all { T.takes_all (tally_inner self.old) → T.takes_all (tally_inner self.new) × IsOk result }
+        ensures cost { ⊤ → T.takes_all (tally_inner self.old)
+            → ⊤ × (tally_writes self.new ≡ tally_writes self.old + calls_for rest.old.now) }
+
+        // Each write of the inner writer counts: at most one for each byte, each turn that is spent, and the fault.
+        ensures counts { CountsLoop (length rest.old.now)
+            (length rest.old.now + (T.told (tally_inner self.old)).turns) (tally_writes self.old) result
+            (length rest.new.now + (T.told (tally_inner self.new)).turns) (tally_writes self.new) }
+        ensures none { rest.old.now ≡ [] → self.new ≡ self.old }
+        ensures reads { tally_reads self.new ≡ tally_reads self.old }
+    {
+        'writes: while !rest.is_empty() {
+            match self.write(rest) {
+                Ok(0) => return Err(failed_to_write()),
+                Ok(n) => *rest = &rest[n..],
+                Err(e) if e.is_interrupted() => {}
+                Err(e) => return Err(e),
+            }
+        }
+        Ok(())
+    }
+
     ghost steady = { λ t h. T.steady (tally_inner t) h };
 }
 
@@ -157,8 +206,8 @@ impl<T: Stored> Stored for Tally<T> {
     ghost position = { λ t. T.position (tally_inner t) };
 }
 
-/// As the inner reader, and metered: its cost is the exact count. `read_exact` and `read_to_end` are
-/// the trait's own, so each of their reads counts.
+/// As the inner reader, and metered: its cost is the exact count. `read_exact` reads through `read`, as the trait's
+/// own does, and `read_to_end` is the trait's own, so each of their reads counts.
 impl<T: Read> Read for Tally<T> {
     ghost use Rattle.io_bench.specs.Tally.{tally_inner, tally_writes, tally_reads};
 
@@ -195,7 +244,9 @@ impl<T: Read> Read for Tally<T> {
             × (T.position (tally_inner self.new)
             ≡ T.position (tally_inner self.old) + given result) }
 
-        // One more where there is some room, whatever the answer.
+        // One read of the inner reader, and one more in the count where there is some room, whatever the answer.
+        ensures handed { IsRead T.tells T.events T.turns T.cost T.is_metered T.is_filling
+            (tally_inner self.old) (length buf.old) result buf.new (tally_inner self.new) }
         ensures writes { tally_writes self.new ≡ tally_writes self.old }
         ensures reads { tally_reads self.new ≡ tally_reads self.old + min 1 (length buf.old) }
     {
@@ -203,6 +254,40 @@ impl<T: Read> Read for Tally<T> {
             self.count_read();
         }
         self.inner.read(buf)
+    }
+
+    fn read_exact(&mut self, buf: &mut [u8]) -> Result<()>
+        // The trait's.
+        ensures told { T.tells (tally_inner self.old) → T.tells (tally_inner self.new)
+            × ReadsExact ⊥ (T.events (tally_inner self.old)) result buf.new (T.events (tally_inner self.new)) }
+        ensures fault { IfErr result IsFault }
+        ensures turns { T.turns (tally_inner self.new) ≤ T.turns (tally_inner self.old) }
+        ensures filling { T.is_filling (tally_inner self.old) → T.is_filling (tally_inner self.new) }
+        ensures store { T.has_store (tally_inner self.old) → T.has_store (tally_inner self.new)
+            × (T.content (tally_inner self.new) ≡ T.content (tally_inner self.old))
+            × (T.position (tally_inner self.new) + length (T.events (tally_inner self.new))
+            ≡ T.position (tally_inner self.old) + length (T.events (tally_inner self.old))) }
+
+        // Each read of the inner reader counts, and no other call: at most one for each turn that is spent, and the
+        // one that stopped it.
+        ensures counts { CountsLoop (length buf.old) (T.turns (tally_inner self.old)) (tally_reads self.old) result
+            (T.turns (tally_inner self.new)) (tally_reads self.new) }
+        ensures handed { T.is_metered (tally_inner self.old) → T.is_metered (tally_inner self.new)
+            × (T.cost (tally_inner self.new) + tally_reads self.old
+            ≡ T.cost (tally_inner self.old) + tally_reads self.new) }
+        ensures none { length buf.old ≡ 0 → self.new ≡ self.old }
+        ensures writes { tally_writes self.new ≡ tally_writes self.old }
+    {
+        let mut at = 0;
+        'reads: while at < buf.len() {
+            match self.read(&mut buf[at..]) {
+                Ok(0) => return Err(failed_to_fill()),
+                Ok(n) => at += n,
+                Err(e) if e.is_interrupted() => {}
+                Err(e) => return Err(e),
+            }
+        }
+        Ok(())
     }
 
     ghost filling_tells = { λ t h. T.filling_tells (tally_inner t) h };

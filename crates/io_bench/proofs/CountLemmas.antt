@@ -1,0 +1,45 @@
+-- How many calls a loop of writes or of reads made.
+use Rattle.std.proofs.Common.{◌≡◌, ℕ, ◌+◌, ◌-◌, ◌<◌, ◌≤◌, List, length, take, drop, Ok, Err, min, arith, length-take, length-drop}
+use Rattle.no_std_io2_base.specs.declared.error.Error.{Error}
+use Rattle.io_bench.specs.Calls.{CountsLoop}
+
+-- what a loop has counted so far, with `left` still to do
+pub record CountedSoFar (wanted budget was left budget' now : ℕ) : Type 0 where
+  pub least : was + min 1 wanted ≤ now + min 1 left
+  pub most : now + budget' ≤ was + budget
+
+-- at the start nothing is counted
+pub counted_none : (wanted budget was left : ℕ) → left ≡ wanted → CountedSoFar wanted budget was left budget was
+counted_none wanted budget was left all = record { least = omega (arith, all); most = omega arith }
+
+-- a call stopped it
+pub counted_stop : {A : Type 0} (wanted budget was left budget' now budget'' now' : ℕ) (e : Error)
+    → CountedSoFar wanted budget was left budget' now → now' ≡ now + 1 → budget'' ≤ budget'
+    → CountsLoop {A = A} wanted budget was (Err e) budget'' now'
+counted_stop wanted budget was left budget' now budget'' now' e so_far one fewer =
+    record { least = omega (arith, so_far.least, one); most = omega (arith, so_far.most, one, fewer) }
+
+-- nothing is left
+pub counted_done : {A : Type 0} (x : A) (wanted budget was left budget' now : ℕ) → CountedSoFar wanted budget was left budget' now → left ≡ 0
+    → CountsLoop wanted budget was (Ok x) budget' now
+counted_done x wanted budget was left budget' now so_far none =
+    record { least = omega (arith, so_far.least, none); most = omega (arith, so_far.most) }
+
+-- one call more has spent some of the budget
+pub counted_more : (wanted budget was left budget' now left' budget'' now' : ℕ) → CountedSoFar wanted budget was left budget' now
+    → now' ≡ now + 1 → budget'' < budget' → CountedSoFar wanted budget was left' budget'' now'
+counted_more wanted budget was left budget' now left' budget'' now' so_far one fewer =
+    record { least = omega (arith, so_far.least, one); most = omega (arith, so_far.most, one, fewer) }
+
+-- the part of a buffer that is not filled yet has room
+pub part_room : (at : ℕ) (xs : List ℕ) → at < length xs → 0 < length (take (length xs - at) (drop at xs))
+part_room at xs below = omega (arith, below, length-take (length xs - at) (drop at xs), length-drop at xs)
+
+-- a read into some room counts once
+pub one_read : (room was now : ℕ) → 0 < room → now ≡ was + min 1 room → now ≡ was + 1
+one_read room was now some counts = omega (arith, some, counts)
+
+-- the inner reader counted what is counted
+pub handed_once : {P Q : Type 0} (cost0 was cost now cost' now' room : ℕ) → P × (cost + was ≡ cost0 + now) → Q × (cost' ≡ cost + min 1 room)
+    → now' ≡ now + min 1 room → Q × (cost' + was ≡ cost0 + now')
+handed_once cost0 was cost now cost' now' room so_far read counts = (read.0, omega (arith, so_far.1, read.1, counts))

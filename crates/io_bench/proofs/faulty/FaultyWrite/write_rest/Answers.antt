@@ -1,0 +1,88 @@
+use Rattle.std.proofs.Common.{length, rules, refl, arith, ap}
+use Rattle.no_std_io2_base.proofs.WriteExits.{not_empty, is_empty, sent_none, sends_zero, sends_fault, sends_done, sent_interruption, sent_more, fewer_left, fewer_turns, takes_some, no_error_there}
+use Rattle.no_std_io2_base.specs.Errors.{IsInterruption}
+use Rattle.io_bench.specs.Faulty.{acts_left}
+use Rattle.io_bench.proofs.SpentActs.{spent_none, spent_more, spent_stop, spent_done, went_on_by, interrupted_by, left_of}
+use Rattle.io_bench.proofs.faulty.FaultyWrite.write_rest.Goals as goal
+
+pub writes-init : goal.writes-init
+writes-init g c = record {
+  sent = sent_none _ _;
+  all = λ a. a;
+  acts = spent_none _ _ _;
+}
+
+pub returns-in-Ok-eq0 : goal.returns-in-Ok-eq0
+returns-in-Ok-eq0 g c =
+    let before = c.writes.invariant in
+    let is = c.in-Ok-eq0.is in
+    let none = c.in-Ok-eq0.field-0-test in
+    let some = not_empty _ c.writes.rest.now c.is_empty.ensures c.writes-test.true in
+    record {
+      fault = search rules;
+      sends = sends_zero _ _ _ _ _ _ _ _ before.sent c.write.ensures.moves is none some cc;
+      done = tt;
+      all = λ a. absurd (takes_some _ _ _ (c.write.ensures.all (before.all a)).1 is none some);
+      acts = spent_stop _ _ _ _ _ _ _ _ _ before.acts c.write.ensures.acts some (omega (arith, c.write.ensures.moves.turns));
+    }
+
+pub writes-smaller-in-Ok : goal.writes-smaller-in-Ok
+writes-smaller-in-Ok g c = fewer_left c.in-Ok.n _ _ _ c.writes.rest.now c.in-Ok.n-test.1 c.in-Ok.ensures.bound c.in-Ok.ensures.moves.turns
+
+pub writes-preserved-in-Ok : goal.writes-preserved-in-Ok
+writes-preserved-in-Ok g c =
+    let before = c.writes.invariant in
+    let wrote = c.in-Ok.ensures in
+    let left = c.writes.rest.now in
+    let n = c.in-Ok.n in
+    let fewer = fewer_left n _ _ _ left c.in-Ok.n-test.1 wrote.bound wrote.moves.turns in
+    let went = went_on_by (acts_left c.writes.self) n left c.in-Ok.n-test.1 (λ kind is. (wrote.fail kind is).0) (λ is. (wrote.zero is).0) (λ is. (wrote.take_none is).0)
+    (λ m some is. (wrote.take m some is).bound) in
+    record {
+      sent = sent_more _ _ _ _ left _ n before.sent wrote.moves;
+      all = λ a. (wrote.all (before.all a)).0;
+      acts = spent_more _ _ _ _ _ _ _ n _ _ before.acts went wrote.acts (left_of n left wrote.bound) (omega (arith, fewer));
+    }
+
+-- how the test of an interruption is written is not named here
+pub writes-smaller : goal.writes-smaller
+writes-smaller g c = fewer_turns c.in-Err.e _ _ (length c.writes.rest.now) c.in-Err.ensures.moves.turns
+    cc
+
+pub writes-preserved : goal.writes-preserved
+writes-preserved g c =
+    let before = c.writes.invariant in
+    let wrote = c.in-Err.ensures in
+    let fewer = fewer_turns c.in-Err.e _ _ (length c.writes.rest.now) wrote.moves.turns cc in
+    let again : IsInterruption c.in-Err.e = cc in
+    let went = interrupted_by (acts_left c.writes.self) c.in-Err.e again (λ kind is. (wrote.fail kind is).0) (λ is. (wrote.zero is).0) (λ is. (wrote.take_none is).0) in
+    record {
+      sent = sent_interruption _ _ _ _ _ _ before.sent wrote.moves;
+      all = λ a. (wrote.all (before.all a)).0;
+      acts = spent_more _ _ _ _ _ _ _ 0 _ _ before.acts went wrote.acts (omega arith) (omega (arith, fewer));
+    }
+
+pub returns-in-Err-2 : goal.returns-in-Err-2
+returns-in-Err-2 g c =
+    let before = c.writes.invariant in
+    let wrote = c.in-Err.ensures in
+    let some = not_empty _ c.writes.rest.now c.is_empty.ensures c.writes-test.true in
+    record {
+      fault = cc;
+      sends = sends_fault _ _ _ _ _ _ before.sent wrote.moves;
+      done = tt;
+      all = λ a. absurd (no_error_there _ _ (wrote.all (before.all a)).1);
+      acts = spent_stop _ _ _ _ _ _ _ _ _ before.acts wrote.acts some (omega (arith, wrote.moves.turns));
+    }
+
+pub returns : goal.returns
+returns g c =
+    let before = c.writes.invariant in
+    let none = is_empty _ c.writes.rest.now c.is_empty.ensures c.writes-test.false in
+    record {
+      sends = sends_done _ _ _ _ before.sent;
+      fault = tt;
+      done = none;
+      all = λ a. (before.all a, refl);
+      acts = spent_done _ _ _ _ _ _ before.acts (ap length none);
+    }
