@@ -1,4 +1,4 @@
-//! The examples that README and docs/ARCHITECTURE.md print, as the gate proves them. They stand on `no_std_io2` alone.
+//! The examples that README and docs/DEVICES.md print, as the gate proves them. They stand on `no_std_io2` alone.
 #![tactic(auto)]
 
 ghost use Rattle.std.specs.Prelude.{◌≡◌, ◌++◌, [], IfOk, OnOk};

@@ -33,9 +33,11 @@ impl<W: Write + Drop, const S: usize> FrameWriter<W, S> {
     /// The device's fault after the last try: the same call goes on. `InvalidInput` and `OutOfMemory` as of
     /// [`send`](FrameWriter::send), at once, with the refused payload at the front of `rest`.
     ///
-    /// ```
+    /// ```rust
+    /// let mut w = FrameWriter::<Vec<u8>, 64>::new(rt.alloc(), Vec::new(rt.alloc()));
     /// let mut rest = payloads.as_slice();
-    /// w.deliver(&mut rest, 3)?;
+    /// w.deliver(&mut rest, 3)?; // tries again after each of the first three faults
+    /// assert!(rt; rest.is_empty());
     /// ```
     pub fn deliver(&mut self, rest: &mut &[Vec<u8>], tries: u32) -> Result<()>
         ensures sends { Delivers (writer_tells W.told self.old)

@@ -17,6 +17,16 @@ use std::alloc::Global;
 ///
 /// What was gathered of a frame when the reader failed is kept: the next call goes on with it. So an error
 /// loses no byte. After `Ok(None)` and after an error the same call may be made again.
+///
+/// ```rust
+/// let wire = Cursor::new(*b"\x02\0\0\0ab\x01\0\0\0c");
+/// let mut r = FrameReader::<_, 64>::new(rt.alloc(), wire, 1024);
+/// let mut bytes = 0;
+/// while let Some(payload) = r.next()? {
+///     bytes += payload.len();
+/// }
+/// assert_eq!(rt; bytes, 3);
+/// ```
 #[derive(Drop)]
 pub struct FrameReader<R: Read, const S: usize> {
     inner: BufReader<R, S>,
@@ -27,6 +37,16 @@ pub struct FrameReader<R: Read, const S: usize> {
 impl<R: Read, const S: usize> FrameReader<R, S> {
     /// A reader of the frames of `inner`, each with a payload of at most `limit` bytes. `S` is from 1 to
     /// 2^63 - 1. Payloads are gathered by `alloc`.
+    ///
+    /// ```rust
+    /// let wire = Cursor::new(*b"\x02\0\0\0ab\x01\0\0\0c");
+    /// let mut r = FrameReader::<_, 64>::new(rt.alloc(), wire, 1024);
+    /// let mut bytes = 0;
+    /// while let Some(payload) = r.next()? {
+    ///     bytes += payload.len();
+    /// }
+    /// assert_eq!(rt; bytes, 3);
+    /// ```
     pub fn new(alloc: Global, inner: R, limit: u32) -> FrameReader<R, S>
         requires some_room { 0 < S }
         requires in_memory { S < 2 ^ 63 }
@@ -42,6 +62,17 @@ impl<R: Read, const S: usize> FrameReader<R, S> {
     }
 
     /// The reader below. It is ahead of this one by the bytes held and gathered.
+    ///
+    /// ```rust
+    /// let wire = Cursor::new(*b"\x02\0\0\0ab\x01\0\0\0c");
+    /// let mut r = FrameReader::<_, 64>::new(rt.alloc(), wire, 1024);
+    /// let mut bytes = 0;
+    /// while let Some(payload) = r.next()? {
+    ///     bytes += payload.len();
+    /// }
+    /// assert_eq!(rt; bytes, 3);
+    /// assert_eq!(rt; r.get_ref().position(), 11);
+    /// ```
     pub fn get_ref(&self) -> &R
         ensures { result.now ≡ reads_from self.now }
     {
@@ -50,6 +81,14 @@ impl<R: Read, const S: usize> FrameReader<R, S> {
 
     /// Lets payloads have at most `limit` bytes from now on: a frame that was refused for its length is
     /// given where it is within the new limit.
+    ///
+    /// ```rust
+    /// let wire = Cursor::new(*b"\x02\0\0\0ab");
+    /// let mut r = FrameReader::<_, 64>::new(rt.alloc(), wire, 1);
+    /// assert!(rt; r.next().is_err());
+    /// r.set_limit(2);
+    /// assert!(rt; r.next()?.is_some()); // no byte of it was lost
+    /// ```
     pub fn set_limit(&mut self, limit: u32)
         ensures limit { most self.new ≡ limit }
         ensures inner { reads_from self.new ≡ reads_from self.old }
@@ -94,11 +133,14 @@ impl<R: Read, const S: usize> FrameReader<R, S> {
     /// of its payload is asked for; `OutOfMemory` where there is no room for its payload, before any of that
     /// is read. After each the frame is still to come, with every byte of it. Never `Interrupted`.
     ///
-    /// ```
-    /// let mut r = FrameReader::<R, 64>::new(alloc, device, 1024);
+    /// ```rust
+    /// let wire = Cursor::new(*b"\x02\0\0\0ab\x01\0\0\0c");
+    /// let mut r = FrameReader::<_, 64>::new(rt.alloc(), wire, 1024);
+    /// let mut bytes = 0;
     /// while let Some(payload) = r.next()? {
-    ///     handle(payload)?;
+    ///     bytes += payload.len();
     /// }
+    /// assert_eq!(rt; bytes, 3);
     /// ```
     pub fn next(&mut self) -> Result<Option<Vec<u8>>>
         ensures told { R.tells (reads_from self.old) → R.tells (reads_from self.new)
@@ -122,9 +164,12 @@ impl<R: Read, const S: usize> FrameReader<R, S> {
     /// Those of [`next`](FrameReader::next). The payloads that were given before it are appended, and all
     /// other frames are still to come, so the same call goes on.
     ///
-    /// ```
-    /// let mut payloads = Vec::new(alloc);
+    /// ```rust
+    /// let wire = Cursor::new(*b"\x02\0\0\0ab\x01\0\0\0c");
+    /// let mut r = FrameReader::<_, 64>::new(rt.alloc(), wire, 1024);
+    /// let mut payloads = Vec::new(rt.alloc());
     /// r.read_all(&mut payloads)?;
+    /// assert_eq!(rt; payloads.len(), 2);
     /// ```
     pub fn read_all(&mut self, payloads: &mut Vec<Vec<u8>>) -> Result<()>
         ensures appends { payloads.new.items ≡ payloads.old.items ++ appended payloads.old.items payloads.new.items }

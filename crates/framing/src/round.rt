@@ -10,8 +10,24 @@ use no_std_io2::io::{BufWriter, LineWriter, Result, Write};
 use std::alloc::Global;
 
 /// A writer that shows what it has handed on for good, as a device in memory does.
+///
+/// ```rust
+/// let mut w = BufWriter::<Vec<u8>, 8>::new(Vec::new(rt.alloc()));
+/// w.write_all(b"abc")?;
+/// assert!(rt; w.shown().is_empty()); // `abc` is held
+/// w.flush()?;
+/// assert_eq!(rt; w.shown(), b"abc".as_slice());
+/// ```
 pub trait Shown: Write {
     /// The bytes that are out.
+    ///
+    /// ```rust
+    /// let mut w = BufWriter::<Vec<u8>, 8>::new(Vec::new(rt.alloc()));
+    /// w.write_all(b"abc")?;
+    /// assert!(rt; w.shown().is_empty()); // `abc` is held
+    /// w.flush()?;
+    /// assert_eq!(rt; w.shown(), b"abc".as_slice());
+    /// ```
     fn shown(&self) -> &[u8]
         ensures { result.now ≡ (Self.told self.now).out };
 }
@@ -54,9 +70,10 @@ impl<W: Shown> Shown for Box<W> {
 /// # Errors
 /// Those of [`FrameWriter::deliver`], and `OutOfMemory` of the reader.
 ///
-/// ```
-/// let mut w = FrameWriter::<Vec<u8>, 64>::new(alloc, Vec::new(alloc));
-/// let given = round_trip(alloc, &mut w, &payloads, 0)?;    // given == payloads
+/// ```rust
+/// let mut w = FrameWriter::<Vec<u8>, 64>::new(rt.alloc(), Vec::new(rt.alloc()));
+/// let given = round_trip(rt.alloc(), &mut w, &payloads, 0)?;
+/// assert_eq!(rt; given.len(), payloads.len());
 /// ```
 pub fn round_trip<W: Shown + Drop, const S: usize>(
     alloc: Global,

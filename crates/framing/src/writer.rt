@@ -21,6 +21,13 @@ use std::alloc::Global;
 /// was, followed by exactly the frames that were sent.
 ///
 /// Dropping it sends the buffer once, ignores a fault, and cuts off the frame under way.
+///
+/// ```rust
+/// let mut w = FrameWriter::<Vec<u8>, 64>::new(rt.alloc(), Vec::new(rt.alloc()));
+/// w.send(b"ab")?;
+/// w.flush()?;
+/// assert_eq!(rt; w.get_ref().as_slice(), b"\x02\0\0\0ab".as_slice());
+/// ```
 #[derive(Drop)]
 pub struct FrameWriter<W: Write + Drop, const S: usize> {
     inner: BufWriter<W, S>,
@@ -29,6 +36,11 @@ pub struct FrameWriter<W: Write + Drop, const S: usize> {
 
 impl<W: Write + Drop, const S: usize> FrameWriter<W, S> {
     /// A writer of frames to `inner`, with none under way. The frame under way is kept by `alloc`.
+    ///
+    /// ```rust
+    /// let mut w = FrameWriter::<Vec<u8>, 64>::new(rt.alloc(), Vec::new(rt.alloc()));
+    /// w.send(b"ab")?;
+    /// ```
     pub fn new(alloc: Global, inner: W) -> FrameWriter<W, S>
         ensures inner { writes_to result ≡ inner }
         ensures empty { frames_held result ≡ [] }
@@ -42,6 +54,13 @@ impl<W: Write + Drop, const S: usize> FrameWriter<W, S> {
     }
 
     /// The writer below.
+    ///
+    /// ```rust
+    /// let mut w = FrameWriter::<Vec<u8>, 64>::new(rt.alloc(), Vec::new(rt.alloc()));
+    /// w.send(b"ab")?;
+    /// w.flush()?;
+    /// assert_eq!(rt; w.get_ref().as_slice(), b"\x02\0\0\0ab".as_slice());
+    /// ```
     pub fn get_ref(&self) -> &W
         ensures { result.now ≡ writes_to self.now }
     {
@@ -49,6 +68,13 @@ impl<W: Write + Drop, const S: usize> FrameWriter<W, S> {
     }
 
     /// Whether a frame is under way.
+    ///
+    /// ```rust
+    /// let mut room = [0u8; 8];
+    /// let mut w = FrameWriter::<Cursor<&mut [u8]>, 4>::new(rt.alloc(), Cursor::new(&mut room[..4]));
+    /// assert!(rt; w.send(b"hello").is_err()); // the device has room for the length alone
+    /// assert!(rt; w.is_under_way());
+    /// ```
     pub fn is_under_way(&self) -> bool
         ensures { result ≡ nat_lt 0 (length (under_way self.now)) }
     {
@@ -60,6 +86,14 @@ impl<W: Write + Drop, const S: usize> FrameWriter<W, S> {
     /// # Errors
     /// The device's first fault, or `WriteZero` where it took no byte of some; never `Interrupted`. The
     /// frame is still under way, from the first byte on that was not accepted.
+    ///
+    /// ```rust
+    /// let mut room = [0u8; 8];
+    /// let mut w = FrameWriter::<Cursor<&mut [u8]>, 4>::new(rt.alloc(), Cursor::new(&mut room[..4]));
+    /// assert!(rt; w.send(b"hello").is_err()); // the device has room for the length alone
+    /// assert!(rt; w.is_under_way());
+    /// assert!(rt; w.retry().is_err()); // there is still no room, and the frame still under way
+    /// ```
     pub fn retry(&mut self) -> Result<()>
         ensures sends { Sends (writer_tells W.told self.old) (still_to_go self.old) result
             (writer_tells W.told self.new) (still_to_go self.new) }
@@ -91,11 +125,11 @@ impl<W: Write + Drop, const S: usize> FrameWriter<W, S> {
     /// `InvalidInput` where the payload has 2^32 bytes or more, and `OutOfMemory`: nothing was accepted, and
     /// no frame is under way. Else those of `retry`, and the frame is under way.
     ///
-    /// ```
-    /// let mut w = FrameWriter::<W, 64>::new(alloc, device);
-    /// if w.send(b"hello").is_err() && w.is_under_way() {
-    ///     w.retry()?;
-    /// }
+    /// ```rust
+    /// let mut w = FrameWriter::<Vec<u8>, 64>::new(rt.alloc(), Vec::new(rt.alloc()));
+    /// w.send(b"ab")?;
+    /// w.flush()?;
+    /// assert_eq!(rt; w.get_ref().as_slice(), b"\x02\0\0\0ab".as_slice());
     /// ```
     pub fn send(&mut self, payload: &[u8]) -> Result<()>
         requires { under_way self.old ≡ [] }
@@ -116,11 +150,13 @@ impl<W: Write + Drop, const S: usize> FrameWriter<W, S> {
     /// Those of `retry`, with a frame under way. `InvalidInput` and `OutOfMemory` as of `send`, with no
     /// frame under way and the refused payload at the front of `rest`.
     ///
-    /// ```
+    /// ```rust
+    /// let mut w = FrameWriter::<Vec<u8>, 64>::new(rt.alloc(), Vec::new(rt.alloc()));
     /// let mut rest = payloads.as_slice();
-    /// while w.send_all(&mut rest).is_err() {
-    ///     wait_for_the_device()?;
+    /// if w.send_all(&mut rest).is_err() {
+    ///     w.send_all(&mut rest)?; // goes on where it stopped
     /// }
+    /// assert!(rt; rest.is_empty());
     /// ```
     pub fn send_all(&mut self, rest: &mut &[Vec<u8>]) -> Result<()>
         ensures sends { SendsFrames (writer_tells W.told self.old)
@@ -147,6 +183,13 @@ impl<W: Write + Drop, const S: usize> FrameWriter<W, S> {
     /// # Errors
     /// Those of `retry`, or the device's own. What was not handed on is still held or to go, and a later
     /// call goes on there.
+    ///
+    /// ```rust
+    /// let mut w = FrameWriter::<Vec<u8>, 64>::new(rt.alloc(), Vec::new(rt.alloc()));
+    /// w.send(b"ab")?;
+    /// w.flush()?;
+    /// assert_eq!(rt; w.get_ref().as_slice(), b"\x02\0\0\0ab".as_slice());
+    /// ```
     pub fn flush(&mut self) -> Result<()>
         ensures sends { Sends (writer_tells W.told self.old) (still_to_go self.old) result
             (writer_tells W.told self.new) (still_to_go self.new) }
@@ -163,6 +206,15 @@ impl<W: Write + Drop, const S: usize> FrameWriter<W, S> {
     /// # Errors
     /// The device's first fault, or `WriteZero`; never `Interrupted`. The error holds the buffered writer,
     /// which holds what was not sent.
+    ///
+    /// ```rust
+    /// let mut w = FrameWriter::<Vec<u8>, 64>::new(rt.alloc(), Vec::new(rt.alloc()));
+    /// w.send(b"ab")?;
+    /// w.flush()?;
+    /// assert_eq!(rt; w.get_ref().as_slice(), b"\x02\0\0\0ab".as_slice());
+    /// let device = w.into_inner()?; // no frame is under way
+    /// assert_eq!(rt; device.len(), 6);
+    /// ```
     pub fn into_inner(self) -> std::result::Result<W, IntoInnerError<BufWriter<W, S>>>
         requires { under_way self ≡ [] }
         ensures ok { IfOk result (λ w. Moves (writer_tells W.told self) [] [] (W.told w)) }

@@ -47,10 +47,11 @@ fn are_clear(ops: &[Op<'_>], replies: &[Reply]) -> bool
 /// # Errors
 /// `OutOfMemory` where there is no room for the bytes.
 ///
-/// ```
+/// ```rust
 /// let ops = [Op::Write(b"abc"), Op::Flush];
 /// let replies = [Reply::Took(2), Reply::Done];
-/// assert_eq!(rt; joined(rt.alloc(), &ops, &replies)?, Some(vec![in rt.alloc(); b'a', b'b']?));
+/// let accepted = joined(rt.alloc(), &ops, &replies)?;
+/// assert!(rt; accepted.is_some_and(|bytes| bytes.as_slice() == b"ab".as_slice()));
 /// ```
 pub fn joined(alloc: Global, ops: &[Op<'_>], replies: &[Reply]) -> Result<Option<Vec<u8>>>
     // Exactly where each reply says what was accepted, there is such a list, and it is the answer.

@@ -25,6 +25,12 @@ use std::alloc::Global;
 /// lines that were logged, each with its newline.
 ///
 /// Dropping it sends what is held once, ignores a fault, and cuts off the line under way.
+///
+/// ```rust
+/// let mut log = LineLog::<Vec<u8>, 64>::new(rt.alloc(), Vec::new(rt.alloc()));
+/// log.log("started")?;
+/// assert_eq!(rt; log.get_ref().as_slice(), b"started\n".as_slice());
+/// ```
 #[derive(Drop)]
 pub struct LineLog<W: Write + Drop, const S: usize> {
     lines: LineWriter<W, S>,
@@ -33,6 +39,11 @@ pub struct LineLog<W: Write + Drop, const S: usize> {
 
 impl<W: Write + Drop, const S: usize> LineLog<W, S> {
     /// An empty log that goes to `inner`. The line under way is kept by `alloc`.
+    ///
+    /// ```rust
+    /// let mut log = LineLog::<Vec<u8>, 64>::new(rt.alloc(), Vec::new(rt.alloc()));
+    /// log.log("started")?;
+    /// ```
     pub fn new(alloc: Global, inner: W) -> LineLog<W, S>
         ensures inner { log_inner result ≡ inner }
         ensures empty { log_buffer result ≡ [] }
@@ -46,6 +57,12 @@ impl<W: Write + Drop, const S: usize> LineLog<W, S> {
     }
 
     /// The writer below.
+    ///
+    /// ```rust
+    /// let mut log = LineLog::<Vec<u8>, 64>::new(rt.alloc(), Vec::new(rt.alloc()));
+    /// log.log("started")?;
+    /// assert_eq!(rt; log.get_ref().as_slice(), b"started\n".as_slice());
+    /// ```
     pub fn get_ref(&self) -> &W
         ensures { result.now ≡ log_inner self.now }
     {
@@ -53,6 +70,14 @@ impl<W: Write + Drop, const S: usize> LineLog<W, S> {
     }
 
     /// Whether a line is under way.
+    ///
+    /// ```rust
+    /// let mut log = LineLog::<Choppy, 4>::new(rt.alloc(), device);
+    /// if log.log("started").is_err() {
+    ///     assert!(rt; log.is_under_way(), "after {left} calls");
+    ///     log.retry()?;
+    /// }
+    /// ```
     pub fn is_under_way(&self) -> bool
         ensures { result ≡ nat_lt 0 (length (under_way self.now)) }
     {
@@ -65,6 +90,14 @@ impl<W: Write + Drop, const S: usize> LineLog<W, S> {
     /// # Errors
     /// The device's first fault, or `WriteZero` where it took no byte of some; never `Interrupted`. The line
     /// is still under way, from the first byte on that was not accepted.
+    ///
+    /// ```rust
+    /// let mut log = LineLog::<Choppy, 4>::new(rt.alloc(), device);
+    /// if log.log("started").is_err() {
+    ///     assert!(rt; log.is_under_way(), "after {left} calls");
+    ///     log.retry()?;
+    /// }
+    /// ```
     pub fn retry(&mut self) -> Result<()>
         ensures sends { Sends (log_told W.told self.old) (still_to_go self.old) result
             (log_told W.told self.new) (still_to_go self.new) }
@@ -100,9 +133,10 @@ impl<W: Write + Drop, const S: usize> LineLog<W, S> {
     /// `InvalidInput` where a newline stands in the text, and `OutOfMemory`: nothing was accepted, and no line
     /// is under way. Else those of `retry`, and the line is under way.
     ///
-    /// ```
-    /// let mut log = LineLog::<W, 64>::new(alloc, device);
-    /// if log.log("started").is_err() && log.is_under_way() {
+    /// ```rust
+    /// let mut log = LineLog::<Choppy, 4>::new(rt.alloc(), device);
+    /// if log.log("started").is_err() {
+    ///     assert!(rt; log.is_under_way(), "after {left} calls");
     ///     log.retry()?;
     /// }
     /// ```
@@ -126,11 +160,13 @@ impl<W: Write + Drop, const S: usize> LineLog<W, S> {
     /// Those of `retry`, with a line under way. `InvalidInput` and `OutOfMemory` as of `log`, with no line
     /// under way and the refused line at the front of `rest`.
     ///
-    /// ```
+    /// ```rust
+    /// let mut log = LineLog::<Vec<u8>, 64>::new(rt.alloc(), Vec::new(rt.alloc()));
     /// let mut rest = lines.as_slice();
-    /// while log.log_all(&mut rest).is_err() {
-    ///     wait_for_the_device()?;
+    /// if log.log_all(&mut rest).is_err() {
+    ///     log.log_all(&mut rest)?; // goes on where it stopped
     /// }
+    /// assert_eq!(rt; log.get_ref().as_slice(), b"one\ntwo\n".as_slice());
     /// ```
     pub fn log_all(&mut self, rest: &mut &[String]) -> Result<()>
         ensures sends { LogsLines (log_told W.told self.old)
@@ -157,6 +193,13 @@ impl<W: Write + Drop, const S: usize> LineLog<W, S> {
     /// # Errors
     /// Those of `retry`, or the device's own. What was not handed on is still held or to go, and a later
     /// call goes on there.
+    ///
+    /// ```rust
+    /// let mut log = LineLog::<Vec<u8>, 64>::new(rt.alloc(), Vec::new(rt.alloc()));
+    /// log.log("started")?;
+    /// assert_eq!(rt; log.get_ref().as_slice(), b"started\n".as_slice());
+    /// log.flush()?; // after `Ok` nothing is held, and no line is under way
+    /// ```
     pub fn flush(&mut self) -> Result<()>
         ensures sends { Sends (log_told W.told self.old) (still_to_go self.old) result
             (log_told W.told self.new) (still_to_go self.new) }
@@ -173,6 +216,15 @@ impl<W: Write + Drop, const S: usize> LineLog<W, S> {
     /// # Errors
     /// The device's first fault, or `WriteZero`; never `Interrupted`. The error holds the line writer, which
     /// holds what was not sent.
+    ///
+    /// ```rust
+    /// let mut log = LineLog::<Vec<u8>, 64>::new(rt.alloc(), Vec::new(rt.alloc()));
+    /// log.log("started")?;
+    /// assert_eq!(rt; log.get_ref().as_slice(), b"started\n".as_slice());
+    /// log.flush()?; // after `Ok` nothing is held, and no line is under way
+    /// let device = log.into_inner()?;
+    /// assert_eq!(rt; device.len(), 8);
+    /// ```
     pub fn into_inner(self) -> std::result::Result<W, IntoInnerError<LineWriter<W, S>>>
         requires { under_way self ≡ [] }
         ensures ok { IfOk result (λ w. Moves (log_told W.told self) [] [] (W.told w)) }

@@ -1,5 +1,21 @@
 //! Byte streams that neither lose, repeat nor reorder a byte, for programs without an operating
 //! system. The names are those of Rust's `std::io`, under [`io`].
+//!
+//! To put a buffer in front of a device, take [`io::BufWriter`], [`io::LineWriter`] or
+//! [`io::BufReader`]:
+//!
+//! ```rust
+//! let mut w = BufWriter::<Vec<u8>, 8>::new(Vec::new(rt.alloc()));
+//! w.write_all(b"abc")?;
+//! assert!(rt; w.get_ref().is_empty()); // `abc` is held
+//! w.flush()?;
+//! assert_eq!(rt; w.get_ref().as_slice(), b"abc".as_slice());
+//! ```
+//!
+//! Bytes in memory are a stream by [`io::Cursor`]; slices read, and vectors take bytes, by
+//! themselves. [`io::copy`] moves all of a reader to a writer. A device of your own implements
+//! [`io::Write`], or [`io::Stored`] and [`io::Read`]; where it keeps no byte of those that it took,
+//! a [`trace::Trace`] tells them. The words of all contracts are under `Rattle.no_std_io2.specs`.
 #![tactic(auto)]
 
 pub mod buffered;
@@ -11,7 +27,8 @@ pub mod error {
     pub use std::error::Error;
 }
 
-/// The whole surface, as Rust's `std::io`.
+/// The whole surface, as Rust's `std::io`: the traits, the buffers, `Cursor`, the adaptors that the
+/// traits make, `copy`, and errors.
 pub mod io {
     pub use super::buffered::{BufReader, BufWriter, IntoInnerError, LineWriter};
     pub use super::util::copy;

@@ -8,9 +8,11 @@ use std::marker::{Model, PhantomData};
 ///
 /// A device that doesn't keep what it took tells its `out` by one: a port, a socket, a sink.
 ///
-/// ```
-/// let mut taken = Trace::new();
-/// taken.add(b"ab"); // `taken.bytes` is `97 ∷ 98 ∷ []` now, for contracts
+/// ```rust
+/// if !self.port.send(*byte) {
+///     return Err(Error::from(ErrorKind::WouldBlock));
+/// }
+/// self.taken.add(&buf[..1]);
 /// ```
 #[derive(Drop)]
 pub struct Trace {
@@ -24,6 +26,11 @@ impl Model for Trace {
 
 impl Trace {
     /// No bytes.
+    ///
+    /// ```rust
+    /// let mut taken = Trace::new();
+    /// taken.add(b"ab"); // for contracts `taken.bytes` is `ab` now
+    /// ```
     pub fn new() -> Trace
         ensures { result.bytes ≡ [] }
     {
@@ -33,6 +40,11 @@ impl Trace {
     }
 
     /// These bytes come after the others.
+    ///
+    /// ```rust
+    /// let mut taken = Trace::new();
+    /// taken.add(b"ab"); // for contracts `taken.bytes` is `ab` now
+    /// ```
     pub fn add(&mut self, _more: &[u8])
         ensures { self.new.bytes ≡ self.old.bytes ++ _more.now }
     {}

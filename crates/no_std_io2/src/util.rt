@@ -1,4 +1,4 @@
-//! Whole copies from a reader to a writer.
+//! Whole copies from a reader to a writer: [`copy`].
 ghost use Rattle.std.specs.Prelude.{◌≡◌, ◌+◌, ◌≤◌, ◌<◌, ◌^◌, length, IfErr, OnOk};
 ghost use Rattle.no_std_io2_base.specs.Errors.{IsFault};
 ghost use Rattle.no_std_io2.specs.Copy.{Copies, CopyMoves, copy_reads};
@@ -21,6 +21,13 @@ mod steady;
 /// # Errors
 /// The reader's first fault: the writer has accepted all bytes before it. Or the writer's fault:
 /// up to `S` of the bytes that were read aren't accepted, and are lost. Never `Interrupted`.
+///
+/// ```rust
+/// let mut from = Cursor::new(*b"abcde");
+/// let mut to = Vec::<u8>::new(rt.alloc());
+/// assert_eq!(rt; copy::<_, _, 64>(&mut from, &mut to)?, 5);
+/// assert_eq!(rt; to.as_slice(), b"abcde".as_slice());
+/// ```
 pub fn copy<R: Read, W: Write, const S: usize>(reader: &mut R, writer: &mut W) -> Result<u64>
     requires { S < 2 ^ 63 }
     ensures told { R.tells reader.old → R.tells reader.new

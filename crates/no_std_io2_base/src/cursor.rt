@@ -1,4 +1,5 @@
-//! Bytes in memory as a stream, with a position in them.
+//! Bytes in memory as a stream, with a position in them: [`Cursor`]. Its content is what lends itself
+//! as a slice, [`AsSlice`].
 ghost use Rattle.std.specs.Prelude.{◌≡◌, List, IsOk, IfOk, IfErr, ◌↔◌, IsTrue};
 ghost use types.Logic.{sem};
 ghost use Rattle.std.specs.Borrow.{Lends};
@@ -17,11 +18,19 @@ use std::alloc::Allocator;
 
 /// What lends itself as one slice: the content of a [`Cursor`]. It stands where `std::io::Cursor`
 /// asks `AsRef<[u8]>`. The same value always lends the same elements.
+///
+/// ```rust
+/// assert_eq!(rt; AsSlice::as_slice(b"abc"), b"abc".as_slice());
+/// ```
 pub trait AsSlice<T> {
     // The elements that are lent.
     ghost slice: { Self → List T };
 
     /// The elements, in order.
+    ///
+    /// ```rust
+    /// assert_eq!(rt; AsSlice::as_slice(b"abc"), b"abc".as_slice());
+    /// ```
     fn as_slice(&self) -> &[T]
         ensures { result.now ≡ slice self.now };
 }
@@ -68,6 +77,16 @@ impl<A: Allocator> AsSlice<u8> for &mut Vec<u8, A> {
 
 /// A content in memory, and a position in it, from 0 to 2^64 - 1, past the end too. It reads, seeks
 /// and, over a vector or a slice that may be written, writes. Follows `std::io::Cursor`.
+///
+/// ```rust
+/// let mut c = Cursor::new(Vec::<u8>::new(rt.alloc()));
+/// c.write_all(b"abc")?;
+/// assert_eq!(rt; c.position(), 3);
+/// c.set_position(1);
+/// let mut rest = [0u8; 2];
+/// c.read_exact(&mut rest)?;
+/// assert_eq!(rt; rest, *b"bc");
+/// ```
 #[derive(Debug, PartialEq, Eq, Default, Drop)]
 pub struct Cursor<T> {
     inner: T,
@@ -76,6 +95,12 @@ pub struct Cursor<T> {
 
 impl<T> Cursor<T> {
     /// A cursor on this content, at position 0. Follows `std::io::Cursor::new`.
+    ///
+    /// ```rust
+    /// let mut c = Cursor::new(Vec::<u8>::new(rt.alloc()));
+    /// c.write_all(b"abc")?;
+    /// assert_eq!(rt; c.position(), 3);
+    /// ```
     pub fn new(inner: T) -> Cursor<T>
         ensures inner { cursor_inner result ≡ inner }
         ensures position { cursor_place result ≡ 0 }
@@ -84,6 +109,13 @@ impl<T> Cursor<T> {
     }
 
     /// The content. Follows `std::io::Cursor::into_inner`.
+    ///
+    /// ```rust
+    /// let mut c = Cursor::new(*b"abc");
+    /// c.get_mut()[0] = b'x';
+    /// assert_eq!(rt; *c.get_ref(), *b"xbc");
+    /// assert_eq!(rt; c.into_inner(), *b"xbc");
+    /// ```
     pub fn into_inner(self) -> T
         ensures { result ≡ cursor_inner self }
     {
@@ -91,6 +123,12 @@ impl<T> Cursor<T> {
     }
 
     /// The content, lent. Follows `std::io::Cursor::get_ref`.
+    ///
+    /// ```rust
+    /// let mut c = Cursor::new(*b"abc");
+    /// c.get_mut()[0] = b'x';
+    /// assert_eq!(rt; *c.get_ref(), *b"xbc");
+    /// ```
     pub fn get_ref(&self) -> &T
         ensures { result.now ≡ cursor_inner self.now }
     {
@@ -98,6 +136,12 @@ impl<T> Cursor<T> {
     }
 
     /// The content, lent to be changed: the position stays. Follows `std::io::Cursor::get_mut`.
+    ///
+    /// ```rust
+    /// let mut c = Cursor::new(*b"abc");
+    /// c.get_mut()[0] = b'x';
+    /// assert_eq!(rt; *c.get_ref(), *b"xbc");
+    /// ```
     pub fn get_mut(&mut self) -> &mut T
         ensures value { result.now ≡ cursor_inner self.old }
         ensures* writes_back { sem 𝓛 (Lends (cursor-row T.row) T.row self.entry result (cursor_with_inner self.old)) }
@@ -106,6 +150,12 @@ impl<T> Cursor<T> {
     }
 
     /// The position, in bytes from the start. Follows `std::io::Cursor::position`.
+    ///
+    /// ```rust
+    /// let mut c = Cursor::new(*b"abc");
+    /// c.set_position(7); // past the end too
+    /// assert_eq!(rt; c.position(), 7);
+    /// ```
     pub fn position(&self) -> u64
         ensures { result ≡ cursor_place self.now }
     {
@@ -113,6 +163,12 @@ impl<T> Cursor<T> {
     }
 
     /// Moves to this position, past the end too. Follows `std::io::Cursor::set_position`.
+    ///
+    /// ```rust
+    /// let mut c = Cursor::new(*b"abc");
+    /// c.set_position(7); // past the end too
+    /// assert_eq!(rt; c.position(), 7);
+    /// ```
     pub fn set_position(&mut self, pos: u64)
         ensures position { cursor_place self.new ≡ pos }
         ensures inner { cursor_inner self.new ≡ cursor_inner self.old }
@@ -125,6 +181,13 @@ impl<T> Cursor<T> {
     ///
     /// # Errors
     /// `OutOfMemory` where the content's clone was refused.
+    ///
+    /// ```rust
+    /// let mut c = Cursor::new(*b"abc");
+    /// let start = c.clone()?;
+    /// c.set_position(3);
+    /// assert_eq!(rt; start.position(), 0);
+    /// ```
     pub fn clone(&self) -> Result<Cursor<T>>
     where
         T: Clone,

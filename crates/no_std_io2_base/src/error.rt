@@ -1,4 +1,5 @@
-//! What a stream's call fails with: a kind, and perhaps a static text.
+//! What a stream's call answers and fails with: [`Result`], and in it an [`Error`], which is an
+//! [`ErrorKind`] and perhaps a static text.
 ghost use Rattle.std.specs.Prelude.{◌≡◌, Some, None};
 ghost use Rattle.std.specs.Option.{option_map};
 ghost use Rattle.no_std_io2_base.specs.Errors.{kind_text, error_kind, error_text, error_display, is_interruption, IsPlain, IsOutOfMemory, IsUnexpectedEnd, IsUnwritten};
@@ -7,6 +8,12 @@ use std::alloc::AllocError;
 use std::fmt;
 
 /// The kinds of errors, as in Rust's `std::io::ErrorKind`. They are ordered as they are declared.
+///
+/// ```rust
+/// if !self.port.send(*byte) {
+///     return Err(Error::from(ErrorKind::WouldBlock));
+/// }
+/// ```
 #[derive(Clone, Copy, Debug, PartialEq, Eq, PartialOrd, Ord, Hash)]
 pub enum ErrorKind {
     /// An entity was not found.
@@ -88,6 +95,14 @@ impl ErrorKind {
 /// memory. Follows `std::io::Error`, without its boxed payload.
 ///
 /// An error of kind [`ErrorKind::Interrupted`] is an interruption; every other error is a fault.
+///
+/// ```rust
+/// let e = Error::new(ErrorKind::InvalidData, "no header");
+/// assert_eq!(rt; e.kind(), ErrorKind::InvalidData);
+/// assert!(rt; e.get_ref().is_some());
+/// let e = Error::from(ErrorKind::WouldBlock); // no text: it prints its kind's
+/// assert!(rt; e.get_ref().is_none());
+/// ```
 #[derive(Debug, Drop)]
 pub struct Error {
     kind: ErrorKind,
@@ -95,10 +110,25 @@ pub struct Error {
 }
 
 /// What calls on streams answer, as `std::io::Result`.
+///
+/// ```rust
+/// fn read(&mut self, _buf: &mut [u8]) -> Result<usize> {
+///     match self.fault.take() {
+///         None => Ok(0),
+///         Some(e) => Err(e),
+///     }
+/// }
+/// ```
 pub type Result<T> = std::result::Result<T, Error>;
 
 impl Error {
     /// An error of this kind, with this text. Follows `std::io::Error::new`.
+    ///
+    /// ```rust
+    /// let e = Error::new(ErrorKind::InvalidData, "no header");
+    /// assert_eq!(rt; e.kind(), ErrorKind::InvalidData);
+    /// assert!(rt; e.get_ref().is_some());
+    /// ```
     pub fn new(kind: ErrorKind, text: &'static str) -> Error
         ensures kind { error_kind result ≡ kind }
         ensures text { error_text result ≡ Some text.entry.now }
@@ -110,6 +140,11 @@ impl Error {
     }
 
     /// An error of kind [`ErrorKind::Other`], with this text. Follows `std::io::Error::other`.
+    ///
+    /// ```rust
+    /// let e = Error::other("no carrier");
+    /// assert_eq!(rt; e.kind(), ErrorKind::Other);
+    /// ```
     pub fn other(text: &'static str) -> Error
         ensures kind { error_kind result ≡ ErrorKind.Other }
         ensures text { error_text result ≡ Some text.entry.now }
@@ -118,6 +153,11 @@ impl Error {
     }
 
     /// The kind. Follows `std::io::Error::kind`.
+    ///
+    /// ```rust
+    /// let e = Error::other("no carrier");
+    /// assert_eq!(rt; e.kind(), ErrorKind::Other);
+    /// ```
     pub fn kind(&self) -> ErrorKind
         ensures { result ≡ error_kind self.now }
     {
@@ -125,6 +165,11 @@ impl Error {
     }
 
     /// The text, where there is one. Follows `std::io::Error::get_ref`.
+    ///
+    /// ```rust
+    /// let e = Error::other("no carrier");
+    /// assert!(rt; e.get_ref().is_some());
+    /// ```
     pub fn get_ref(&self) -> Option<&&'static str>
         ensures { option_map (λ s. s.now.now) result ≡ error_text self.now }
     {
@@ -132,6 +177,12 @@ impl Error {
     }
 
     /// The text, where there is one. Follows `std::io::Error::into_inner`.
+    ///
+    /// ```rust
+    /// let e = Error::other("no carrier");
+    /// assert!(rt; e.get_ref().is_some());
+    /// assert_eq!(rt; e.into_inner(), Some("no carrier"));
+    /// ```
     pub fn into_inner(self) -> Option<&'static str>
         ensures { option_map (λ s. s.now) result ≡ error_text self }
     {
@@ -140,6 +191,11 @@ impl Error {
 
     /// Whether this is an interruption: the call did nothing, and may be made again. Follows the
     /// test of the same name inside Rust's `std::io`.
+    ///
+    /// ```rust
+    /// assert!(rt; Error::from(ErrorKind::Interrupted).is_interrupted());
+    /// assert!(rt; !Error::from(ErrorKind::TimedOut).is_interrupted());
+    /// ```
     pub fn is_interrupted(&self) -> bool
         ensures { result ≡ is_interruption (error_kind self.now) }
     {

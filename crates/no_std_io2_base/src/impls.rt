@@ -1,4 +1,5 @@
-//! The traits at streams in memory, references, boxes and boxed objects.
+//! The traits at streams in memory (slices, vectors), and at what stands for another stream
+//! (references, boxes, boxed objects). There is nothing here to be named.
 mod boxed;
 mod lending_objects;
 mod lent;

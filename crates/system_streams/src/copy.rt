@@ -57,14 +57,15 @@ fn through_lines<R: Read, W: Write + Drop>(
 /// how many bytes these were, at most the greatest `u64`, with the output. With `line`, each line is
 /// sent as it ends. The reader's interruptions are passed over. As `std::io::copy`, with a buffer at each end.
 ///
-/// ```
-/// let (count, out) = copy_through(&b"abc\nde"[..], Vec::<u8>::new(alloc), true)?;
-/// // count is 6, and out has the six bytes
-/// ```
-///
 /// # Errors
 /// The first fault of `input`, or the first failure of `output`, an interruption of its flush too.
 /// The output is dropped then, with what its buffer had left sent once more.
+///
+/// ```rust
+/// let (count, out) = copy_through(&b"abc\nde"[..], Vec::<u8>::new(rt.alloc()), true)?;
+/// assert_eq!(rt; count, 6);
+/// assert_eq!(rt; out.as_slice(), b"abc\nde".as_slice());
+/// ```
 pub fn copy_through<R: Read + Drop, W: Write + Drop>(
     input: R,
     output: W,

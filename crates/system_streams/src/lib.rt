@@ -4,16 +4,11 @@
 //! reader or writer of Rust's `std::io` one of this library's, with a number of turns that bounds every loop over it.
 //! [`copy_through`] copies one stream to another with a buffer at each.
 //!
-//! ```
-//! use std::io;
-//! use system_streams::{Patient, copy_through};
+//! Standard input and standard output, each asked until it is at its end, however often it is interrupted:
 //!
-//! fn main(rt: HostRuntime) -> no_std_io2::io::Result<()> {
-//!     let input = Patient::new(rt.reader(), u64::MAX);
-//!     let output = Patient::new(io::writer(&rt), u64::MAX);
-//!     copy_through(input, output, false)?;
-//!     Ok(())
-//! }
+//! ```rust
+//! let input = Patient::new(rt.reader(), u64::MAX);
+//! let output = Patient::new(io::writer(rt), u64::MAX);
 //! ```
 #![tactic(auto)]
 

@@ -21,13 +21,13 @@ use std::io::ErrorKind as SystemKind;
 /// reader's last turn, and where a writer without turns is interrupted; `Other`, `device fault`, for
 /// any other fault of the device. What the device took or gave before stands.
 ///
-/// ```
+/// ```rust
 /// let mut p = Patient::new(&b"abcdef"[..], 3);
 /// let mut buf = [0u8; 4];
-/// p.read(&mut buf);    // Ok(4)
-/// p.read(&mut buf);    // Ok(2)
-/// p.read(&mut buf);    // Err: no turns left
-/// p.read(&mut buf);    // Ok(0)
+/// assert_eq!(rt; p.read(&mut buf)?, 4);
+/// assert_eq!(rt; p.read(&mut buf)?, 2);
+/// assert!(rt; p.read(&mut buf).is_err()); // no turns left
+/// assert_eq!(rt; p.read(&mut buf)?, 0);
 /// ```
 #[derive(Drop)]
 pub struct Patient<D> {
@@ -41,6 +41,15 @@ impl<D> Patient<D> {
 
     /// The device with this many turns, from 0 up. A reader's last turn is its last answer: that no
     /// turns are left.
+    ///
+    /// ```rust
+    /// let mut p = Patient::new(&b"abcdef"[..], 3);
+    /// let mut buf = [0u8; 4];
+    /// assert_eq!(rt; p.read(&mut buf)?, 4);
+    /// assert_eq!(rt; p.read(&mut buf)?, 2);
+    /// assert!(rt; p.read(&mut buf).is_err()); // no turns left
+    /// assert_eq!(rt; p.read(&mut buf)?, 0);
+    /// ```
     pub fn new(device: D, turns: u64) -> Patient<D>
         ensures device { patient_device result ≡ device }
         ensures turns { patient_turns result ≡ turns }
@@ -54,6 +63,12 @@ impl<D> Patient<D> {
     }
 
     /// The device, where it stands.
+    ///
+    /// ```rust
+    /// let mut p = Patient::new(&b"abcdef"[..], 3);
+    /// p.read(&mut [0u8; 4])?;
+    /// assert_eq!(rt; p.into_inner(), b"ef".as_slice());
+    /// ```
     pub fn into_inner(self) -> D
         ensures { result ≡ patient_device self }
     {

@@ -23,6 +23,13 @@ mod seeks;
 /// A call of `read` or `fill_buf` makes one inner read at most, and none while bytes are held.
 /// A read into at least `S` bytes with none held goes straight to the inner reader. An empty read
 /// with none held fills the buffer, and may answer the inner reader's error.
+///
+/// ```rust
+/// let mut r = BufReader::<_, 4>::new(Cursor::new(*b"abcdefgh"));
+/// let mut two = [0u8; 2];
+/// r.read_exact(&mut two)?; // one inner read, of four bytes
+/// assert_eq!(rt; r.buffer(), b"cd".as_slice());
+/// ```
 #[derive(Drop)]
 pub struct BufReader<R, const S: usize> {
     inner: R,
@@ -32,6 +39,13 @@ pub struct BufReader<R, const S: usize> {
 impl<R: Read, const S: usize> BufReader<R, S> {
     /// A reader of `inner` that holds nothing yet. `S` is from 1 to 2^63 - 1. Follows
     /// `BufReader::new`.
+    ///
+    /// ```rust
+    /// let mut r = BufReader::<_, 4>::new(Cursor::new(*b"abcdefgh"));
+    /// let mut two = [0u8; 2];
+    /// r.read_exact(&mut two)?; // one inner read, of four bytes
+    /// assert_eq!(rt; r.buffer(), b"cd".as_slice());
+    /// ```
     pub fn new(inner: R) -> BufReader<R, S>
         requires some_room { 0 < S }
         requires in_memory { S < 2 ^ 63 }
@@ -49,6 +63,13 @@ impl<R: Read, const S: usize> BufReader<R, S> {
 
 impl<R, const S: usize> BufReader<R, S> {
     /// The inner reader. It is ahead of this one by the bytes held. Follows `BufReader::get_ref`.
+    ///
+    /// ```rust
+    /// let mut r = BufReader::<_, 4>::new(Cursor::new(*b"abcdefgh"));
+    /// assert_eq!(rt; r.capacity(), 4);
+    /// r.read_exact(&mut [0u8; 2])?;
+    /// assert_eq!(rt; r.get_ref().position(), 4); // ahead by the two bytes held
+    /// ```
     pub fn get_ref(&self) -> &R
         ensures { result.now ≡ reader_inner self.now }
     {
@@ -56,6 +77,15 @@ impl<R, const S: usize> BufReader<R, S> {
     }
 
     /// The inner reader, to change it: the bytes held stay. Follows `BufReader::get_mut`.
+    ///
+    /// ```rust
+    /// let mut r = BufReader::<_, 4>::new(Cursor::new(*b"abcdefgh"));
+    /// assert_eq!(rt; r.capacity(), 4);
+    /// r.read_exact(&mut [0u8; 2])?;
+    /// assert_eq!(rt; r.get_ref().position(), 4); // ahead by the two bytes held
+    /// r.get_mut().set_position(6);
+    /// assert_eq!(rt; r.buffer(), b"cd".as_slice()); // what is held stays
+    /// ```
     pub fn get_mut(&mut self) -> &mut R
         ensures value { result.now ≡ reader_inner self.old }
         ensures* writes_back { sem 𝓛 (Lends (reader-row R.row S.row) R.row self.entry result
@@ -65,6 +95,13 @@ impl<R, const S: usize> BufReader<R, S> {
     }
 
     /// The bytes held: read and not yet given, at most `S`. Follows `BufReader::buffer`.
+    ///
+    /// ```rust
+    /// let mut r = BufReader::<_, 4>::new(Cursor::new(*b"abcdefgh"));
+    /// let mut two = [0u8; 2];
+    /// r.read_exact(&mut two)?; // one inner read, of four bytes
+    /// assert_eq!(rt; r.buffer(), b"cd".as_slice());
+    /// ```
     pub fn buffer(&self) -> &[u8]
         ensures value { result.now ≡ reader_held self.now }
         ensures bound { length result.now ≤ S }
@@ -76,6 +113,14 @@ impl<R, const S: usize> BufReader<R, S> {
     /// [`seek_relative`](BufReader::seek_relative) goes without a seek of the inner reader. They are
     /// no more there after an inner read, whatever it answers, after a `read_to_end`, and after a seek
     /// that drops the buffer. Rust's `BufReader` keeps them and doesn't show them.
+    ///
+    /// ```rust
+    /// let mut r = BufReader::<_, 4>::new(Cursor::new(*b"abcdefgh"));
+    /// let mut two = [0u8; 2];
+    /// r.read_exact(&mut two)?; // one inner read, of four bytes
+    /// assert_eq!(rt; r.buffer(), b"cd".as_slice());
+    /// assert_eq!(rt; r.behind(), b"ab".as_slice());
+    /// ```
     pub fn behind(&self) -> &[u8]
         ensures value { result.now ≡ reader_behind self.now }
         ensures bound { length result.now ≤ S }
@@ -84,6 +129,11 @@ impl<R, const S: usize> BufReader<R, S> {
     }
 
     /// The buffer's size in bytes, `S`. Follows `BufReader::capacity`.
+    ///
+    /// ```rust
+    /// let mut r = BufReader::<_, 4>::new(Cursor::new(*b"abcdefgh"));
+    /// assert_eq!(rt; r.capacity(), 4);
+    /// ```
     pub fn capacity(&self) -> usize
         ensures { result ≡ S }
     {
@@ -91,6 +141,13 @@ impl<R, const S: usize> BufReader<R, S> {
     }
 
     /// The inner reader. The bytes held are lost. Follows `BufReader::into_inner`.
+    ///
+    /// ```rust
+    /// let mut r = BufReader::<_, 4>::new(Cursor::new(*b"abcdefgh"));
+    /// r.read_exact(&mut [0u8; 2])?;
+    /// let inner = r.into_inner(); // `cd`, which was held, is lost
+    /// assert_eq!(rt; inner.position(), 4);
+    /// ```
     pub fn into_inner(self) -> R
         ensures { result ≡ reader_inner self }
     {

@@ -27,12 +27,29 @@ use std::fmt::{Debug, Display, Formatter};
 ///
 /// To contracts it tells what its inner writer tells, with the buffer's bytes held behind the inner
 /// writer's own.
+///
+/// ```rust
+/// let mut w = BufWriter::<Vec<u8>, 8>::new(Vec::new(rt.alloc()));
+/// w.write_all(b"abc")?;
+/// w.write_all(b"def")?;
+/// assert!(rt; w.get_ref().is_empty()); // `abcdef` is held
+/// w.write_all(b"ghi")?; // does not fit beside them: they are sent first
+/// assert_eq!(rt; w.get_ref().as_slice(), b"abcdef".as_slice());
+/// w.flush()?;
+/// assert_eq!(rt; w.get_ref().as_slice(), b"abcdefghi".as_slice());
+/// ```
 pub struct BufWriter<W: Write + Drop, const S: usize> {
     core: Sender<W, S>,
 }
 
 impl<W: Write + Drop, const S: usize> BufWriter<W, S> {
     /// Puts an empty buffer of `S` bytes in front of `inner`. Follows `std::io::BufWriter::with_capacity`.
+    ///
+    /// ```rust
+    /// let mut w = BufWriter::<_, 8>::new(Cursor::new(Vec::<u8>::new(rt.alloc())));
+    /// w.write_all(b"abc")?;
+    /// assert_eq!(rt; w.buffer(), b"abc".as_slice());
+    /// ```
     pub fn new(inner: W) -> BufWriter<W, S>
         ensures inner { writer_inner result ≡ inner }
         ensures empty { writer_buffer result ≡ [] }
@@ -43,6 +60,13 @@ impl<W: Write + Drop, const S: usize> BufWriter<W, S> {
     }
 
     /// The inner writer. Follows `std::io::BufWriter::get_ref`.
+    ///
+    /// ```rust
+    /// let mut w = BufWriter::<_, 8>::new(Cursor::new(Vec::<u8>::new(rt.alloc())));
+    /// w.write_all(b"abc")?;
+    /// assert_eq!(rt; w.buffer(), b"abc".as_slice());
+    /// assert_eq!(rt; w.get_ref().position(), 0);
+    /// ```
     pub fn get_ref(&self) -> &W
         ensures { result.now ≡ writer_inner self.now }
     {
@@ -51,6 +75,15 @@ impl<W: Write + Drop, const S: usize> BufWriter<W, S> {
 
     /// The inner writer, to be changed. The buffer stays. Bytes that are written here go out before
     /// those that are held. Follows `std::io::BufWriter::get_mut`.
+    ///
+    /// ```rust
+    /// let mut w = BufWriter::<_, 8>::new(Cursor::new(Vec::<u8>::new(rt.alloc())));
+    /// w.write_all(b"abc")?;
+    /// assert_eq!(rt; w.buffer(), b"abc".as_slice());
+    /// assert_eq!(rt; w.get_ref().position(), 0);
+    /// w.get_mut().set_position(2);
+    /// assert_eq!(rt; w.buffer(), b"abc".as_slice()); // what is held stays
+    /// ```
     pub fn get_mut(&mut self) -> &mut W
         ensures value { result.now ≡ writer_inner self.old }
         ensures* writes_back { sem 𝓛 (Lends (writer-row W.row S.row) W.row self.entry result
@@ -60,6 +93,12 @@ impl<W: Write + Drop, const S: usize> BufWriter<W, S> {
     }
 
     /// The held bytes, at most `S`. Follows `std::io::BufWriter::buffer`.
+    ///
+    /// ```rust
+    /// let mut w = BufWriter::<_, 8>::new(Cursor::new(Vec::<u8>::new(rt.alloc())));
+    /// w.write_all(b"abc")?;
+    /// assert_eq!(rt; w.buffer(), b"abc".as_slice());
+    /// ```
     pub fn buffer(&self) -> &[u8]
         ensures value { result.now ≡ writer_buffer self.now }
         ensures bound { length result.now ≤ S }
@@ -68,6 +107,11 @@ impl<W: Write + Drop, const S: usize> BufWriter<W, S> {
     }
 
     /// How many bytes can be held: `S`. Follows `std::io::BufWriter::capacity`.
+    ///
+    /// ```rust
+    /// let mut w = BufWriter::<Vec<u8>, 8>::new(Vec::new(rt.alloc()));
+    /// assert_eq!(rt; w.capacity(), 8);
+    /// ```
     pub fn capacity(&self) -> usize
         ensures { result ≡ S }
     {
@@ -83,6 +127,14 @@ impl<W: Write + Drop, const S: usize> BufWriter<W, S> {
     ///
     /// In a `match`, bind the error to a name: the borrow check refuses `Err(_)` here, and passes
     /// `Err(_e)`.
+    ///
+    /// ```rust
+    /// let mut w = BufWriter::<Vec<u8>, 8>::new(Vec::new(rt.alloc()));
+    /// assert_eq!(rt; w.capacity(), 8);
+    /// w.write_all(b"abc")?;
+    /// let device = w.into_inner()?; // sends `abc`
+    /// assert_eq!(rt; device.as_slice(), b"abc".as_slice());
+    /// ```
     pub fn into_inner(mut self) -> std::result::Result<W, IntoInnerError<BufWriter<W, S>>>
         // No byte is lost.
         ensures ok { IfOk result (λ w. Moves (writer_told W.told self) [] [] (W.told w)) }
@@ -133,6 +185,17 @@ impl<W: Write + Drop + Debug, const S: usize> Debug for BufWriter<W, S> {
 
 /// The error of [`BufWriter::into_inner`]: why the sending failed, and the writer, which holds the
 /// bytes that were not sent. Follows `std::io::IntoInnerError`.
+///
+/// ```rust
+/// let mut room = [0u8; 2];
+/// let mut w = BufWriter::<_, 8>::new(Cursor::new(&mut room[..]));
+/// w.write_all(b"abc")?;
+/// if let Err(failed) = w.into_inner() {
+///     assert_eq!(rt; failed.error().kind(), ErrorKind::WriteZero);
+///     let w = failed.into_inner();
+///     assert_eq!(rt; w.buffer(), b"c".as_slice()); // `ab` is out
+/// }
+/// ```
 #[derive(Drop)]
 pub struct IntoInnerError<W> {
     writer: W,
@@ -148,6 +211,17 @@ impl<W> IntoInnerError<W> {
     }
 
     /// Why the sending failed. Follows `std::io::IntoInnerError::error`.
+    ///
+    /// ```rust
+    /// let mut room = [0u8; 2];
+    /// let mut w = BufWriter::<_, 8>::new(Cursor::new(&mut room[..]));
+    /// w.write_all(b"abc")?;
+    /// if let Err(failed) = w.into_inner() {
+    ///     assert_eq!(rt; failed.error().kind(), ErrorKind::WriteZero);
+    ///     let w = failed.into_inner();
+    ///     assert_eq!(rt; w.buffer(), b"c".as_slice()); // `ab` is out
+    /// }
+    /// ```
     pub fn error(&self) -> &Error
         ensures { result.now ≡ into_inner_error_cause self.now }
     {
@@ -155,6 +229,17 @@ impl<W> IntoInnerError<W> {
     }
 
     /// The buffered writer, to be used again. Follows `std::io::IntoInnerError::into_inner`.
+    ///
+    /// ```rust
+    /// let mut room = [0u8; 2];
+    /// let mut w = BufWriter::<_, 8>::new(Cursor::new(&mut room[..]));
+    /// w.write_all(b"abc")?;
+    /// if let Err(failed) = w.into_inner() {
+    ///     assert_eq!(rt; failed.error().kind(), ErrorKind::WriteZero);
+    ///     let w = failed.into_inner();
+    ///     assert_eq!(rt; w.buffer(), b"c".as_slice()); // `ab` is out
+    /// }
+    /// ```
     pub fn into_inner(self) -> W
         ensures { result ≡ into_inner_error_writer self }
     {

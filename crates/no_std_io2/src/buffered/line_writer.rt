@@ -30,6 +30,15 @@ use steps::{lines_len, write_all_lines, write_all_plain, write_lines, write_plai
 ///
 /// A dropped writer sends what it holds once, and ignores a fault: call [`Write::flush`] or
 /// [`LineWriter::into_inner`] to see it.
+///
+/// ```rust
+/// let mut w = LineWriter::<Vec<u8>, 16>::new(Vec::new(rt.alloc()));
+/// w.write_all(b"one\ntw")?;
+/// assert_eq!(rt; w.get_ref().as_slice(), b"one\n".as_slice());
+/// assert_eq!(rt; w.buffer(), b"tw".as_slice());
+/// w.write_all(b"o\n")?;
+/// assert_eq!(rt; w.get_ref().as_slice(), b"one\ntwo\n".as_slice());
+/// ```
 pub struct LineWriter<W: Write + Drop, const S: usize> {
     core: LineSender<W, S>,
 }
@@ -37,6 +46,12 @@ pub struct LineWriter<W: Write + Drop, const S: usize> {
 impl<W: Write + Drop, const S: usize> LineWriter<W, S> {
     /// A line writer that holds nothing, in front of `inner`. Its buffer has the capacity `S`.
     /// Follows `std::io::LineWriter::new`.
+    ///
+    /// ```rust
+    /// let mut w = LineWriter::<Vec<u8>, 16>::new(Vec::new(rt.alloc()));
+    /// w.write_all(b"one\ntw")?;
+    /// assert_eq!(rt; w.get_ref().as_slice(), b"one\n".as_slice());
+    /// ```
     pub fn new(inner: W) -> LineWriter<W, S>
         ensures inner { line_inner result ≡ inner }
         ensures empty { line_buffer result ≡ [] }
@@ -47,6 +62,12 @@ impl<W: Write + Drop, const S: usize> LineWriter<W, S> {
     }
 
     /// The inner writer. Follows `std::io::LineWriter::get_ref`.
+    ///
+    /// ```rust
+    /// let mut w = LineWriter::<Vec<u8>, 16>::new(Vec::new(rt.alloc()));
+    /// w.write_all(b"one\ntw")?;
+    /// assert_eq!(rt; w.get_ref().as_slice(), b"one\n".as_slice());
+    /// ```
     pub fn get_ref(&self) -> &W
         ensures { result.now ≡ line_inner self.now }
     {
@@ -55,6 +76,12 @@ impl<W: Write + Drop, const S: usize> LineWriter<W, S> {
 
     /// The inner writer, to be changed: it alone changes, and the held bytes stay. What is written to
     /// it here comes before the held bytes. Follows `std::io::LineWriter::get_mut`.
+    ///
+    /// ```rust
+    /// let mut w = LineWriter::<Vec<u8>, 16>::new(Vec::new(rt.alloc()));
+    /// w.write_all(b"one\ntw")?;
+    /// w.get_mut().clear(); // forgets `one\n`; `tw` is still held
+    /// ```
     pub fn get_mut(&mut self) -> &mut W
         ensures value { result.now ≡ line_inner self.old }
         ensures* writes_back { sem 𝓛 (Lends (line-row W.row S.row) W.row self.entry result
@@ -65,6 +92,13 @@ impl<W: Write + Drop, const S: usize> LineWriter<W, S> {
 
     /// The held bytes, at most `S`: they have no newline, or end in one. Rust's `LineWriter` has no
     /// such call; `std::io::BufWriter::buffer` is its like.
+    ///
+    /// ```rust
+    /// let mut w = LineWriter::<Vec<u8>, 16>::new(Vec::new(rt.alloc()));
+    /// w.write_all(b"one\ntw")?;
+    /// assert_eq!(rt; w.get_ref().as_slice(), b"one\n".as_slice());
+    /// assert_eq!(rt; w.buffer(), b"tw".as_slice());
+    /// ```
     pub fn buffer(&self) -> &[u8]
         ensures value { result.now ≡ line_buffer self.now }
         ensures bound { length result.now ≤ S }
@@ -80,6 +114,14 @@ impl<W: Write + Drop, const S: usize> LineWriter<W, S> {
     /// The fault that stopped the sending, never an interruption: the inner writer's own, or
     /// `WriteZero` where it took no byte of some. The error holds this writer, with the bytes that
     /// are not yet sent; they have no newline, or end in one.
+    ///
+    /// ```rust
+    /// let mut w = LineWriter::<Vec<u8>, 16>::new(Vec::new(rt.alloc()));
+    /// w.write_all(b"one\ntw")?;
+    /// w.get_mut().clear(); // forgets `one\n`; `tw` is still held
+    /// let device = w.into_inner()?; // sends `tw`
+    /// assert_eq!(rt; device.as_slice(), b"tw".as_slice());
+    /// ```
     pub fn into_inner(mut self) -> std::result::Result<W, IntoInnerError<LineWriter<W, S>>>
         // No byte is lost.
         ensures ok { IfOk result (λ w. Moves (line_told W.told self) [] [] (W.told w)) }

@@ -15,6 +15,13 @@ use crate::error::Result;
 use std::alloc::{Allocator, Global};
 
 /// A reader that lends the bytes it holds. Follows Rust's `std::io::BufRead`.
+///
+/// ```rust
+/// let mut r = Cursor::new(*b"abc");
+/// assert_eq!(rt; r.fill_buf()?, b"abc".as_slice());
+/// r.consume(1);
+/// assert_eq!(rt; r.fill_buf()?, b"bc".as_slice());
+/// ```
 pub trait BufRead: Read {
     // The bytes that stand ready: where events are told, those begin with them.
     ghost held: { Self → List ℕ };
@@ -34,6 +41,13 @@ pub trait BufRead: Read {
     ///
     /// # Errors
     /// The device's own, interruptions too, and only where nothing is held: nothing was taken.
+    ///
+    /// ```rust
+    /// let mut r = Cursor::new(*b"abc");
+    /// assert_eq!(rt; r.fill_buf()?, b"abc".as_slice());
+    /// r.consume(1);
+    /// assert_eq!(rt; r.fill_buf()?, b"bc".as_slice());
+    /// ```
     fn fill_buf(&mut self) -> Result<&[u8]>
         ensures held { IsNotEmpty (held self.old) → IsOkAnd result (λ s. s.now ≡ held self.old) }
         ensures front { Self.tells self.old
@@ -61,6 +75,13 @@ pub trait BufRead: Read {
 
     /// Drops the first `amount` of the bytes that are held, at most all of them. Follows
     /// `std::io::BufRead::consume`.
+    ///
+    /// ```rust
+    /// let mut r = Cursor::new(*b"abc");
+    /// assert_eq!(rt; r.fill_buf()?, b"abc".as_slice());
+    /// r.consume(1);
+    /// assert_eq!(rt; r.fill_buf()?, b"bc".as_slice());
+    /// ```
     fn consume(&mut self, amount: usize)
         requires { amount ≤ length (held self.old) }
         ensures held { held self.new ≡ drop amount (held self.old) }
@@ -85,6 +106,13 @@ pub trait BufRead: Read {
     /// The first fault that comes before a `delim`: the reader stands right after it. `OutOfMemory`
     /// where a growth was refused, before the `consume` that it was for. After either, `buf` has its
     /// old content and then the bytes taken. Never `Interrupted`.
+    ///
+    /// ```rust
+    /// let mut r = Cursor::new(*b"key=value");
+    /// let mut key = Vec::<u8>::new(rt.alloc());
+    /// assert_eq!(rt; r.read_until(b'=', &mut key)?, 4);
+    /// assert_eq!(rt; key.as_slice(), b"key=".as_slice());
+    /// ```
     fn read_until<A: Allocator>(&mut self, delim: u8, buf: &mut Vec<u8, A>) -> Result<usize>
     where
         Self: Sized,
@@ -127,6 +155,15 @@ pub trait BufRead: Read {
     /// first fault: the bytes before it are appended where they are UTF-8, else the text is as it
     /// was. `OutOfMemory`, a device's own too: the text is as it was, and the bytes taken in the call
     /// are lost. Never `Interrupted`.
+    ///
+    /// ```rust
+    /// let mut r = Cursor::new(*b"one\ntwo");
+    /// let mut line = String::new(rt.alloc());
+    /// assert_eq!(rt; r.read_line(rt.alloc(), &mut line)?, 4);
+    /// assert_eq!(rt; line.as_str(), "one\n");
+    /// assert_eq!(rt; r.read_line(rt.alloc(), &mut line)?, 3);
+    /// assert_eq!(rt; line.as_str(), "one\ntwo");
+    /// ```
     final fn read_line(&mut self, alloc: Global, buf: &mut String) -> Result<usize>
     where
         Self: Sized,
@@ -152,6 +189,14 @@ pub trait BufRead: Read {
 
     /// The pieces of this reader's bytes, cut behind each `delim`, without it: an iterator, whose
     /// items are vectors by `alloc`. Follows `std::io::BufRead::split`.
+    ///
+    /// ```rust
+    /// let mut lens = Vec::<usize>::new(rt.alloc());
+    /// for piece in Cursor::new(*b"ab,,c").split(rt.alloc(), b',') {
+    ///     lens.push(piece?.len())?;
+    /// }
+    /// assert_eq!(rt; lens.as_slice(), [2, 0, 1].as_slice());
+    /// ```
     final fn split(self, alloc: Global, delim: u8) -> Split<Self>
     where
         Self: Sized,
@@ -164,6 +209,14 @@ pub trait BufRead: Read {
 
     /// The lines of this reader's text, without their line ends: an iterator, whose items are texts
     /// by `alloc`. Follows `std::io::BufRead::lines`.
+    ///
+    /// ```rust
+    /// let mut text = String::new(rt.alloc());
+    /// for line in Cursor::new(*b"one\r\ntwo\n").lines(rt.alloc()) {
+    ///     text.push_str(line?.as_str())?;
+    /// }
+    /// assert_eq!(rt; text.as_str(), "onetwo");
+    /// ```
     final fn lines(self, alloc: Global) -> Lines<Self>
     where
         Self: Sized,

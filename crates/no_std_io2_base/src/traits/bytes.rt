@@ -11,6 +11,14 @@ use crate::error::Result;
 /// It yields the reader's bytes and faults in order, and leaves interruptions out. It ends where
 /// the reader does; a fault doesn't end it. Each byte costs a read: over a slow device, read from a
 /// buffered reader.
+///
+/// ```rust
+/// let mut sum = 0u32;
+/// for byte in Cursor::new(*b"abc").bytes() {
+///     sum += u32::from(byte?);
+/// }
+/// assert_eq!(rt; sum, 97 + 98 + 99);
+/// ```
 #[derive(Debug, Drop)]
 pub struct Bytes<R> {
     inner: R,

@@ -18,6 +18,13 @@ use std::alloc::Allocator;
 /// The first is read until it is at its end: a read into some room that gives nothing, or an empty
 /// slice from `fill_buf`, marks it done, and the second is used in the same call. An empty read
 /// never marks it, and the mark is never taken back.
+///
+/// ```rust
+/// let mut r = Cursor::new(*b"ab").chain(Cursor::new(*b"cd"));
+/// let mut content = Vec::<u8>::new(rt.alloc());
+/// r.read_to_end(&mut content)?;
+/// assert_eq!(rt; content.as_slice(), b"abcd".as_slice());
+/// ```
 #[derive(Debug, Drop)]
 pub struct Chain<T, U> {
     first: T,
@@ -37,6 +44,16 @@ impl<T, U> Chain<T, U> {
     }
 
     /// The two readers, where they stand. Follows `std::io::Chain::into_inner`.
+    ///
+    /// ```rust
+    /// let mut r = Cursor::new(*b"ab").chain(Cursor::new(*b"cd"));
+    /// let mut three = [0u8; 3];
+    /// r.read_exact(&mut three)?;
+    /// let (first, second) = r.get_ref();
+    /// assert_eq!(rt; (first.position(), second.position()), (2, 1));
+    /// let (_, second) = r.into_inner();
+    /// assert_eq!(rt; second.position(), 1);
+    /// ```
     pub fn into_inner(self) -> (T, U)
         ensures first { result.0 ≡ chain_first self }
         ensures second { result.1 ≡ chain_second self }
@@ -45,6 +62,14 @@ impl<T, U> Chain<T, U> {
     }
 
     /// The two readers, lent. Follows `std::io::Chain::get_ref`.
+    ///
+    /// ```rust
+    /// let mut r = Cursor::new(*b"ab").chain(Cursor::new(*b"cd"));
+    /// let mut three = [0u8; 3];
+    /// r.read_exact(&mut three)?;
+    /// let (first, second) = r.get_ref();
+    /// assert_eq!(rt; (first.position(), second.position()), (2, 1));
+    /// ```
     pub fn get_ref(&self) -> (&T, &U)
         ensures first { result.0.now ≡ chain_first self.now }
         ensures second { result.1.now ≡ chain_second self.now }
@@ -54,6 +79,14 @@ impl<T, U> Chain<T, U> {
 
     /// The two readers, lent to be changed. The mark of a done first reader stays. Follows
     /// `std::io::Chain::get_mut`.
+    ///
+    /// ```rust
+    /// let mut r = Cursor::new(*b"ab").chain(Cursor::new(*b"cd"));
+    /// let (_, second) = r.get_mut();
+    /// second.set_position(1); // without its `c`
+    /// let mut content = Vec::<u8>::new(rt.alloc());
+    /// assert_eq!(rt; r.read_to_end(&mut content)?, 3);
+    /// ```
     pub fn get_mut(&mut self) -> (&mut T, &mut U)
         ensures first { result.0.now ≡ chain_first self.old }
         ensures second { result.1.now ≡ chain_second self.old }

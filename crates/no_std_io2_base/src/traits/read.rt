@@ -18,6 +18,14 @@ use std::alloc::Allocator;
 /// A reader may tell, to contracts alone, the *events* that are to come: bytes and errors, in
 /// order. Each call then takes exactly a front of them. It also tells a number of *turns*, which
 /// each call that gives bytes or an error lowers, so that every loop of reads ends.
+///
+/// ```rust
+/// let mut r = Cursor::new(*b"abc");
+/// let mut buf = [0u8; 2];
+/// assert_eq!(rt; r.read(&mut buf)?, 2); // `ab`
+/// assert_eq!(rt; r.read(&mut buf)?, 1); // `c`
+/// assert_eq!(rt; r.read(&mut buf)?, 0); // the end
+/// ```
 pub trait Read: Stored {
     // That the reader tells the events to come, and these.
     ghost tells: { Self → Type 0 };
@@ -44,6 +52,14 @@ pub trait Read: Stored {
     ///
     /// # Errors
     /// The device's own; no byte was taken then. After an interruption the call may be made again.
+    ///
+    /// ```rust
+    /// let mut r = Cursor::new(*b"abc");
+    /// let mut buf = [0u8; 2];
+    /// assert_eq!(rt; r.read(&mut buf)?, 2); // `ab`
+    /// assert_eq!(rt; r.read(&mut buf)?, 1); // `c`
+    /// assert_eq!(rt; r.read(&mut buf)?, 0); // the end
+    /// ```
     fn read(&mut self, buf: &mut [u8]) -> Result<usize>
         ensures bound { IfOk result (λ n. n ≤ length buf.new) }
         ensures told { tells self.old → tells self.new
@@ -65,6 +81,14 @@ pub trait Read: Stored {
     /// The first fault that comes before `buf` is full: the reader stands right after it.
     /// `UnexpectedEof` where the bytes end too early: all that there was is taken, but slices and
     /// cursors have taken nothing. Never `Interrupted`.
+    ///
+    /// ```rust
+    /// let mut r = Cursor::new(*b"abcde");
+    /// let mut header = [0u8; 4];
+    /// r.read_exact(&mut header)?;
+    /// assert_eq!(rt; header, *b"abcd");
+    /// assert!(rt; r.read_exact(&mut header).is_err()); // one byte is left: `UnexpectedEof`
+    /// ```
     fn read_exact(&mut self, buf: &mut [u8]) -> Result<()>
         ensures told { tells self.old → tells self.new
             × ReadsExact (may_take_none self.old) (events self.old) result buf.new (events self.new) }
@@ -90,14 +114,22 @@ pub trait Read: Stored {
     }
 
     /// Appends all bytes to come to `buf`, passing over interruptions, and answers their number.
-    /// Before its first read, and whenever no room is left, it makes room for at least 32 bytes.
-    /// Where `buf` has room for all that is to come and for 32 bytes more, it is never refused any.
-    /// Follows `std::io::Read::read_to_end`.
+    /// Before its first read, and whenever no room is left, it makes room for at least 32 bytes; a
+    /// slice and a cursor make room for all of their rest once these are full. Where `buf` has room
+    /// for all that is to come and for 32 bytes more, it is never refused any. Follows
+    /// `std::io::Read::read_to_end`.
     ///
     /// # Errors
     /// The first fault: the reader stands right after it. `OutOfMemory` where a growth was refused,
     /// before the read that it was for. After either, `buf` has its old content and then the bytes
     /// taken. Never `Interrupted`.
+    ///
+    /// ```rust
+    /// let mut r = Cursor::new(*b"abcde");
+    /// let mut content = Vec::<u8>::new(rt.alloc());
+    /// assert_eq!(rt; r.read_to_end(&mut content)?, 5);
+    /// assert_eq!(rt; content.as_slice(), b"abcde".as_slice());
+    /// ```
     fn read_to_end<A: Allocator>(&mut self, buf: &mut Vec<u8, A>) -> Result<usize>
     where
         Self: Sized,
@@ -139,6 +171,13 @@ pub trait Read: Stored {
 
     /// The reader itself, lent: for an adaptor that would take it by value. Follows
     /// `std::io::Read::by_ref`.
+    ///
+    /// ```rust
+    /// let mut r = Cursor::new(*b"abcde");
+    /// let mut head = Vec::<u8>::new(rt.alloc());
+    /// r.by_ref().take(2).read_to_end(&mut head)?;
+    /// assert_eq!(rt; r.position(), 2); // `r` goes on behind `ab`
+    /// ```
     final fn by_ref(&mut self) -> &mut Self
     where
         Self: Sized,
@@ -149,6 +188,14 @@ pub trait Read: Stored {
     }
 
     /// This reader's bytes, one at a time. Follows `std::io::Read::bytes`.
+    ///
+    /// ```rust
+    /// let mut sum = 0u32;
+    /// for byte in Cursor::new(*b"abc").bytes() {
+    ///     sum += u32::from(byte?);
+    /// }
+    /// assert_eq!(rt; sum, 97 + 98 + 99);
+    /// ```
     final fn bytes(self) -> Bytes<Self>
     where
         Self: Sized,
@@ -158,6 +205,13 @@ pub trait Read: Stored {
     }
 
     /// This reader, and after its end `next`. Follows `std::io::Read::chain`.
+    ///
+    /// ```rust
+    /// let mut r = Cursor::new(*b"ab").chain(Cursor::new(*b"cd"));
+    /// let mut content = Vec::<u8>::new(rt.alloc());
+    /// r.read_to_end(&mut content)?;
+    /// assert_eq!(rt; content.as_slice(), b"abcd".as_slice());
+    /// ```
     final fn chain<R: Read>(self, next: R) -> Chain<Self, R>
     where
         Self: Sized,
@@ -171,6 +225,12 @@ pub trait Read: Stored {
     }
 
     /// At most the first `limit` bytes of this reader. Follows `std::io::Read::take`.
+    ///
+    /// ```rust
+    /// let mut r = Cursor::new(*b"abcde").take(2);
+    /// let mut content = Vec::<u8>::new(rt.alloc());
+    /// assert_eq!(rt; r.read_to_end(&mut content)?, 2);
+    /// ```
     final fn take(self, limit: u64) -> Take<Self>
     where
         Self: Sized,

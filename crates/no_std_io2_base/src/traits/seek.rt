@@ -5,6 +5,13 @@ use crate::error::Result;
 
 /// Where a seek goes: so many bytes from the start, from the end or from the current position.
 /// Follows Rust's `std::io::SeekFrom`.
+///
+/// ```rust
+/// let mut r = Cursor::new(*b"abcde");
+/// assert_eq!(rt; r.seek(SeekFrom::Start(1))?, 1);
+/// assert_eq!(rt; r.seek(SeekFrom::Current(2))?, 3);
+/// assert_eq!(rt; r.seek(SeekFrom::End(-1))?, 4);
+/// ```
 #[derive(Clone, Copy, Debug, PartialEq, Eq)]
 pub enum SeekFrom {
     /// This position, from 0 on.
@@ -16,6 +23,13 @@ pub enum SeekFrom {
 }
 
 /// A stream with a position that can be moved. Follows Rust's `std::io::Seek`.
+///
+/// ```rust
+/// let mut r = Cursor::new(*b"abcde");
+/// assert_eq!(rt; r.seek(SeekFrom::Start(1))?, 1);
+/// assert_eq!(rt; r.seek(SeekFrom::Current(2))?, 3);
+/// assert_eq!(rt; r.seek(SeekFrom::End(-1))?, 4);
+/// ```
 pub trait Seek: Stored {
     ghost use Rattle.no_std_io2_base.specs.Seek.{Seeks};
 
@@ -25,6 +39,14 @@ pub trait Seek: Stored {
     /// # Errors
     /// `InvalidInput` where the target is below 0 or above the greatest `u64`: a told store is as
     /// it was. Where no store is told, the device's own.
+    ///
+    /// ```rust
+    /// let mut r = Cursor::new(*b"abcde");
+    /// assert_eq!(rt; r.seek(SeekFrom::Start(1))?, 1);
+    /// assert_eq!(rt; r.seek(SeekFrom::Current(2))?, 3);
+    /// assert_eq!(rt; r.seek(SeekFrom::End(-1))?, 4);
+    /// assert!(rt; r.seek(SeekFrom::Current(-5)).is_err()); // before the start: it stays at 4
+    /// ```
     fn seek(&mut self, pos: SeekFrom) -> Result<u64>
         ensures store { Self.has_store self.old → Self.has_store self.new
             × (Self.content self.new ≡ Self.content self.old)
@@ -35,6 +57,12 @@ pub trait Seek: Stored {
     ///
     /// # Errors
     /// Those of `seek(SeekFrom::Current(0))`: none over a told store.
+    ///
+    /// ```rust
+    /// let mut r = Cursor::new(*b"abcde");
+    /// r.seek(SeekFrom::Start(3))?;
+    /// assert_eq!(rt; r.stream_position()?, 3);
+    /// ```
     fn stream_position(&mut self) -> Result<u64>
         ensures store { Self.has_store self.old → Self.has_store self.new
             × (Self.content self.new ≡ Self.content self.old)
@@ -49,6 +77,15 @@ pub trait Seek: Stored {
     ///
     /// # Errors
     /// Those of `seek(SeekFrom::Start(0))`: none over a told store.
+    ///
+    /// ```rust
+    /// let mut r = Cursor::new(*b"abcde");
+    /// r.seek(SeekFrom::Start(3))?;
+    /// assert_eq!(rt; r.stream_position()?, 3);
+    /// assert_eq!(rt; r.stream_len()?, 5);
+    /// r.rewind()?;
+    /// assert_eq!(rt; r.stream_position()?, 0);
+    /// ```
     fn rewind(&mut self) -> Result<()>
         ensures { Self.has_store self.old → Self.has_store self.new
             × (Self.content self.new ≡ Self.content self.old)
@@ -64,6 +101,13 @@ pub trait Seek: Stored {
     /// # Errors
     /// The first error of these seeks, after which the position may be the end: none over a told
     /// store, which is as it was.
+    ///
+    /// ```rust
+    /// let mut r = Cursor::new(*b"abcde");
+    /// r.seek(SeekFrom::Start(3))?;
+    /// assert_eq!(rt; r.stream_position()?, 3);
+    /// assert_eq!(rt; r.stream_len()?, 5);
+    /// ```
     fn stream_len(&mut self) -> Result<u64>
         ensures store { Self.has_store self.old → Self.has_store self.new
             × (Self.content self.new ≡ Self.content self.old)

@@ -19,6 +19,12 @@ use std::alloc::Allocator;
 ///
 /// Each call lowers the limit by the bytes that it gives or drops; errors don't lower it. At limit
 /// 0 the stream is at its end, and the inner reader isn't called, so its errors aren't seen.
+///
+/// ```rust
+/// let mut r = Cursor::new(*b"abcde").take(2);
+/// let mut content = Vec::<u8>::new(rt.alloc());
+/// assert_eq!(rt; r.read_to_end(&mut content)?, 2);
+/// ```
 #[derive(Debug, Drop)]
 pub struct Take<T> {
     inner: T,
@@ -34,6 +40,13 @@ impl<T> Take<T> {
 
     /// How many bytes may still be given; the inner reader may end earlier. Follows
     /// `std::io::Take::limit`.
+    ///
+    /// ```rust
+    /// let mut r = Cursor::new(*b"abcde").take(2);
+    /// let mut two = [0u8; 2];
+    /// r.read_exact(&mut two)?;
+    /// assert_eq!(rt; r.limit(), 0); // the end
+    /// ```
     pub fn limit(&self) -> u64
         ensures { result ≡ take_limit self.now }
     {
@@ -42,6 +55,16 @@ impl<T> Take<T> {
 
     /// Sets how many bytes may be given from here on, whatever was given before. Follows
     /// `std::io::Take::set_limit`.
+    ///
+    /// ```rust
+    /// let mut r = Cursor::new(*b"abcde").take(2);
+    /// let mut two = [0u8; 2];
+    /// r.read_exact(&mut two)?;
+    /// assert_eq!(rt; r.limit(), 0); // the end
+    /// r.set_limit(2);
+    /// r.read_exact(&mut two)?;
+    /// assert_eq!(rt; two, *b"cd");
+    /// ```
     pub fn set_limit(&mut self, limit: u64)
         ensures limit { take_limit self.new ≡ limit }
         ensures inner { take_inner self.new ≡ take_inner self.old }
@@ -50,6 +73,13 @@ impl<T> Take<T> {
     }
 
     /// The inner reader, lent. Follows `std::io::Take::get_ref`.
+    ///
+    /// ```rust
+    /// let mut r = Cursor::new(*b"abcde").take(2);
+    /// let mut two = [0u8; 2];
+    /// r.read_exact(&mut two)?;
+    /// assert_eq!(rt; r.get_ref().position(), 2);
+    /// ```
     pub fn get_ref(&self) -> &T
         ensures { result.now ≡ take_inner self.now }
     {
@@ -57,6 +87,15 @@ impl<T> Take<T> {
     }
 
     /// The inner reader, lent to be changed. The limit stays. Follows `std::io::Take::get_mut`.
+    ///
+    /// ```rust
+    /// let mut r = Cursor::new(*b"abcde").take(2);
+    /// let mut two = [0u8; 2];
+    /// r.read_exact(&mut two)?;
+    /// assert_eq!(rt; r.get_ref().position(), 2);
+    /// r.get_mut().set_position(0);
+    /// assert_eq!(rt; r.limit(), 0); // the limit stays
+    /// ```
     pub fn get_mut(&mut self) -> &mut T
         ensures value { result.now ≡ take_inner self.old }
         ensures* writes_back { sem 𝓛 (Lends (take-row T.row) T.row self.entry result (take_with_inner self.old)) }
@@ -65,6 +104,17 @@ impl<T> Take<T> {
     }
 
     /// The inner reader, where it stands. Follows `std::io::Take::into_inner`.
+    ///
+    /// ```rust
+    /// let mut r = Cursor::new(*b"abcde").take(2);
+    /// let mut two = [0u8; 2];
+    /// r.read_exact(&mut two)?;
+    /// assert_eq!(rt; r.get_ref().position(), 2);
+    /// r.get_mut().set_position(0);
+    /// assert_eq!(rt; r.limit(), 0); // the limit stays
+    /// let inner = r.into_inner();
+    /// assert_eq!(rt; inner.position(), 0);
+    /// ```
     pub fn into_inner(self) -> T
         ensures { result ≡ take_inner self }
     {

@@ -13,6 +13,14 @@ use crate::error::{Result, failed_to_write};
 /// The law of each call: `out` then `held` becomes what it was, followed by exactly what the answer
 /// accepted; what is out stays out; told mishaps stay told and lose each one that happened; and an
 /// interruption spends a turn, so that a retry ends.
+///
+/// ```rust
+/// let mut device = Vec::<u8>::new(rt.alloc());
+/// device.write_all(b"hello ")?;
+/// device.write_all(b"world")?;
+/// device.flush()?;
+/// assert_eq!(rt; device.as_slice(), b"hello world".as_slice());
+/// ```
 pub trait Write {
     // What it tells of itself.
     ghost told: { Self → Told };
@@ -30,6 +38,13 @@ pub trait Write {
     ///
     /// # Errors
     /// The device's own. After an interruption the call may be made again.
+    ///
+    /// ```rust
+    /// let mut room = [0u8; 4];
+    /// let mut w = Cursor::new(&mut room[..]);
+    /// assert_eq!(rt; w.write(b"abc")?, 3);
+    /// assert_eq!(rt; w.write(b"def")?, 1); // `ef` was not accepted
+    /// ```
     fn write(&mut self, buf: &[u8]) -> Result<usize>
         ensures bound { IfOk result (λ n. n ≤ length buf.now) }
         ensures moves { Moves (told self.old) (taken result buf.now) (write_mishap result buf.now)
@@ -44,6 +59,14 @@ pub trait Write {
     /// # Errors
     /// The device's own, or `WriteZero` where a buffer's device took no byte of some. What was not
     /// handed on is still held, and a later flush goes on there.
+    ///
+    /// ```rust
+    /// let mut w = BufWriter::<Vec<u8>, 8>::new(Vec::new(rt.alloc()));
+    /// w.write_all(b"abc")?;
+    /// assert!(rt; w.get_ref().is_empty()); // `abc` is held
+    /// w.flush()?;
+    /// assert_eq!(rt; w.get_ref().as_slice(), b"abc".as_slice());
+    /// ```
     fn flush(&mut self) -> Result<()>
         ensures empty { OnOk result ((told self.new).held ≡ []) }
         ensures moves { Moves (told self.old) [] (call_mishap result) (told self.new) }
@@ -58,6 +81,13 @@ pub trait Write {
     /// `WriteZero` where the device took no byte of some, else the device's first fault; never
     /// `Interrupted`. Some front of `buf`, possibly empty or whole, was accepted then; nobody knows
     /// which, so a caller that must not send a byte twice calls [`write_rest`](Write::write_rest).
+    ///
+    /// ```rust
+    /// let mut room = [0u8; 4];
+    /// let mut w = Cursor::new(&mut room[..]);
+    /// w.write_all(b"abcd")?;
+    /// assert!(rt; w.write_all(b"e").is_err()); // no room: `WriteZero`
+    /// ```
     fn write_all(&mut self, buf: &[u8]) -> Result<()>
         ensures fault { IsNoInterruption result }
         ensures moves { MovesFront (told self.old) buf.now result (told self.new) }
@@ -77,6 +107,18 @@ pub trait Write {
     /// # Errors
     /// `WriteZero` where the device took no byte of some, else the device's first fault; never
     /// `Interrupted`.
+    ///
+    /// ```rust
+    /// pub fn send_patiently<W: Write>(device: &mut W, rest: &mut &[u8]) -> Result<()>
+    ///     ensures sends { Sends (W.told device.old) rest.old.now result (W.told device.new) rest.new.now }
+    ///     ensures done { OnOk result (rest.new.now ≡ []) }
+    /// {
+    ///     if device.write_rest(rest).is_ok() {
+    ///         return Ok(());
+    ///     }
+    ///     device.write_rest(rest)
+    /// }
+    /// ```
     fn write_rest(&mut self, rest: &mut &[u8]) -> Result<()>
         ensures fault { IsNoInterruption result }
         ensures sends { Sends (told self.old) rest.old.now result (told self.new) rest.new.now }
@@ -98,6 +140,14 @@ pub trait Write {
 
     /// The writer itself, lent: for an adaptor that would take it by value. Follows
     /// `std::io::Write::by_ref`.
+    ///
+    /// ```rust
+    /// let mut device = Vec::<u8>::new(rt.alloc());
+    /// let mut w = BufWriter::<&mut Vec<u8>, 8>::new(device.by_ref());
+    /// w.write_all(b"abc")?;
+    /// drop(w); // sends `abc`
+    /// assert_eq!(rt; device.as_slice(), b"abc".as_slice());
+    /// ```
     final fn by_ref(&mut self) -> &mut Self
     where
         Self: Sized,

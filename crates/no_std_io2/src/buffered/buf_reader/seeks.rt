@@ -94,18 +94,20 @@ impl<R: Seek, const S: usize> BufReader<R, S> {
     /// over, backward the last ones come again. Else this is `seek(SeekFrom::Current(offset))` without
     /// its number, which drops the buffer. Follows `BufReader::seek_relative`.
     ///
-    /// ```
-    /// let mut r = BufReader::<_, 4>::new(Cursor::new(&b"abcdefgh"[..]));
-    /// r.read(&mut [0])?;      // behind is `a`, held is `bcd`
-    /// r.seek_relative(2)?;    // behind is `abc`, held is `d`
-    /// r.seek_relative(-3)?;   // nothing lies behind, held is `abcd`
-    /// r.seek_relative(5)?;    // past the buffer: one seek of the cursor, and nothing is held
-    /// ```
-    ///
     /// # Errors
     /// Those of `seek`, and none in the buffer: `InvalidInput` where the target is below 0 or above
     /// the greatest `u64`. The position is as it was, and so is the buffer, unless the offset is too
     /// far back for one seek of the inner reader; then the buffer is dropped.
+    ///
+    /// ```rust
+    /// let mut r = BufReader::<_, 4>::new(Cursor::new(*b"abcdefgh"));
+    /// let mut two = [0u8; 2];
+    /// r.read_exact(&mut two)?; // one inner read, of four bytes
+    /// assert_eq!(rt; r.buffer(), b"cd".as_slice());
+    /// assert_eq!(rt; r.behind(), b"ab".as_slice());
+    /// r.seek_relative(-1)?; // inside the buffer: the inner reader is left alone
+    /// assert_eq!(rt; r.buffer(), b"bcd".as_slice());
+    /// ```
     pub fn seek_relative(&mut self, offset: i64) -> Result<()>
         // In the buffer the border between behind and held moves.
         ensures within { IsInBuffer offset (length (reader_behind self.old)) (length (reader_held self.old))
