@@ -1,4 +1,5 @@
 //! The cases, each on up to three sides.
+use crate::list::listed;
 use std::sync::OnceLock;
 
 /// The sum of a run in which a call failed.
@@ -33,6 +34,15 @@ pub struct Case {
 }
 
 impl Case {
+    // Without the sides that lack the call.
+    fn leave_out(&mut self, missing: &[&str]) {
+        for (side, run) in SIDES.iter().zip(&mut self.runs) {
+            if missing.contains(side) {
+                *run = None;
+            }
+        }
+    }
+
     /// That all sides give the same sum, and none fails.
     pub fn check(&self) -> Result<(), String> {
         let runs = self.runs.iter().flatten();
@@ -96,6 +106,7 @@ pub fn all() -> Vec<Case> {
     add_moves(&mut cases);
     add_whole(&mut cases);
     add_rest(&mut cases);
+    add_listed(&mut cases);
     cases
 }
 
@@ -201,4 +212,40 @@ fn add_rest(cases: &mut Vec<Case>) {
     cases.push(case!(name, SMALL, cursor_overwrites(4096, piece)));
     let name = String::from("a boxed tower, `write` of 16");
     cases.push(case!(name, SMALL, boxed_tower(piece)));
+}
+
+// How many bytes the calls of a listed case move together, or more.
+const MOVED: usize = 4 * MEBIBYTE;
+
+// A case for each size of each line of the list.
+fn add_listed(cases: &mut Vec<Case>) {
+    macro_rules! add {
+        ($($name:ident: $source:ident $text:literal [$($size:literal)*] $(| $missing:ident)?;)*) => {$(
+            let missing = [$(stringify!($missing))?];
+            for size in [$($size),*] {
+                let name = $text.replace("{}", &size_text(size));
+                let calls = (MOVED / size).clamp(1, SMALL as usize) as u64;
+                let mut case = case!(name, calls, $name(listed_source(stringify!($source), size), size));
+                case.leave_out(&missing);
+                cases.push(case);
+            }
+        )*};
+    }
+    listed!(add);
+}
+
+// Bytes, or lines that are of this size with their newline.
+fn listed_source(kind: &str, size: usize) -> &'static [u8] {
+    match kind {
+        "lines" => lines_of(size - 1),
+        _ => source(),
+    }
+}
+
+fn size_text(size: usize) -> String {
+    match size {
+        MEBIBYTE.. => format!("{} MiB", size / MEBIBYTE),
+        1024.. => format!("{} KiB", size / 1024),
+        _ => size.to_string(),
+    }
 }

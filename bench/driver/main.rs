@@ -7,6 +7,7 @@
 
 mod cases;
 mod counting;
+mod list;
 mod ours;
 mod table;
 mod timing;

@@ -1,7 +1,7 @@
 //! The streams of the original crate.
 mod streams {
     use no_std_io2::io::{BufReader, BufWriter, LineWriter};
-    pub use no_std_io2::io::{Cursor, Read, Result, Write, copy};
+    pub use no_std_io2::io::{BufRead, Cursor, Read, Result, Seek, SeekFrom, Write, copy};
 
     pub fn buffered_writer<W: Write, const S: usize>(inner: W) -> BufWriter<W, S> {
         BufWriter::new(inner)
@@ -16,7 +16,22 @@ mod streams {
     }
 }
 
+#[path = "calls/ends.rs"]
+mod ends;
+#[path = "calls/handed.rs"]
+mod handed;
+#[path = "calls/lending.rs"]
+mod lending;
 #[path = "loops.rs"]
 mod loops;
+#[path = "calls/plain.rs"]
+mod plain;
+#[path = "calls/stacked.rs"]
+mod stacked;
 
+pub use ends::*;
+pub use handed::*;
+pub use lending::*;
 pub use loops::*;
+pub use plain::*;
+pub use stacked::*;

@@ -1,4 +1,6 @@
 //! This library's side: the functions of `bench/io_speed`.
+use crate::list::listed;
+
 unsafe extern "C" {
     fn speed_write_64_to_sink(piece: *const u8, len: usize, calls: u64) -> u64;
     fn speed_write_1024_to_sink(piece: *const u8, len: usize, calls: u64) -> u64;
@@ -222,3 +224,18 @@ pub fn moves(source: &[u8], calls: u64) -> u64 {
 pub fn stream_len(source: &[u8], calls: u64) -> u64 {
     run_pieces(speed_stream_len, source, calls)
 }
+
+// The calls of the list: the symbol of each is its name behind `speed_`.
+macro_rules! declare {
+    ($($name:ident: $source:ident $text:literal $sizes:tt $(| $missing:ident)?;)*) => {$(
+        pub fn $name(source: &[u8], size: usize, calls: u64) -> u64 {
+            unsafe extern "C" {
+                #[link_name = concat!("speed_", stringify!($name))]
+                fn speed(source: *const u8, len: usize, size: usize, calls: u64) -> u64;
+            }
+            unsafe { speed(source.as_ptr(), source.len(), size, calls) }
+        }
+    )*};
+}
+
+listed!(declare);

@@ -1,7 +1,7 @@
 //! The streams of Rust's standard library.
 mod streams {
+    pub use std::io::{BufRead, Cursor, Read, Result, Seek, SeekFrom, Write};
     use std::io::{BufReader, BufWriter, LineWriter};
-    pub use std::io::{BufRead, Cursor, Read, Result, Seek, Write};
 
     pub fn buffered_writer<W: Write, const S: usize>(inner: W) -> BufWriter<W> {
         BufWriter::with_capacity(S, inner)
@@ -21,10 +21,25 @@ mod streams {
     }
 }
 
+#[path = "calls/ends.rs"]
+mod ends;
+#[path = "calls/handed.rs"]
+mod handed;
+#[path = "calls/lending.rs"]
+mod lending;
 #[path = "loops.rs"]
 mod loops;
 #[path = "pieces.rs"]
 mod pieces;
+#[path = "calls/plain.rs"]
+mod plain;
+#[path = "calls/stacked.rs"]
+mod stacked;
 
+pub use ends::*;
+pub use handed::*;
+pub use lending::*;
 pub use loops::*;
 pub use pieces::*;
+pub use plain::*;
+pub use stacked::*;

@@ -291,9 +291,15 @@ fn parse_count(digits: &[u8]) -> Option<usize>
     ensures count { IfSome result (IsCount digits.now) }
     ensures none { IfNone result ((n : ℕ) → IsCount digits.now n → ⊥) }
 {
-    if digits.len() > 5 || digits.first() == Some(&b'+') {
+    if digits.is_empty() || digits.len() > 5 {
         return None;
     }
-    let text = std::str::from_utf8(digits).ok()?;
-    text.parse::<u16>().ok().map(usize::from)
+    let mut count = 0u32;
+    'digits: for digit in digits {
+        if !digit.is_ascii_digit() {
+            return None;
+        }
+        count = count * 10 + u32::from(*digit - b'0');
+    }
+    u16::try_from(count).ok().map(usize::from)
 }
