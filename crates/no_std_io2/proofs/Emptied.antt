@@ -1,15 +1,26 @@
 -- A buffer that is emptied into a vector, before the inner reader appends the rest.
-use Rattle.std.proofs.Common.{◌≡◌, ℕ, ◌+◌, ◌-◌, ◌≤◌, List, [], ◌++◌, length, take, drop, Ok, Err, refl, sym, ap, subst, ◌∙◌, arith, take_all, take-append-drop}
+use Rattle.std.proofs.Common.{◌≡◌, ℕ, ◌+◌, ◌-◌, ◌*◌, ◌<◌, ◌≤◌, Bool, true, List, [], ◌++◌, length, take, drop, Ok, Err, refl, sym, ap, subst, ◌∙◌, arith, inr, take_all, take-append-drop, append-nil, append_assoc, length-append}
 use lib.Seq.{take-append-le}
 use Rattle.no_std_io2_base.specs.declared.error.Error.{Error}
-use Rattle.no_std_io2_base.specs.Events.{Event, events_of, ReadsToEnd}
+use Rattle.no_std_io2_base.specs.Errors.{IsOutOfMemory}
+use Rattle.no_std_io2_base.specs.Events.{Event, events_of, bytes, HasNoFault, FillsRoom, HasRoom, ReadsToEnd}
+use Rattle.no_std_io2_base.specs.Slices.{HasMoved}
 use Rattle.no_std_io2_base.specs.Writes.{IsFront}
-use Rattle.no_std_io2_base.proofs.Events.{bytes-events_of, HasNoFault-events_of}
-use Rattle.no_std_io2_base.proofs.Gathered.{Gathered, gathered_all, gathered_stop}
-use Rattle.no_std_io2_base.proofs.ReadsToEndExits.{front_then}
+use Rattle.no_std_io2_base.proofs.ChainReads.{room_of_second}
+use Rattle.no_std_io2_base.proofs.Events.{bytes-append, bytes-events_of, HasNoFault-events_of, HasNoFault-behind}
+use Rattle.no_std_io2_base.proofs.Gathered.{Gathered, gathered_all, gathered_stop, gathered_then, gathered_then_failed}
+use Rattle.no_std_io2_base.proofs.ReadsToEndExits.{front_then, stopped_first}
+use Rattle.no_std_io2_base.proofs.SliceReads.{moved_part}
+use Rattle.no_std_io2_base.proofs.TakenToEnd.{gathered_done}
+use Rattle.no_std_io2.specs.Sound.{IsSound}
+use Rattle.no_std_io2.proofs.Behind.{sound_held}
 use Rattle.no_std_io2.proofs.Exact.{length-events}
 
--- what was held was appended
+-- all that was held was appended
+pub moved_all : (held held' old mid : List ℕ) → HasMoved held held' old mid → held' ≡ [] → mid ≡ old ++ held
+moved_all held held' old mid moved none =
+    moved.2 ∙ ap (λ l. old ++ l) (sym (moved.1 ∙ ap (λ l. moved.0 ++ l) none ∙ append-nil moved.0))
+
 emptied : (held old mid : List ℕ) (E : List Event) → mid ≡ old ++ held → Gathered (events_of held ++ E) old mid E
 emptied held old mid E is = record {
   front = events_of held;
@@ -18,34 +29,100 @@ emptied held old mid E is = record {
   gave = is ∙ ap (λ l. old ++ l) (sym (bytes-events_of held));
 }
 
--- and then all that was to come
-pub emptied_all : (held held' old mid new : List ℕ) (E E' : List Event) (n k : ℕ) → mid ≡ old ++ held → held' ≡ []
-    → ReadsToEnd E (Ok n) mid new E' → k ≡ length new - length old → ReadsToEnd (events_of held ++ E) (Ok k) old new (events_of held' ++ E')
-emptied_all held held' old mid new E E' n k is none read count =
+-- and then the rest, in two parts
+pub emptied_all : (held held' old mid then new : List ℕ) (E E' after : List Event) (at_end : Bool) (n k : ℕ) → mid ≡ old ++ held → held' ≡ []
+    → FillsRoom E (Ok at_end) mid then after → ReadsToEnd after (Ok n) then new E' → k ≡ length new - length old
+    → ReadsToEnd (events_of held ++ E) (Ok k) old new (events_of held' ++ E')
+emptied_all held held' old mid then new E E' after at_end n k is none more read count =
     subst (λ l. ReadsToEnd (events_of held ++ E) (Ok k) old new (events_of l ++ E')) (sym none)
-    (gathered_all _ _ _ _ _ _ n k (emptied held old mid E is) read count)
+    (gathered_all _ _ _ _ _ _ n k (gathered_then _ _ _ _ _ _ _ (emptied held old mid E is) more) read count)
 
--- or what came before an error
-pub emptied_stop : (held held' old mid new : List ℕ) (E E' : List Event) (e : Error) → mid ≡ old ++ held → held' ≡ []
-    → ReadsToEnd E (Err e) mid new E' → ReadsToEnd (events_of held ++ E) (Err e) old new (events_of held' ++ E')
-emptied_stop held held' old mid new E E' e is none read =
+-- or in the first of them
+pub emptied_done : (held held' old mid new : List ℕ) (E E' : List Event) (at_end : Bool) (k : ℕ) → mid ≡ old ++ held → held' ≡ []
+    → FillsRoom E (Ok at_end) mid new E' → at_end ≡ true → k ≡ length new - length old
+    → ReadsToEnd (events_of held ++ E) (Ok k) old new (events_of held' ++ E')
+emptied_done held held' old mid new E E' at_end k is none more end count =
+    let left = more.4 end in
+    subst (λ l. ReadsToEnd (events_of held ++ E) (Ok k) old new (events_of l ++ E')) (sym none)
+    (gathered_done _ _ _ _ _ k (gathered_then _ _ _ _ _ _ _ (emptied held old mid E is) more) left left count)
+
+-- or what came before an error in the second
+pub emptied_stop : (held held' old mid then new : List ℕ) (E E' after : List Event) (at_end : Bool) (e : Error) → mid ≡ old ++ held → held' ≡ []
+    → FillsRoom E (Ok at_end) mid then after → ReadsToEnd after (Err e) then new E'
+    → ReadsToEnd (events_of held ++ E) (Err e) old new (events_of held' ++ E')
+emptied_stop held held' old mid then new E E' after at_end e is none more read =
     subst (λ l. ReadsToEnd (events_of held ++ E) (Err e) old new (events_of l ++ E')) (sym none)
-    (gathered_stop _ _ _ _ _ e _ (emptied held old mid E is) read)
+    (gathered_stop _ _ _ _ _ e _ (gathered_then _ _ _ _ _ _ _ (emptied held old mid E is) more) read)
+
+-- or in the first
+pub emptied_failed : (held held' old mid new : List ℕ) (E E' : List Event) (e : Error) → mid ≡ old ++ held → held' ≡ []
+    → FillsRoom E (Err e) mid new E' → ReadsToEnd (events_of held ++ E) (Err e) old new (events_of held' ++ E')
+emptied_failed held held' old mid new E E' e is none read =
+    subst (λ l. ReadsToEnd (events_of held ++ E) (Err e) old new (events_of l ++ E')) (sym none)
+    (gathered_then_failed _ _ _ _ _ _ e (emptied held old mid E is) read)
 
 -- what the vector had stays at its front
-pub emptied_front : (len n : ℕ) (held old mid new : List ℕ) → len ≡ length old → n ≡ len + length held → mid ≡ old ++ held → take n new ≡ mid
+pub emptied_front : (held old mid new : List ℕ) (len n : ℕ) → len ≡ length old → n ≡ length mid → mid ≡ old ++ held → take n new ≡ mid
     → take len new ≡ old
-emptied_front len n held old mid new long more is read =
+emptied_front held old mid new len n long more is read =
     let first : take len mid ≡ old =
     ap (take len) is ∙ take-append-le len old held (omega (arith, long)) ∙ take_all len old (omega (arith, long)) in
-    front_then len n old mid new (omega (arith, more)) first read
+    front_then len n old mid new (omega (arith, long, more, ap length is, length-append old held)) first read
 
--- and what was held stands behind it
+-- what the first part has appended stays at the front of the second
+pub emptied_then : (n k : ℕ) (mid then new : List ℕ) → n ≤ k → take n then ≡ mid → take k new ≡ then → take n new ≡ mid
+emptied_then n k mid then new grows first last = front_then n k mid then new grows first last
+
+-- and what was held stands behind what the vector had
 pub emptied_shown : (n : ℕ) (mid new whole : List ℕ) → mid ≡ whole → take n new ≡ mid → IsFront whole new
 emptied_shown n mid new whole is read = (drop n new, sym (take-append-drop n new) ∙ ap (λ l. l ++ drop n new) (read ∙ is))
+
+-- the vector is longer by what was held
+pub emptied_again : (held old mid : List ℕ) (len n : ℕ) → len ≡ length old → n ≡ length mid → mid ≡ old ++ held → n ≡ len + length held
+emptied_again held old mid len n long more is = omega (arith, long, more, ap length is, length-append old held)
 
 -- the position moves by what is gone of the events
 pub emptied_moved : (held held' : List ℕ) (E E' : List Event) (p p' : ℕ) → length held ≤ p → held' ≡ [] → p' + length E' ≡ p + length E
     → (p' - length held') + length (events_of held' ++ E') ≡ (p - length held) + length (events_of held ++ E)
 emptied_moved held held' E E' p p' within none moved =
     omega (arith, ap length none, length-events held E, length-events held' E', within, moved)
+
+-- room for all is room for what is held
+pub room_held : (held : List ℕ) (E : List Event) (len capacity : ℕ) → HasRoom (events_of held ++ E) len capacity
+    → capacity < len + length held + 32 → ⊥
+room_held held E len capacity enough full =
+    let all = ap length (bytes-append (events_of held) E) ∙ length-append (bytes (events_of held)) (bytes E) in
+    omega (arith, enough.1, full, all, ap length (bytes-events_of held))
+
+-- and for what comes behind it, which has no fault
+pub room_behind : (held : List ℕ) (E : List Event) (len capacity : ℕ) → HasRoom (events_of held ++ E) len capacity → HasNoFault E
+room_behind held E len capacity enough = HasNoFault-behind (events_of held) E enough.0
+
+pub emptied_on : (held old mid : List ℕ) (E : List Event) (len capacity n capacity' : ℕ) → HasRoom (events_of held ++ E) len capacity
+    → len ≡ length old → n ≡ length mid → mid ≡ old ++ held → capacity ≤ capacity' → HasRoom E n capacity'
+emptied_on held old mid E len capacity n capacity' enough long more is grows =
+    room_of_second (events_of held) E len capacity (length held) n capacity' enough (ap length (sym (bytes-events_of held)))
+    (emptied_again held old mid len n long more is) grows
+
+-- where room for all that is held was refused, a front of it was appended
+pub part_refused : (held held' old new : List ℕ) (E : List Event) (e : Error) → HasMoved held held' old new → IsOutOfMemory e
+    → ReadsToEnd (events_of held ++ E) (Err e) old new (events_of held' ++ E)
+part_refused held held' old new E e moved refused = stopped_first (events_of held) E old new (events_of held') e (moved_part held held' old new e moved refused)
+
+pub part_front : (held held' old new : List ℕ) (len : ℕ) → len ≡ length old → HasMoved held held' old new → take len new ≡ old
+part_front held held' old new len long moved =
+    ap (take len) moved.2 ∙ take-append-le len old moved.0 (omega (arith, long)) ∙ take_all len old (omega (arith, long))
+
+pub part_turns : (held held' old new : List ℕ) (room turns : ℕ) → HasMoved held held' old new
+    → length held' + (room + 1) * turns ≤ length held + (room + 1) * turns
+part_turns held held' old new room turns moved = omega (arith, ap length moved.1, length-append moved.0 held')
+
+pub part_sound : (held held' old new : List ℕ) (position : ℕ) (content : List ℕ) → HasMoved held held' old new → IsSound held position content
+    → IsSound held' position content
+part_sound held held' old new position content moved sound =
+    sound_held moved.0 held' position content (subst (λ l. IsSound l position content) moved.1 sound)
+
+pub part_moved : (held held' old new : List ℕ) (E : List Event) (p : ℕ) → length held ≤ p → HasMoved held held' old new
+    → (p - length held') + length (events_of held' ++ E) ≡ (p - length held) + length (events_of held ++ E)
+part_moved held held' old new E p within moved =
+    omega (arith, within, length-events held E, length-events held' E, ap length moved.1, length-append moved.0 held')

@@ -2,6 +2,7 @@
 use Rattle.std.specs.Prelude.{◌≡◌, ℕ, ◌^◌, ◌<◌, negsuc, ◌+◌, ◌-◌, ◌*◌, ◌&&◌, min, nat_lt, nat_le, if◌then◌else◌, List, [], ◌∷◌, ◌++◌, Ok, Err, Result, length, ◌⊎◌}
 use Rattle.no_std_io2_base.specs.declared.error.Error.{Error}
 use Rattle.no_std_io2_base.specs.Errors.{IsOutOfMemory}
+use Rattle.no_std_io2_base.specs.Slices.{HasMoved}
 use Rattle.no_std_io2_base.specs.Writes.{IsFront}
 use Rattle.no_std_io2_base.specs.declared.traits.seek.SeekFrom.{SeekFrom}
 use Rattle.no_std_io2_base.specs.declared.traits.seek.SeekFrom.TheVariants.{Current}
@@ -90,11 +91,12 @@ KeepsBuffer old new = (reader_held new ≡ reader_held old) × (reader_behind ne
 abbrev pub HasNoBuffer : {R : Type 0} {S : ℕ} → BufReader R S → Type 0
 HasNoBuffer r = (reader_held r ≡ []) × (reader_behind r ≡ [])
 
--- what was held stands behind what the vector had and the buffer was dropped, or room for it was refused and nothing was changed
+-- what was held stands behind what the vector had and the buffer was dropped, or room was refused and a front of it stands there
 abbrev pub EmptiesInto : {R : Type 0} {S : ℕ} → BufReader R S → List ℕ → Result ℕ Error → List ℕ → BufReader R S → Type 0
 EmptiesInto old before (Ok n) after new = IsFront (before ++ reader_held old) after × HasNoBuffer new
 EmptiesInto old before (Err e) after new =
-    (IsFront (before ++ reader_held old) after × HasNoBuffer new) ⊎ (IsOutOfMemory e × (new ≡ old) × (after ≡ before))
+    (IsFront (before ++ reader_held old) after × HasNoBuffer new) 
+    ⊎ (IsOutOfMemory e × (reader_inner new ≡ reader_inner old) × HasMoved (reader_held old) (reader_held new) before after)
 
 -- r after `*r.get_mut() = x`
 abbrev pub reader_with_inner : {R : Type 0} {S : ℕ} → BufReader R S → R → BufReader R S

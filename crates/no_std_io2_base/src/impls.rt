@@ -8,4 +8,5 @@ mod reading_objects;
 mod slices;
 mod vectors;
 
-pub(crate) use slices::{append_rest, copy_prefix};
+pub use slices::append_rest;
+pub(crate) use slices::copy_prefix;

@@ -2,13 +2,12 @@
 ghost use Rattle.std.specs.Prelude.{◌≡◌, ◌+◌, ◌<◌, ◌≤◌, ◌^◌, [], ◌++◌, min, length, take, drop, IsOk, IfErr, OnOk, OnErr, vec_len, vec_capacity};
 ghost use Rattle.std.specs.Bool.{OnTrue, OnFalse};
 ghost use Rattle.no_std_io2_base.specs.Errors.{IsOutOfMemory};
+ghost use Rattle.no_std_io2_base.specs.Slices.{HasMoved};
 
 use no_std_io2_base::error::Result;
+use no_std_io2_base::impls::append_rest;
 use no_std_io2_base::traits::Read;
 use std::alloc::Allocator;
-
-// The least room that there is behind the held bytes, once they were appended to a vector.
-const LEAST_ROOM: usize = 32;
 
 #[derive(Drop)]
 pub(super) struct ReadAhead<const S: usize> {
@@ -112,6 +111,7 @@ impl<const S: usize> ReadAhead<S> {
         ensures gave { buf.new ≡ take (length buf.old) (ahead_held self.old) }
         ensures held { ahead_held self.new ≡ drop (length buf.old) (ahead_held self.old) }
         ensures behind { ahead_behind self.new ≡ ahead_behind self.old ++ buf.new }
+        ensures none { length buf.old ≡ 0 → self.new ≡ self.old }
     {
         let end = self.start + buf.len();
         let all = &self.bytes[..];
@@ -141,19 +141,23 @@ impl<const S: usize> ReadAhead<S> {
         n
     }
 
-    // Appends what is held, and makes room for more behind it at once. Nothing is left here then.
+    // Appends what is held, and clears the array; or as much as there is room for where memory is
+    // refused, and keeps the rest.
     pub(super) fn append_to<A: Allocator>(&mut self, buf: &mut Vec<u8, A>) -> Result<()>
-        ensures held { OnOk result (ahead_held self.new ≡ []) }
-        ensures behind { OnOk result (ahead_behind self.new ≡ []) }
-        ensures ok { OnOk result (buf.new.items ≡ buf.old.items ++ ahead_held self.old) }
-        ensures len { OnOk result (vec_len buf.new ≡ vec_len buf.old + length (ahead_held self.old)) }
-        ensures capacity { vec_capacity buf.old ≤ vec_capacity buf.new }
-        ensures err { OnErr result ((self.new ≡ self.old) × (buf.new.items ≡ buf.old.items)) }
-        ensures full { OnErr result (vec_capacity buf.old < vec_len buf.old + length (ahead_held self.old) + 32) }
+        ensures moved { HasMoved (ahead_held self.old) (ahead_held self.new) buf.old.items buf.new.items }
+        ensures done { OnOk result ((ahead_held self.new ≡ []) × (ahead_behind self.new ≡ [])) }
+        ensures kept { OnErr result
+            (ahead_behind self.new ++ ahead_held self.new ≡ ahead_behind self.old ++ ahead_held self.old) }
+        ensures grows { vec_capacity buf.old ≤ vec_capacity buf.new }
         ensures refused { IfErr result IsOutOfMemory }
+        ensures full { OnErr result (vec_capacity buf.old < vec_len buf.old + length (ahead_held self.old) + 32) }
     {
-        buf.reserve(self.len() + LEAST_ROOM)?;
-        buf.extend_from_slice(self.as_slice())?;
+        let mut rest = self.as_slice();
+        let appended = append_rest(&mut rest, buf);
+        let left = rest.len();
+        let n = self.len() - left;
+        self.drop_front(n);
+        appended?;
         self.clear();
         Ok(())
     }

@@ -23,11 +23,13 @@ pub(crate) fn copy_prefix(from: &[u8], to: &mut [u8]) -> usize
     n
 }
 
-// Takes bytes off the front and appends them: all of them, or as many as there was room for where memory is refused.
-//
-// Who knows its bytes asks for room as any reader does, for 32 bytes first, and once that is full for the rest and 32
-// more at once.
-pub(crate) fn append_rest<A: Allocator>(rest: &mut &[u8], buf: &mut Vec<u8, A>) -> Result<()>
+/// Takes bytes off the front of a slice and appends them: all of them, or as many as there was room
+/// for where memory is refused. Who knows its bytes asks for room as any reader does in
+/// `read_to_end`, for 32 bytes first, and once that is full for the rest and 32 more at once.
+///
+/// # Errors
+/// `OutOfMemory` where a growth was refused: what was not appended is still in the slice.
+pub fn append_rest<A: Allocator>(rest: &mut &[u8], buf: &mut Vec<u8, A>) -> Result<()>
     ensures moved { HasMoved rest.old.now rest.new.now buf.old.items buf.new.items }
     ensures done { OnOk result (rest.new.now ≡ []) }
     ensures grows { vec_capacity buf.old ≤ vec_capacity buf.new }

@@ -1,7 +1,7 @@
 // A `BufReader` as a reader.
-ghost use Rattle.std.specs.Prelude.{◌≡◌, ◌+◌, ◌-◌, ◌<◌, ◌≤◌, [], ◌++◌, min, length, take, drop, IsOk, IsOkAnd, IfOk, IfErr, OnErr, vec_len};
+ghost use Rattle.std.specs.Prelude.{◌≡◌, ◌+◌, ◌-◌, ◌<◌, ◌≤◌, [], ◌++◌, min, length, take, drop, IsOk, IsOkAnd, IfOk, IfErr, OnErr, vec_len, vec_capacity};
 ghost use Rattle.no_std_io2_base.specs.Errors.{IsFault};
-ghost use Rattle.no_std_io2_base.specs.Events.{events_of, given, Reads, ReadsExact, ReadsToEnd, SpendsTurn};
+ghost use Rattle.no_std_io2_base.specs.Events.{events_of, given, HasRoom, Reads, ReadsExact, ReadsToEnd, SpendsTurn};
 ghost use Rattle.no_std_io2_base.specs.Lending.{IsNotEmpty, reads_needed};
 ghost use Rattle.no_std_io2.specs.Reading.{reader_held, reader_behind, reader_inner, reader_events, reader_turns, reader_has_store, reader_is_sound, reader_position, behind_anew, held_or_to_come, exact_reads, exact_left, EmptiesInto};
 ghost use Rattle.no_std_io2.specs.ReaderCalls.{ReadsAnew, ReadsExactAnew};
@@ -9,7 +9,7 @@ ghost use Rattle.no_std_io2.specs.Sound.{sound_tells, sound_fits};
 
 use super::BufReader;
 use no_std_io2_base::error::{Result, failed_to_fill};
-use no_std_io2_base::traits::Read;
+use no_std_io2_base::traits::{Read, fill_room};
 use std::alloc::Allocator;
 
 impl<R: Read, const S: usize> BufReader<R, S> {
@@ -145,6 +145,7 @@ impl<R: Read, const S: usize> Read for BufReader<R, S> {
         ensures told { R.tells (reader_inner self.old) → R.tells (reader_inner self.new)
             × ReadsExact ⊥ (reader_events R.events self.old) result buf.new (reader_events R.events self.new) }
         ensures fault { IfErr result IsFault }
+        ensures empty { length buf.old ≡ 0 → IsOk result × (self.new ≡ self.old) }
         ensures turns { reader_turns R.turns self.new ≤ reader_turns R.turns self.old }
         ensures metered { ⊥ → ⊥ }
         ensures filling { ⊥ → ⊥ }
@@ -188,6 +189,9 @@ impl<R: Read, const S: usize> Read for BufReader<R, S> {
             × ReadsToEnd (reader_events R.events self.old) result buf.old.items buf.new.items (reader_events R.events self.new) }
         ensures appends { take (vec_len buf.old) buf.new.items ≡ buf.old.items }
         ensures count { IfOk result (λ n. vec_len buf.new ≡ vec_len buf.old + n) }
+        ensures capacity { vec_capacity buf.old ≤ vec_capacity buf.new }
+        ensures room { R.tells (reader_inner self.old)
+            → HasRoom (reader_events R.events self.old) (vec_len buf.old) (vec_capacity buf.old) → IsOk result }
         ensures fault { IfErr result IsFault }
         ensures turns { reader_turns R.turns self.new ≤ reader_turns R.turns self.old }
         ensures metered { ⊥ → ⊥ }
@@ -205,6 +209,10 @@ impl<R: Read, const S: usize> Read for BufReader<R, S> {
     {
         let start = buf.len();
         self.ahead.append_to(buf)?;
+        let is_at_end = fill_room(&mut self.inner, buf)?;
+        if is_at_end {
+            return Ok(buf.len() - start);
+        }
         self.inner.read_to_end(buf)?;
         Ok(buf.len() - start)
     }

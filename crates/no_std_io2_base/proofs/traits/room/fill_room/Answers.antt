@@ -2,7 +2,8 @@
 use Rattle.std.proofs.Common.{◌≡◌, ◌+◌, ◌≤◌, ◌++◌, true, false, true≢false, length, take, arith, ap, refl, sym, ◌∙◌, le_refl, le_trans}
 use Rattle.no_std_io2_base.proofs.Gathered.{gathered_none, gathered_same, gathered_read, gathered_interruption, gathered_room, gathered_failed, gathered_over}
 use Rattle.no_std_io2_base.proofs.Parts.{take-written, take-written_below, take-stays}
-use Rattle.no_std_io2_base.proofs.ReadsToEndExits.{front_whole, front_cut, filled_length, some_room, whole_room}
+use Rattle.no_std_io2_base.proofs.ReadsToEndExits.{front_whole, front_cut, filled_length, some_room, whole_room, stays_at_end}
+use Rattle.no_std_io2_base.proofs.Taken.{moved_read, no_error}
 use Rattle.no_std_io2_base.proofs.TakenToEnd.{nothing_read}
 use Rattle.no_std_io2_base.proofs.traits.room.fill_room.Goals as goal
 
@@ -16,6 +17,7 @@ reads-init g c =
       front = front_whole _ _ _ c.args.buf.now.ok.0 refl;
       turns = le_refl _;
       told = λ t. (t, gathered_none _ _ _ (front_whole _ _ _ (start ∙ c.args.buf.now.ok.0) refl));
+      store = λ s. (s, refl, refl);
     }
 
 pub returns-in_err-open_room : goal.returns-in_err-open_room
@@ -51,6 +53,11 @@ returns-in-Ok-eq0 g c =
       full = λ going. absurd (true≢false going);
       fault = tt;
       turns = le_trans read.turns before.turns;
+      store = λ s.
+          let so_far = before.store s in
+          let now = read.store so_far.0 in
+          let tells = g.met.R.Read.store_tells _ so_far.0 in
+          (now.0, now.1 ∙ so_far.1, stays_at_end _ _ _ _ _ _ _ _ (read.told tells.0).1 is none now.2 so_far.2);
     }
 
 pub reads-smaller-in-Ok : goal.reads-smaller-in-Ok
@@ -84,6 +91,10 @@ returns-in-Err-2 g c =
       full = tt;
       fault = fault;
       turns = le_trans read.turns before.turns;
+      store = λ s.
+          let so_far = before.store s in
+          let tells = g.met.R.Read.store_tells _ so_far.0 in
+          absurd (no_error _ _ _ _ tells.1 (read.told tells.0).1);
     }
 
 pub reads-preserved-in-Ok : goal.reads-preserved-in-Ok
@@ -110,6 +121,11 @@ reads-preserved-in-Ok g c =
           let so_far = before.told t in
           let now = read.told so_far.0 in
           (now.0, gathered_read _ _ _ _ _ _ _ _ so_far.1 now.1 (shown ∙ ap (λ l. l ++ take n c.read.new.buf) c.open_room.ensures.front));
+      store = λ s.
+          let so_far = before.store s in
+          let now = read.store so_far.0 in
+          let tells = g.met.R.Read.store_tells _ so_far.0 in
+          (now.0, now.1 ∙ so_far.1, moved_read _ _ _ _ _ _ _ read.bound (read.told tells.0).1.0 now.2 so_far.2);
     }
 
 pub reads-preserved : goal.reads-preserved
@@ -137,6 +153,10 @@ reads-preserved g c =
             gathered_interruption _ _ _ _ _ _ (gathered_same _ _ _ _ _ so_far.1 (kept ∙ c.open_room.ensures.front)) now.1
                 (sym c.is_interrupted.ensures ∙ c.if-is_interrupted.true),
           );
+      store = λ s.
+          let so_far = before.store s in
+          let tells = g.met.R.Read.store_tells _ so_far.0 in
+          absurd (no_error _ _ _ _ tells.1 (read.told tells.0).1);
     }
 
 pub returns : goal.returns
@@ -153,4 +173,5 @@ returns g c =
       full = λ _. omega (arith, c.reads-test.false, c.capacity.ensures, before.within, c.reads.buf.ok.1);
       fault = tt;
       turns = before.turns;
+      store = before.store;
     }
