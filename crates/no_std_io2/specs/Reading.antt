@@ -95,7 +95,7 @@ HasNoBuffer r = (reader_held r ≡ []) × (reader_behind r ≡ [])
 abbrev pub EmptiesInto : {R : Type 0} {S : ℕ} → BufReader R S → List ℕ → Result ℕ Error → List ℕ → BufReader R S → Type 0
 EmptiesInto old before (Ok n) after new = IsFront (before ++ reader_held old) after × HasNoBuffer new
 EmptiesInto old before (Err e) after new =
-    (IsFront (before ++ reader_held old) after × HasNoBuffer new) 
+    (IsFront (before ++ reader_held old) after × HasNoBuffer new)
     ⊎ (IsOutOfMemory e × (reader_inner new ≡ reader_inner old) × HasMoved (reader_held old) (reader_held new) before after)
 
 -- r after `*r.get_mut() = x`
