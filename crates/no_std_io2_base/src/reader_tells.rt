@@ -1,11 +1,14 @@
 //! What each reader tells, one function a row: so no implementation can tell less, which would make
 //! every promise over it empty. The functions have no body; their contracts are proved.
-ghost use Rattle.std.specs.Prelude.{◌≡◌, ◌++◌, ◌+◌, length, take, true, false};
+ghost use Rattle.std.specs.Prelude.{◌≡◌, ◌≤◌, ◌<◌, ◌++◌, ◌+◌, length, take, true, false, IfErr, IfSome, OnSome};
+ghost use Rattle.no_std_io2_base.specs.Errors.{IsFault};
 ghost use Rattle.no_std_io2_base.specs.Events.{events_of, cut};
 ghost use Rattle.no_std_io2_base.specs.Chain.{chain_first, chain_second, chain_is_done};
+ghost use Rattle.no_std_io2_base.specs.SingleBytes.{bytes_reader, NextByte};
 ghost use Rattle.no_std_io2_base.specs.Take.{take_inner, take_limit};
 
-use crate::traits::{BufRead, Chain, Read, Stored, Take};
+use crate::error::Result;
+use crate::traits::{BufRead, Bytes, Chain, Read, Stored, Take};
 
 // Its bytes, and each read gives as many as fit.
 fn slice_tells<'a>(s: &&'a [u8])
@@ -63,3 +66,14 @@ fn take_tells<T: Read>(t: &Take<T>)
 fn take_lends<T: BufRead>(t: &Take<T>)
     ensures { ⟦<Take<T> as BufRead>⟧.held t.now ≡ take (take_limit t.now) (T.held (take_inner t.now)) }
 {}
+
+// Its next byte or fault, and each of them spends a turn.
+fn next_byte<R: Read + Drop>(bytes: &mut Bytes<R>) -> Option<Result<u8>>
+    ensures told { R.tells (bytes_reader bytes.old) → R.tells (bytes_reader bytes.new)
+        × NextByte (R.events (bytes_reader bytes.old)) result (R.events (bytes_reader bytes.new)) }
+    ensures fault { IfSome result (λ item. IfErr item IsFault) }
+    ensures turns { R.turns (bytes_reader bytes.new) ≤ R.turns (bytes_reader bytes.old) }
+    ensures turn { OnSome result (R.turns (bytes_reader bytes.new) < R.turns (bytes_reader bytes.old)) }
+{
+    bytes.next()
+}

@@ -1,15 +1,16 @@
 //! What kinds, vectors, references, boxes and boxed objects tell, one function a type: so no
 //! implementation can tell less, which would make every promise over it empty. The functions have
 //! no body of their own; their contracts are proved.
-ghost use Rattle.std.specs.Prelude.{◌≡◌, ◌<◌, ◌↔◌, IsTrue, Ok};
+ghost use Rattle.std.specs.Prelude.{◌≡◌, ◌<◌, ◌↔◌, IsTrue, Ok, Some};
 ghost use Rattle.no_std_io2_base.specs.Cursor.{cursor_inner, cursor_place};
-ghost use Rattle.no_std_io2_base.specs.Errors.{kind_number};
+ghost use Rattle.no_std_io2_base.specs.Errors.{error_display, kind_number};
 ghost use Rattle.no_std_io2_base.specs.Writes.{told_out};
 
 use crate::cursor::Cursor;
-use crate::error::ErrorKind;
+use crate::error::{Error, ErrorKind};
 use crate::traits::{BufRead, Read, SeekFrom, Stored, Write};
 use std::alloc::AllocError;
+use std::fmt;
 
 // Kinds are ordered as they are declared.
 fn kind_is_before(a: ErrorKind, b: ErrorKind) -> bool
@@ -23,6 +24,11 @@ fn kind_is(a: ErrorKind, b: ErrorKind) -> bool
 {
     a == b
 }
+
+// What an error prints: its text, or what its kind says.
+fn error_prints(error: &Error)
+    ensures { ⟦<Error as fmt::Display>⟧.output error.now ≡ Some (error_display error.now) }
+{}
 
 // Places are equal where they are the same.
 fn place_is(a: SeekFrom, b: SeekFrom) -> bool
