@@ -104,6 +104,10 @@ no_bytes xs h = drop_of_length-le xs {i = 0} (omega arith)
 pub gives_to_come : (held to_come : ℕ) → held ≡ 0 → held_or_to_come held to_come ≡ to_come
 gives_to_come held to_come h = ap (λ k. held_or_to_come k to_come) h
 
+-- with some held, it gives of those
+pub gives_held : (held to_come : ℕ) → 0 < held → held_or_to_come held to_come ≡ held
+gives_held held to_come some = grind (arith, nat_tests)
+
 -- held bytes before the bytes of a store hold no error
 pub no_error_behind : (held bs : List ℕ) (E E' : List Event) (e : Error) → E ≡ events_of bs → events_of held ++ E ≡ fails e ∷ E' → ⊥
 no_error_behind held bs E E' e is read =
@@ -161,3 +165,7 @@ fills_front E rest got is =
 -- where enough is held, that many bytes less are held
 pub exact_left-held : (room len held all next : ℕ) → len ≤ held → next ≡ held - len → next ≡ exact_left room len held all
 exact_left-held room len held all next fits is = grind (arith, nat_tests)
+
+-- and no inner read is made
+pub exact_reads-held : (len held all : ℕ) → len ≤ held → exact_reads len held all ≡ 0
+exact_reads-held len held all fits = grind (arith, nat_tests)

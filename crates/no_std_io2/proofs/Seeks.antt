@@ -69,21 +69,32 @@ back_arrives o (Err e) len at at' held is fits small seeks =
     let target : IsAtOffset at o (at - held) = at_offset_sum at o (at - held) (omega (arith, ints)) in
     absurd (seeks.0 (at - held) (target, omega arith))
 
+-- what is empty is so after a seek that drops it or keeps it
+pub still_none : (r : Result ℕ Error) (held held' : List ℕ) → held ≡ [] → OnOk r (held' ≡ []) → OnErr r (held' ≡ held) → held' ≡ []
+still_none (Ok n) held held' none empty kept = empty
+still_none (Err e) held held' none empty kept = kept ∙ none
+
+-- an error kept the buffer
+pub kept_whole : {A : Type 0} (r : Result A Error) (P Q X : Type 0) → OnErr r P → OnErr r Q → OnErr r ((P × Q) ⊎ X)
+kept_whole (Ok n) P Q X held behind = tt
+kept_whole (Err e) P Q X held behind = inl (held, behind)
+
+-- or the buffer was dropped for an offset too far back
+pub dropped_far : {A : Type 0} (r : Result A Error) (P X : Type 0) → P → OnErr r (X ⊎ P)
+dropped_far (Ok n) P X p = tt
+dropped_far (Err e) P X p = inr p
+
 -- the second, with nothing held any more
 pub sought_again : (o shown : ℤ) (r : Result ℕ Error) (held held' old content content' : List ℕ) (at at' place : ℕ) → held ≡ [] → shown ≡ o → content ≡ old → at ≡ place
     → Seeks (length content) at (Current shown) r at' → OnOk r (held' ≡ []) → OnErr r (held' ≡ held) → IsSound held' at' content' × Seeks (length old) place (Current o) r (at' - length held')
 sought_again o shown r held held' old content content' at at' place none same kept_content here seeks empty kept =
-    let still : held' ≡ [] = still_none r empty kept in
+    let still = still_none r held held' none empty kept in
     let ends : at' ≡ at' - length held' = omega (arith, ap length still) in
     let asked : Seeks (length content) at (Current o) r at' = subst (λ z. Seeks (length content) at (Current z) r at') same seeks in
     let inside : Seeks (length old) at (Current o) r at' = subst (λ c. Seeks (length c) at (Current o) r at') kept_content asked in (
       subst (λ l. IsSound l at' content') (sym still) (omega arith, refl),
       subst (Seeks (length old) place (Current o) r) ends (subst (λ p. Seeks (length old) p (Current o) r at') here inside),
     )
-  where
-    still_none : (answer : Result ℕ Error) → OnOk answer (held' ≡ []) → OnErr answer (held' ≡ held) → held' ≡ []
-    still_none (Ok n) e k = e
-    still_none (Err f) e k = k ∙ none
 
 -- `Start` and `End` go to the same place from everywhere
 pub elsewhere : (target : SeekFrom) → ((k : ℕ) × (target ≡ Start k)) ⊎ ((o : ℤ) × (target ≡ End o)) → (len at at' n : ℕ) → IsTarget len at target n → IsTarget len at' target n

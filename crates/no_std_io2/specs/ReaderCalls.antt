@@ -35,6 +35,7 @@ pub record ReadsAnew {R : Type 0} {S : ℕ} (tells : R → Type 0) (events : R �
     (has_store : R → Type 0) (position : R → ℕ) (content : R → List ℕ) (is_metered : R → Type 0) (cost : R → ℕ) (is_filling : R → Type 0)
     (old : BufReader R S) (room : ℕ) (reply : Result ℕ Error) (buf : List ℕ) (new : BufReader R S) : Type 0 where
   pub bound : IfOk reply (λ n. n ≤ length buf)
+  pub rest : given reply < room → reader_held new ≡ []
   pub told : tells (reader_inner old) → tells (reader_inner new) × Reads (reader_events events old) reply buf (reader_events events new)
   pub no_later : reader_turns turns new ≤ reader_turns turns old
   pub turn : SpendsTurn reply (reader_turns turns old) (reader_turns turns new)

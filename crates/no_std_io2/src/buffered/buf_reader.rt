@@ -176,7 +176,17 @@ impl<R: Read, const S: usize> BufReader<R, S> {
         self.ahead.give(buf)
     }
 
-    // Where nothing is held, reads once.
+    // Reads once, where nothing is held.
+    #[inline(always)]
+    fn fill_empty(&mut self) -> Result<()>
+        requires { length (reader_held self.old) ≡ 0 }
+        ensures { FillsBuffer R.tells R.events R.turns R.has_store R.position R.content R.is_metered
+            R.cost R.is_filling self.old result self.new }
+    {
+        self.ahead.fill(&mut self.inner)
+    }
+
+    // Reads once, unless some bytes are held.
     #[inline(always)]
     fn fill(&mut self) -> Result<()>
         ensures { FillsBuffer R.tells R.events R.turns R.has_store R.position R.content R.is_metered
@@ -185,7 +195,7 @@ impl<R: Read, const S: usize> BufReader<R, S> {
         if self.ahead.len() > 0 {
             return Ok(());
         }
-        self.ahead.fill(&mut self.inner)
+        self.fill_empty()
     }
 }
 

@@ -111,7 +111,7 @@ impl<const S: usize> ReadAhead<S> {
         ensures gave { buf.new ≡ take (length buf.old) (ahead_held self.old) }
         ensures held { ahead_held self.new ≡ drop (length buf.old) (ahead_held self.old) }
         ensures behind { ahead_behind self.new ≡ ahead_behind self.old ++ buf.new }
-        ensures none { length buf.old ≡ 0 → self.new ≡ self.old }
+        ensures empty { length buf.old ≡ 0 → self.new ≡ self.old }
     {
         let end = self.start + buf.len();
         let all = &self.bytes[..];

@@ -13,31 +13,67 @@ use no_std_io2_base::traits::{Read, fill_room};
 use std::alloc::Allocator;
 
 impl<R: Read, const S: usize> BufReader<R, S> {
-    // A read where nothing is held: one inner read, into `buf` where that has room for a full
-    // buffer, else into the own buffer.
-    #[cold]
-    #[inline(never)]
-    fn read_anew(&mut self, buf: &mut [u8]) -> Result<usize>
-        requires { length (reader_held self.old) ≡ 0 }
+    // A read where nothing is held, past the buffer: there is room for a full one.
+    #[inline(always)]
+    fn read_past(&mut self, buf: &mut [u8]) -> Result<usize>
+        requires none { length (reader_held self.old) ≡ 0 }
+        requires past { S ≤ length buf.old }
         ensures { ReadsAnew R.tells R.events R.turns R.has_store R.position R.content R.is_metered
             R.cost R.is_filling self.old (length buf.old) result buf.new self.new }
     {
-        if buf.len() >= S {
-            self.ahead.clear();
-            return self.inner.read(buf);
-        }
-        self.fill()?;
+        self.ahead.clear();
+        self.inner.read(buf)
+    }
+
+    // A read where nothing is held, through the buffer: there is less room.
+    #[inline(always)]
+    fn read_through(&mut self, buf: &mut [u8]) -> Result<usize>
+        requires none { length (reader_held self.old) ≡ 0 }
+        requires short { length buf.old < S }
+        ensures { ReadsAnew R.tells R.events R.turns R.has_store R.position R.content R.is_metered
+            R.cost R.is_filling self.old (length buf.old) result buf.new self.new }
+    {
+        self.fill_empty()?;
         Ok(self.give(buf))
     }
 
-    // The same. It stands between, so that the room for the answer is made on this way alone.
+    // The same, as a call.
+    #[cold]
+    #[inline(never)]
+    fn call_through(&mut self, buf: &mut [u8]) -> Result<usize>
+        requires none { length (reader_held self.old) ≡ 0 }
+        requires short { length buf.old < S }
+        ensures { ReadsAnew R.tells R.events R.turns R.has_store R.position R.content R.is_metered
+            R.cost R.is_filling self.old (length buf.old) result buf.new self.new }
+    {
+        self.read_through(buf)
+    }
+
+    // A read where nothing is held: one inner read. It is a function, so that the room for the answer
+    // is made on this way alone.
     #[inline(always)]
     fn read_slowly(&mut self, buf: &mut [u8]) -> Result<usize>
         requires { length (reader_held self.old) ≡ 0 }
         ensures { ReadsAnew R.tells R.events R.turns R.has_store R.position R.content R.is_metered
             R.cost R.is_filling self.old (length buf.old) result buf.new self.new }
     {
-        self.read_anew(buf)
+        if buf.len() < S {
+            return self.call_through(buf);
+        }
+        self.read_past(buf)
+    }
+
+    // The same without a call.
+    #[inline(always)]
+    fn read_anew(&mut self, buf: &mut [u8]) -> Result<usize>
+        requires { length (reader_held self.old) ≡ 0 }
+        ensures { ReadsAnew R.tells R.events R.turns R.has_store R.position R.content R.is_metered
+            R.cost R.is_filling self.old (length buf.old) result buf.new self.new }
+    {
+        if buf.len() >= S {
+            return self.read_past(buf);
+        }
+        self.read_through(buf)
     }
 
     // Fills more room than there are bytes held.
@@ -50,7 +86,7 @@ impl<R: Read, const S: usize> BufReader<R, S> {
     {
         let mut at = self.give(buf);
         'reads: while at < buf.len() {
-            match self.read(&mut buf[at..]) {
+            match self.read_anew(&mut buf[at..]) {
                 Ok(0) => return Err(failed_to_fill()),
                 Ok(n) => at += n,
                 Err(e) if e.is_interrupted() => {}
@@ -161,6 +197,7 @@ impl<R: Read, const S: usize> Read for BufReader<R, S> {
             × (reader_held self.new ≡ drop (length buf.old) (reader_held self.old))
             × (reader_behind self.new ≡ reader_behind self.old ++ buf.new)
             × (reader_inner self.new ≡ reader_inner self.old) }
+        ensures empty { length buf.old ≡ 0 → IsOk result × (self.new ≡ self.old) }
 
         // How often it reads over a filling reader, and what it then holds and has taken.
         ensures asks { R.is_metered (reader_inner self.old) → R.is_filling (reader_inner self.old)

@@ -153,7 +153,7 @@ impl<R: Seek, const S: usize> BufReader<R, S> {
 /// reader by `n` less the bytes held. Where that is no `i64`, the inner reader first goes back by
 /// the bytes held, which are dropped, and then by `n`. `Start` and `End` go to the inner reader.
 /// Success drops the bytes held and those that lie behind; a refusal of the first or only inner
-/// seek keeps them.
+/// seek keeps them. Each error is the inner reader's own, with its text.
 impl<R: Seek, const S: usize> Seek for BufReader<R, S> {
     fn seek(&mut self, target: SeekFrom) -> Result<u64>
         // The trait's.

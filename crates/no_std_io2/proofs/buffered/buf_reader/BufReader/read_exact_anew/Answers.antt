@@ -1,11 +1,11 @@
 -- An exact read past the held bytes: its turns, and its three ends.
-use Rattle.std.proofs.Common.{◌≡◌, ◌-◌, ◌≤◌, length, take, rules, arith, sym, ap, subst, ◌∙◌, le_refl, inl, inr, length-take-le, length-drop}
+use Rattle.std.proofs.Common.{◌≡◌, ◌-◌, ◌≤◌, length, take, arith, sym, ap, subst, ◌∙◌, le_refl, inl, inr, length-take-le, length-drop}
 use Rattle.std.proofs.lemmas.Slice.{take-put_mid_below}
 use Rattle.no_std_io2_base.proofs.Parts.{take-put_mid}
 use Rattle.no_std_io2_base.proofs.Taken.{taken_read, taken_interruption, taken_fault, moved_read}
-use Rattle.no_std_io2_base.specs.Errors.{IsFault}
+use Rattle.no_std_io2_base.specs.Errors.{is_interruption}
 use Rattle.no_std_io2.specs.Reading.{reader_held, reader_inner, reader_events}
-use Rattle.no_std_io2.proofs.Exact.{exact_begins, exact_none, exact_first, exact_read, exact_short, exact_left-end, exact_left-full, taken_first, taken_end, taken_whole, nothing_read, length-events, moved_length, no_bytes, gives_to_come, no_error_behind}
+use Rattle.no_std_io2.proofs.Exact.{exact_begins, exact_first, exact_read, exact_end, exact_short, exact_left-end, exact_left-full, taken_first, taken_end, taken_whole, nothing_read, length-events, moved_length, no_error_behind}
 use Rattle.no_std_io2.proofs.buffered.buf_reader.BufReader.read_exact_anew.Goals as goal
 
 pub reads-init : goal.reads-init
@@ -24,8 +24,9 @@ reads-init g c =
     let after = length-events (reader_held new) (g.R.Read.events (reader_inner new)) in
     let same = sym gave.inner in
     record {
-      long = search rules;
+      long = omega arith;
       within = most;
+      none = λ more. left;
       turns = omega (arith, gave.turns);
       told = λ t. (subst g.R.Read.tells same t, taken_first _ _ got _ gave.told (omega arith));
       store = λ s.
@@ -42,13 +43,14 @@ reads-preserved-in-Ok g c =
     let buf = c.reads.buf in
     let n = c.in-Ok.n in
     let old = c.reads.self in
-    let new = c.read.new.self in
+    let new = c.read_anew.new.self in
     let read = c.in-Ok.ensures in
-    let shown = take-put_mid at (length buf - at) n buf c.read.new.buf (omega arith) (omega (arith, read.bound)) in
+    let shown = take-put_mid at (length buf - at) n buf c.read_anew.new.buf (omega arith) (omega (arith, read.bound)) in
     record {
-      long = search rules;
-      within = search rules;
-      turns = search rules;
+      long = omega arith;
+      within = omega arith;
+      none = λ more. ap length (read.rest (omega (arith, more)));
+      turns = omega arith;
       told = λ t.
           let before = c.reads.invariant.told t in
           let now = read.told before.0 in
@@ -63,20 +65,15 @@ reads-preserved-in-Ok g c =
           let before = c.reads.invariant.filling f in
           let now = read.gives before.0 in
           let tells = g.met.R.Read.filling_tells _ before.0 in
-          let none = exact_none _ _ _ _ _ _ _ before.1 (omega arith) in
-          let empty = no_bytes (reader_held old) none in
-          let come = gives_to_come (length (reader_held old)) (length (g.R.Read.events (reader_inner old))) none in
-          let moved = moved_length (reader_held old) (reader_held new) (take n c.read.new.buf) (g.R.Read.events (reader_inner old)) (g.R.Read.events (reader_inner new)) n (read.told tells.0).1.0 (length-take-le n c.read.new.buf read.bound) in
-          (now.0, exact_read _ _ _ _ _ _ _ n _ _ before.1 (omega arith) (omega (arith, now.1, come)) (λ h. ap length (read.direct before.0 empty (omega arith))) (λ h. read.filled before.0 empty (omega arith)) moved (omega arith) (omega (arith, c.requires)));
+          let moved = moved_length (reader_held old) (reader_held new) (take n c.read_anew.new.buf) (g.R.Read.events (reader_inner old)) (g.R.Read.events (reader_inner new)) n (read.told tells.0).1.0 (length-take-le n c.read_anew.new.buf read.bound) in
+          (now.0, exact_read _ _ _ _ _ _ _ n _ _ before.1 (omega arith) (omega (arith, now.1)) (λ h. ap length (read.direct before.0 (omega (arith, h)))) (λ h. read.filled before.0 (omega (arith, h))) moved (omega arith) (omega (arith, c.requires)));
       cost = λ m f.
           let before = c.reads.invariant.cost m f in
           let so_far = c.reads.invariant.filling f in
           let now = read.asks before.0 in
           let gives = read.gives so_far.0 in
-          let none = exact_none _ _ _ _ _ _ _ so_far.1 (omega arith) in
-          let come = gives_to_come (length (reader_held old)) (length (g.R.Read.events (reader_inner old))) none in
-          let first = exact_first _ _ _ _ _ _ _ n so_far.1 (omega arith) (omega (arith, gives.1, come)) (omega arith) (omega (arith, c.requires)) in
-          (now.0, omega (arith, before.1, now.1, none));
+          let first = exact_first _ _ _ _ _ _ _ n so_far.1 (omega arith) (omega (arith, gives.1)) (omega arith) (omega (arith, c.requires)) in
+          (now.0, omega (arith, before.1, now.1, first));
     }
 
 pub reads-preserved : goal.reads-preserved
@@ -84,15 +81,17 @@ reads-preserved g c =
     let at = c.reads.at in
     let buf = c.reads.buf in
     let read = c.in-Err.ensures in
+    let again = sym c.is_interrupted.ensures ∙ c.if-is_interrupted.true in
     record {
-      long = search rules;
-      within = search rules;
-      turns = search rules;
+      long = omega arith;
+      within = omega arith;
+      none = λ more. ap length (read.rest (omega (arith, more)));
+      turns = omega arith;
       told = λ t.
           let before = c.reads.invariant.told t in
           let now = read.told before.0 in
           let long = length-take-le at buf (omega arith) in
-          (now.0, taken_interruption _ _ _ _ _ _ _ before.1 now.1 (search rules) (omega arith) (take-put_mid_below _ _ _ _ _ (le_refl _) (omega arith)));
+          (now.0, taken_interruption _ _ _ _ _ _ _ before.1 now.1 again (omega arith) (take-put_mid_below _ _ _ _ _ (le_refl _) (omega arith)));
       store = λ t.
           let before = c.reads.invariant.store t in
           let tells = g.met.R.Read.store_tells _ before.0.0 in
@@ -105,15 +104,15 @@ reads-preserved g c =
 pub returns-in-Err-2 : goal.returns-in-Err-2
 returns-in-Err-2 g c =
     let read = c.in-Err.ensures in
-    let fault : IsFault c.in-Err.e = search rules in
+    let fault = sym c.is_interrupted.ensures ∙ c.if-is_interrupted.false in
     record {
       told = λ t.
           let before = c.reads.invariant.told t in
           let now = read.told before.0 in
           let long = length-take-le c.reads.at c.reads.buf (omega arith) in
-          (now.0, inl (taken_fault _ _ _ _ _ _ _ before.1 now.1 fault (search (rules, long))));
+          (now.0, inl (taken_fault _ _ _ _ _ _ _ before.1 now.1 fault (omega (arith, long))));
       fault = fault;
-      no_later = omega (arith, read.turns, c.reads.invariant.turns);
+      no_later = omega (arith, read.no_later, c.reads.invariant.turns);
       store = λ t.
           let before = c.reads.invariant.store t in
           let tells = g.met.R.Read.store_tells _ before.0.0 in
@@ -127,16 +126,16 @@ returns-in-Err-2 g c =
 pub returns-in-Ok-eq0 : goal.returns-in-Ok-eq0
 returns-in-Ok-eq0 g c =
     let old = c.reads.self in
-    let read = c.in-Ok-eq0.ensures-1 in
-    let zero : c.in-Ok-eq0.field-0 ≡ 0 = search rules in
+    let read = rw c.in-Ok-eq0.is at c.read_anew.ensures in
+    let zero : c.in-Ok-eq0.field-0 ≡ 0 = omega arith in
     record {
       told = λ t.
           let before = c.reads.invariant.told t in
           let now = read.told before.0 in
           let long = length-take-le c.reads.at c.reads.buf (omega arith) in
-          (now.0, inr (taken_end _ _ _ _ _ c.failed_to_fill.result _ c.in-Ok-eq0.field-0 _ before.1 now.1 zero (omega arith) c.failed_to_fill.ensures (search (rules, long))));
-      fault = search rules;
-      no_later = omega (arith, read.turns, c.reads.invariant.turns);
+          (now.0, inr (taken_end _ _ _ _ _ c.failed_to_fill.result _ c.in-Ok-eq0.field-0 _ before.1 now.1 zero (omega arith) c.failed_to_fill.ensures (omega (arith, long))));
+      fault = ap is_interruption c.failed_to_fill.ensures.0;
+      no_later = omega (arith, read.no_later, c.reads.invariant.turns);
       store = λ t.
           let before = c.reads.invariant.store t in
           let now = read.store before.0 in
@@ -148,23 +147,18 @@ returns-in-Ok-eq0 g c =
           let so_far = c.reads.invariant.filling f in
           let now = read.asks before.0 in
           let gives = read.gives so_far.0 in
-          let none = exact_none _ _ _ _ _ _ _ so_far.1 (omega arith) in
-          let come = gives_to_come (length (reader_held old)) (length (g.R.Read.events (reader_inner old))) none in
-          let short = exact_short _ _ _ _ _ _ _ so_far.1 (omega arith) (omega (arith, gives.1, come, zero)) (omega (arith, c.requires)) in
-          (now.0, omega (arith, before.1, now.1, none, short));
+          let short = exact_short _ _ _ _ _ _ _ so_far.1 (omega arith) (omega (arith, gives.1, zero)) (omega (arith, c.requires)) in
+          (now.0, omega (arith, before.1, now.1, short));
       left = λ f.
           let so_far = c.reads.invariant.filling f in
           let gives = read.gives so_far.0 in
-          let none = exact_none _ _ _ _ _ _ _ so_far.1 (omega arith) in
-          let empty = no_bytes (reader_held old) none in
-          let come = gives_to_come (length (reader_held old)) (length (g.R.Read.events (reader_inner old))) none in
           let tells = g.met.R.Read.filling_tells _ so_far.0 in
           let told = (read.told tells.0).1 in
           let end = told.1 zero (omega arith) in
-          let held = length (reader_held c.read.new.self) in
+          let held = length (reader_held c.read_anew.new.self) in
           let left = exact_left-end g.row.S _ _ _ _ _ _ held (length c.reads.buf - c.reads.at) so_far.1 (omega arith)
-          (omega (arith, gives.1, come, zero)) (λ h. ap length (read.direct so_far.0 empty (omega arith)))
-          (λ h. omega (arith, read.filled so_far.0 empty (omega arith), zero)) (omega (arith, c.requires)) in
+          (omega (arith, gives.1, zero)) (λ h. ap length (read.direct so_far.0 (omega (arith, h))))
+          (λ h. omega (arith, read.filled so_far.0 (omega (arith, h)), zero)) (omega (arith, c.requires)) in
           (gives.0, left.0, ap length (sym (nothing_read _ _ _ _ told zero) ∙ end) ∙ left.1);
     }
 
@@ -177,7 +171,9 @@ returns g c =
       no_later = all.turns;
       store = all.store;
       sound = all.sound;
-      asks = search rules;
+      asks = λ m f.
+          let now = all.cost m f in
+          (now.0, omega (arith, now.1, exact_end _ _ _ _ _ _ _ (all.filling f).1 (omega arith) (omega (arith, c.requires))));
       left = λ f.
           let now = all.filling f in
           let to_come = length-events (reader_held c.reads.self) (g.R.Read.events (reader_inner c.reads.self)) in

@@ -1,5 +1,5 @@
 -- An exact read ends with its reader's turns, and what it filled is what it took.
-use Rattle.std.proofs.Common.{◌≡◌, ◌≤◌, ◌+◌, ◌-◌, length, take, min}
+use Rattle.std.proofs.Common.{◌≡◌, ◌≤◌, ◌<◌, ◌+◌, ◌-◌, length, take, min}
 use Rattle.no_std_io2_base.proofs.Taken.{Taken}
 use Rattle.no_std_io2.specs.Reading.{reader_held, reader_inner, reader_events, reader_turns, reader_has_store, reader_is_sound, reader_position}
 use Rattle.no_std_io2.proofs.Exact.{Exact}
@@ -10,6 +10,7 @@ invariant-reads g l =
     record {
       long : length l.buf ≡ length l.fn.buf;
       within : l.at ≤ length l.buf;
+      none : l.at < length l.buf → length (reader_held l.self) ≡ 0;
       turns : reader_turns g.R.Read.turns l.self ≤ reader_turns g.R.Read.turns l.fn.self;
       told : g.R.Read.tells (reader_inner l.fn.self) → g.R.Read.tells (reader_inner l.self) × Taken (reader_events g.R.Read.events l.fn.self) (length l.fn.buf) (take l.at l.buf) (reader_events g.R.Read.events l.self);
       store : reader_has_store g.R.Stored.has_store g.R.Stored.position g.R.Stored.content l.fn.self → reader_has_store g.R.Stored.has_store g.R.Stored.position g.R.Stored.content l.self

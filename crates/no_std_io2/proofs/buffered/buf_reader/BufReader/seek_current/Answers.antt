@@ -1,40 +1,76 @@
-use Rattle.std.proofs.Common.{◌≡◌, ◌-ℤ◌, ℤ, pos, length, FitsSigned, rules, arith, sym, ◌∙◌, subst}
+-- A seek from the next byte, by its three ends: one inner seek, two, and a first of two that failed.
+use Rattle.std.proofs.Common.{◌≡◌, ◌-ℤ◌, ℤ, pos, length, FitsSigned, rules, arith, ◌∙◌, subst, inl}
 use Rattle.std.proofs.lemmas.Int.{ints, to_z-of_z}
+use Rattle.std.proofs.lemmas.Result.{err_from_is_err_and}
 use Rattle.std.specs.Int.{w64}
 use mir.Val.{to_z, of_z}
-use Rattle.no_std_io2.specs.Reading.{reader_held}
-use Rattle.no_std_io2.proofs.Seeks.{sought_current, sought_again, fits_not_far}
+use Rattle.no_std_io2_base.specs.declared.traits.seek.SeekFrom.TheVariants.{Current}
+use Rattle.no_std_io2.specs.Reading.{reader_held, reader_behind, IsTooFarBack}
+use Rattle.no_std_io2.proofs.ReaderCallLemmas.{not_ok}
+use Rattle.no_std_io2.proofs.Seeks.{sought_current, sought_again, fits_not_far, far_unless_fits, kept_whole, dropped_far, still_none}
 use Rattle.no_std_io2.proofs.buffered.buf_reader.BufReader.seek_current.Goals as goal
 
-pub returns-in-Some-clause-store : goal.returns-in-Some-clause-store
-returns-in-Some-clause-store g c = λ s.
+pub returns-in-Some : goal.returns-in-Some
+returns-in-Some g c =
     let held = reader_held c.args.self.now in
     let seek = c.seek_inner.ensures in
-    let now = seek.store s.0 in
-    let fits : FitsSigned w64 c.args.offset = c.ranges.offset in
-    let fits_rest : FitsSigned w64 c.in-Some.rest = subst (FitsSigned w64) (sym c.in-Some.ensures.1) c.in-Some.ensures.0 in
-    let rest : ℤ = to_z w64 (of_z w64 c.in-Some.rest) in
-    let is : rest ≡ c.args.offset -ℤ pos (length held) = omega (arith, ints, c.in-Some.ensures.1, c.len-held.ensures.len) in
-    let done = sought_current c.args.offset rest c.seek_inner.result held (reader_held c.seek_inner.new.self) _ _ _ _ is s.1 now.1 now.2 seek.empty seek.kept in
-    ((now.0, done.0), now.1, done.1)
+    record {
+      store = λ s.
+          let now = seek.store s.0 in
+          let rest : ℤ = to_z w64 (of_z w64 c.in-Some.rest) in
+          let is : rest ≡ c.args.offset -ℤ pos (length held) = omega (arith, ints, c.in-Some.ensures.1, c.len-held.ensures.len) in
+          let done = sought_current c.args.offset rest c.seek_inner.result held (reader_held c.seek_inner.new.self) _ _ _ _ is s.1 now.1 now.2 seek.empty seek.kept in
+          ((now.0, done.0), now.1, done.1);
+      position = seek.position;
+      empty = seek.empty;
+      behind = seek.behind;
+      kept = kept_whole c.seek_inner.result _ _ _ seek.kept seek.behind_kept;
+      dropped = λ s far.
+          let same = to_z-of_z w64 c.args.offset c.ranges.offset in
+          let fits : FitsSigned w64 (c.args.offset -ℤ pos c.len-held.result) = subst (λ (z : ℤ). FitsSigned w64 (z -ℤ pos c.len-held.result)) same c.in-Some.ensures.0 in
+          absurd (fits_not_far c.args.offset c.len-held.result fits (search (rules, far)));
+      sound = seek.sound;
+    }
 
-pub returns-in-Some-clause-dropped : goal.returns-in-Some-clause-dropped
-returns-in-Some-clause-dropped g c = λ s far.
-    let same = to_z-of_z w64 c.args.offset c.ranges.offset in
-    let fits : FitsSigned w64 (c.args.offset -ℤ pos c.len-held.result) = subst (λ (z : ℤ). FitsSigned w64 (z -ℤ pos c.len-held.result)) same c.in-Some.ensures.0 in
-    absurd (fits_not_far c.args.offset c.len-held.result fits (search (rules, far)))
-
-pub returns-in_ok-seek_back-in-None-clause-store :
-    goal.returns-in_ok-seek_back-in-None-clause-store
-returns-in_ok-seek_back-in-None-clause-store g c = λ s.
-    let there = c.in_ok-seek_back-in-None.ensures.store s in
+pub returns-in_ok-seek_back-in-None : goal.returns-in_ok-seek_back-in-None
+returns-in_ok-seek_back-in-None g c =
+    let first = c.in_ok-seek_back-in-None.ensures in
     let second = c.seek_inner-in-None.ensures in
-    let now = second.store there.0 in
+    let answer = c.seek_inner-in-None.result in
+    let mid = c.seek_back.new.self in
+    let new = c.seek_inner-in-None.new.self in
     let same = to_z-of_z w64 c.args.offset c.ranges.offset in
-    let done = sought_again c.args.offset _ c.seek_inner-in-None.result (reader_held c.seek_back.new.self) (reader_held c.seek_inner-in-None.new.self) _ _ _ _ _ _ c.in_ok-seek_back-in-None.ensures.empty same there.2 there.3 now.2 second.empty second.kept in
-    ((now.0, done.0), now.1 ∙ there.2, done.1)
+    let none = still_none answer (reader_held mid) (reader_held new) first.empty second.empty second.kept in
+    let none_behind = still_none answer (reader_behind mid) (reader_behind new) first.behind second.behind second.behind_kept in
+    record {
+      store = λ s.
+          let there = first.store s in
+          let now = second.store there.0 in
+          let done = sought_again c.args.offset _ answer (reader_held mid) (reader_held new) _ _ _ _ _ _ first.empty same there.2 there.3 now.2 second.empty second.kept in
+          ((now.0, done.0), now.1 ∙ there.2, done.1);
+      position = second.position;
+      empty = second.empty;
+      behind = second.behind;
+      kept =
+          let not_fits : FitsSigned w64 (c.args.offset -ℤ pos c.len-held.result) → ⊥ =
+          subst (λ (z : ℤ). FitsSigned w64 (z -ℤ pos c.len-held.result) → ⊥) same c.in-None.ensures in
+          let far = far_unless_fits c.args.offset c.len-held.result c.ranges.offset c.len-held.ensures.in_memory not_fits in
+          dropped_far answer _ _ (subst (IsTooFarBack (Current c.args.offset)) c.len-held.ensures.len far, (none, none_behind));
+      dropped = λ s far. (none, none_behind);
+      sound = λ h. second.sound (first.sound h);
+    }
 
-pub returns-in_ok-seek_back-in-None-clause-sound :
-    goal.returns-in_ok-seek_back-in-None-clause-sound
-returns-in_ok-seek_back-in-None-clause-sound g c = λ h.
-    c.seek_inner-in-None.ensures.sound (c.in_ok-seek_back-in-None.ensures.sound h)
+pub returns-in_err-seek_back-in-None : goal.returns-in_err-seek_back-in-None
+returns-in_err-seek_back-in-None g c =
+    let p = err_from_is_err_and c.from_residual.result c.from_residual.ensures.1 in
+    let first = c.in_err-seek_back-in-None.ensures in
+    let failed = c.in_err-seek_back-in-None.field-0.0 in
+    rw (p.1, p.2) (record {
+      store = λ s. absurd (not_ok failed (first.store s).1);
+      position = tt;
+      empty = tt;
+      behind = tt;
+      kept = inl (first.kept, first.behind_kept);
+      dropped = λ s far. absurd (not_ok failed (first.store s).1);
+      sound = first.sound;
+    })
