@@ -1,6 +1,7 @@
 //! Buffers in front of readers and writers.
 mod buf_reader;
 mod buf_writer;
+mod into_inner_error;
 mod line_writer;
 mod read_ahead;
 mod reader_tells;
@@ -9,5 +10,6 @@ mod tells;
 mod window;
 
 pub use buf_reader::BufReader;
-pub use buf_writer::{BufWriter, IntoInnerError};
+pub use buf_writer::BufWriter;
+pub use into_inner_error::IntoInnerError;
 pub use line_writer::LineWriter;
