@@ -35,6 +35,9 @@ way_calls-le S n held = grind (arith, nat_tests)
 way_calls-none : (S n : ℕ) (held : List ℕ) → length held + n ≤ S → way_calls S held n ≡ 0
 way_calls-none S n held h = grind (arith, nat_tests)
 
+way_calls-empty : (S n : ℕ) (held : List ℕ) → length held ≡ 0 → way_calls S held n ≡ 0
+way_calls-empty S n held h = grind (arith, nat_tests)
+
 way_calls-over : (S n : ℕ) (held : List ℕ) → S < length held + n → way_calls S held n ≡ calls_for held
 way_calls-over S n held h = grind (arith, nat_tests)
 
@@ -70,6 +73,22 @@ way_kept {told} old more room = record {
   all = λ t. (t, refl);
   calls = λ m t. (m, omega (arith, way_calls-none _ _ (sender_buffer old) room));
 }
+
+-- nothing is held: nothing has to be sent
+pub way_empty : {W : Type 0} {S : ℕ} {told : W → Told} {takes_all is_metered : W → Type 0} {cost : W → ℕ} (old mid : Sender W S) (more : ℕ)
+    → mid ≡ old → sender_buffer mid ≡ [] → MakesWay told takes_all is_metered cost old more (Ok tt) mid
+way_empty {S} {told} {takes_all} {is_metered} {cost} old mid more same none =
+    subst (λ w. MakesWay told takes_all is_metered cost w more (Ok tt) mid) same (record {
+      fault = tt;
+      moves = Moves-kept told _ _ (sender_buffer mid) (sender_buffer mid) [] refl (sym (append-nil _));
+      rest = ([], refl);
+      room = λ short. omega (arith, short, ap length none);
+      empty = λ _. none;
+      fits = λ _. (refl, refl, refl);
+      sent = λ _. none;
+      all = λ t. (t, refl);
+      calls = λ m t. (m, omega (arith, way_calls-empty S more (sender_buffer mid) (ap length none)));
+    })
 
 -- both fit
 pub way_free : {W : Type 0} {S : ℕ} {told : W → Told} {takes_all is_metered : W → Type 0} {cost : W → ℕ} (old : Sender W S) (x : List ℕ)

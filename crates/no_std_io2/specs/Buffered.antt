@@ -5,7 +5,7 @@ use Rattle.no_std_io2_base.specs.Writes.{Told, IsFront}
 use Rattle.no_std_io2.specs.Window.{window_bytes}
 use Rattle.no_std_io2.specs.declared.buffered.sender.Sender.{Sender}
 use Rattle.no_std_io2.specs.declared.buffered.buf_writer.BufWriter.{BufWriter}
-use Rattle.no_std_io2.specs.declared.buffered.buf_writer.IntoInnerError.{IntoInnerError}
+use Rattle.no_std_io2.specs.declared.buffered.into_inner_error.IntoInnerError.{IntoInnerError}
 
 -- the inner writer
 abbrev pub sender_inner : {W : Type 0} {S : ℕ} → Sender W S → W

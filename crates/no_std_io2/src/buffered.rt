@@ -3,6 +3,7 @@
 //! asked for. [`IntoInnerError`] is what `into_inner` of a writer fails with.
 mod buf_reader;
 mod buf_writer;
+mod into_inner_error;
 mod line_writer;
 mod read_ahead;
 mod reader_tells;
@@ -11,5 +12,6 @@ mod tells;
 mod window;
 
 pub use buf_reader::BufReader;
-pub use buf_writer::{BufWriter, IntoInnerError};
+pub use buf_writer::BufWriter;
+pub use into_inner_error::IntoInnerError;
 pub use line_writer::LineWriter;

@@ -2,17 +2,18 @@
 ghost use Rattle.std.specs.Prelude.{Some, ◌≡◌, ◌+◌, ◌<◌, ◌≤◌, ◌⊎◌, [], ◌∷◌, ◌++◌, length, take, Ok, IsOk, IfOk, IfErr, IsOkAnd, OnOk, OnErr, false};
 ghost use Rattle.std.specs.Borrow.{Lends, sem};
 ghost use Rattle.no_std_io2.specs.contracts.buffered.buf_writer.BufWriter.{the_row as writer-row};
-ghost use Rattle.no_std_io2_base.specs.Errors.{error_kind, error_display, IsFault, IsNoInterruption};
+ghost use Rattle.no_std_io2_base.specs.Errors.{error_kind, IsFault, IsNoInterruption};
 ghost use Rattle.no_std_io2_base.specs.Writes.{Moves, MovesFront, taken, write_mishap, call_mishap, Sends, calls_for};
 ghost use Rattle.no_std_io2.specs.Buffered.{writer_inner, writer_buffer, writer_told, into_inner_error_writer, into_inner_error_cause, writing_calls, buffer_after, IsEnd, writer_with_inner};
 
 mod seeking;
 
+use super::into_inner_error::IntoInnerError;
 use super::sender::Sender;
-use no_std_io2_base::error::{Error, Result};
+use no_std_io2_base::error::Result;
 use no_std_io2_base::traits::Write;
 use std::fmt;
-use std::fmt::{Debug, Display, Formatter};
+use std::fmt::{Debug, Formatter};
 
 /// A buffer of `S` bytes in front of a writer, for programs that write many small pieces: the inner
 /// writer gets few large ones. Follows `std::io::BufWriter`, over an array in place of a vector.
@@ -182,99 +183,6 @@ impl<W: Write + Drop + Debug, const S: usize> Debug for BufWriter<W, S> {
             .finish()
     }
 }
-
-/// The error of [`BufWriter::into_inner`]: why the sending failed, and the writer, which holds the
-/// bytes that were not sent. Follows `std::io::IntoInnerError`.
-///
-/// ```rust
-/// let mut room = [0u8; 2];
-/// let mut w = BufWriter::<_, 8>::new(Cursor::new(&mut room[..]));
-/// w.write_all(b"abc")?;
-/// if let Err(failed) = w.into_inner() {
-///     assert_eq!(rt; failed.error().kind(), ErrorKind::WriteZero);
-///     let w = failed.into_inner();
-///     assert_eq!(rt; w.buffer(), b"c".as_slice()); // `ab` is out
-/// }
-/// ```
-#[derive(Drop)]
-pub struct IntoInnerError<W> {
-    writer: W,
-    error: Error,
-}
-
-impl<W> IntoInnerError<W> {
-    pub(super) fn new(writer: W, error: Error) -> IntoInnerError<W>
-        ensures writer { into_inner_error_writer result ≡ writer }
-        ensures cause { into_inner_error_cause result ≡ error }
-    {
-        IntoInnerError { writer, error }
-    }
-
-    /// Why the sending failed. Follows `std::io::IntoInnerError::error`.
-    ///
-    /// ```rust
-    /// let mut room = [0u8; 2];
-    /// let mut w = BufWriter::<_, 8>::new(Cursor::new(&mut room[..]));
-    /// w.write_all(b"abc")?;
-    /// if let Err(failed) = w.into_inner() {
-    ///     assert_eq!(rt; failed.error().kind(), ErrorKind::WriteZero);
-    ///     let w = failed.into_inner();
-    ///     assert_eq!(rt; w.buffer(), b"c".as_slice()); // `ab` is out
-    /// }
-    /// ```
-    pub fn error(&self) -> &Error
-        ensures { result.now ≡ into_inner_error_cause self.now }
-    {
-        &self.error
-    }
-
-    /// The buffered writer, to be used again. Follows `std::io::IntoInnerError::into_inner`.
-    ///
-    /// ```rust
-    /// let mut room = [0u8; 2];
-    /// let mut w = BufWriter::<_, 8>::new(Cursor::new(&mut room[..]));
-    /// w.write_all(b"abc")?;
-    /// if let Err(failed) = w.into_inner() {
-    ///     assert_eq!(rt; failed.error().kind(), ErrorKind::WriteZero);
-    ///     let w = failed.into_inner();
-    ///     assert_eq!(rt; w.buffer(), b"c".as_slice()); // `ab` is out
-    /// }
-    /// ```
-    pub fn into_inner(self) -> W
-        ensures { result ≡ into_inner_error_writer self }
-    {
-        self.writer
-    }
-}
-
-/// The error alone; the writer is dropped, and a buffered one sends once more then.
-impl<W: Drop> From<IntoInnerError<W>> for Error {
-    ghost from_gives = { λ x y. y ≡ into_inner_error_cause x };
-
-    fn from(e: IntoInnerError<W>) -> Error {
-        e.error
-    }
-}
-
-/// Prints what the error prints.
-impl<W> Display for IntoInnerError<W> {
-    ghost output = { λ e. Some (error_display (into_inner_error_cause e)) };
-
-    fn fmt<V: fmt::Write>(&self, f: &mut Formatter<V>) -> fmt::Result {
-        Display::fmt(&self.error, f)
-    }
-}
-
-impl<W: Debug> Debug for IntoInnerError<W> {
-    fn fmt<V: fmt::Write>(&self, f: &mut Formatter<V>) -> fmt::Result {
-        f.debug_struct("IntoInnerError")
-            .field("writer", &self.writer)
-            .field("error", &self.error)
-            .finish()
-    }
-}
-
-impl<W: Debug + Drop> std::error::Error for IntoInnerError<W> {}
 
 /// Tells what its inner writer tells, and holds its buffer behind that.
 impl<W: Write + Drop, const S: usize> Write for BufWriter<W, S> {

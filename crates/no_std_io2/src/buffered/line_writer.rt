@@ -13,7 +13,7 @@ mod state;
 mod steps;
 mod tells;
 
-use super::buf_writer::IntoInnerError;
+use super::into_inner_error::IntoInnerError;
 use super::sender::Sender;
 use no_std_io2_base::error::Result;
 use no_std_io2_base::traits::Write;

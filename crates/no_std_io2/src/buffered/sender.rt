@@ -149,7 +149,8 @@ impl<W: Write + Drop, const S: usize> Sender<W, S> {
         Ok(buf.len())
     }
 
-    /// As `write`, with the inner `write_all` for a buffer of `S` bytes and more.
+    /// As `write`, with the inner `write_all` for a buffer of `S` bytes and more. Where nothing is held,
+    /// that is a hot path too.
     ///
     /// # Errors
     /// As `send`, or the inner `write_all`'s.
@@ -159,6 +160,9 @@ impl<W: Write + Drop, const S: usize> Sender<W, S> {
     {
         if self.hold_if_room(buf) {
             return Ok(());
+        }
+        if buf.len() >= S && self.window.len() == 0 {
+            return self.inner.write_all(buf);
         }
         self.write_all_cold(buf)
     }

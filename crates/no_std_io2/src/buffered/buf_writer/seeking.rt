@@ -1,5 +1,5 @@
 ghost use Rattle.std.specs.Prelude.{◌≡◌, ◌<◌, [], ◌∷◌, length, IsOk, IfOk, IfErr, OnOk, IsOkAnd};
-ghost use Rattle.no_std_io2_base.specs.Errors.{error_kind};
+ghost use Rattle.no_std_io2_base.specs.Errors.{error_kind, IsFault};
 ghost use Rattle.no_std_io2_base.specs.Seek.{Seeks};
 ghost use Rattle.no_std_io2_base.specs.Writes.{Moves};
 ghost use Rattle.no_std_io2.specs.Buffered.{writer_inner, writer_buffer, writer_told, IsEnd};
@@ -38,8 +38,8 @@ impl<W: Write + Seek + Drop, const S: usize> Seek for BufWriter<W, S> {
     /// Sends what is held, then seeks the inner writer.
     ///
     /// # Errors
-    /// Sending's fault, with the rest still held and no seek made, or the inner `seek`'s error, with
-    /// nothing held.
+    /// Sending's fault, never `Interrupted`, with the rest still held and no seek made, or the inner
+    /// `seek`'s error as it is, with nothing held.
     fn seek(&mut self, pos: SeekFrom) -> Result<u64>
         // The trait's.
         ensures store { (writer_buffer self.old ≡ []) × W.has_store (writer_inner self.old)
@@ -54,6 +54,7 @@ impl<W: Write + Seek + Drop, const S: usize> Seek for BufWriter<W, S> {
         ensures rest { IsEnd (writer_buffer self.old) (writer_buffer self.new) }
         ensures refused { IfErr result (λ e. 0 < length (writer_buffer self.new)
             → Moves (writer_told W.told self.old) [] (error_kind e ∷ []) (writer_told W.told self.new)) }
+        ensures fault { IfErr result (λ e. 0 < length (writer_buffer self.new) → IsFault e) }
 
         // Else all was sent, and the inner seek went from there.
         ensures empty { OnOk result (writer_buffer self.new ≡ []) }
@@ -79,6 +80,7 @@ impl<W: Write + Seek + Drop, const S: usize> Seek for BufWriter<W, S> {
         ensures rest { IsEnd (writer_buffer self.old) (writer_buffer self.new) }
         ensures refused { IfErr result (λ e. 0 < length (writer_buffer self.new)
             → Moves (writer_told W.told self.old) [] (error_kind e ∷ []) (writer_told W.told self.new)) }
+        ensures fault { IfErr result (λ e. 0 < length (writer_buffer self.new) → IsFault e) }
         ensures empty { OnOk result (writer_buffer self.new ≡ []) }
         ensures sent { writer_buffer self.new ≡ [] → SeeksAfterSending W.told W.has_store W.content
             W.position (writer_told W.told self.old) here result (writer_inner self.new) }
@@ -97,6 +99,7 @@ impl<W: Write + Seek + Drop, const S: usize> Seek for BufWriter<W, S> {
         ensures rest { IsEnd (writer_buffer self.old) (writer_buffer self.new) }
         ensures refused { IfErr result (λ e. 0 < length (writer_buffer self.new)
             → Moves (writer_told W.told self.old) [] (error_kind e ∷ []) (writer_told W.told self.new)) }
+        ensures fault { IfErr result (λ e. 0 < length (writer_buffer self.new) → IsFault e) }
         ensures empty { OnOk result (writer_buffer self.new ≡ []) }
         ensures sent { writer_buffer self.new ≡ [] → SeeksAfterSending W.told W.has_store W.content
             W.position (writer_told W.told self.old) at_start (as_seek result) (writer_inner self.new) }
@@ -118,6 +121,7 @@ impl<W: Write + Seek + Drop, const S: usize> Seek for BufWriter<W, S> {
         ensures rest { IsEnd (writer_buffer self.old) (writer_buffer self.new) }
         ensures refused { IfErr result (λ e. 0 < length (writer_buffer self.new)
             → Moves (writer_told W.told self.old) [] (error_kind e ∷ []) (writer_told W.told self.new)) }
+        ensures fault { IfErr result (λ e. 0 < length (writer_buffer self.new) → IsFault e) }
         ensures empty { OnOk result (writer_buffer self.new ≡ []) }
         ensures sent { writer_buffer self.new ≡ [] → MeasuredAfterSending W.told W.has_store W.content
             W.position (writer_told W.told self.old) result (writer_inner self.new) }

@@ -60,3 +60,12 @@ returns-clause-sent g c =
       moves = Moves-out {k = []} _ sends.sent _ sends.split none sends.moves;
       seeks = rw c.get_mut.ensures.value at c.seek.ensures.store;
     }
+
+pub returns-in_err-send-clause-fault : goal.returns-in_err-send-clause-fault
+returns-in_err-send-clause-fault g c =
+    let p = err_from_is_err_and c.from_residual.result c.from_residual.ensures.1 in
+    rw (p.1, p.2) (λ some. c.in_err-send.ensures.fault)
+
+pub returns-clause-fault : goal.returns-clause-fault
+returns-clause-fault g c =
+    iferr c.seek.result (λ e some. absurd (omega (arith, some, ap length c.in_ok-send.ensures.empty)))

@@ -45,3 +45,10 @@ returns-in-Err-clause-refused g c =
 
 pub returns-in-Err-clause-sent : goal.returns-in-Err-clause-sent
 returns-in-Err-clause-sent g c = λ none. absurd (omega (arith, c.in-Err.ensures.left, ap length none))
+
+pub returns-in-Ok-clause-fault : goal.returns-in-Ok-clause-fault
+returns-in-Ok-clause-fault g c =
+    iferr c.length_by_seeks.result (λ e some. absurd (omega (arith, some, ap length c.in-Ok.ensures.empty)))
+
+pub returns-in-Err-clause-fault : goal.returns-in-Err-clause-fault
+returns-in-Err-clause-fault g c = λ some. c.in-Err.ensures.fault

@@ -1,0 +1,110 @@
+//! What a buffered writer answers that could not be emptied.
+ghost use Rattle.std.specs.Prelude.{Some, ◌≡◌};
+ghost use Rattle.no_std_io2_base.specs.Errors.{error_display};
+ghost use Rattle.no_std_io2.specs.Buffered.{into_inner_error_writer, into_inner_error_cause};
+
+use no_std_io2_base::error::Error;
+use std::fmt;
+use std::fmt::{Debug, Display, Formatter};
+
+/// The error of `into_inner` of a [`BufWriter`](super::BufWriter) and of a
+/// [`LineWriter`](super::LineWriter): why the sending failed, and the writer, which holds the
+/// bytes that were not sent. Follows `std::io::IntoInnerError`.
+///
+/// ```rust
+/// let mut room = [0u8; 2];
+/// let mut w = BufWriter::<_, 8>::new(Cursor::new(&mut room[..]));
+/// w.write_all(b"abc")?;
+/// if let Err(failed) = w.into_inner() {
+///     assert_eq!(rt; failed.error().kind(), ErrorKind::WriteZero);
+///     let w = failed.into_inner();
+///     assert_eq!(rt; w.buffer(), b"c".as_slice()); // `ab` is out
+/// }
+/// ```
+#[derive(Drop)]
+pub struct IntoInnerError<W> {
+    writer: W,
+    error: Error,
+}
+
+impl<W> IntoInnerError<W> {
+    pub(super) fn new(writer: W, error: Error) -> IntoInnerError<W>
+        ensures writer { into_inner_error_writer result ≡ writer }
+        ensures cause { into_inner_error_cause result ≡ error }
+    {
+        IntoInnerError { writer, error }
+    }
+
+    /// Why the sending failed. Follows `std::io::IntoInnerError::error`.
+    ///
+    /// ```rust
+    /// let mut room = [0u8; 2];
+    /// let mut w = BufWriter::<_, 8>::new(Cursor::new(&mut room[..]));
+    /// w.write_all(b"abc")?;
+    /// if let Err(failed) = w.into_inner() {
+    ///     assert_eq!(rt; failed.error().kind(), ErrorKind::WriteZero);
+    ///     let w = failed.into_inner();
+    ///     assert_eq!(rt; w.buffer(), b"c".as_slice()); // `ab` is out
+    /// }
+    /// ```
+    pub fn error(&self) -> &Error
+        ensures { result.now ≡ into_inner_error_cause self.now }
+    {
+        &self.error
+    }
+
+    /// The buffered writer, to be used again. Follows `std::io::IntoInnerError::into_inner`.
+    ///
+    /// ```rust
+    /// let mut room = [0u8; 2];
+    /// let mut w = BufWriter::<_, 8>::new(Cursor::new(&mut room[..]));
+    /// w.write_all(b"abc")?;
+    /// if let Err(failed) = w.into_inner() {
+    ///     assert_eq!(rt; failed.error().kind(), ErrorKind::WriteZero);
+    ///     let w = failed.into_inner();
+    ///     assert_eq!(rt; w.buffer(), b"c".as_slice()); // `ab` is out
+    /// }
+    /// ```
+    pub fn into_inner(self) -> W
+        ensures { result ≡ into_inner_error_writer self }
+    {
+        self.writer
+    }
+
+    /// Why the sending failed, and the buffered writer. Follows `std::io::IntoInnerError::into_parts`.
+    pub fn into_parts(self) -> (Error, W)
+        ensures error { result.0 ≡ into_inner_error_cause self }
+        ensures writer { result.1 ≡ into_inner_error_writer self }
+    {
+        (self.error, self.writer)
+    }
+}
+
+/// The error alone; the writer is dropped, and a buffered one sends once more then.
+impl<W: Drop> From<IntoInnerError<W>> for Error {
+    ghost from_gives = { λ x y. y ≡ into_inner_error_cause x };
+
+    fn from(e: IntoInnerError<W>) -> Error {
+        e.error
+    }
+}
+
+/// Prints what the error prints.
+impl<W> Display for IntoInnerError<W> {
+    ghost output = { λ e. Some (error_display (into_inner_error_cause e)) };
+
+    fn fmt<V: fmt::Write>(&self, f: &mut Formatter<V>) -> fmt::Result {
+        Display::fmt(&self.error, f)
+    }
+}
+
+impl<W: Debug> Debug for IntoInnerError<W> {
+    fn fmt<V: fmt::Write>(&self, f: &mut Formatter<V>) -> fmt::Result {
+        f.debug_struct("IntoInnerError")
+            .field("writer", &self.writer)
+            .field("error", &self.error)
+            .finish()
+    }
+}
+
+impl<W: Debug + Drop> std::error::Error for IntoInnerError<W> {}
