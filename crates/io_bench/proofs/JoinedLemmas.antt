@@ -1,5 +1,7 @@
 -- A run whose replies say what was accepted, call by call.
-use Rattle.std.proofs.Common.{◌≡◌, ℕ, zero, suc, arith, min, ◌+◌, ◌<◌, ◌≤◌, take_all, length, take, get_or, List, [], ◌∷◌, ◌++◌, refl, sym, ap, ◌∙◌, subst, append_assoc, append-nil, inl, inr}
+use Rattle.std.proofs.Common.{◌≡◌, ℕ, zero, suc, arith, min, ◌+◌, ◌<◌, ◌≤◌, take_all, length, take, get_or, List, [], ◌∷◌, ◌++◌, refl, sym, ap, ◌∙◌, subst, append_assoc, append-nil, inl, inr, Result, Ok, Err}
+use Rattle.std.specs.Result.{IsErrAnd, IfErr}
+use Rattle.no_std_io2_base.specs.declared.error.Error.{Error}
 use Rattle.std.proofs.lemmas.List.{take_more, length-take, length-append, append_cancel_left, nil_from_length}
 use Rattle.io_bench.specs.declared.runs.Op.{Op}
 use Rattle.io_bench.specs.declared.runs.Op.TheVariants.{Write, WriteAll, Flush}
@@ -131,3 +133,25 @@ unclear (WriteAll x ∷ ops) (Took k ∷ replies) b j n = absurd j.0.2
 unclear (Flush ∷ ops) (Took k ∷ replies) b j n = absurd j.0.2
 unclear [] (reply ∷ replies) b j n = absurd j.0
 unclear (op ∷ ops) [] b j n = absurd j.0
+
+-- a run that accepted nothing accepted nothing by each call
+nothing_at : (ops : List Op) (replies : List Reply) (i : ℕ) (p : Op) (q : Reply) → i < length ops → Run ops replies []
+    → Accepts (get_or ops i p) (get_or replies i q) []
+nothing_at (op ∷ ops) (reply ∷ replies) zero p q h r =
+    subst (Accepts op reply) (nil_from_length r.0 (omega (arith, ap length r.4, length-append r.0 r.1))) r.2
+nothing_at (op ∷ ops) (reply ∷ replies) (suc i) p q h r =
+    nothing_at ops replies i p q (omega (arith, h)) (subst (Run ops replies) (nil_from_length r.1 (omega (arith, ap length r.4, length-append r.0 r.1))) r.3)
+nothing_at [] replies i p q h r = absurd (omega (arith, h))
+nothing_at (op ∷ ops) [] i p q h r = absurd r
+
+-- so a call that accepted some bytes is in no such run
+pub some_accepted : (ops : List Op) (replies : List Reply) (i : ℕ) (p : Op) (q : Reply) (xs : List ℕ) → i < length ops
+    → IsClear (get_or ops i p) (get_or replies i q) → Accepts (get_or ops i p) (get_or replies i q) xs → 0 < length xs
+    → Run ops replies [] → ⊥
+some_accepted ops replies i p q xs h clear accepts some run =
+    omega (arith, some, ap length (accepted_once _ _ [] xs clear (nothing_at ops replies i p q h run) accepts))
+
+-- what is known of an error is known of an answer that is one
+pub refused_so : {T : Type 0} (reply : Result T Error) (P Q : Error → Type 0) → IsErrAnd reply P → ((e : Error) → P e → Q e) → IfErr reply Q
+refused_so (Ok x) P Q said then = absurd said
+refused_so (Err e) P Q said then = then e said

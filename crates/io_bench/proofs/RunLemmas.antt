@@ -8,7 +8,7 @@ use Rattle.io_bench.specs.declared.runs.Op.{Op}
 use Rattle.io_bench.specs.declared.runs.Op.TheVariants.{Write, WriteAll}
 use Rattle.io_bench.specs.declared.runs.Reply.{Reply}
 use Rattle.io_bench.specs.declared.runs.Reply.TheVariants.{Took, Done}
-use Rattle.io_bench.specs.Runs.{appended, Accepts, Run, mishap_of, mishaps_of, IsFlushed, EndsFlushed, IsWhole, AreWhole, Answers, Ran}
+use Rattle.io_bench.specs.Runs.{appended, Accepts, Run, mishap_of, mishaps_of, IsFlushed, EndsFlushed, IsWhole, AreWhole, Answers, Ran, PassesOver, AllPassOver}
 
 -- one call more
 pub Run-more : (ops : List Op) (replies : List Reply) (xs : List ℕ) (op : Op) (reply : Reply) (ys : List ℕ) → Run ops replies xs → Accepts op reply ys → Run (ops ++ op ∷ []) (replies ++ reply ∷ []) (xs ++ ys)
@@ -86,3 +86,18 @@ Answers-write_all {a} {b} x u moves = record {
 -- replies that were put behind the old ones
 pub appended_back : (old new more : List Reply) → new ≡ old ++ more → new ≡ old ++ appended old new
 appended_back old new more e = e ∙ ap (λ l. old ++ l) (sym (ap (drop (length old)) e ∙ drop-append_seam old more))
+
+-- one call more passed over interruptions
+pub AllPassOver-more : (ops : List Op) (replies : List Reply) (op : Op) (reply : Reply) (xs : List ℕ) → Run ops replies xs → AllPassOver ops replies
+    → PassesOver op reply → AllPassOver (ops ++ op ∷ []) (replies ++ reply ∷ [])
+AllPassOver-more [] [] op reply xs r a p = (p, tt)
+AllPassOver-more (o ∷ ops) (q ∷ replies) op reply xs r a p = (a.0, AllPassOver-more ops replies op reply r.1 r.3 a.1 p)
+AllPassOver-more [] (q ∷ replies) op reply xs r a p = absurd r
+AllPassOver-more (o ∷ ops) [] op reply xs r a p = absurd r
+
+pub AllPassOver-next : {a b : Told} (reply : Reply) (ops : List Op) (i : ℕ) (d : Op) (replies : List Reply) → i < length ops
+    → Ran a (take i ops) replies b → AllPassOver (take i ops) replies → PassesOver (get_or ops i d) reply
+    → AllPassOver (take (i + 1) ops) (replies ++ reply ∷ [])
+AllPassOver-next reply ops i d replies h ran so_far p =
+    subst (λ made. AllPassOver made (replies ++ reply ∷ [])) (sym (take_more ops i d h))
+    (AllPassOver-more (take i ops) replies (get_or ops i d) reply ran.accepted ran.run so_far p)

@@ -1,7 +1,7 @@
 -- What replies accept, which of them failed, and whole runs.
 use Rattle.std.specs.Prelude.{◌≡◌, ℕ, ◌+◌, ◌≤◌, ◌==◌, ◌&&◌, nat_lt, Bool, true, false, if◌then◌else◌, List, [], ◌∷◌, ◌++◌, length, take, drop, count_by, ⊤, Option, None, Some}
 use Rattle.no_std_io2_base.specs.declared.error.ErrorKind.{ErrorKind}
-use Rattle.no_std_io2_base.specs.Errors.{error_kind, kind_number}
+use Rattle.no_std_io2_base.specs.Errors.{error_kind, kind_number, IsFault}
 use Rattle.no_std_io2_base.specs.Writes.{Told, Moves, IsFront, zero_write}
 use Rattle.io_bench.specs.declared.runs.Op.{Op}
 use Rattle.io_bench.specs.declared.runs.Op.TheVariants.{Write, WriteAll, Flush}
@@ -119,6 +119,20 @@ AreWhole [] [] = ⊤
 AreWhole (op ∷ ops) (reply ∷ replies) = IsWhole op reply × AreWhole ops replies
 AreWhole [] (reply ∷ replies) = ⊥
 AreWhole (op ∷ ops) [] = ⊥
+
+-- a `write_all` passes over interruptions, so what it failed with is a fault
+abbrev pub PassesOver : Op → Reply → Type 0
+PassesOver (WriteAll x) (Failed e) = IsFault e
+PassesOver (WriteAll x) (Took n) = ⊤
+PassesOver (WriteAll x) Done = ⊤
+PassesOver (Write x) reply = ⊤
+PassesOver Flush reply = ⊤
+
+-- each `write_all` does
+abbrev pub AllPassOver : List Op → List Reply → Type 0
+AllPassOver [] replies = ⊤
+AllPassOver (op ∷ ops) [] = ⊤
+AllPassOver (op ∷ ops) (reply ∷ replies) = PassesOver op reply × AllPassOver ops replies
 
 -- one call and its reply, from old to new
 pub record Answers (old : Told) (op : Op) (reply : Reply) (new : Told) : Type 0 where

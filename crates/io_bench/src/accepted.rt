@@ -1,7 +1,7 @@
 // What a run accepted, out of its calls and replies.
-ghost use Rattle.std.specs.Prelude.{◌≡◌, ℕ, List, Some, None, true, false, IfSome, IfOk, IfErr};
+ghost use Rattle.std.specs.Prelude.{◌≡◌, ℕ, List, [], Some, None, true, false, IfSome, IfOk, IfErr};
 ghost use Rattle.no_std_io2_base.specs.Errors.{IsOutOfMemory};
-ghost use Rattle.io_bench.specs.Runs.{Accepts};
+ghost use Rattle.io_bench.specs.Runs.{Accepts, Run};
 ghost use Rattle.io_bench.specs.Joined.{IsClear, AreClear, IsJoined, HasIdleFailure};
 
 use crate::runs::{Op, Reply};
@@ -61,7 +61,8 @@ pub fn joined(alloc: Global, ops: &[Op<'_>], replies: &[Reply]) -> Result<Option
     // So where it is left open there is no one such list, but for a `write_all` of nothing that failed.
     ensures no_one { IfOk result (λ answer. answer ≡ None → (bytes : List ℕ) → IsJoined ops.now replies.now bytes
         → HasIdleFailure ops.now replies.now) }
-    ensures err { IfErr result (λ e. IsOutOfMemory e × AreClear ops.now replies.now) }
+    // Memory is refused only where some byte was accepted.
+    ensures err { IfErr result (λ e. IsOutOfMemory e × AreClear ops.now replies.now × (Run ops.now replies.now [] → ⊥)) }
 {
     if !are_clear(ops, replies) {
         return Ok(None);

@@ -1,6 +1,6 @@
 // A run through one `BufWriter` over a base that takes all.
-ghost use Rattle.std.specs.Prelude.{◌≡◌, ◌+◌, ◌*◌, ◌/◌, ◌<◌, ◌≤◌, [], ◌++◌, length, IfOk, IfErr, OnOk, OnErr};
-ghost use Rattle.no_std_io2_base.specs.Errors.{error_kind};
+ghost use Rattle.std.specs.Prelude.{◌≡◌, ◌+◌, ◌*◌, ◌/◌, ◌<◌, ◌≤◌, [], ◌++◌, length, IfOk, IfErr, OnOk, OnErr, vec_len, vec_capacity};
+ghost use Rattle.no_std_io2_base.specs.Errors.{IsOutOfMemory};
 ghost use Rattle.no_std_io2_base.specs.Writes.{Moves};
 ghost use Rattle.no_std_io2.specs.Buffered.{writer_inner, writer_buffer, writer_told};
 ghost use Rattle.io_bench.specs.Runs.{appended, Answers, AreWhole, IsWhole};
@@ -69,7 +69,9 @@ pub fn run_closed<W: Write + Drop, const S: usize>(
         (W.told (tally_inner t))) }
     ensures bound { IfOk result (λ t. tally_writes t ≤ tally_writes w
         + (2 * (length (given_bytes ops.now) / (S + 1)) + flushes ops.now + 1)) }
-    ensures kind { IfErr result (λ e. error_kind e ≡ ErrorKind.OutOfMemory) }
+    ensures kind { IfErr result IsOutOfMemory }
+    // Nothing is refused where there is room for the replies.
+    ensures full { OnErr result (vec_capacity replies.old < vec_len replies.old + length ops.now) }
     ensures err { OnErr result (replies.new.items ≡ replies.old.items) }
 {
     if replies.reserve(ops.len()).is_err() {

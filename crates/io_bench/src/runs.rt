@@ -1,8 +1,8 @@
 // Calls of a writer in a row.
-ghost use Rattle.std.specs.Prelude.{◌≡◌, [], ◌++◌, Some, OnOk, OnErr, IfErr};
-ghost use Rattle.no_std_io2_base.specs.Errors.{error_kind};
+ghost use Rattle.std.specs.Prelude.{◌≡◌, ◌+◌, ◌<◌, [], ◌++◌, Some, OnOk, OnErr, IfErr, length, vec_len, vec_capacity};
+ghost use Rattle.no_std_io2_base.specs.Errors.{IsOutOfMemory};
 ghost use Rattle.no_std_io2_base.specs.declared.error.ErrorKind.{ErrorKind};
-ghost use Rattle.io_bench.specs.Runs.{appended, Answers, Ran, EndsFlushed, failures, failures_of, IsShorterBy, HasFewer, AreWhole, IsWhole};
+ghost use Rattle.io_bench.specs.Runs.{appended, Answers, Ran, EndsFlushed, failures, failures_of, IsShorterBy, HasFewer, AreWhole, IsWhole, AllPassOver, PassesOver};
 
 use no_std_io2::io::{Error, ErrorKind, Result, Write};
 use std::alloc::Allocator;
@@ -33,6 +33,7 @@ pub enum Reply {
 fn make_call<W: Write>(w: &mut W, op: Op<'_>) -> Reply
     ensures answers { Answers (W.told w.old) op.entry result (W.told w.new) }
     ensures all { W.takes_all w.old → W.takes_all w.new × IsWhole op.entry result }
+    ensures passes { PassesOver op.entry result }
 {
     match op {
         Op::Write(x) => match w.write(x) {
@@ -84,7 +85,11 @@ pub fn run_writes<W: Write>(
         → failures ops.now (appended replies.old.items replies.new.items) ≡ 0) }
     ensures all { OnOk result (W.takes_all w.old → W.takes_all w.new
         × AreWhole ops.now (appended replies.old.items replies.new.items)) }
-    ensures kind { IfErr result (λ e. error_kind e ≡ ErrorKind.OutOfMemory) }
+    // A `write_all` passes over interruptions, so none is its reply.
+    ensures passes { OnOk result (AllPassOver ops.now (appended replies.old.items replies.new.items)) }
+    ensures kind { IfErr result IsOutOfMemory }
+    // Nothing is refused where there is room for the replies.
+    ensures full { OnErr result (vec_capacity replies.old < vec_len replies.old + length ops.now) }
     ensures err { OnErr result ((w.new ≡ w.old) × (replies.new.items ≡ replies.old.items)) }
 {
     if replies.reserve(ops.len()).is_err() {

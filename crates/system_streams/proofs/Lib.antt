@@ -1,1 +1,2 @@
 mod CopyLemmas
+mod LoopLemmas

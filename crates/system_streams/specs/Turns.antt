@@ -1,8 +1,9 @@
--- How a patient answers: its errors, and the turns that an answer spends.
-use Rattle.std.specs.Prelude.{◌≡◌, ℕ, ◌+◌, ◌<◌, None, Some, Ok, Err, Result, codes, ◌⊎◌}
+-- How a patient answers: its errors, the turns that an answer spends, and the bytes that loops of its calls move.
+use Rattle.std.specs.Prelude.{◌≡◌, ℕ, ◌+◌, ◌<◌, ◌≤◌, List, ◌++◌, length, take, Option, None, Some, Ok, Err, Result, OnOk, codes, ◌⊎◌}
+use Rattle.std.specs.Io.KnownBytes.{Appends, Consumes}
 use Rattle.no_std_io2.specs.declared.io.Error.{Error}
 use Rattle.no_std_io2.specs.declared.io.ErrorKind.TheVariants.{TimedOut, Interrupted, Other}
-use Rattle.no_std_io2.specs.Errors.{error_kind, error_text}
+use Rattle.no_std_io2.specs.Errors.{error_kind, error_text, IsUnwritten, IsUnexpectedEnd}
 
 -- no turn was left to ask the device again
 abbrev pub IsOutOfTurns : Error → Type 0
@@ -26,3 +27,28 @@ abbrev pub AnswersWrite : {T : Type 0} → Result T Error → ℕ → ℕ → Ty
 AnswersWrite (Ok x) old new = new ≡ old
 AnswersWrite (Err e) old new =
     (IsPlainInterruption e × (new + 1 ≡ old)) ⊎ (IsOutOfTurns e × (old ≡ 0) × (new ≡ 0)) ⊎ (IsDeviceFault e × (new ≡ old))
+
+-- a loop of writes ended so: its turns ran out, its device failed, or took nothing of some bytes
+abbrev pub EndsWrites : {T : Type 0} → Result T Error → ℕ → ℕ → Type 0
+EndsWrites (Ok x) old new = new ≤ old
+EndsWrites (Err e) old new = (new ≤ old) × ((IsOutOfTurns e × (new ≡ 0)) ⊎ (IsDeviceFault e ⊎ IsUnwritten e))
+
+-- The device answered for the front of a text, and `left` is left: so much is out now, and stands behind its known bytes.
+pub record Gives (text left out out' : List ℕ) (known known' : Option (List ℕ)) : Type 0 where
+  pub given : List ℕ
+  pub split : text ≡ given ++ left
+  pub taken : out' ≡ out ++ given
+  pub device : Appends known known' given
+
+-- a loop of reads that had some room ended so: it spent a turn at least, or its turns ran out, its device failed, or its bytes ended
+abbrev pub EndsReads : {T : Type 0} → ℕ → Result T Error → ℕ → ℕ → Type 0
+EndsReads room (Ok x) old new = (new ≤ old) × (0 < room → new < old)
+EndsReads room (Err e) old new =
+    (new ≤ old) × ((IsOutOfTurns e × (new ≡ 0) × (0 < old)) ⊎ ((IsDeviceFault e × (new < old)) ⊎ IsUnexpectedEnd e))
+
+-- the front of the buffer is what the device gave of its known bytes: all of it at `Ok`
+pub record Got {T : Type 0} (known known' : Option (List ℕ)) (reply : Result T Error) (buf : List ℕ) : Type 0 where
+  pub count : ℕ
+  pub within : count ≤ length buf
+  pub whole : OnOk reply (count ≡ length buf)
+  pub device : Consumes known known' (take count buf)

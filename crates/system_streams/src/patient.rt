@@ -1,9 +1,10 @@
 // A reader or a writer of the system's, with a number of turns that bounds every loop over it.
-ghost use Rattle.std.specs.Prelude.{◌≡◌, ◌+◌, ◌<◌, ◌≤◌, ◌⊎◌, ◌++◌, [], Ok, IfOk, IsErrAnd, length, OnOk};
+ghost use Rattle.std.specs.Prelude.{◌≡◌, ℕ, List, ◌+◌, ◌<◌, ◌≤◌, ◌⊎◌, ◌++◌, [], Ok, IfOk, IfErr, IsErrAnd, length, OnOk};
 ghost use Rattle.std.specs.Io.KnownBytes.{ReadConsumes, WriteAppends, Keeps};
 ghost use Rattle.no_std_io2.specs.Events.{SpendsTurn};
-ghost use Rattle.no_std_io2.specs.Writes.{Moves, taken, write_mishap, call_mishap};
-ghost use Rattle.system_streams.specs.Turns.{IsOutOfTurns, IsPlainInterruption, IsDeviceFault, AnswersRead, AnswersWrite};
+ghost use Rattle.no_std_io2.specs.Errors.{IsFault, IsNoInterruption, IsUnwritten, IsUnexpectedEnd};
+ghost use Rattle.no_std_io2.specs.Writes.{Moves, MovesFront, Sends, taken, write_mishap, call_mishap};
+ghost use Rattle.system_streams.specs.Turns.{IsOutOfTurns, IsPlainInterruption, IsDeviceFault, AnswersRead, AnswersWrite, EndsReads, EndsWrites, Gives, Got};
 
 use no_std_io2::io::{Error, ErrorKind, Read, Result, Stored, Write};
 use no_std_io2::trace::Trace;
@@ -94,6 +95,18 @@ impl<D> Patient<D> {
         self.turns -= 1;
         interruption()
     }
+}
+
+fn took_nothing() -> Error
+    ensures { IsUnwritten result }
+{
+    Error::new(ErrorKind::WriteZero, "failed to write whole buffer")
+}
+
+fn gave_too_little() -> Error
+    ensures { IsUnexpectedEnd result }
+{
+    Error::new(ErrorKind::UnexpectedEof, "failed to fill whole buffer")
 }
 
 fn no_turns_left() -> Error
@@ -194,6 +207,30 @@ impl<D: io::Read> Read for Patient<D> {
         }
     }
 
+    fn read_exact(&mut self, buf: &mut [u8]) -> Result<()>
+        // The trait's.
+        ensures fault { IfErr result IsFault }
+        ensures turns { patient_turns self.new ≤ patient_turns self.old }
+
+        // What was read is what the device gave, and each answer of it but its end spent a turn.
+        ensures bytes { Got (D.remaining (patient_device self.old)) (D.remaining (patient_device self.new))
+            result buf.new }
+        ensures ends { EndsReads (length buf.old) result (patient_turns self.old) (patient_turns self.new) }
+        ensures empty { length buf.old ≡ 0 → self.new ≡ self.old }
+        ensures taken { patient_taken self.new ≡ patient_taken self.old }
+    {
+        let mut at = 0;
+        'reads: while at < buf.len() {
+            match self.read(&mut buf[at..]) {
+                Ok(0) => return Err(gave_too_little()),
+                Ok(n) => at += n,
+                Err(e) if e.is_interrupted() => {}
+                Err(e) => return Err(e),
+            }
+        }
+        Ok(())
+    }
+
     ghost filling_tells = { λ p h. absurd h };
 
     ghost store_tells = { λ p h. absurd h };
@@ -248,6 +285,43 @@ impl<D: io::Write> Write for Patient<D> {
             Ok(()) => Ok(()),
             Err(e) => Err(self.refuse(e.kind())),
         }
+    }
+
+    fn write_all(&mut self, buf: &[u8]) -> Result<()>
+        // The trait's.
+        ensures fault { IsNoInterruption result }
+        ensures moves { MovesFront (patient_told self.old) buf.now result (patient_told self.new) }
+
+        // What the device answered for is out: all of it at `Ok`.
+        ensures bytes { (left : List ℕ) × OnOk result (left ≡ []) × Gives buf.now left
+            (patient_taken self.old) (patient_taken self.new)
+            (D.contents (patient_device self.old)) (D.contents (patient_device self.new)) }
+        ensures ends { EndsWrites result (patient_turns self.old) (patient_turns self.new) }
+    {
+        let mut rest = buf;
+        self.write_rest(&mut rest)
+    }
+
+    fn write_rest(&mut self, rest: &mut &[u8]) -> Result<()>
+        // The trait's.
+        ensures fault { IsNoInterruption result }
+        ensures sends { Sends (patient_told self.old) rest.old.now result (patient_told self.new) rest.new.now }
+        ensures done { OnOk result (rest.new.now ≡ []) }
+
+        // What the device answered for is out.
+        ensures bytes { Gives rest.old.now rest.new.now (patient_taken self.old) (patient_taken self.new)
+            (D.contents (patient_device self.old)) (D.contents (patient_device self.new)) }
+        ensures ends { EndsWrites result (patient_turns self.old) (patient_turns self.new) }
+    {
+        'writes: while !rest.is_empty() {
+            match self.write(rest) {
+                Ok(0) => return Err(took_nothing()),
+                Ok(n) => *rest = &rest[n..],
+                Err(e) if e.is_interrupted() => {}
+                Err(e) => return Err(e),
+            }
+        }
+        Ok(())
     }
 
     ghost steady = { λ p h. absurd h };

@@ -1,6 +1,7 @@
-use Rattle.std.proofs.Common.{arith, ◌+◌, [], take, length, refl, subst, sym}
+use Rattle.std.proofs.Common.{arith, rules, ◌<◌, ◌≡◌, ◌+◌, [], take, length, refl, subst, sym}
 use Rattle.io_bench.specs.Joined.{IsJoined, IsClear}
-use Rattle.io_bench.proofs.JoinedLemmas.{joined_none, joined_next, all_through, clear_at, clear_length, unclear}
+use Rattle.io_bench.proofs.JoinedLemmas.{joined_none, joined_next, all_through, clear_at, clear_length, unclear, some_accepted, refused_so}
+use Rattle.no_std_io2_base.specs.Errors.{IsOutOfMemory}
 use Rattle.io_bench.proofs.accepted.joined.Goals as goal
 use Rattle.io_bench.proofs.accepted.joined.Goals.{in-Some+in_ok-extend_from_slice, in_default}
 
@@ -32,3 +33,13 @@ returns-clause-known c =
 
 pub returns-then-not-are_clear-clause-no_one : goal.returns-then-not-are_clear-clause-no_one
 returns-then-not-are_clear-clause-no_one c e bytes j = unclear _ _ bytes j (c.are_clear.ensures.no c.if-not-are_clear.true)
+
+pub returns-in_err-extend_from_slice-clause-err : goal.returns-in_err-extend_from_slice-clause-err
+returns-in_err-extend_from_slice-clause-err c =
+    let ops = c.args.ops.now in
+    let replies = c.args.replies.now in
+    let clear = c.are_clear.ensures.yes c.if-not-are_clear.false in
+    let front = c.in-Some.ensures.some in
+    let some : 0 < length c.in-Some.front.now = search rules in
+    let none = some_accepted ops replies c.loop-i.i _ _ _ c.loop-i-test.true front.0 front.1 some in
+    refused_so c.from_residual.result IsOutOfMemory _ c.from_residual.ensures.1 (λ e refused. (refused, clear, none))

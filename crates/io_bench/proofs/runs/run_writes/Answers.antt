@@ -1,13 +1,13 @@
 use Rattle.std.proofs.Common.{◌≡◌, ◌<◌, ◌++◌, ◌∷◌, [], length, rules, arith, ap, ◌∙◌, sym, append-nil, append_assoc}
-use Rattle.io_bench.proofs.RunLemmas.{Ran-none, Ran-next, AreWhole-next, EndsFlushed-next, all_made, appended_back}
-use Rattle.io_bench.specs.Runs.{Ran, EndsFlushed, AreWhole, failures, failures_of, IsShorterBy, HasFewer}
+use Rattle.io_bench.proofs.RunLemmas.{Ran-none, Ran-next, AreWhole-next, AllPassOver-next, EndsFlushed-next, all_made, appended_back}
+use Rattle.io_bench.specs.Runs.{Ran, EndsFlushed, AreWhole, AllPassOver, failures, failures_of, IsShorterBy, HasFewer}
 use Rattle.io_bench.proofs.FailureLemmas.{failures_told, failures_none, fewer_of}
 use Rattle.io_bench.proofs.runs.run_writes.Goals as goal
 
 pub calls-init : goal.calls-init
 calls-init g c =
     record {
-      ran = ([], c.reserve.ensures.items ∙ sym (append-nil c.args.replies.now.items), Ran-none _, λ e. absurd e, λ t. (t, tt));
+      ran = ([], c.reserve.ensures.items ∙ sym (append-nil c.args.replies.now.items), Ran-none _, λ e. absurd e, λ t. (t, tt), tt);
       room = search rules;
     }
 
@@ -26,6 +26,7 @@ calls-preserved g c =
         Ran-next ops i _ replies within before.ran.2 call.answers,
         EndsFlushed-next ops i _ replies within before.ran.2 call.answers,
         λ t. let b = before.ran.4 t in let a = call.all b.0 in (a.0, AreWhole-next _ ops i _ replies within b.1 a.1),
+        AllPassOver-next _ ops i _ replies within before.ran.2 before.ran.5 call.passes,
       );
       room = omega (arith, c.push_reserved.ensures.len, c.push_reserved.ensures.capacity, before.room);
     }
@@ -74,3 +75,8 @@ returns-clause-all g c =
     all_made (λ o r. g.W.Write.takes_all c.args.w.now → g.W.Write.takes_all c.calls.w × AreWhole o r) _ c.calls.op-index _ _ ran.0
     (omega arith) ran.1
     ran.4
+
+pub returns-clause-passes : goal.returns-clause-passes
+returns-clause-passes g c =
+    let ran = c.calls.invariant.ran in
+    all_made AllPassOver _ c.calls.op-index _ _ ran.0 (omega arith) ran.1 ran.5

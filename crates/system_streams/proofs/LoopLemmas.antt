@@ -1,0 +1,224 @@
+-- What loops of a patient's calls have moved.
+use Rattle.std.proofs.Common.{◌≡◌, ℕ, zero, suc, ◌+◌, ◌-◌, ◌<◌, ◌≤◌, List, [], ◌∷◌, ◌++◌, Option, None, Some, Result, Ok, Err, length, take, drop, refl, sym, ap, subst, ◌∙◌, arith, append_assoc, append-nil, take-append-drop, take_all, length-drop, length-take, count_by, if◌then◌else◌, ◌==◌, Bool, true, false, true≢false, eqb-true, drop_of_length-le, inl, inr, ◌⊎◌, length-take-le}
+use Rattle.std.specs.Result.{IsErrAnd}
+use borrow.Rule.Slice.PartMut.{put_mid, post_of, same_len_mid}
+use lib.Seq.{take-append-le, take-append-add}
+use Rattle.std.proofs.lemmas.Slice.{take-put_mid_below}
+use Rattle.std.specs.Io.KnownBytes.{Appends, Consumes, Keeps, WriteAppends, ReadConsumes}
+use Rattle.no_std_io2.specs.declared.io.Error.{Error}
+use Rattle.no_std_io2.specs.declared.io.ErrorKind.{ErrorKind}
+use Rattle.no_std_io2.specs.Errors.{error_kind, is_interruption, IsInterruption, IsFault, IsUnwritten}
+use Rattle.no_std_io2.specs.Writes.{Told, Sends, call_mishap, taken}
+use Rattle.system_streams.specs.Turns.{Gives, AnswersRead, AnswersWrite, EndsReads, EndsWrites, IsOutOfTurns, IsPlainInterruption, IsDeviceFault}
+
+appends_nil : (a : Option (List ℕ)) → Appends a a []
+appends_nil None = tt
+appends_nil (Some x) = sym (append-nil x)
+
+appends_then : (a b c : Option (List ℕ)) (bs cs : List ℕ) → Appends a b bs → Appends b c cs → Appends a c (bs ++ cs)
+appends_then None b c bs cs p q = tt
+appends_then (Some x) None c bs cs p q = absurd p
+appends_then (Some x) (Some y) None bs cs p q = absurd q
+appends_then (Some x) (Some y) (Some z) bs cs p q = q ∙ ap (λ l. l ++ cs) p ∙ append_assoc x bs cs
+
+appends_kept : (a b c : Option (List ℕ)) (bs : List ℕ) → Appends a b bs → Keeps b c → Appends a c bs
+appends_kept None b c bs p q = tt
+appends_kept (Some x) None c bs p q = absurd p
+appends_kept (Some x) (Some y) None bs p q = absurd q
+appends_kept (Some x) (Some y) (Some z) bs p q = q ∙ p
+
+-- at the start nothing is given
+pub gives_none : (text out : List ℕ) (known : Option (List ℕ)) → Gives text text out out known known
+gives_none text out known = record { given = []; split = refl; taken = sym (append-nil out); device = appends_nil known }
+
+-- the device took n bytes more
+pub gives_more : (text left out out' out'' : List ℕ) (known known' known'' : Option (List ℕ)) (n : ℕ) → Gives text left out out' known known'
+    → out'' ≡ out' ++ take n left → Appends known' known'' (take n left)
+    → Gives text (take (length left - n) (drop n left)) out out'' known known''
+gives_more text left out out' out'' known known' known'' n so_far more device =
+    let rest : take (length left - n) (drop n left) ≡ drop n left = take_all (length left - n) (drop n left) (omega (arith, length-drop n left)) in
+    record {
+      given = so_far.given ++ take n left;
+      split = so_far.split ∙ ap (λ l. so_far.given ++ l) (sym (take-append-drop n left) ∙ ap (λ l. take n left ++ l) (sym rest))
+          ∙ sym (append_assoc so_far.given (take n left) (take (length left - n) (drop n left)));
+      taken = more ∙ ap (λ l. l ++ take n left) so_far.taken ∙ append_assoc out so_far.given (take n left);
+      device = appends_then known known' known'' so_far.given (take n left) so_far.device device;
+    }
+
+-- it took nothing
+pub gives_same : (text left out out' out'' : List ℕ) (known known' known'' : Option (List ℕ)) → Gives text left out out' known known'
+    → out'' ≡ out' ++ [] → Keeps known' known'' → Gives text left out out'' known known''
+gives_same text left out out' out'' known known' known'' so_far same device = record {
+  given = so_far.given;
+  split = so_far.split;
+  taken = same ∙ append-nil out' ∙ so_far.taken;
+  device = appends_kept known known' known'' so_far.given so_far.device device;
+}
+
+-- it took none of some bytes
+pub gives_zero : (text left out out' out'' : List ℕ) (known known' known'' : Option (List ℕ)) (reply : Result ℕ Error) (n : ℕ)
+    → Gives text left out out' known known' → reply ≡ Ok n → n ≡ 0 → out'' ≡ out' ++ taken reply left → WriteAppends known' known'' reply left
+    → Gives text left out out'' known known''
+gives_zero text left out out' out'' known known' known'' reply n so_far is none more device =
+    let zero : reply ≡ Ok 0 = is ∙ ap Ok none in
+    record {
+      given = so_far.given;
+      split = so_far.split;
+      taken = subst (λ r. out'' ≡ out' ++ taken r left) zero more ∙ append-nil out' ∙ so_far.taken;
+      device = subst (λ l. Appends known known'' l) (append-nil so_far.given)
+          (appends_then known known' known'' so_far.given [] so_far.device (subst (λ r. WriteAppends known' known'' r left) zero device));
+    }
+
+-- and no turn is spent then
+pub ends_zero : (e : Error) (reply : Result ℕ Error) (n first old new : ℕ) → IsUnwritten e → old ≤ first → reply ≡ Ok n → AnswersWrite reply old new
+    → EndsWrites {T = Unit {0}} (Err e) first new
+ends_zero e reply n first old new kind fewer is asked =
+    let same : new ≡ old = subst (λ r. AnswersWrite r old new) is asked in
+    (omega (arith, fewer, same), inr (inr kind))
+
+-- what a patient tells of such a loop
+pub gives_sends : (text left out out' : List ℕ) (known known' : Option (List ℕ)) (reply : Result (Unit {0}) Error) (turns turns' : ℕ)
+    → Gives text left out out' known known' → turns' + count_by is_interruption (call_mishap reply) ≤ turns
+    → Sends (record { out = out; held = []; mishaps = None; turns = turns }) text reply (record { out = out'; held = []; mishaps = None; turns = turns' }) left
+gives_sends text left out out' known known' reply turns turns' so_far spent = record {
+  sent = so_far.given;
+  split = so_far.split;
+  moves = record {
+    front = (so_far.given, so_far.taken);
+    bytes = append-nil out' ∙ so_far.taken ∙ ap (λ l. l ++ so_far.given) (sym (append-nil out));
+    mishaps = tt;
+    turns = spent;
+  };
+}
+
+keeps_refl : (a : Option (List ℕ)) → Keeps a a
+keeps_refl None = tt
+keeps_refl (Some x) = refl
+
+-- the answer is that nothing was given
+abbrev pub GaveNone : Result ℕ Error → Type 0
+GaveNone reply = reply ≡ Ok 0
+
+pub consumes_nil : (a : Option (List ℕ)) → Consumes a a []
+consumes_nil None = tt
+consumes_nil (Some x) = refl
+
+pub consumes_then : (a b c : Option (List ℕ)) (bs cs : List ℕ) → Consumes a b bs → Consumes b c cs → Consumes a c (bs ++ cs)
+consumes_then None b c bs cs p q = tt
+consumes_then (Some x) None c bs cs p q = absurd p
+consumes_then (Some x) (Some y) None bs cs p q = absurd q
+consumes_then (Some x) (Some y) (Some z) bs cs p q = p ∙ ap (λ l. bs ++ l) q ∙ sym (append_assoc bs cs z)
+
+pub consumes_kept : (a b c : Option (List ℕ)) (bs : List ℕ) → Consumes a b bs → Keeps b c → Consumes a c bs
+consumes_kept None b c bs p q = tt
+consumes_kept (Some x) None c bs p q = absurd p
+consumes_kept (Some x) (Some y) None bs p q = absurd q
+consumes_kept (Some x) (Some y) (Some z) bs p q = p ∙ ap (λ l. bs ++ l) (sym q)
+
+-- a fault is no interruption
+pub no_turn : (e : Error) (turns turns' : ℕ) → IsFault e → turns' ≤ turns → turns' + count_by is_interruption (error_kind e ∷ []) ≤ turns
+no_turn e turns turns' fault fewer =
+    let none : count_by is_interruption (error_kind e ∷ []) ≡ 0 = ap (λ b. 0 + (if b then 1 else 0)) fault in
+    omega (arith, fewer, none)
+
+-- an interruption of the device's spends a turn
+pub turn_spent : (e : Error) (old new : ℕ) → IsInterruption e → AnswersWrite {T = ℕ} (Err e) old new → new < old
+turn_spent e old new again (inl plain) = omega (arith, plain.1)
+turn_spent e old new again (inr (inl out)) = let kind = out.0.0 in let no = ap is_interruption kind in absurd cc
+turn_spent e old new again (inr (inr fault)) = let kind = fault.0.0 in let no = ap is_interruption kind in absurd cc
+
+-- another error ends a loop of writes
+pub ends_writes : (e : Error) (first old new : ℕ) → IsFault e → old ≤ first → AnswersWrite {T = ℕ} (Err e) old new
+    → EndsWrites {T = Unit {0}} (Err e) first new
+ends_writes e first old new fault fewer (inl plain) = let no = ap is_interruption plain.0.0 in absurd cc
+ends_writes e first old new fault fewer (inr (inl out)) = (omega (arith, out.2), inl (out.0, out.2))
+ends_writes e first old new fault fewer (inr (inr device)) = (omega (arith, fewer, device.1), inr (inl device.0))
+
+-- what the test of the loop says
+pub not_empty : (b : Bool) (left : List ℕ) → b ≡ (length left == 0) → b ≡ false → 0 < length left
+not_empty b [] is h = absurd (true≢false (sym is ∙ h))
+not_empty b (x ∷ left) is h = omega arith
+
+pub is_empty : (b : Bool) (left : List ℕ) → b ≡ (length left == 0) → b ≡ true → left ≡ []
+is_empty b left is h = drop_of_length-le left {i = 0} (omega (arith, eqb-true (length left) 0 (sym is ∙ h)))
+
+-- some bytes fewer are left
+pub fewer_left : (n turns turns' : ℕ) (left : List ℕ) → (n ≡ 0 → ⊥) → n ≤ length left → turns' ≡ turns
+    → turns' + length (take (length left - n) (drop n left)) < turns + length left
+fewer_left n turns turns' left some fits same =
+    omega (arith, some, fits, same, length-take (length left - n) (drop n left), length-drop n left)
+
+-- what a read that gave bytes consumed: the device was asked then
+pub consumed_some : {A C : Type 0} (old n : ℕ) (known known' : Option (List ℕ)) (buf : List ℕ) → (n ≡ 0 → ⊥)
+    → (old ≡ 0 → GaveNone (Ok n) × A) → (old ≡ 1 → ⊥) → (1 < old → Consumes known known' (take n buf) × C) → Consumes known known' (take n buf)
+consumed_some zero n known known' buf some over last bytes = let none = (over refl).0 in absurd (some cc)
+consumed_some (suc zero) n known known' buf some over last bytes = absurd (last refl)
+consumed_some (suc (suc old)) n known known' buf some over last bytes = (bytes (omega arith)).0
+
+-- a read that failed consumed nothing
+pub consumed_none : {A B C : Type 0} (old : ℕ) (e : Error) (known known' : Option (List ℕ))
+    → (old ≡ 0 → GaveNone (Err e) × A) → (old ≡ 1 → B × C × (known' ≡ known)) → (1 < old → Keeps known known') → Keeps known known'
+consumed_none zero e known known' over last bytes = let none = (over refl).0 in absurd cc
+consumed_none (suc zero) e known known' over last bytes = subst (Keeps known) (sym (last refl).2) (keeps_refl known)
+consumed_none (suc (suc old)) e known known' over last bytes = bytes (omega arith)
+
+-- nor did one that gave no byte
+pub consumed_end : (old n : ℕ) (reply : Result ℕ Error) (known known' : Option (List ℕ)) (buf : List ℕ) → reply ≡ Ok n → n ≡ 0
+    → (old ≡ 0 → known' ≡ known) → (old ≡ 1 → IsErrAnd reply IsOutOfTurns) → (1 < old → ReadConsumes known known' reply buf)
+    → Consumes known known' []
+consumed_end zero n reply known known' buf is none over last bytes = subst (λ k. Consumes known k []) (sym (over refl)) (consumes_nil known)
+consumed_end (suc zero) n reply known known' buf is none over last bytes = absurd (subst (λ r. IsErrAnd r IsOutOfTurns) (is ∙ ap Ok none) (last refl))
+consumed_end (suc (suc old)) n reply known known' buf is none over last bytes =
+    (subst (λ r. ReadConsumes known known' r buf) (is ∙ ap Ok none) (bytes (omega arith))).0
+
+-- an error but an interruption ends a loop of reads
+pub ends_reads : {A : Type 0} (room : ℕ) (e : Error) (first old new : ℕ) → IsFault e → old ≤ first → new < old → (old ≡ 1 → IsOutOfTurns e × (new ≡ 0) × A)
+    → (1 < old → AnswersRead (Err e) old new) → EndsReads {T = Unit {0}} room (Err e) first new
+ends_reads room e first zero new fault fewer spent last asked = absurd (omega (arith, spent))
+ends_reads room e first (suc zero) new fault fewer spent last asked =
+    let out = last refl in
+    (omega (arith, fewer, spent), inl (out.0, out.1, omega (arith, fewer)))
+ends_reads room e first (suc (suc old)) new fault fewer spent last asked = device (asked (omega arith)).1
+  where
+    device : IsPlainInterruption e ⊎ IsDeviceFault e → EndsReads {T = Unit {0}} room (Err e) first new
+    device (inl plain) = let no = ap is_interruption plain.0 in absurd cc
+    device (inr f) = (omega (arith, fewer, spent), inr (inl (f, omega (arith, fewer, spent))))
+
+-- a buffer keeps its length where a part of it is written
+pub length_stays : (at : ℕ) (xs ys : List ℕ) → length ys ≡ length (take (length xs - at) (drop at xs))
+    → length (put_mid at (length xs - at) xs ys) ≡ length xs
+length_stays at xs ys same = same_len_mid at (length xs - at) xs ys same
+
+-- and what stands there is what was there, and then what was read
+pub read_behind : (a k n : ℕ) (xs ys : List ℕ) → a ≤ length xs → n ≤ length ys → take (a + n) (put_mid a k xs ys) ≡ take a xs ++ take n ys
+read_behind a k n xs ys within fits =
+    let front = take a xs in
+    let same : a + n ≡ length front + n = ap (λ m. m + n) (sym (length-take-le a xs within)) in
+    ap (λ m. take m (put_mid a k xs ys)) same ∙ take-append-add front (ys ++ post_of a k xs) n ∙ ap (λ l. front ++ l) (take-append-le n ys (post_of a k xs) fits)
+
+-- what stood before the part still stands there, and the device kept its bytes, or gave none
+pub got_same : (a k : ℕ) (xs ys : List ℕ) (known known' known'' : Option (List ℕ)) → a ≤ length xs → Consumes known known' (take a xs)
+    → Keeps known' known'' → Consumes known known'' (take a (put_mid a k xs ys))
+got_same a k xs ys known known' known'' within got kept =
+    subst (λ l. Consumes known known'' l) (sym (take-put_mid_below a k xs ys a (omega arith) within)) (consumes_kept known known' known'' (take a xs) got kept)
+
+pub got_none : (a k : ℕ) (xs ys : List ℕ) (known known' known'' : Option (List ℕ)) → a ≤ length xs → Consumes known known' (take a xs)
+    → Consumes known' known'' [] → Consumes known known'' (take a (put_mid a k xs ys))
+got_none a k xs ys known known' known'' within got none =
+    subst (λ l. Consumes known known'' l) (append-nil (take a xs) ∙ sym (take-put_mid_below a k xs ys a (omega arith) within))
+    (consumes_then known known' known'' (take a xs) [] got none)
+
+pub got_more : (a k n : ℕ) (xs ys : List ℕ) (known known' known'' : Option (List ℕ)) → a ≤ length xs → n ≤ length ys → Consumes known known' (take a xs)
+    → Consumes known' known'' (take n ys) → Consumes known known'' (take (a + n) (put_mid a k xs ys))
+got_more a k n xs ys known known' known'' within fits got more =
+    subst (λ l. Consumes known known'' l) (sym (read_behind a k n xs ys within fits)) (consumes_then known known' known'' (take a xs) (take n ys) got more)
+
+-- the part that is not filled yet has room
+pub part_room : (at : ℕ) (xs : List ℕ) → at < length xs → 0 < length (take (length xs - at) (drop at xs))
+part_room at xs below = omega (arith, below, length-take (length xs - at) (drop at xs), length-drop at xs)
+
+-- what a read gave stands within the buffer
+pub within_part : (at n : ℕ) (xs ys now : List ℕ) → at ≤ length xs → n ≤ length ys
+    → length ys ≡ length (take (length xs - at) (drop at xs)) → length now ≡ length xs → at + n ≤ length now
+within_part at n xs ys now within fits same stays =
+    omega (arith, within, fits, same, stays, length-take (length xs - at) (drop at xs), length-drop at xs)
