@@ -92,6 +92,7 @@ fn write_at<A: Allocator>(content: &mut Vec<u8, A>, pos: &mut u64, buf: &[u8]) -
     if end <= len {
         overwrite(content, start, buf);
     } else if start == len && buf.len() <= content.capacity() - len {
+        // It fits within the capacity, so no memory is asked for.
         let _ = content.extend_from_slice(buf);
     } else {
         put_past_slowly(content, start, buf)?;
