@@ -1,4 +1,10 @@
-//! A log of lines over any `Write`: each line goes out once, as soon as it is complete.
+//! A log of lines over any `Write`: each line goes out once, as soon as it is complete. [`LineLog`] is all of it.
+//!
+//! ```rust
+//! let mut log = LineLog::<Vec<u8>, 64>::new(rt.alloc(), Vec::new(rt.alloc()));
+//! log.log("started")?;
+//! assert_eq!(rt; log.get_ref().as_slice(), b"started\n".as_slice());
+//! ```
 #![tactic(auto)]
 
 ghost use Rattle.std.specs.Prelude.{◌≡◌, ◌<◌, [], ◌∷◌, ◌++◌, ℕ, List, map, length, nat_lt, OnOk, OnErr, IfOk, IfErr, IsOk, string_bytes};
