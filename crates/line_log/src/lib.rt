@@ -62,7 +62,7 @@ impl<W: Write + Drop, const S: usize> LineLog<W, S> {
         }
     }
 
-    /// The writer below.
+    /// Gets a reference to the writer below.
     ///
     /// ```rust
     /// let mut log = LineLog::<Vec<u8>, 64>::new(rt.alloc(), Vec::new(rt.alloc()));
@@ -75,7 +75,7 @@ impl<W: Write + Drop, const S: usize> LineLog<W, S> {
         self.lines.get_ref()
     }
 
-    /// Whether a line is under way.
+    /// Returns whether a line is under way.
     ///
     /// ```rust
     /// let mut room = [0u8; 4];
@@ -213,7 +213,7 @@ impl<W: Write + Drop, const S: usize> LineLog<W, S> {
         self.lines.flush()
     }
 
-    /// Sends what is held, and gives the writer below, which isn't flushed. No line may be under way: `retry`
+    /// Sends what is held and returns the writer below, which isn't flushed. No line may be under way: `retry`
     /// first where [`is_under_way`](LineLog::is_under_way).
     ///
     /// # Errors

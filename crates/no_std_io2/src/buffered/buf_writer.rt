@@ -43,7 +43,8 @@ pub struct BufWriter<W: Write + Drop, const S: usize> {
 }
 
 impl<W: Write + Drop, const S: usize> BufWriter<W, S> {
-    /// Puts an empty buffer of `S` bytes in front of `inner`. Follows `std::io::BufWriter::with_capacity`.
+    /// Puts an empty buffer of `S` bytes in front of `inner`. Follows
+    /// `std::io::BufWriter::with_capacity`.
     ///
     /// ```rust
     /// let mut w = BufWriter::<_, 8>::new(Cursor::new(Vec::<u8>::new(rt.alloc())));
@@ -59,7 +60,7 @@ impl<W: Write + Drop, const S: usize> BufWriter<W, S> {
         }
     }
 
-    /// The inner writer. Follows `std::io::BufWriter::get_ref`.
+    /// Gets a reference to the inner writer. Follows `std::io::BufWriter::get_ref`.
     ///
     /// ```rust
     /// let mut w = BufWriter::<_, 8>::new(Cursor::new(Vec::<u8>::new(rt.alloc())));
@@ -73,8 +74,8 @@ impl<W: Write + Drop, const S: usize> BufWriter<W, S> {
         self.core.get_ref()
     }
 
-    /// The inner writer, to be changed. The buffer stays. Bytes that are written here go out before
-    /// those that are held. Follows `std::io::BufWriter::get_mut`.
+    /// Gets a mutable reference to the inner writer. The buffer stays. Bytes that are written here go
+    /// out before those that are held. Follows `std::io::BufWriter::get_mut`.
     ///
     /// ```rust
     /// let mut w = BufWriter::<_, 8>::new(Cursor::new(Vec::<u8>::new(rt.alloc())));
@@ -92,7 +93,7 @@ impl<W: Write + Drop, const S: usize> BufWriter<W, S> {
         self.core.get_mut()
     }
 
-    /// The held bytes, at most `S`. Follows `std::io::BufWriter::buffer`.
+    /// Returns the held bytes, at most `S`. Follows `std::io::BufWriter::buffer`.
     ///
     /// ```rust
     /// let mut w = BufWriter::<_, 8>::new(Cursor::new(Vec::<u8>::new(rt.alloc())));
@@ -106,7 +107,7 @@ impl<W: Write + Drop, const S: usize> BufWriter<W, S> {
         self.core.buffer()
     }
 
-    /// How many bytes can be held: `S`. Follows `std::io::BufWriter::capacity`.
+    /// Returns how many bytes can be held: `S`. Follows `std::io::BufWriter::capacity`.
     ///
     /// ```rust
     /// let mut w = BufWriter::<Vec<u8>, 8>::new(Vec::new(rt.alloc()));
@@ -118,8 +119,8 @@ impl<W: Write + Drop, const S: usize> BufWriter<W, S> {
         self.core.capacity()
     }
 
-    /// Sends what is held and gives the inner writer, which isn't flushed. With nothing held it makes
-    /// no inner call. Follows `std::io::BufWriter::into_inner`.
+    /// Sends what is held and returns the inner writer, which isn't flushed. With nothing held it
+    /// makes no inner call. Follows `std::io::BufWriter::into_inner`.
     ///
     /// # Errors
     /// `WriteZero` where the inner writer took no byte of some, else its first fault; never
@@ -210,7 +211,7 @@ impl<W> IntoInnerError<W> {
         IntoInnerError { writer, error }
     }
 
-    /// Why the sending failed. Follows `std::io::IntoInnerError::error`.
+    /// Returns the error that stopped the sending. Follows `std::io::IntoInnerError::error`.
     ///
     /// ```rust
     /// let mut room = [0u8; 2];
@@ -228,7 +229,7 @@ impl<W> IntoInnerError<W> {
         &self.error
     }
 
-    /// The buffered writer, to be used again. Follows `std::io::IntoInnerError::into_inner`.
+    /// Returns the buffered writer, to be used again. Follows `std::io::IntoInnerError::into_inner`.
     ///
     /// ```rust
     /// let mut room = [0u8; 2];
