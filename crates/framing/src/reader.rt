@@ -61,7 +61,7 @@ impl<R: Read, const S: usize> FrameReader<R, S> {
         }
     }
 
-    /// The reader below. It is ahead of this one by the bytes held and gathered.
+    /// Gets a reference to the reader below. It is ahead of this one by the bytes held and gathered.
     ///
     /// ```rust
     /// let wire = Cursor::new(*b"\x02\0\0\0ab\x01\0\0\0c");

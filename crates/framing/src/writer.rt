@@ -53,7 +53,7 @@ impl<W: Write + Drop, const S: usize> FrameWriter<W, S> {
         }
     }
 
-    /// The writer below.
+    /// Gets a reference to the writer below.
     ///
     /// ```rust
     /// let mut w = FrameWriter::<Vec<u8>, 64>::new(rt.alloc(), Vec::new(rt.alloc()));
@@ -67,7 +67,7 @@ impl<W: Write + Drop, const S: usize> FrameWriter<W, S> {
         self.inner.get_ref()
     }
 
-    /// Whether a frame is under way.
+    /// Returns whether a frame is under way.
     ///
     /// ```rust
     /// let mut room = [0u8; 8];
@@ -200,7 +200,7 @@ impl<W: Write + Drop, const S: usize> FrameWriter<W, S> {
         self.inner.flush()
     }
 
-    /// Sends what is held, and gives the writer below, which isn't flushed. No frame may be under way:
+    /// Sends what is held and returns the writer below, which isn't flushed. No frame may be under way:
     /// `retry` first where [`is_under_way`](FrameWriter::is_under_way).
     ///
     /// # Errors

@@ -1,4 +1,10 @@
-//! A log of lines over any `Write`: each line goes out once, as soon as it is complete.
+//! A log of lines over any `Write`: each line goes out once, as soon as it is complete. [`LineLog`] is all of it.
+//!
+//! ```rust
+//! let mut log = LineLog::<Vec<u8>, 64>::new(rt.alloc(), Vec::new(rt.alloc()));
+//! log.log("started")?;
+//! assert_eq!(rt; log.get_ref().as_slice(), b"started\n".as_slice());
+//! ```
 #![tactic(auto)]
 
 ghost use Rattle.std.specs.Prelude.{◌≡◌, ◌<◌, [], ◌∷◌, ◌++◌, ℕ, List, map, length, nat_lt, OnOk, OnErr, IfOk, IfErr, IsOk, string_bytes};
@@ -56,7 +62,7 @@ impl<W: Write + Drop, const S: usize> LineLog<W, S> {
         }
     }
 
-    /// The writer below.
+    /// Gets a reference to the writer below.
     ///
     /// ```rust
     /// let mut log = LineLog::<Vec<u8>, 64>::new(rt.alloc(), Vec::new(rt.alloc()));
@@ -69,14 +75,13 @@ impl<W: Write + Drop, const S: usize> LineLog<W, S> {
         self.lines.get_ref()
     }
 
-    /// Whether a line is under way.
+    /// Returns whether a line is under way.
     ///
     /// ```rust
-    /// let mut log = LineLog::<Choppy, 4>::new(rt.alloc(), device);
-    /// if log.log("started").is_err() {
-    ///     assert!(rt; log.is_under_way(), "after {left} calls");
-    ///     log.retry()?;
-    /// }
+    /// let mut room = [0u8; 4];
+    /// let mut log = LineLog::<_, 8>::new(rt.alloc(), Cursor::new(&mut room[..]));
+    /// assert!(rt; log.log("started").is_err()); // the device has room for `star` alone
+    /// assert!(rt; log.is_under_way());
     /// ```
     pub fn is_under_way(&self) -> bool
         ensures { result ≡ nat_lt 0 (length (under_way self.now)) }
@@ -92,11 +97,11 @@ impl<W: Write + Drop, const S: usize> LineLog<W, S> {
     /// is still under way, from the first byte on that was not accepted.
     ///
     /// ```rust
-    /// let mut log = LineLog::<Choppy, 4>::new(rt.alloc(), device);
-    /// if log.log("started").is_err() {
-    ///     assert!(rt; log.is_under_way(), "after {left} calls");
-    ///     log.retry()?;
-    /// }
+    /// let mut room = [0u8; 4];
+    /// let mut log = LineLog::<_, 8>::new(rt.alloc(), Cursor::new(&mut room[..]));
+    /// assert!(rt; log.log("started").is_err()); // the device has room for `star` alone
+    /// assert!(rt; log.is_under_way());
+    /// assert!(rt; log.retry().is_err()); // there is still no room, and the line still under way
     /// ```
     pub fn retry(&mut self) -> Result<()>
         ensures sends { Sends (log_told W.told self.old) (still_to_go self.old) result
@@ -134,11 +139,9 @@ impl<W: Write + Drop, const S: usize> LineLog<W, S> {
     /// is under way. Else those of `retry`, and the line is under way.
     ///
     /// ```rust
-    /// let mut log = LineLog::<Choppy, 4>::new(rt.alloc(), device);
-    /// if log.log("started").is_err() {
-    ///     assert!(rt; log.is_under_way(), "after {left} calls");
-    ///     log.retry()?;
-    /// }
+    /// let mut log = LineLog::<Vec<u8>, 64>::new(rt.alloc(), Vec::new(rt.alloc()));
+    /// log.log("started")?;
+    /// assert_eq!(rt; log.get_ref().as_slice(), b"started\n".as_slice());
     /// ```
     pub fn log(&mut self, line: &str) -> Result<()>
         requires { under_way self.old ≡ [] }
@@ -210,7 +213,7 @@ impl<W: Write + Drop, const S: usize> LineLog<W, S> {
         self.lines.flush()
     }
 
-    /// Sends what is held, and gives the writer below, which isn't flushed. No line may be under way: `retry`
+    /// Sends what is held and returns the writer below, which isn't flushed. No line may be under way: `retry`
     /// first where [`is_under_way`](LineLog::is_under_way).
     ///
     /// # Errors

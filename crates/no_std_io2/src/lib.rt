@@ -2,7 +2,8 @@
 //! system. The names are those of Rust's `std::io`, under [`io`].
 //!
 //! To put a buffer in front of a device, take [`io::BufWriter`], [`io::LineWriter`] or
-//! [`io::BufReader`]:
+//! [`io::BufReader`]. In this example and all others `rt` is the `HostRuntime` that a program's
+//! `main` and a test are given, and `?` leaves a function that answers a `Result`:
 //!
 //! ```rust
 //! let mut w = BufWriter::<Vec<u8>, 8>::new(Vec::new(rt.alloc()));

@@ -94,7 +94,7 @@ pub struct Cursor<T> {
 }
 
 impl<T> Cursor<T> {
-    /// A cursor on this content, at position 0. Follows `std::io::Cursor::new`.
+    /// Makes a cursor on this content, at position 0. Follows `std::io::Cursor::new`.
     ///
     /// ```rust
     /// let mut c = Cursor::new(Vec::<u8>::new(rt.alloc()));
@@ -108,7 +108,7 @@ impl<T> Cursor<T> {
         Cursor { inner, pos: 0 }
     }
 
-    /// The content. Follows `std::io::Cursor::into_inner`.
+    /// Returns the content. Follows `std::io::Cursor::into_inner`.
     ///
     /// ```rust
     /// let mut c = Cursor::new(*b"abc");
@@ -122,7 +122,7 @@ impl<T> Cursor<T> {
         self.inner
     }
 
-    /// The content, lent. Follows `std::io::Cursor::get_ref`.
+    /// Gets a reference to the content. Follows `std::io::Cursor::get_ref`.
     ///
     /// ```rust
     /// let mut c = Cursor::new(*b"abc");
@@ -135,7 +135,8 @@ impl<T> Cursor<T> {
         &self.inner
     }
 
-    /// The content, lent to be changed: the position stays. Follows `std::io::Cursor::get_mut`.
+    /// Gets a mutable reference to the content. The position stays. Follows
+    /// `std::io::Cursor::get_mut`.
     ///
     /// ```rust
     /// let mut c = Cursor::new(*b"abc");
@@ -149,7 +150,7 @@ impl<T> Cursor<T> {
         &mut self.inner
     }
 
-    /// The position, in bytes from the start. Follows `std::io::Cursor::position`.
+    /// Returns the position, in bytes from the start. Follows `std::io::Cursor::position`.
     ///
     /// ```rust
     /// let mut c = Cursor::new(*b"abc");
@@ -176,7 +177,7 @@ impl<T> Cursor<T> {
         self.pos = pos;
     }
 
-    /// A cursor on a clone of the content, at the same position. It stands where Rust derives
+    /// Makes a cursor on a clone of the content, at the same position. It stands where Rust derives
     /// `Clone`, which has no answer for want of memory.
     ///
     /// # Errors

@@ -122,7 +122,7 @@ pub struct Error {
 pub type Result<T> = std::result::Result<T, Error>;
 
 impl Error {
-    /// An error of this kind, with this text. Follows `std::io::Error::new`.
+    /// Makes an error of this kind, with this text. Follows `std::io::Error::new`.
     ///
     /// ```rust
     /// let e = Error::new(ErrorKind::InvalidData, "no header");
@@ -139,7 +139,7 @@ impl Error {
         }
     }
 
-    /// An error of kind [`ErrorKind::Other`], with this text. Follows `std::io::Error::other`.
+    /// Makes an error of kind [`ErrorKind::Other`], with this text. Follows `std::io::Error::other`.
     ///
     /// ```rust
     /// let e = Error::other("no carrier");
@@ -152,7 +152,7 @@ impl Error {
         Error::new(ErrorKind::Other, text)
     }
 
-    /// The kind. Follows `std::io::Error::kind`.
+    /// Returns the kind. Follows `std::io::Error::kind`.
     ///
     /// ```rust
     /// let e = Error::other("no carrier");
@@ -164,7 +164,7 @@ impl Error {
         self.kind
     }
 
-    /// The text, where there is one. Follows `std::io::Error::get_ref`.
+    /// Gets a reference to the text, where there is one. Follows `std::io::Error::get_ref`.
     ///
     /// ```rust
     /// let e = Error::other("no carrier");
@@ -176,7 +176,7 @@ impl Error {
         self.text.as_ref()
     }
 
-    /// The text, where there is one. Follows `std::io::Error::into_inner`.
+    /// Returns the text, where there is one. Follows `std::io::Error::into_inner`.
     ///
     /// ```rust
     /// let e = Error::other("no carrier");

@@ -37,8 +37,8 @@ pub struct BufReader<R, const S: usize> {
 }
 
 impl<R: Read, const S: usize> BufReader<R, S> {
-    /// A reader of `inner` that holds nothing yet. `S` is from 1 to 2^63 - 1. Follows
-    /// `BufReader::new`.
+    /// Puts an empty buffer of `S` bytes in front of `inner`. `S` is from 1 to 2^63 - 1. Follows
+    /// `std::io::BufReader::new`.
     ///
     /// ```rust
     /// let mut r = BufReader::<_, 4>::new(Cursor::new(*b"abcdefgh"));
@@ -62,7 +62,8 @@ impl<R: Read, const S: usize> BufReader<R, S> {
 }
 
 impl<R, const S: usize> BufReader<R, S> {
-    /// The inner reader. It is ahead of this one by the bytes held. Follows `BufReader::get_ref`.
+    /// Gets a reference to the inner reader. It is ahead of this one by the bytes held. Follows
+    /// `std::io::BufReader::get_ref`.
     ///
     /// ```rust
     /// let mut r = BufReader::<_, 4>::new(Cursor::new(*b"abcdefgh"));
@@ -76,7 +77,8 @@ impl<R, const S: usize> BufReader<R, S> {
         &self.inner
     }
 
-    /// The inner reader, to change it: the bytes held stay. Follows `BufReader::get_mut`.
+    /// Gets a mutable reference to the inner reader. The bytes held stay. Follows
+    /// `std::io::BufReader::get_mut`.
     ///
     /// ```rust
     /// let mut r = BufReader::<_, 4>::new(Cursor::new(*b"abcdefgh"));
@@ -94,7 +96,8 @@ impl<R, const S: usize> BufReader<R, S> {
         &mut self.inner
     }
 
-    /// The bytes held: read and not yet given, at most `S`. Follows `BufReader::buffer`.
+    /// Returns the bytes held: read and not yet given, at most `S`. Follows
+    /// `std::io::BufReader::buffer`.
     ///
     /// ```rust
     /// let mut r = BufReader::<_, 4>::new(Cursor::new(*b"abcdefgh"));
@@ -109,10 +112,10 @@ impl<R, const S: usize> BufReader<R, S> {
         self.ahead.as_slice()
     }
 
-    /// The bytes given since the last inner read that lie right before those held: as far back as
-    /// [`seek_relative`](BufReader::seek_relative) goes without a seek of the inner reader. They are
-    /// no more there after an inner read, whatever it answers, after a `read_to_end`, and after a seek
-    /// that drops the buffer. Rust's `BufReader` keeps them and doesn't show them.
+    /// Returns the bytes given since the last inner read that lie right before those held: as far
+    /// back as [`seek_relative`](BufReader::seek_relative) goes without a seek of the inner reader.
+    /// They are no more there after an inner read, whatever it answers, after a `read_to_end`, and
+    /// after a seek that drops the buffer. Rust's `BufReader` keeps them and doesn't show them.
     ///
     /// ```rust
     /// let mut r = BufReader::<_, 4>::new(Cursor::new(*b"abcdefgh"));
@@ -128,7 +131,7 @@ impl<R, const S: usize> BufReader<R, S> {
         self.ahead.behind()
     }
 
-    /// The buffer's size in bytes, `S`. Follows `BufReader::capacity`.
+    /// Returns the buffer's size in bytes, `S`. Follows `std::io::BufReader::capacity`.
     ///
     /// ```rust
     /// let mut r = BufReader::<_, 4>::new(Cursor::new(*b"abcdefgh"));
@@ -140,7 +143,7 @@ impl<R, const S: usize> BufReader<R, S> {
         self.ahead.capacity()
     }
 
-    /// The inner reader. The bytes held are lost. Follows `BufReader::into_inner`.
+    /// Returns the inner reader. The bytes held are lost. Follows `std::io::BufReader::into_inner`.
     ///
     /// ```rust
     /// let mut r = BufReader::<_, 4>::new(Cursor::new(*b"abcdefgh"));

@@ -44,7 +44,8 @@ pub struct BufWriter<W: Write + Drop, const S: usize> {
 }
 
 impl<W: Write + Drop, const S: usize> BufWriter<W, S> {
-    /// Puts an empty buffer of `S` bytes in front of `inner`. Follows `std::io::BufWriter::with_capacity`.
+    /// Puts an empty buffer of `S` bytes in front of `inner`. Follows
+    /// `std::io::BufWriter::with_capacity`.
     ///
     /// ```rust
     /// let mut w = BufWriter::<_, 8>::new(Cursor::new(Vec::<u8>::new(rt.alloc())));
@@ -60,7 +61,7 @@ impl<W: Write + Drop, const S: usize> BufWriter<W, S> {
         }
     }
 
-    /// The inner writer. Follows `std::io::BufWriter::get_ref`.
+    /// Gets a reference to the inner writer. Follows `std::io::BufWriter::get_ref`.
     ///
     /// ```rust
     /// let mut w = BufWriter::<_, 8>::new(Cursor::new(Vec::<u8>::new(rt.alloc())));
@@ -74,8 +75,8 @@ impl<W: Write + Drop, const S: usize> BufWriter<W, S> {
         self.core.get_ref()
     }
 
-    /// The inner writer, to be changed. The buffer stays. Bytes that are written here go out before
-    /// those that are held. Follows `std::io::BufWriter::get_mut`.
+    /// Gets a mutable reference to the inner writer. The buffer stays. Bytes that are written here go
+    /// out before those that are held. Follows `std::io::BufWriter::get_mut`.
     ///
     /// ```rust
     /// let mut w = BufWriter::<_, 8>::new(Cursor::new(Vec::<u8>::new(rt.alloc())));
@@ -93,7 +94,7 @@ impl<W: Write + Drop, const S: usize> BufWriter<W, S> {
         self.core.get_mut()
     }
 
-    /// The held bytes, at most `S`. Follows `std::io::BufWriter::buffer`.
+    /// Returns the held bytes, at most `S`. Follows `std::io::BufWriter::buffer`.
     ///
     /// ```rust
     /// let mut w = BufWriter::<_, 8>::new(Cursor::new(Vec::<u8>::new(rt.alloc())));
@@ -107,7 +108,7 @@ impl<W: Write + Drop, const S: usize> BufWriter<W, S> {
         self.core.buffer()
     }
 
-    /// How many bytes can be held: `S`. Follows `std::io::BufWriter::capacity`.
+    /// Returns how many bytes can be held: `S`. Follows `std::io::BufWriter::capacity`.
     ///
     /// ```rust
     /// let mut w = BufWriter::<Vec<u8>, 8>::new(Vec::new(rt.alloc()));
@@ -119,8 +120,8 @@ impl<W: Write + Drop, const S: usize> BufWriter<W, S> {
         self.core.capacity()
     }
 
-    /// Sends what is held and gives the inner writer, which isn't flushed. With nothing held it makes
-    /// no inner call. Follows `std::io::BufWriter::into_inner`.
+    /// Sends what is held and returns the inner writer, which isn't flushed. With nothing held it
+    /// makes no inner call. Follows `std::io::BufWriter::into_inner`.
     ///
     /// # Errors
     /// `WriteZero` where the inner writer took no byte of some, else its first fault; never

@@ -35,7 +35,7 @@ impl<W> IntoInnerError<W> {
         IntoInnerError { writer, error }
     }
 
-    /// Why the sending failed. Follows `std::io::IntoInnerError::error`.
+    /// Returns the error that stopped the sending. Follows `std::io::IntoInnerError::error`.
     ///
     /// ```rust
     /// let mut room = [0u8; 2];
@@ -53,7 +53,7 @@ impl<W> IntoInnerError<W> {
         &self.error
     }
 
-    /// The buffered writer, to be used again. Follows `std::io::IntoInnerError::into_inner`.
+    /// Returns the buffered writer, to be used again. Follows `std::io::IntoInnerError::into_inner`.
     ///
     /// ```rust
     /// let mut room = [0u8; 2];
@@ -71,7 +71,19 @@ impl<W> IntoInnerError<W> {
         self.writer
     }
 
-    /// Why the sending failed, and the buffered writer. Follows `std::io::IntoInnerError::into_parts`.
+    /// Returns the error that stopped the sending, and the buffered writer. Follows
+    /// `std::io::IntoInnerError::into_parts`.
+    ///
+    /// ```rust
+    /// let mut room = [0u8; 2];
+    /// let mut w = BufWriter::<_, 8>::new(Cursor::new(&mut room[..]));
+    /// w.write_all(b"abc")?;
+    /// if let Err(failed) = w.into_inner() {
+    ///     let (error, w) = failed.into_parts();
+    ///     assert_eq!(rt; error.kind(), ErrorKind::WriteZero);
+    ///     assert_eq!(rt; w.buffer(), b"c".as_slice()); // `ab` is out
+    /// }
+    /// ```
     pub fn into_parts(self) -> (Error, W)
         ensures error { result.0 ≡ into_inner_error_cause self }
         ensures writer { result.1 ≡ into_inner_error_writer self }

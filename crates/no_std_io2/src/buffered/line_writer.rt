@@ -44,7 +44,7 @@ pub struct LineWriter<W: Write + Drop, const S: usize> {
 }
 
 impl<W: Write + Drop, const S: usize> LineWriter<W, S> {
-    /// A line writer that holds nothing, in front of `inner`. Its buffer has the capacity `S`.
+    /// Puts an empty buffer of `S` bytes in front of `inner`.
     /// Follows `std::io::LineWriter::new`.
     ///
     /// ```rust
@@ -61,7 +61,7 @@ impl<W: Write + Drop, const S: usize> LineWriter<W, S> {
         }
     }
 
-    /// The inner writer. Follows `std::io::LineWriter::get_ref`.
+    /// Gets a reference to the inner writer. Follows `std::io::LineWriter::get_ref`.
     ///
     /// ```rust
     /// let mut w = LineWriter::<Vec<u8>, 16>::new(Vec::new(rt.alloc()));
@@ -74,8 +74,8 @@ impl<W: Write + Drop, const S: usize> LineWriter<W, S> {
         self.core.buffered.get_ref()
     }
 
-    /// The inner writer, to be changed: it alone changes, and the held bytes stay. What is written to
-    /// it here comes before the held bytes. Follows `std::io::LineWriter::get_mut`.
+    /// Gets a mutable reference to the inner writer. The buffer stays. Bytes that are written here go
+    /// out before those that are held. Follows `std::io::LineWriter::get_mut`.
     ///
     /// ```rust
     /// let mut w = LineWriter::<Vec<u8>, 16>::new(Vec::new(rt.alloc()));
@@ -90,8 +90,8 @@ impl<W: Write + Drop, const S: usize> LineWriter<W, S> {
         self.core.get_mut()
     }
 
-    /// The held bytes, at most `S`: they have no newline, or end in one. Rust's `LineWriter` has no
-    /// such call; `std::io::BufWriter::buffer` is its like.
+    /// Returns the held bytes, at most `S`: they have no newline, or end in one. Rust's
+    /// `LineWriter` has no such call; `std::io::BufWriter::buffer` is its like.
     ///
     /// ```rust
     /// let mut w = LineWriter::<Vec<u8>, 16>::new(Vec::new(rt.alloc()));
@@ -107,7 +107,7 @@ impl<W: Write + Drop, const S: usize> LineWriter<W, S> {
         self.core.buffered.buffer()
     }
 
-    /// Sends what is held, and gives the inner writer, which is not flushed. With nothing held there
+    /// Sends what is held and returns the inner writer, which isn't flushed. With nothing held there
     /// is no inner call. Follows `std::io::LineWriter::into_inner`.
     ///
     /// # Errors

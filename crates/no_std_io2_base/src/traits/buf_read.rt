@@ -187,8 +187,8 @@ pub trait BufRead: Read {
         append_line(buf, &line, read)
     }
 
-    /// The pieces of this reader's bytes, cut behind each `delim`, without it: an iterator, whose
-    /// items are vectors by `alloc`. Follows `std::io::BufRead::split`.
+    /// Turns this reader into an iterator over the pieces of its bytes, cut behind each `delim` and
+    /// without it. The items are vectors by `alloc`. Follows `std::io::BufRead::split`.
     ///
     /// ```rust
     /// let mut lens = Vec::<usize>::new(rt.alloc());
@@ -207,8 +207,8 @@ pub trait BufRead: Read {
         Split::new(self, alloc, delim)
     }
 
-    /// The lines of this reader's text, without their line ends: an iterator, whose items are texts
-    /// by `alloc`. Follows `std::io::BufRead::lines`.
+    /// Turns this reader into an iterator over the lines of its text, without their line ends. The
+    /// items are texts by `alloc`. Follows `std::io::BufRead::lines`.
     ///
     /// ```rust
     /// let mut text = String::new(rt.alloc());

@@ -43,7 +43,7 @@ impl<T, U> Chain<T, U> {
         }
     }
 
-    /// The two readers, where they stand. Follows `std::io::Chain::into_inner`.
+    /// Returns the two readers, where they stand. Follows `std::io::Chain::into_inner`.
     ///
     /// ```rust
     /// let mut r = Cursor::new(*b"ab").chain(Cursor::new(*b"cd"));
@@ -61,7 +61,7 @@ impl<T, U> Chain<T, U> {
         (self.first, self.second)
     }
 
-    /// The two readers, lent. Follows `std::io::Chain::get_ref`.
+    /// Gets references to the two readers. Follows `std::io::Chain::get_ref`.
     ///
     /// ```rust
     /// let mut r = Cursor::new(*b"ab").chain(Cursor::new(*b"cd"));
@@ -77,7 +77,7 @@ impl<T, U> Chain<T, U> {
         (&self.first, &self.second)
     }
 
-    /// The two readers, lent to be changed. The mark of a done first reader stays. Follows
+    /// Gets mutable references to the two readers. The mark of a done first reader stays. Follows
     /// `std::io::Chain::get_mut`.
     ///
     /// ```rust

@@ -169,7 +169,7 @@ pub trait Read: Stored {
         }
     }
 
-    /// The reader itself, lent: for an adaptor that would take it by value. Follows
+    /// Lends the reader itself, for an adaptor that would take it by value. Follows
     /// `std::io::Read::by_ref`.
     ///
     /// ```rust
@@ -187,7 +187,7 @@ pub trait Read: Stored {
         self
     }
 
-    /// This reader's bytes, one at a time. Follows `std::io::Read::bytes`.
+    /// Turns this reader into an iterator over its bytes. Follows `std::io::Read::bytes`.
     ///
     /// ```rust
     /// let mut sum = 0u32;
@@ -204,7 +204,7 @@ pub trait Read: Stored {
         Bytes::new(self)
     }
 
-    /// This reader, and after its end `next`. Follows `std::io::Read::chain`.
+    /// Returns a reader of this one and, after its end, of `next`. Follows `std::io::Read::chain`.
     ///
     /// ```rust
     /// let mut r = Cursor::new(*b"ab").chain(Cursor::new(*b"cd"));
@@ -224,7 +224,8 @@ pub trait Read: Stored {
         Chain::new(self, next)
     }
 
-    /// At most the first `limit` bytes of this reader. Follows `std::io::Read::take`.
+    /// Returns a reader of at most the first `limit` bytes of this one. Follows
+    /// `std::io::Read::take`.
     ///
     /// ```rust
     /// let mut r = Cursor::new(*b"abcde").take(2);

@@ -54,6 +54,7 @@ pub(crate) fn open_room<A: Allocator>(
     }
     let opened = read.max(FIRST_OPENED).min(MOST_OPENED);
     let end = filled + opened.min(buf.capacity() - filled);
+    // `end` is within the capacity, so no memory is asked for.
     let _ = buf.resize(end, 0);
     Ok(())
 }

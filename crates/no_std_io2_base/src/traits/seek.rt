@@ -53,7 +53,7 @@ pub trait Seek: Stored {
             × Seeks (length (Self.content self.old)) (Self.position self.old) pos result (Self.position self.new) }
         ensures position { IfOk result (λ n. Self.has_store self.new → Self.position self.new ≡ n) };
 
-    /// The position from the start. Follows `std::io::Seek::stream_position`.
+    /// Returns the position from the start. Follows `std::io::Seek::stream_position`.
     ///
     /// # Errors
     /// Those of `seek(SeekFrom::Current(0))`: none over a told store.
@@ -95,7 +95,7 @@ pub trait Seek: Stored {
         Ok(())
     }
 
-    /// The length of the content in bytes, by a seek to its end and one back, where that is
+    /// Returns the length of the content in bytes, by a seek to its end and one back, where that is
     /// elsewhere. Follows `std::io::Seek::stream_len`.
     ///
     /// # Errors

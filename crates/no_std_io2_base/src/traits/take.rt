@@ -38,7 +38,7 @@ impl<T> Take<T> {
         Take { inner, limit }
     }
 
-    /// How many bytes may still be given; the inner reader may end earlier. Follows
+    /// Returns how many bytes may still be given; the inner reader may end earlier. Follows
     /// `std::io::Take::limit`.
     ///
     /// ```rust
@@ -72,7 +72,7 @@ impl<T> Take<T> {
         self.limit = limit;
     }
 
-    /// The inner reader, lent. Follows `std::io::Take::get_ref`.
+    /// Gets a reference to the inner reader. Follows `std::io::Take::get_ref`.
     ///
     /// ```rust
     /// let mut r = Cursor::new(*b"abcde").take(2);
@@ -86,7 +86,8 @@ impl<T> Take<T> {
         &self.inner
     }
 
-    /// The inner reader, lent to be changed. The limit stays. Follows `std::io::Take::get_mut`.
+    /// Gets a mutable reference to the inner reader. The limit stays. Follows
+    /// `std::io::Take::get_mut`.
     ///
     /// ```rust
     /// let mut r = Cursor::new(*b"abcde").take(2);
@@ -103,7 +104,7 @@ impl<T> Take<T> {
         &mut self.inner
     }
 
-    /// The inner reader, where it stands. Follows `std::io::Take::into_inner`.
+    /// Returns the inner reader, where it stands. Follows `std::io::Take::into_inner`.
     ///
     /// ```rust
     /// let mut r = Cursor::new(*b"abcde").take(2);

@@ -138,7 +138,7 @@ pub trait Write {
         Ok(())
     }
 
-    /// The writer itself, lent: for an adaptor that would take it by value. Follows
+    /// Lends the writer itself, for an adaptor that would take it by value. Follows
     /// `std::io::Write::by_ref`.
     ///
     /// ```rust

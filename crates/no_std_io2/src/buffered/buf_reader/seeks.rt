@@ -88,11 +88,12 @@ impl<R: Seek, const S: usize> BufReader<R, S> {
         }
     }
 
-    /// Moves by `offset` bytes from the next byte that this reader would give. Where the target lies
-    /// in the buffer, from the first byte [`behind`](BufReader::behind) to the end of those held, the
-    /// inner reader isn't asked, and no byte that was read is lost: forward the next bytes are passed
-    /// over, backward the last ones come again. Else this is `seek(SeekFrom::Current(offset))` without
-    /// its number, which drops the buffer. Follows `BufReader::seek_relative`.
+    /// Moves by `offset` bytes from the next byte that this reader would give. Where the target
+    /// lies in the buffer, from the first byte [`behind`](BufReader::behind) to the end of those
+    /// held, the inner reader isn't asked, and no byte that was read is lost: forward the next
+    /// bytes are passed over, backward the last ones come again. Else this is
+    /// `seek(SeekFrom::Current(offset))` without its number, which drops the buffer. Follows
+    /// `std::io::BufReader::seek_relative`.
     ///
     /// # Errors
     /// Those of `seek`, and none in the buffer: `InvalidInput` where the target is below 0 or above
