@@ -110,8 +110,8 @@ pub fn all() -> Vec<Case> {
     cases
 }
 
-// Bytes that no compiler knows.
-fn source() -> &'static [u8] {
+/// Bytes that no compiler knows.
+pub fn source() -> &'static [u8] {
     static SOURCE: OnceLock<Vec<u8>> = OnceLock::new();
     SOURCE.get_or_init(|| {
         let byte = |at: usize| (at.wrapping_mul(2_654_435_761) >> 13) as u8;
@@ -176,9 +176,30 @@ fn add_pieces(cases: &mut Vec<Case>) {
         let text = lines_of(len);
         add!("a slice", len, text, read_until_slice, lines_slice);
         add!("a cursor", len, text, read_until_cursor, lines_cursor);
-        add!("`BufReader` 64", len, text, read_until_buffered, lines_buffered, 64);
-        add!("`BufReader` 1024", len, text, read_until_buffered, lines_buffered, 1024);
-        add!("`BufReader` 8192", len, text, read_until_buffered, lines_buffered, 8192);
+        add!(
+            "`BufReader` 64",
+            len,
+            text,
+            read_until_buffered,
+            lines_buffered,
+            64
+        );
+        add!(
+            "`BufReader` 1024",
+            len,
+            text,
+            read_until_buffered,
+            lines_buffered,
+            1024
+        );
+        add!(
+            "`BufReader` 8192",
+            len,
+            text,
+            read_until_buffered,
+            lines_buffered,
+            8192
+        );
     }
 }
 
@@ -242,7 +263,8 @@ fn listed_source(kind: &str, size: usize) -> &'static [u8] {
     }
 }
 
-fn size_text(size: usize) -> String {
+/// A number of bytes, as the table shows it.
+pub fn size_text(size: usize) -> String {
     match size {
         MEBIBYTE.. => format!("{} MiB", size / MEBIBYTE),
         1024.. => format!("{} KiB", size / 1024),

@@ -1,7 +1,7 @@
 //! The streams of the original crate.
 mod streams {
-    use no_std_io2::io::{BufReader, BufWriter, LineWriter};
     pub use no_std_io2::io::{BufRead, Cursor, Read, Result, Seek, SeekFrom, Write, copy};
+    use no_std_io2::io::{BufReader, BufWriter, LineWriter};
 
     pub fn buffered_writer<W: Write, const S: usize>(inner: W) -> BufWriter<W, S> {
         BufWriter::new(inner)
