@@ -261,6 +261,7 @@ impl<T: Read> Read for Tally<T> {
         ensures told { T.tells (tally_inner self.old) → T.tells (tally_inner self.new)
             × ReadsExact ⊥ (T.events (tally_inner self.old)) result buf.new (T.events (tally_inner self.new)) }
         ensures fault { IfErr result IsFault }
+        ensures empty { length buf.old ≡ 0 → IsOk result × (self.new ≡ self.old) }
         ensures turns { T.turns (tally_inner self.new) ≤ T.turns (tally_inner self.old) }
         ensures filling { T.is_filling (tally_inner self.old) → T.is_filling (tally_inner self.new) }
         ensures store { T.has_store (tally_inner self.old) → T.has_store (tally_inner self.new)
@@ -275,7 +276,6 @@ impl<T: Read> Read for Tally<T> {
         ensures handed { T.is_metered (tally_inner self.old) → T.is_metered (tally_inner self.new)
             × (T.cost (tally_inner self.new) + tally_reads self.old
             ≡ T.cost (tally_inner self.old) + tally_reads self.new) }
-        ensures none { length buf.old ≡ 0 → self.new ≡ self.old }
         ensures writes { tally_writes self.new ≡ tally_writes self.old }
     {
         let mut at = 0;

@@ -1,5 +1,5 @@
 // A reader or a writer of the system's, with a number of turns that bounds every loop over it.
-ghost use Rattle.std.specs.Prelude.{◌≡◌, ℕ, List, ◌+◌, ◌<◌, ◌≤◌, ◌⊎◌, ◌++◌, [], Ok, IfOk, IfErr, IsErrAnd, length, OnOk};
+ghost use Rattle.std.specs.Prelude.{◌≡◌, ℕ, List, ◌+◌, ◌<◌, ◌≤◌, ◌⊎◌, ◌++◌, [], Ok, IsOk, IfOk, IfErr, IsErrAnd, length, OnOk};
 ghost use Rattle.std.specs.Io.KnownBytes.{ReadConsumes, WriteAppends, Keeps};
 ghost use Rattle.no_std_io2.specs.Events.{SpendsTurn};
 ghost use Rattle.no_std_io2.specs.Errors.{IsFault, IsNoInterruption, IsUnwritten, IsUnexpectedEnd};
@@ -216,7 +216,7 @@ impl<D: io::Read> Read for Patient<D> {
         ensures bytes { Got (D.remaining (patient_device self.old)) (D.remaining (patient_device self.new))
             result buf.new }
         ensures ends { EndsReads (length buf.old) result (patient_turns self.old) (patient_turns self.new) }
-        ensures empty { length buf.old ≡ 0 → self.new ≡ self.old }
+        ensures empty { length buf.old ≡ 0 → IsOk result × (self.new ≡ self.old) }
         ensures taken { patient_taken self.new ≡ patient_taken self.old }
     {
         let mut at = 0;

@@ -197,7 +197,6 @@ impl<R: Read, const S: usize> Read for BufReader<R, S> {
             × (reader_held self.new ≡ drop (length buf.old) (reader_held self.old))
             × (reader_behind self.new ≡ reader_behind self.old ++ buf.new)
             × (reader_inner self.new ≡ reader_inner self.old) }
-        ensures empty { length buf.old ≡ 0 → IsOk result × (self.new ≡ self.old) }
 
         // How often it reads over a filling reader, and what it then holds and has taken.
         ensures asks { R.is_metered (reader_inner self.old) → R.is_filling (reader_inner self.old)

@@ -50,7 +50,7 @@ returns-in-Ok-eq0 g c =
           (now.0, now.1 ∙ so_far.1, stays_at_end _ _ _ _ _ _ _ _ (read.told tells.0).1 is none now.2 so_far.2);
       counts = counted_stop _ _ _ _ _ _ _ _ _ before.counts (one_read _ _ _ (part_room at old c.reads-test.true) read.reads) read.turns;
       handed = λ m. handed_once _ _ _ _ _ _ _ (before.handed m) (read.handed.counted (before.handed m).0) read.reads;
-      none = λ e. absurd (omega (arith, e, before.long, c.reads-test.true));
+      empty = λ e. absurd (omega (arith, e, before.long, c.reads-test.true));
       writes = read.writes ∙ before.writes;
     }
 
@@ -66,7 +66,7 @@ returns g c =
       store = before.store;
       counts = counted_done _ _ _ _ _ _ _ before.counts (omega (arith, test));
       handed = before.handed;
-      none = before.none;
+      empty = λ e. (refl, before.none e);
       writes = before.writes;
     }
 
@@ -129,7 +129,7 @@ returns-in-Err-2 g c =
           absurd (no_error _ _ _ _ tells.1 (read.told tells.0).1);
       counts = counted_stop _ _ _ _ _ _ _ _ _ before.counts (one_read _ _ _ (part_room at old c.reads-test.true) read.reads) read.turns;
       handed = λ m. handed_once _ _ _ _ _ _ _ (before.handed m) (read.handed.counted (before.handed m).0) read.reads;
-      none = λ e. absurd (omega (arith, e, before.long, c.reads-test.true));
+      empty = λ e. absurd (omega (arith, e, before.long, c.reads-test.true));
       writes = read.writes ∙ before.writes;
     }
 

@@ -120,6 +120,6 @@ returns g c =
       turns = before.turns;
       bytes = record { count = c.reads.at; within = before.within; whole = omega (arith, before.within, c.reads-test.false); device = before.got };
       ends = (before.turns, λ some. before.spent (omega (arith, some, c.reads-test.false, before.long)));
-      empty = before.empty;
+      empty = λ e. (refl, before.empty e);
       taken = before.taken;
     }
