@@ -70,7 +70,8 @@ pub no_failure : (E : List Event) (old : Told) → HasNoFault E → old.mishaps 
 no_failure E old none steady e (inl f) = no_first_fault E e none f
 no_failure E old none steady e (inr f) = Moves-steady steady f.moves
 
-told_mishap : (old : Option (List ErrorKind)) (kind : ErrorKind) (new : Option (List ErrorKind)) → HasSpent old (kind ∷ []) new → TellsMishap old kind
+told_mishap : (old : Option (List ErrorKind)) (kind : ErrorKind) (new : Option (List ErrorKind)) → HasSpent old (kind ∷ []) new
+    → TellsMishap old kind
 told_mishap None kind new h = tt
 told_mishap (Some old) kind None h = absurd h
 told_mishap (Some old) kind (Some new) h =
