@@ -30,7 +30,8 @@ moves_act a b x k act acts m = record {
 }
 
 -- no act was spent
-moves_behind : (a b : Told) (x : List ℕ) (k : List ErrorKind) (acts : List Act) → Moves a x k b → Moves (with_acts a acts) x k (with_acts b acts)
+moves_behind : (a b : Told) (x : List ℕ) (k : List ErrorKind) (acts : List Act) → Moves a x k b
+    → Moves (with_acts a acts) x k (with_acts b acts)
 moves_behind a b x k acts m = record {
   front = m.front;
   bytes = m.bytes;
@@ -80,7 +81,8 @@ moves_through a a' b x k act acts acts' same m none is left =
     (moves_act a b x k act (drop 1 acts) (moves_from same m))))
 
 -- no act is left, and the call was handed on
-pub moves_past : (a a' b : Told) (x : List ℕ) (k : List ErrorKind) (acts acts' : List Act) → a' ≡ a → Moves a' x k b → first_act acts ≡ None
+pub moves_past : (a a' b : Told) (x : List ℕ) (k : List ErrorKind) (acts acts' : List Act) → a' ≡ a → Moves a' x k b
+    → first_act acts ≡ None
     → acts' ≡ drop 1 acts → Moves (with_acts a acts) x k (with_acts b acts')
 moves_past a a' b x k acts acts' same m is left =
     let none : acts ≡ [] = acts_none acts is in

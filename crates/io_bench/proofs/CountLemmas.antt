@@ -20,7 +20,8 @@ counted_stop wanted budget was left budget' now budget'' now' e so_far one fewer
     record { least = omega (arith, so_far.least, one); most = omega (arith, so_far.most, one, fewer) }
 
 -- nothing is left
-pub counted_done : {A : Type 0} (x : A) (wanted budget was left budget' now : ℕ) → CountedSoFar wanted budget was left budget' now → left ≡ 0
+pub counted_done : {A : Type 0} (x : A) (wanted budget was left budget' now : ℕ) → CountedSoFar wanted budget was left budget' now
+    → left ≡ 0
     → CountsLoop wanted budget was (Ok x) budget' now
 counted_done x wanted budget was left budget' now so_far none =
     record { least = omega (arith, so_far.least, none); most = omega (arith, so_far.most) }
@@ -40,6 +41,7 @@ pub one_read : (room was now : ℕ) → 0 < room → now ≡ was + min 1 room �
 one_read room was now some counts = omega (arith, some, counts)
 
 -- the inner reader counted what is counted
-pub handed_once : {P Q : Type 0} (cost0 was cost now cost' now' room : ℕ) → P × (cost + was ≡ cost0 + now) → Q × (cost' ≡ cost + min 1 room)
+pub handed_once : {P Q : Type 0} (cost0 was cost now cost' now' room : ℕ) → P × (cost + was ≡ cost0 + now)
+    → Q × (cost' ≡ cost + min 1 room)
     → now' ≡ now + min 1 room → Q × (cost' + was ≡ cost0 + now')
 handed_once cost0 was cost now cost' now' room so_far read counts = (read.0, omega (arith, so_far.1, read.1, counts))

@@ -152,6 +152,7 @@ some_accepted ops replies i p q xs h clear accepts some run =
     omega (arith, some, ap length (accepted_once _ _ [] xs clear (nothing_at ops replies i p q h run) accepts))
 
 -- what is known of an error is known of an answer that is one
-pub refused_so : {T : Type 0} (reply : Result T Error) (P Q : Error → Type 0) → IsErrAnd reply P → ((e : Error) → P e → Q e) → IfErr reply Q
+pub refused_so : {T : Type 0} (reply : Result T Error) (P Q : Error → Type 0) → IsErrAnd reply P → ((e : Error) → P e → Q e)
+    → IfErr reply Q
 refused_so (Ok x) P Q said then = absurd said
 refused_so (Err e) P Q said then = then e said

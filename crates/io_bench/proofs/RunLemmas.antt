@@ -88,7 +88,8 @@ pub appended_back : (old new more : List Reply) → new ≡ old ++ more → new 
 appended_back old new more e = e ∙ ap (λ l. old ++ l) (sym (ap (drop (length old)) e ∙ drop-append_seam old more))
 
 -- one call more passed over interruptions
-pub AllPassOver-more : (ops : List Op) (replies : List Reply) (op : Op) (reply : Reply) (xs : List ℕ) → Run ops replies xs → AllPassOver ops replies
+pub AllPassOver-more : (ops : List Op) (replies : List Reply) (op : Op) (reply : Reply) (xs : List ℕ) → Run ops replies xs
+    → AllPassOver ops replies
     → PassesOver op reply → AllPassOver (ops ++ op ∷ []) (replies ++ reply ∷ [])
 AllPassOver-more [] [] op reply xs r a p = (p, tt)
 AllPassOver-more (o ∷ ops) (q ∷ replies) op reply xs r a p = (a.0, AllPassOver-more ops replies op reply r.1 r.3 a.1 p)

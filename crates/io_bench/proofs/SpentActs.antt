@@ -40,8 +40,10 @@ spent_one acts spent now now' split is =
     split ∙ ap (λ l. spent ++ l) (sym (take-append-drop 1 now) ∙ ap (λ l. take 1 now ++ l) (sym is)) ∙ sym (append_assoc spent (take 1 now) now')
 
 -- one call more, which took n bytes or was interrupted
-pub spent_more : (acts : List Act) (wanted turns left turns' left' turns'' n : ℕ) (now now' : List Act) → ActsSoFar acts wanted turns left turns' now
-    → WentOn now n → now' ≡ drop 1 now → left ≡ left' + n → left' + turns'' < left + turns' → ActsSoFar acts wanted turns left' turns'' now'
+pub spent_more : (acts : List Act) (wanted turns left turns' left' turns'' n : ℕ) (now now' : List Act)
+    → ActsSoFar acts wanted turns left turns' now
+    → WentOn now n → now' ≡ drop 1 now → left ≡ left' + n → left' + turns'' < left + turns'
+    → ActsSoFar acts wanted turns left' turns'' now'
 spent_more acts wanted turns left turns' left' turns'' n now now' so_far went is moved fewer =
     let one : length (take 1 now) ≤ 1 = omega (arith, length-take 1 now) in
     let gone : length now' ≡ length now - 1 = ap length is ∙ length-drop 1 now in
@@ -59,7 +61,8 @@ spent_more acts wanted turns left turns' left' turns'' n now now' so_far went is
     }
 
 -- one call more stopped it
-pub spent_stop : (acts : List Act) (wanted turns left turns' turns'' : ℕ) (now now' : List Act) (e : Error) → ActsSoFar acts wanted turns left turns' now
+pub spent_stop : (acts : List Act) (wanted turns left turns' turns'' : ℕ) (now now' : List Act) (e : Error)
+    → ActsSoFar acts wanted turns left turns' now
     → now' ≡ drop 1 now → 0 < left → turns'' ≤ turns' → SpendsActs acts wanted turns (Err e) left turns'' now'
 spent_stop acts wanted turns left turns' turns'' now now' e so_far is some fewer =
     let one : length (take 1 now) ≤ 1 = omega (arith, length-take 1 now) in
@@ -76,7 +79,8 @@ spent_stop acts wanted turns left turns' turns'' now now' e so_far is some fewer
     }
 
 -- nothing is left
-pub spent_done : (acts : List Act) (wanted turns left turns' : ℕ) (now : List Act) → ActsSoFar acts wanted turns left turns' now → left ≡ 0
+pub spent_done : (acts : List Act) (wanted turns left turns' : ℕ) (now : List Act) → ActsSoFar acts wanted turns left turns' now
+    → left ≡ 0
     → SpendsActs acts wanted turns (Ok tt) left turns' now
 spent_done acts wanted turns left turns' now so_far none = record {
   spent = so_far.spent;

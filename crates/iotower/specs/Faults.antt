@@ -1,5 +1,5 @@
 -- What a fault prints.
-use Rattle.std.specs.Prelude.{ℕ, codes, List, ◌++◌}
+use Rattle.std.specs.Prelude.{ℕ, ◌<◌, codes, List, ◌++◌, ⊤}
 use Rattle.std.specs.Fmt.{decimal}
 use Rattle.no_std_io2_base.specs.Errors.{error_display}
 use Rattle.iotower.specs.declared.play.Fault.{Fault}
@@ -9,3 +9,8 @@ use Rattle.iotower.specs.declared.play.Fault.TheVariants.{Io, Line}
 abbrev pub fault_display : Fault → List ℕ
 fault_display (Io e) = error_display e
 fault_display (Line n) = codes "bad line " ++ decimal n
+
+-- lines are numbered from 1
+abbrev pub IsNumbered : Fault → Type 0
+IsNumbered (Io e) = ⊤
+IsNumbered (Line n) = 0 < n

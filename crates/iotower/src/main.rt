@@ -5,6 +5,11 @@
 //! words that are no command.
 #![tactic(auto)]
 
+ghost use Rattle.std.specs.Prelude.{◌≡◌, IfSome, IfNone, OnOk, OnErr};
+ghost use Rattle.std.specs.Process.{exit_status};
+ghost use Rattle.iotower.specs.declared.Command.{Command as Asked};
+ghost use Rattle.iotower.specs.Words.{verb_of, mode_of};
+
 mod copy;
 mod patient;
 mod play;
@@ -55,7 +60,10 @@ fn parse_words<R: Env + Alloc<A = Global>>(rt: &R) -> Result<Option<Command>, Fa
     Ok(command_of(verb.as_str(), mode.as_str()))
 }
 
-fn command_of(verb: &str, mode: &str) -> Option<Command> {
+fn command_of(verb: &str, mode: &str) -> Option<Command>
+    ensures some { IfSome result (λ command. (verb.now ≡ verb_of command) × (mode.now ≡ mode_of command)) }
+    ensures none { IfNone result ((command : Asked) → verb.now ≡ verb_of command → mode.now ≡ mode_of command → ⊥) }
+{
     match (verb, mode) {
         ("copy", "buf") => Some(Command::Copy(false)),
         ("copy", "line") => Some(Command::Copy(true)),
@@ -82,7 +90,10 @@ fn run(rt: &HostRuntime, command: Command) -> Result<(), Fault> {
 }
 
 // The status of a run, whose fault is told on standard error.
-fn told(rt: &HostRuntime, answer: Result<(), Fault>) -> ExitCode {
+fn told(rt: &HostRuntime, answer: Result<(), Fault>) -> ExitCode
+    ensures done { OnOk answer (exit_status result ≡ 0) }
+    ensures failed { OnErr answer (exit_status result ≡ 1) }
+{
     match answer {
         Ok(()) => ExitCode::SUCCESS,
         Err(fault) => {

@@ -1,8 +1,7 @@
 // Plays a script on a tower of buffered writers.
 ghost use Rattle.no_std_io2.specs.Fits.{BufReaderFits};
 ghost use Rattle.std.specs.Prelude.{◌≡◌, ◌++◌, Some, IfOk, IfErr};
-ghost use Rattle.no_std_io2_base.specs.declared.error.ErrorKind.TheVariants.{OutOfMemory};
-ghost use Rattle.no_std_io2_base.specs.Errors.{error_kind};
+ghost use Rattle.no_std_io2_base.specs.Errors.{IsOutOfMemory};
 ghost use Rattle.iotower.specs.declared.play.Fault.TheVariants.{Io};
 ghost use Rattle.iotower.specs.Faults.{fault_display};
 ghost use Rattle.iotower.specs.Play.{Shows, IsPlay, Writes, fresh_told};
@@ -141,7 +140,7 @@ pub fn play<R: Read + Drop, W: Write + Drop>(
 
 fn play_ops(alloc: Global, acts: Vec<Act>, ops: &[Op<'_>], shape: Shape) -> Result<Vec<u8>>
     ensures ok { IfOk result (λ text. Shows (fresh_told acts.items) ops.now text.items) }
-    ensures kind { IfErr result (λ e. error_kind e ≡ OutOfMemory) }
+    ensures kind { IfErr result IsOutOfMemory }
 {
     let base = Faulty::new(Vec::new(alloc), acts);
     match shape {
@@ -169,7 +168,7 @@ fn play_ops(alloc: Global, acts: Vec<Act>, ops: &[Op<'_>], shape: Shape) -> Resu
 // Makes the calls, and then the text, before the tower is dropped.
 fn play_on<T: Tower + Drop>(alloc: Global, mut tower: T, ops: &[Op<'_>]) -> Result<Vec<u8>>
     ensures ok { IfOk result (λ text. Shows (T.Write.told tower) ops.now text.items) }
-    ensures kind { IfErr result (λ e. error_kind e ≡ OutOfMemory) }
+    ensures kind { IfErr result IsOutOfMemory }
 {
     let mut replies = Vec::new(alloc);
     run_writes(&mut tower, ops, &mut replies)?;

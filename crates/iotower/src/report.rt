@@ -1,7 +1,6 @@
 // What `play` prints: a line for each reply, and then what is out and what is held.
-ghost use Rattle.std.specs.Prelude.{◌≡◌, ◌∷◌, [], ◌++◌, ℕ, codes, List, Some, IfSome, IfNone, OnOk, IfOk, IfErr};
-ghost use Rattle.no_std_io2_base.specs.declared.error.ErrorKind.TheVariants.{OutOfMemory};
-ghost use Rattle.no_std_io2_base.specs.Errors.{error_kind};
+ghost use Rattle.std.specs.Prelude.{◌≡◌, ◌∷◌, [], ◌++◌, ℕ, codes, List, Some, ◌+◌, ◌<◌, length, vec_len, vec_capacity, IfSome, IfNone, OnOk, OnErr, IfOk, IfErr};
+ghost use Rattle.no_std_io2_base.specs.Errors.{IsOutOfMemory};
 ghost use Rattle.iotower.specs.Script.{escaped, escaped_byte};
 ghost use Rattle.iotower.specs.Report.{reply_line, report};
 
@@ -17,7 +16,7 @@ use std::io::Write;
 /// `OutOfMemory`.
 pub fn push_reply<A: Allocator>(text: &mut Vec<u8, A>, reply: &Reply) -> Result<()>
     ensures ok { OnOk result (text.new.items ≡ text.old.items ++ reply_line reply.now) }
-    ensures kind { IfErr result (λ e. error_kind e ≡ OutOfMemory) }
+    ensures kind { IfErr result IsOutOfMemory }
 {
     match reply {
         Reply::Took(count) => push_line(text, b"took=", count),
@@ -30,7 +29,7 @@ pub fn push_reply<A: Allocator>(text: &mut Vec<u8, A>, reply: &Reply) -> Result<
 fn push_line<A: Allocator, D: Display>(text: &mut Vec<u8, A>, name: &[u8], value: &D) -> Result<()>
     ensures ok { (shown : List ℕ) → D.output value.now ≡ Some shown
         → OnOk result (text.new.items ≡ text.old.items ++ (name.now ++ (shown ++ codes "\n"))) }
-    ensures kind { IfErr result (λ e. error_kind e ≡ OutOfMemory) }
+    ensures kind { IfErr result IsOutOfMemory }
 {
     push(text, name)?;
     push_shown(text, value)?;
@@ -41,7 +40,7 @@ fn push_line<A: Allocator, D: Display>(text: &mut Vec<u8, A>, name: &[u8], value
 // Appends what a value prints.
 fn push_shown<A: Allocator, D: Display>(text: &mut Vec<u8, A>, value: &D) -> Result<()>
     ensures ok { (shown : List ℕ) → D.output value.now ≡ Some shown → OnOk result (text.new.items ≡ text.old.items ++ shown) }
-    ensures kind { IfErr result (λ e. error_kind e ≡ OutOfMemory) }
+    ensures kind { IfErr result IsOutOfMemory }
 {
     match write!(text, "{value}") {
         Ok(()) => Ok(()),
@@ -55,7 +54,7 @@ fn push_shown<A: Allocator, D: Display>(text: &mut Vec<u8, A>, value: &D) -> Res
 /// `OutOfMemory`.
 pub fn push_escaped<A: Allocator>(text: &mut Vec<u8, A>, bytes: &[u8]) -> Result<()>
     ensures ok { OnOk result (text.new.items ≡ text.old.items ++ escaped bytes.now) }
-    ensures kind { IfErr result (λ e. error_kind e ≡ OutOfMemory) }
+    ensures kind { IfErr result IsOutOfMemory }
 {
     let mut start = 0;
     'bytes: for i in 0..bytes.len() {
@@ -97,7 +96,7 @@ pub fn report_of<A: Allocator>(
     outer: &[u8],
 ) -> Result<Vec<u8, A>>
     ensures ok { IfOk result (λ text. text.items ≡ report replies.now out.now (inner.now ++ outer.now)) }
-    ensures kind { IfErr result (λ e. error_kind e ≡ OutOfMemory) }
+    ensures kind { IfErr result IsOutOfMemory }
 {
     let mut text = Vec::new(alloc);
     'replies: for reply in replies {
@@ -118,7 +117,9 @@ pub fn report_of<A: Allocator>(
 /// `OutOfMemory`.
 pub fn push<A: Allocator>(text: &mut Vec<u8, A>, bytes: &[u8]) -> Result<()>
     ensures ok { OnOk result (text.new.items ≡ text.old.items ++ bytes.now) }
-    ensures kind { IfErr result (λ e. error_kind e ≡ OutOfMemory) }
+    ensures kind { IfErr result IsOutOfMemory }
+    // Nothing is refused where there is room for the bytes.
+    ensures full { OnErr result (vec_capacity text.old < vec_len text.old + length bytes.now) }
 {
     match text.extend_from_slice(bytes) {
         Ok(()) => Ok(()),

@@ -1,6 +1,7 @@
 // The script of `play`: acts of a faulty device, and then calls of a writer, a line each.
-ghost use Rattle.std.specs.Prelude.{◌≡◌, ℕ, ◌+◌, ◌≤◌, List, ◌∷◌, take, drop, IfSome, IfNone, OnOk, IfErr, length, vec_len, vec_capacity};
-ghost use Rattle.no_std_io2_base.specs.Errors.{error_kind};
+ghost use Rattle.std.specs.Prelude.{◌≡◌, ℕ, ◌+◌, ◌≤◌, List, ◌∷◌, take, drop, IfSome, IfNone, ◌<◌, OnOk, OnErr, IfErr, length, vec_len, vec_capacity};
+ghost use Rattle.no_std_io2_base.specs.Errors.{IsOutOfMemory};
+ghost use Rattle.iotower.specs.Faults.{IsNumbered};
 ghost use Rattle.iotower.specs.Script.{kind_name, IsCount, IsTextArgument};
 ghost use Rattle.no_std_io2_base.specs.declared.error.ErrorKind.{ErrorKind as Kind};
 
@@ -52,7 +53,9 @@ impl Script {
     pub fn read<R: BufRead + Drop>(
         alloc: Global,
         lines: Split<R>,
-    ) -> std::result::Result<Script, Fault> {
+    ) -> std::result::Result<Script, Fault>
+        ensures { IfErr result IsNumbered }
+    {
         let mut script = Script {
             acts: Vec::new(alloc),
             calls: Calls {
@@ -145,7 +148,8 @@ impl Calls {
 fn reserve<T>(list: &mut Vec<T>, more: usize) -> Result<()>
     ensures items { list.new.items ≡ list.old.items }
     ensures room { OnOk result (vec_len list.new + more ≤ vec_capacity list.new) }
-    ensures kind { IfErr result (λ e. error_kind e ≡ ErrorKind.OutOfMemory) }
+    ensures kind { IfErr result IsOutOfMemory }
+    ensures full { OnErr result (vec_capacity list.old < vec_len list.old + more) }
 {
     match list.reserve(more) {
         Ok(()) => Ok(()),

@@ -1,14 +1,15 @@
 -- A copy, piece by piece.
-use Rattle.std.proofs.Common.{◌≡◌, ℕ, List, [], ◌∷◌, ◌++◌, sym, ap, ◌∙◌, subst, arith, rules, Ok, Err, Result, Some, IsOk, IfErr, append-nil, append_assoc, inl, inr, ◌⊎◌}
+use Rattle.std.proofs.Common.{◌≡◌, ℕ, List, [], ◌∷◌, ◌++◌, sym, ap, ◌∙◌, subst, arith, rules, Ok, Err, Result, Some, IsOk, IfErr, append-nil, append_assoc, inl, inr, ◌⊎◌, ◌+◌, ◌<◌, ◌==◌, None, Option, count_by, eq-eqb, if◌then◌else◌, refl}
+use Rattle.no_std_io2.specs.declared.io.ErrorKind.{ErrorKind}
 use Rattle.no_std_io2.specs.declared.io.Error.{Error}
-use Rattle.no_std_io2.specs.Errors.{error_kind, IsInterruption, IsFault}
+use Rattle.no_std_io2.specs.Errors.{error_kind, kind_number, is_interruption, IsInterruption, IsFault}
 use Rattle.no_std_io2.specs.Events.{Event, byte, fails, bytes, HasNoFault}
-use Rattle.no_std_io2.specs.Writes.{Told, Moves}
+use Rattle.no_std_io2.specs.Writes.{Told, Moves, HasSpent}
 use Rattle.no_std_io2.proofs.MovesLemmas.{Moves-then, Moves-ends, Moves-steady}
 use Rattle.no_std_io2.specs.Buffered.{with_buffer}
 use Rattle.no_std_io2.proofs.BufferLemmas.{Moves-bare}
 use Rattle.no_std_io2.specs.Copy.{Copies, CopyEnds, CopyMoves}
-use Rattle.system_streams.specs.Copies.{Passes, PassesSome, HasFirstFault, HasFailed}
+use Rattle.system_streams.specs.Copies.{Passes, PassesSome, HasFirstFault, HasFailed, MayFail, TellsMishap}
 
 -- a copy to the end took all, and had no fault
 pub copies_all : {E after : List Event} {old new : Told} {n : ℕ} → Copies 64 E (Ok n) after old new → HasNoFault E × Passes old (bytes E) n new
@@ -68,3 +69,28 @@ ok_unless (Err e) P h never = absurd (never e h)
 pub no_failure : (E : List Event) (old : Told) → HasNoFault E → old.mishaps ≡ Some [] → (e : Error) → HasFirstFault E e ⊎ HasFailed old e → ⊥
 no_failure E old none steady e (inl f) = no_first_fault E e none f
 no_failure E old none steady e (inr f) = Moves-steady steady f.moves
+
+told_mishap : (old : Option (List ErrorKind)) (kind : ErrorKind) (new : Option (List ErrorKind)) → HasSpent old (kind ∷ []) new
+    → TellsMishap old kind
+told_mishap None kind new h = tt
+told_mishap (Some old) kind None h = absurd h
+told_mishap (Some old) kind (Some new) h =
+    let same = eq-eqb (kind_number kind) (kind_number kind) refl in
+    let one : count_by (λ other. kind_number other == kind_number kind) (kind ∷ []) ≡ 1 = ap (λ b. 0 + (if b then 1 else 0)) same in
+    omega (arith, h (λ other. kind_number other == kind_number kind), one)
+
+-- what is known of a writer that failed
+may_fail : {old : Told} {e : Error} → HasFailed old e → MayFail old e
+may_fail {old} {e} f = record {
+  mishap = told_mishap old.mishaps (error_kind e) f.new.mishaps f.moves.mishaps;
+  turn = λ again.
+      let one : count_by is_interruption (error_kind e ∷ []) ≡ 1 = ap (λ b. 0 + (if b then 1 else 0)) again in
+      omega (arith, f.moves.turns, one);
+}
+
+-- an answer that was a fault of the reader's, or a failure of the writer's
+pub either_failed : {R : Type 0} (E E' : List Event) (old : Told) (reply : Result R Error) → E ≡ E'
+    → IfErr reply (λ e. HasFirstFault E e ⊎ HasFailed old e) → IfErr reply (λ e. HasFirstFault E' e ⊎ MayFail old e)
+either_failed E E' old (Ok x) same said = tt
+either_failed E E' old (Err e) same (inl fault) = inl (subst (λ l. HasFirstFault l e) same fault)
+either_failed E E' old (Err e) same (inr failed) = inr (may_fail failed)

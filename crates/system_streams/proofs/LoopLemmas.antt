@@ -32,7 +32,8 @@ pub gives_none : (text out : List ℕ) (known : Option (List ℕ)) → Gives tex
 gives_none text out known = record { given = []; split = refl; taken = sym (append-nil out); device = appends_nil known }
 
 -- the device took n bytes more
-pub gives_more : (text left out out' out'' : List ℕ) (known known' known'' : Option (List ℕ)) (n : ℕ) → Gives text left out out' known known'
+pub gives_more : (text left out out' out'' : List ℕ) (known known' known'' : Option (List ℕ)) (n : ℕ)
+    → Gives text left out out' known known'
     → out'' ≡ out' ++ take n left → Appends known' known'' (take n left)
     → Gives text (take (length left - n) (drop n left)) out out'' known known''
 gives_more text left out out' out'' known known' known'' n so_far more device =
@@ -57,7 +58,8 @@ gives_same text left out out' out'' known known' known'' so_far same device = re
 
 -- it took none of some bytes
 pub gives_zero : (text left out out' out'' : List ℕ) (known known' known'' : Option (List ℕ)) (reply : Result ℕ Error) (n : ℕ)
-    → Gives text left out out' known known' → reply ≡ Ok n → n ≡ 0 → out'' ≡ out' ++ taken reply left → WriteAppends known' known'' reply left
+    → Gives text left out out' known known' → reply ≡ Ok n → n ≡ 0 → out'' ≡ out' ++ taken reply left
+    → WriteAppends known' known'' reply left
     → Gives text left out out'' known known''
 gives_zero text left out out' out'' known known' known'' reply n so_far is none more device =
     let zero : reply ≡ Ok 0 = is ∙ ap Ok none in
@@ -70,7 +72,8 @@ gives_zero text left out out' out'' known known' known'' reply n so_far is none 
     }
 
 -- and no turn is spent then
-pub ends_zero : (e : Error) (reply : Result ℕ Error) (n first old new : ℕ) → IsUnwritten e → old ≤ first → reply ≡ Ok n → AnswersWrite reply old new
+pub ends_zero : (e : Error) (reply : Result ℕ Error) (n first old new : ℕ) → IsUnwritten e → old ≤ first → reply ≡ Ok n
+    → AnswersWrite reply old new
     → EndsWrites {T = Unit {0}} (Err e) first new
 ends_zero e reply n first old new kind fewer is asked =
     let same : new ≡ old = subst (λ r. AnswersWrite r old new) is asked in
@@ -150,7 +153,8 @@ fewer_left n turns turns' left some fits same =
 
 -- what a read that gave bytes consumed: the device was asked then
 pub consumed_some : {A C : Type 0} (old n : ℕ) (known known' : Option (List ℕ)) (buf : List ℕ) → (n ≡ 0 → ⊥)
-    → (old ≡ 0 → GaveNone (Ok n) × A) → (old ≡ 1 → ⊥) → (1 < old → Consumes known known' (take n buf) × C) → Consumes known known' (take n buf)
+    → (old ≡ 0 → GaveNone (Ok n) × A) → (old ≡ 1 → ⊥) → (1 < old → Consumes known known' (take n buf) × C)
+    → Consumes known known' (take n buf)
 consumed_some zero n known known' buf some over last bytes = let none = (over refl).0 in absurd (some cc)
 consumed_some (suc zero) n known known' buf some over last bytes = absurd (last refl)
 consumed_some (suc (suc old)) n known known' buf some over last bytes = (bytes (omega arith)).0
@@ -172,7 +176,8 @@ consumed_end (suc (suc old)) n reply known known' buf is none over last bytes =
     (subst (λ r. ReadConsumes known known' r buf) (is ∙ ap Ok none) (bytes (omega arith))).0
 
 -- an error but an interruption ends a loop of reads
-pub ends_reads : {A : Type 0} (room : ℕ) (e : Error) (first old new : ℕ) → IsFault e → old ≤ first → new < old → (old ≡ 1 → IsOutOfTurns e × (new ≡ 0) × A)
+pub ends_reads : {A : Type 0} (room : ℕ) (e : Error) (first old new : ℕ) → IsFault e → old ≤ first → new < old
+    → (old ≡ 1 → IsOutOfTurns e × (new ≡ 0) × A)
     → (1 < old → AnswersRead (Err e) old new) → EndsReads {T = Unit {0}} room (Err e) first new
 ends_reads room e first zero new fault fewer spent last asked = absurd (omega (arith, spent))
 ends_reads room e first (suc zero) new fault fewer spent last asked =
@@ -208,7 +213,8 @@ got_none a k xs ys known known' known'' within got none =
     subst (λ l. Consumes known known'' l) (append-nil (take a xs) ∙ sym (take-put_mid_below a k xs ys a (omega arith) within))
     (consumes_then known known' known'' (take a xs) [] got none)
 
-pub got_more : (a k n : ℕ) (xs ys : List ℕ) (known known' known'' : Option (List ℕ)) → a ≤ length xs → n ≤ length ys → Consumes known known' (take a xs)
+pub got_more : (a k n : ℕ) (xs ys : List ℕ) (known known' known'' : Option (List ℕ)) → a ≤ length xs → n ≤ length ys
+    → Consumes known known' (take a xs)
     → Consumes known' known'' (take n ys) → Consumes known known'' (take (a + n) (put_mid a k xs ys))
 got_more a k n xs ys known known' known'' within fits got more =
     subst (λ l. Consumes known known'' l) (sym (read_behind a k n xs ys within fits)) (consumes_then known known' known'' (take a xs) (take n ys) got more)

@@ -1,7 +1,8 @@
 -- What a copy through a buffered writer does.
-use Rattle.std.specs.Prelude.{◌≡◌, ℕ, List, [], ◌∷◌, ◌++◌}
+use Rattle.std.specs.Prelude.{◌≡◌, ℕ, ◌<◌, ◌==◌, List, [], ◌∷◌, ◌++◌, count_by, Option, None, Some, ⊤}
+use Rattle.no_std_io2.specs.declared.io.ErrorKind.{ErrorKind}
 use Rattle.no_std_io2.specs.declared.io.Error.{Error}
-use Rattle.no_std_io2.specs.Errors.{error_kind}
+use Rattle.no_std_io2.specs.Errors.{error_kind, kind_number, IsInterruption}
 use Rattle.no_std_io2.specs.Events.{Event, EndsInFault}
 use Rattle.no_std_io2.specs.Writes.{Told, Moves}
 use Rattle.no_std_io2.specs.Copy.{counted}
@@ -28,3 +29,13 @@ pub record HasFailed (old : Told) (e : Error) : Type 0 where
   pub accepted : List ℕ
   pub new : Told
   pub moves : Moves old accepted (error_kind e ∷ []) new
+
+-- where the mishaps to come are told, one is of this kind
+abbrev pub TellsMishap : Option (List ErrorKind) → ErrorKind → Type 0
+TellsMishap None kind = ⊤
+TellsMishap (Some kinds) kind = 0 < count_by (λ other. kind_number other == kind_number kind) kinds
+
+-- All that is known of an error of a writer that is gone: its kind is among the mishaps that were told, and an interruption had a turn.
+pub record MayFail (told : Told) (e : Error) : Type 0 where
+  pub mishap : TellsMishap told.mishaps (error_kind e)
+  pub turn : IsInterruption e → 0 < told.turns

@@ -2,7 +2,7 @@
 ghost use Rattle.std.specs.Prelude.{◌≡◌, ◌⊎◌, [], Some, IfOk, IsOk, IfErr};
 ghost use Rattle.no_std_io2.specs.Events.{bytes, HasNoFault};
 ghost use Rattle.no_std_io2.specs.Reading.{reader_inner, reader_events};
-ghost use Rattle.system_streams.specs.Copies.{Passes, PassesSome, HasFirstFault, HasFailed};
+ghost use Rattle.system_streams.specs.Copies.{Passes, PassesSome, HasFirstFault, HasFailed, MayFail};
 ghost use Rattle.no_std_io2.specs.Fits.{BufReaderFits, BufWriterFits, LineWriterFits};
 
 use no_std_io2::io::{BufReader, BufWriter, LineWriter, Read, Result, Write, copy};
@@ -58,7 +58,8 @@ fn through_lines<R: Read, W: Write + Drop>(
 /// sent as it ends. The reader's interruptions are passed over. As `std::io::copy`, with a buffer at each end.
 ///
 /// # Errors
-/// The first fault of `input`, or the first failure of `output`, an interruption of its flush too.
+/// The first fault of `input`, or the first failure of `output`, an interruption of its flush too. An output that tells
+/// its mishaps to come fails with one of those alone, and of one that tells none nothing is known.
 /// The output is dropped then, with what its buffer had left sent once more.
 ///
 /// ```rust
@@ -80,7 +81,7 @@ pub fn copy_through<R: Read + Drop, W: Write + Drop>(
         × Passes (W.told output) (bytes (R.events input)) r.0 (W.told r.1)) }
     ensures empty { IfOk result (λ r. (W.told r.1).held ≡ []) }
     ensures err { R.tells input → IfErr result (λ e. HasFirstFault (R.events input) e
-        ⊎ HasFailed (W.told output) e) }
+        ⊎ MayFail (W.told output) e) }
     ensures steady { R.tells input → HasNoFault (R.events input) → (W.told output).mishaps ≡ Some []
         → IsOk result }
 {
