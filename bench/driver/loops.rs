@@ -7,20 +7,20 @@ use crate::cases::{FAILED, sample};
 
 /// Counts the writes that reach it, and sums the last byte of each, so that no compiler can leave
 /// the bytes out. It keeps nothing.
-pub struct Counter {
+struct Counter {
     writes: u64,
     last_bytes: u64,
 }
 
 impl Counter {
-    pub fn new() -> Counter {
+    fn new() -> Counter {
         Counter {
             writes: 0,
             last_bytes: 0,
         }
     }
 
-    pub fn sum(&self) -> u64 {
+    fn sum(&self) -> u64 {
         self.last_bytes.wrapping_mul(31).wrapping_add(self.writes)
     }
 }
@@ -39,7 +39,7 @@ impl Write for Counter {
     }
 }
 
-pub fn write_often<W: Write>(w: &mut W, piece: &[u8], calls: u64) -> u64 {
+fn write_often<W: Write>(w: &mut W, piece: &[u8], calls: u64) -> u64 {
     let mut sum = 0u64;
     for _ in 0..calls {
         match w.write(piece) {
@@ -50,7 +50,7 @@ pub fn write_often<W: Write>(w: &mut W, piece: &[u8], calls: u64) -> u64 {
     sum
 }
 
-pub fn write_all_often<W: Write>(w: &mut W, piece: &[u8], calls: u64) -> u64 {
+fn write_all_often<W: Write>(w: &mut W, piece: &[u8], calls: u64) -> u64 {
     for _ in 0..calls {
         if w.write_all(piece).is_err() {
             return FAILED;
@@ -130,47 +130,35 @@ pub fn write_lines_apart(text: &[u8], end: &[u8], calls: u64) -> u64 {
     sum.wrapping_add(w.get_ref().sum())
 }
 
-pub fn read_often<R: Read>(r: &mut R, room: &mut [u8], calls: u64) -> u64 {
+#[inline(never)]
+pub fn read<const S: usize>(source: &[u8], room: usize, calls: u64) -> u64 {
+    let mut room = vec![0; room];
+    let mut r = buffered_reader::<_, S>(source);
     let mut sum = 0u64;
     for _ in 0..calls {
-        match r.read(room) {
-            Ok(n) => sum = sum.wrapping_add(n as u64).wrapping_add(first_byte(room)),
+        match r.read(&mut room) {
+            Ok(n) => sum = sum.wrapping_add(n as u64).wrapping_add(first_byte(&room)),
             Err(_) => return FAILED,
         }
     }
     sum
 }
 
-pub fn read_exact_often<R: Read>(r: &mut R, room: &mut [u8], calls: u64) -> u64 {
+#[inline(never)]
+pub fn read_exact<const S: usize>(source: &[u8], room: usize, calls: u64) -> u64 {
+    let mut room = vec![0; room];
+    let mut r = buffered_reader::<_, S>(source);
     let mut sum = 0u64;
     for _ in 0..calls {
-        if r.read_exact(room).is_err() {
+        if r.read_exact(&mut room).is_err() {
             return FAILED;
         }
-        sum = sum.wrapping_add(first_byte(room));
+        sum = sum.wrapping_add(first_byte(&room));
     }
     sum
 }
 
-#[inline(never)]
-pub fn read<const S: usize>(source: &[u8], room: usize, calls: u64) -> u64 {
-    read_often(
-        &mut buffered_reader::<_, S>(source),
-        &mut vec![0; room],
-        calls,
-    )
-}
-
-#[inline(never)]
-pub fn read_exact<const S: usize>(source: &[u8], room: usize, calls: u64) -> u64 {
-    read_exact_often(
-        &mut buffered_reader::<_, S>(source),
-        &mut vec![0; room],
-        calls,
-    )
-}
-
-pub fn first_byte(room: &[u8]) -> u64 {
+fn first_byte(room: &[u8]) -> u64 {
     room.first().map_or(0, |byte| u64::from(*byte))
 }
 

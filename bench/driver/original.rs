@@ -24,6 +24,8 @@ mod handed;
 mod lending;
 #[path = "loops.rs"]
 mod loops;
+#[path = "calls/often.rs"]
+mod often;
 #[path = "calls/plain.rs"]
 mod plain;
 #[path = "calls/stacked.rs"]

@@ -1,4 +1,4 @@
-//! This library's side: the functions of `bench/io_speed`.
+//! This library's side: the functions of `bench/io_speed` and `bench/io_calls`.
 use crate::list::listed;
 
 unsafe extern "C" {

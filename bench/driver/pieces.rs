@@ -26,9 +26,7 @@ fn lines_often<R: BufRead>(r: R, calls: u64) -> u64 {
         let Some(Ok(line)) = lines.next() else {
             return FAILED;
         };
-        sum = sum
-            .wrapping_add(line.len() as u64)
-            .wrapping_add(first_byte(line.as_bytes()));
+        sum = sum.wrapping_add(line.len() as u64).wrapping_add(first_byte(line.as_bytes()));
     }
     sum
 }

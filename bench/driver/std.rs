@@ -29,6 +29,8 @@ mod handed;
 mod lending;
 #[path = "loops.rs"]
 mod loops;
+#[path = "calls/often.rs"]
+mod often;
 #[path = "pieces.rs"]
 mod pieces;
 #[path = "calls/plain.rs"]

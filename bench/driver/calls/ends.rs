@@ -1,5 +1,5 @@
 //! `read_to_end` of each reader, and copies from buffer to buffer.
-use super::loops::Counter;
+use super::often::Counter;
 use super::streams::{Cursor, Read, Write, buffered_reader, buffered_writer, copy};
 use crate::cases::{FAILED, sample};
 

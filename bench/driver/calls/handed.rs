@@ -1,5 +1,5 @@
 //! Calls that a reference, a box or a boxed object hands on, and moves of the position.
-use super::loops::{Counter, read_often, write_often};
+use super::often::{Counter, read_often, write_often};
 use super::streams::{Cursor, Read, Seek, SeekFrom, Write, buffered_reader, buffered_writer};
 use crate::cases::FAILED;
 

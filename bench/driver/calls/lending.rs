@@ -1,5 +1,5 @@
 //! Single bytes, and bytes that are lent.
-use super::loops::first_byte;
+use super::often::first_byte;
 use super::streams::{BufRead, Cursor, Read, buffered_reader};
 use crate::cases::FAILED;
 

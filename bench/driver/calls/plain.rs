@@ -1,5 +1,5 @@
 //! Many small calls on bare streams: slices, cursors and vectors, and what stands right before them.
-use super::loops::{read_exact_often, read_often, write_all_often, write_often};
+use super::often::{read_exact_often, read_often, write_all_often, write_often};
 use super::streams::{Cursor, Read, Write};
 use crate::cases::{FAILED, sample};
 

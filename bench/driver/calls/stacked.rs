@@ -1,5 +1,5 @@
 //! Buffers over buffers, a device that takes or gives seven bytes at a time, and what it costs to make and to drop.
-use super::loops::{Counter, read_exact_often, read_often, write_all_often, write_often};
+use super::often::{Counter, read_exact_often, read_often, write_all_often, write_often};
 use super::streams::{Read, Result, Write, buffered_reader, buffered_writer, line_writer};
 use crate::cases::FAILED;
 
