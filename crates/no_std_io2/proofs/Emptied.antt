@@ -33,7 +33,8 @@ emptied_stop held held' old mid new E E' e is none read =
     (gathered_stop _ _ _ _ _ e _ (emptied held old mid E is) read)
 
 -- what the vector had stays at its front
-pub emptied_front : (len n : ℕ) (held old mid new : List ℕ) → len ≡ length old → n ≡ len + length held → mid ≡ old ++ held → take n new ≡ mid
+pub emptied_front : (len n : ℕ) (held old mid new : List ℕ) → len ≡ length old → n ≡ len + length held → mid ≡ old ++ held → take n
+    new ≡ mid
     → take len new ≡ old
 emptied_front len n held old mid new long more is read =
     let first : take len mid ≡ old =

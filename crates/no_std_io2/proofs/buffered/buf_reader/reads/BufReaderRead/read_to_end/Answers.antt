@@ -43,7 +43,8 @@ returns-in_err-read_to_end g c =
       appends = emptied_front _ _ held _ _ _ c.args.buf.now.ok.0 emptied.len emptied.ok read.appends;
       count = tt;
       fault = read.fault;
-      turns = turns_read g.row.S (length held) (length new) _ _ few read.turns (λ some. absurd (omega (arith, some, ap length emptied.held)));
+      turns = turns_read g.row.S (length held) (length new) _ _ few read.turns (λ some. absurd (omega (arith, some, ap length
+          emptied.held)));
       metered = λ h. h;
       filling = λ h. h;
       store = λ s.
@@ -66,7 +67,8 @@ returns g c =
       appends = emptied_front _ _ held _ _ _ c.args.buf.now.ok.0 emptied.len emptied.ok read.appends;
       count = omega (arith, emptied.len, read.count);
       fault = tt;
-      turns = turns_read g.row.S (length held) (length new) _ _ few read.turns (λ some. absurd (omega (arith, some, ap length emptied.held)));
+      turns = turns_read g.row.S (length held) (length new) _ _ few read.turns (λ some. absurd (omega (arith, some, ap length
+          emptied.held)));
       metered = λ h. h;
       filling = λ h. h;
       store = λ s.
