@@ -22,7 +22,8 @@ found_first wanted bytes (Some at) h = (
 )
 
 -- or nowhere
-pub found_nowhere : (wanted : ℕ) (bytes : List ℕ) (r : Option ℕ) → IsFirstByte (is_byte wanted) bytes r → IfNone r (All (λ b. b ≢ wanted) bytes)
+pub found_nowhere : (wanted : ℕ) (bytes : List ℕ) (r : Option ℕ) → IsFirstByte (is_byte wanted) bytes r → IfNone r (All (λ b. b ≢
+    wanted) bytes)
 found_nowhere wanted bytes (Some at) h = tt
 found_nowhere wanted bytes None h = λ k d within same.
     h k (omega arith) within (eq-eqb (slice_index bytes k) wanted (sym (get_or_default_zero bytes k d within) ∙ same))
