@@ -26,7 +26,12 @@ moves_act a b x k act acts m = record {
   front = m.front;
   bytes = m.bytes;
   mishaps = spent_mishaps a.mishaps k (act_mishap act) (act_mishaps acts) b.mishaps m.mishaps;
-  turns = omega (arith, m.turns, count_by-append is_interruption k (act_mishap act), count_by-append is_interruption (act_mishap act) (act_mishaps acts));
+  turns = omega (
+    arith,
+    m.turns,
+    count_by-append is_interruption k (act_mishap act),
+    count_by-append is_interruption (act_mishap act) (act_mishaps acts),
+  );
 }
 
 -- no act was spent
@@ -35,7 +40,8 @@ moves_behind : (a b : Told) (x : List ℕ) (k : List ErrorKind) (acts : List Act
 moves_behind a b x k acts m = record {
   front = m.front;
   bytes = m.bytes;
-  mishaps = subst (λ l. HasSpent (option_map (λ kinds. kinds ++ act_mishaps acts) a.mishaps) l (option_map (λ kinds. kinds ++ act_mishaps acts) b.mishaps))
+  mishaps = subst (λ l. HasSpent (option_map (λ kinds. kinds ++ act_mishaps acts) a.mishaps) l
+      (option_map (λ kinds. kinds ++ act_mishaps acts) b.mishaps))
       (append-nil k) (spent_mishaps a.mishaps k [] (act_mishaps acts) b.mishaps m.mishaps);
   turns = omega (arith, m.turns);
 }
@@ -58,8 +64,10 @@ moves_from {b = b} {x} {k} same m = subst (λ t. Moves t x k b) same m
 pub moves_spent : (a b : Told) (k : List ErrorKind) (act : Act) (acts acts' : List Act) → b ≡ a → k ≡ act_mishap act
     → first_act acts ≡ Some act → acts' ≡ drop 1 acts → Moves (with_acts a acts) [] k (with_acts b acts')
 moves_spent a b k act acts acts' same made is left =
-    let front : Moves (with_acts a (act ∷ drop 1 acts)) [] (act_mishap act) (with_acts a (drop 1 acts)) = moves_act a a [] [] act (drop 1 acts) (Moves-refl a) in
-    rw (same, made, left) (subst (λ l. Moves (with_acts a l) [] (act_mishap act) (with_acts a (drop 1 acts))) (sym (acts_are acts act is)) front)
+    let front : Moves (with_acts a (act ∷ drop 1 acts)) [] (act_mishap act) (with_acts a (drop 1 acts)) =
+    moves_act a a [] [] act (drop 1 acts) (Moves-refl a) in
+    rw (same, made, left) (subst (λ l. Moves (with_acts a l) [] (act_mishap act) (with_acts a (drop 1 acts)))
+    (sym (acts_are acts act is)) front)
 
 -- `Ok(0)` is what an act of no byte makes of a `write`, and of one of nothing it is no mishap
 pub moves_zero : (a b : Told) (buf : List ℕ) (act : Act) (acts acts' : List Act) → b ≡ a → act_mishap act ≡ WriteZero ∷ []

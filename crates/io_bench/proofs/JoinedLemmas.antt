@@ -140,7 +140,8 @@ nothing_at : (ops : List Op) (replies : List Reply) (i : ℕ) (p : Op) (q : Repl
 nothing_at (op ∷ ops) (reply ∷ replies) zero p q h r =
     subst (Accepts op reply) (nil_from_length r.0 (omega (arith, ap length r.4, length-append r.0 r.1))) r.2
 nothing_at (op ∷ ops) (reply ∷ replies) (suc i) p q h r =
-    nothing_at ops replies i p q (omega (arith, h)) (subst (Run ops replies) (nil_from_length r.1 (omega (arith, ap length r.4, length-append r.0 r.1))) r.3)
+    nothing_at ops replies i p q (omega (arith, h))
+    (subst (Run ops replies) (nil_from_length r.1 (omega (arith, ap length r.4, length-append r.0 r.1))) r.3)
 nothing_at [] replies i p q h r = absurd (omega (arith, h))
 nothing_at (op ∷ ops) [] i p q h r = absurd r
 

@@ -20,7 +20,14 @@ pub record ActsSoFar (acts : List Act) (wanted turns left turns' : ℕ) (acts' :
 
 -- at the start none is
 pub spent_none : (acts : List Act) (wanted turns : ℕ) → ActsSoFar acts wanted turns wanted turns acts
-spent_none acts wanted turns = record { spent = []; split = refl; least = omega arith; most = omega arith; bytes = λ some. omega arith; on = tt }
+spent_none acts wanted turns = record {
+  spent = [];
+  split = refl;
+  least = omega arith;
+  most = omega arith;
+  bytes = λ some. omega arith;
+  on = tt;
+}
 
 acts_bytes-append : (xs ys : List Act) → acts_bytes (xs ++ ys) ≡ acts_bytes xs + acts_bytes ys
 acts_bytes-append [] ys = omega arith
@@ -37,7 +44,8 @@ WentOn acts n = AllGoOn (take 1 acts) × (0 < length (drop 1 acts) → n ≤ act
 -- the acts with one more
 spent_one : (acts spent now now' : List Act) → acts ≡ spent ++ now → now' ≡ drop 1 now → acts ≡ (spent ++ take 1 now) ++ now'
 spent_one acts spent now now' split is =
-    split ∙ ap (λ l. spent ++ l) (sym (take-append-drop 1 now) ∙ ap (λ l. take 1 now ++ l) (sym is)) ∙ sym (append_assoc spent (take 1 now) now')
+    split ∙ ap (λ l. spent ++ l) (sym (take-append-drop 1 now) ∙ ap (λ l. take 1 now ++ l) (sym is))
+    ∙ sym (append_assoc spent (take 1 now) now')
 
 -- one call more, which took n bytes or was interrupted
 pub spent_more : (acts : List Act) (wanted turns left turns' left' turns'' n : ℕ) (now now' : List Act)
@@ -48,7 +56,8 @@ spent_more acts wanted turns left turns' left' turns'' n now now' so_far went is
     let one : length (take 1 now) ≤ 1 = omega (arith, length-take 1 now) in
     let gone : length now' ≡ length now - 1 = ap length is ∙ length-drop 1 now in
     let all : length acts ≡ length so_far.spent + length now = ap length so_far.split ∙ length-append so_far.spent now in
-    let longer : length (so_far.spent ++ take 1 now) ≡ length so_far.spent + length (take 1 now) = length-append so_far.spent (take 1 now) in
+    let longer : length (so_far.spent ++ take 1 now) ≡ length so_far.spent + length (take 1 now) =
+    length-append so_far.spent (take 1 now) in
     record {
       spent = so_far.spent ++ take 1 now;
       split = spent_one acts so_far.spent now now' so_far.split is;
@@ -68,7 +77,8 @@ spent_stop acts wanted turns left turns' turns'' now now' e so_far is some fewer
     let one : length (take 1 now) ≤ 1 = omega (arith, length-take 1 now) in
     let gone : length now' ≡ length now - 1 = ap length is ∙ length-drop 1 now in
     let all : length acts ≡ length so_far.spent + length now = ap length so_far.split ∙ length-append so_far.spent now in
-    let longer : length (so_far.spent ++ take 1 now) ≡ length so_far.spent + length (take 1 now) = length-append so_far.spent (take 1 now) in
+    let longer : length (so_far.spent ++ take 1 now) ≡ length so_far.spent + length (take 1 now) =
+    length-append so_far.spent (take 1 now) in
     record {
       spent = so_far.spent ++ take 1 now;
       split = spent_one acts so_far.spent now now' so_far.split is;

@@ -37,7 +37,8 @@ pub gives_more : (text left out out' out'' : List ℕ) (known known' known'' : O
     → out'' ≡ out' ++ take n left → Appends known' known'' (take n left)
     → Gives text (take (length left - n) (drop n left)) out out'' known known''
 gives_more text left out out' out'' known known' known'' n so_far more device =
-    let rest : take (length left - n) (drop n left) ≡ drop n left = take_all (length left - n) (drop n left) (omega (arith, length-drop n left)) in
+    let rest : take (length left - n) (drop n left) ≡ drop n left =
+    take_all (length left - n) (drop n left) (omega (arith, length-drop n left)) in
     record {
       given = so_far.given ++ take n left;
       split = so_far.split ∙ ap (λ l. so_far.given ++ l) (sym (take-append-drop n left) ∙ ap (λ l. take n left ++ l) (sym rest))
@@ -82,7 +83,8 @@ ends_zero e reply n first old new kind fewer is asked =
 -- what a patient tells of such a loop
 pub gives_sends : (text left out out' : List ℕ) (known known' : Option (List ℕ)) (reply : Result (Unit {0}) Error) (turns turns' : ℕ)
     → Gives text left out out' known known' → turns' + count_by is_interruption (call_mishap reply) ≤ turns
-    → Sends (record { out = out; held = []; mishaps = None; turns = turns }) text reply (record { out = out'; held = []; mishaps = None; turns = turns' }) left
+    → Sends (record { out = out; held = []; mishaps = None; turns = turns }) text reply
+    (record { out = out'; held = []; mishaps = None; turns = turns' }) left
 gives_sends text left out out' known known' reply turns turns' so_far spent = record {
   sent = so_far.given;
   split = so_far.split;
@@ -171,7 +173,8 @@ pub consumed_end : (old n : ℕ) (reply : Result ℕ Error) (known known' : Opti
     → (old ≡ 0 → known' ≡ known) → (old ≡ 1 → IsErrAnd reply IsOutOfTurns) → (1 < old → ReadConsumes known known' reply buf)
     → Consumes known known' []
 consumed_end zero n reply known known' buf is none over last bytes = subst (λ k. Consumes known k []) (sym (over refl)) (consumes_nil known)
-consumed_end (suc zero) n reply known known' buf is none over last bytes = absurd (subst (λ r. IsErrAnd r IsOutOfTurns) (is ∙ ap Ok none) (last refl))
+consumed_end (suc zero) n reply known known' buf is none over last bytes =
+    absurd (subst (λ r. IsErrAnd r IsOutOfTurns) (is ∙ ap Ok none) (last refl))
 consumed_end (suc (suc old)) n reply known known' buf is none over last bytes =
     (subst (λ r. ReadConsumes known known' r buf) (is ∙ ap Ok none) (bytes (omega arith))).0
 
@@ -199,13 +202,15 @@ pub read_behind : (a k n : ℕ) (xs ys : List ℕ) → a ≤ length xs → n ≤
 read_behind a k n xs ys within fits =
     let front = take a xs in
     let same : a + n ≡ length front + n = ap (λ m. m + n) (sym (length-take-le a xs within)) in
-    ap (λ m. take m (put_mid a k xs ys)) same ∙ take-append-add front (ys ++ post_of a k xs) n ∙ ap (λ l. front ++ l) (take-append-le n ys (post_of a k xs) fits)
+    ap (λ m. take m (put_mid a k xs ys)) same ∙ take-append-add front (ys ++ post_of a k xs) n
+    ∙ ap (λ l. front ++ l) (take-append-le n ys (post_of a k xs) fits)
 
 -- what stood before the part still stands there, and the device kept its bytes, or gave none
 pub got_same : (a k : ℕ) (xs ys : List ℕ) (known known' known'' : Option (List ℕ)) → a ≤ length xs → Consumes known known' (take a xs)
     → Keeps known' known'' → Consumes known known'' (take a (put_mid a k xs ys))
 got_same a k xs ys known known' known'' within got kept =
-    subst (λ l. Consumes known known'' l) (sym (take-put_mid_below a k xs ys a (omega arith) within)) (consumes_kept known known' known'' (take a xs) got kept)
+    subst (λ l. Consumes known known'' l) (sym (take-put_mid_below a k xs ys a (omega arith) within))
+    (consumes_kept known known' known'' (take a xs) got kept)
 
 pub got_none : (a k : ℕ) (xs ys : List ℕ) (known known' known'' : Option (List ℕ)) → a ≤ length xs → Consumes known known' (take a xs)
     → Consumes known' known'' [] → Consumes known known'' (take a (put_mid a k xs ys))
@@ -217,7 +222,8 @@ pub got_more : (a k n : ℕ) (xs ys : List ℕ) (known known' known'' : Option (
     → Consumes known known' (take a xs)
     → Consumes known' known'' (take n ys) → Consumes known known'' (take (a + n) (put_mid a k xs ys))
 got_more a k n xs ys known known' known'' within fits got more =
-    subst (λ l. Consumes known known'' l) (sym (read_behind a k n xs ys within fits)) (consumes_then known known' known'' (take a xs) (take n ys) got more)
+    subst (λ l. Consumes known known'' l) (sym (read_behind a k n xs ys within fits))
+    (consumes_then known known' known'' (take a xs) (take n ys) got more)
 
 -- the part that is not filled yet has room
 pub part_room : (at : ℕ) (xs : List ℕ) → at < length xs → 0 < length (take (length xs - at) (drop at xs))

@@ -6,12 +6,14 @@ use Rattle.io_bench.proofs.faulty.FaultyWrite.write.Goals as goal
 
 pub returns-in-None-clause-moves : goal.returns-in-None-clause-moves
 returns-in-None-clause-moves g c =
-    moves_past _ _ _ _ _ _ _ (ap g.W.Write.told c.spend.ensures.inner) c.write.ensures.moves (sym c.spend.ensures.act ∙ c.in-None.is) c.spend.ensures.acts
+    moves_past _ _ _ _ _ _ _ (ap g.W.Write.told c.spend.ensures.inner) c.write.ensures.moves
+    (sym c.spend.ensures.act ∙ c.in-None.is) c.spend.ensures.acts
 
 pub returns-in-Some-Fail-clause-moves : goal.returns-in-Some-Fail-clause-moves
 returns-in-Some-Fail-clause-moves g c =
     let act = c.in-Some-Fail in
-    moves_spent _ _ _ _ _ _ (ap g.W.Write.told c.spend.ensures.inner) (ap (λ k. k ∷ []) c.from.ensures.0 ∙ ap act_mishap (sym act.field-0-is))
+    moves_spent _ _ _ _ _ _ (ap g.W.Write.told c.spend.ensures.inner)
+    (ap (λ k. k ∷ []) c.from.ensures.0 ∙ ap act_mishap (sym act.field-0-is))
     (sym c.spend.ensures.act ∙ act.is) c.spend.ensures.acts
 
 pub returns-in-Some-Zero-clause-moves : goal.returns-in-Some-Zero-clause-moves

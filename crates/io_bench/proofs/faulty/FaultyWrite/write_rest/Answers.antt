@@ -36,7 +36,8 @@ writes-preserved-in-Ok g c =
     let left = c.writes.rest.now in
     let n = c.in-Ok.n in
     let fewer = fewer_left n _ _ _ left c.in-Ok.n-test.1 wrote.bound wrote.moves.turns in
-    let went = went_on_by (acts_left c.writes.self) n left c.in-Ok.n-test.1 (λ kind is. (wrote.fail kind is).0) (λ is. (wrote.zero is).0) (λ is. (wrote.take_none is).0)
+    let went = went_on_by (acts_left c.writes.self) n left c.in-Ok.n-test.1
+    (λ kind is. (wrote.fail kind is).0) (λ is. (wrote.zero is).0) (λ is. (wrote.take_none is).0)
     (λ m some is. (wrote.take m some is).bound) in
     record {
       sent = sent_more _ _ _ _ left _ n before.sent wrote.moves;
@@ -55,7 +56,8 @@ writes-preserved g c =
     let wrote = c.in-Err.ensures in
     let fewer = fewer_turns c.in-Err.e _ _ (length c.writes.rest.now) wrote.moves.turns cc in
     let again : IsInterruption c.in-Err.e = cc in
-    let went = interrupted_by (acts_left c.writes.self) c.in-Err.e again (λ kind is. (wrote.fail kind is).0) (λ is. (wrote.zero is).0) (λ is. (wrote.take_none is).0) in
+    let went = interrupted_by (acts_left c.writes.self) c.in-Err.e again
+    (λ kind is. (wrote.fail kind is).0) (λ is. (wrote.zero is).0) (λ is. (wrote.take_none is).0) in
     record {
       sent = sent_interruption _ _ _ _ _ _ before.sent wrote.moves;
       all = λ a. (wrote.all (before.all a)).0;

@@ -99,7 +99,8 @@ reads-preserved-in-Ok g c =
           let now = read.store so_far.0 in
           let tells = g.met.T.Read.store_tells _ so_far.0 in
           (now.0, now.1 ∙ so_far.1, moved_read _ _ _ _ _ _ _ read.bound (read.told tells.0).1.0 now.2 so_far.2);
-      counts = counted_more _ _ _ _ _ _ _ _ _ before.counts (one_read _ _ _ (part_room at old c.reads-test.true) read.reads) (c.in-Ok.ensures.turn (some_bytes c.in-Ok.n c.in-Ok.n-test.1));
+      counts = counted_more _ _ _ _ _ _ _ _ _ before.counts (one_read _ _ _ (part_room at old c.reads-test.true) read.reads)
+          (c.in-Ok.ensures.turn (some_bytes c.in-Ok.n c.in-Ok.n-test.1));
       handed = λ m. handed_once _ _ _ _ _ _ _ (before.handed m) (read.handed.counted (before.handed m).0) read.reads;
       none = λ e. absurd (omega (arith, e, before.long, c.reads-test.true));
       writes = read.writes ∙ before.writes;
@@ -155,7 +156,8 @@ reads-preserved g c =
           let so_far = before.store s in
           let tells = g.met.T.Read.store_tells _ so_far.0 in
           absurd (no_error _ _ _ _ tells.1 (read.told tells.0).1);
-      counts = counted_more _ _ _ _ _ _ _ _ _ before.counts (one_read _ _ _ (part_room at old c.reads-test.true) read.reads) c.in-Err.ensures.turn;
+      counts = counted_more _ _ _ _ _ _ _ _ _ before.counts (one_read _ _ _ (part_room at old c.reads-test.true) read.reads)
+          c.in-Err.ensures.turn;
       handed = λ m. handed_once _ _ _ _ _ _ _ (before.handed m) (read.handed.counted (before.handed m).0) read.reads;
       none = λ e. absurd (omega (arith, e, before.long, c.reads-test.true));
       writes = read.writes ∙ before.writes;

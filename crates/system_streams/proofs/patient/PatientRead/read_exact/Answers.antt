@@ -24,7 +24,8 @@ returns-in-Ok-eq0 g c =
     let room = part_room at old c.reads-test.true in
     let stays = length_stays at old c.read.new.buf c.read.auto.buf in
     let known = g.D.Read.remaining in
-    let none = consumed_end _ _ c.read.result _ _ _ c.in-Ok-eq0.is c.in-Ok-eq0.field-0-test (λ e. ap (λ p. known (patient_device p)) (read.over e).1)
+    let none = consumed_end _ _ c.read.result _ _ _ c.in-Ok-eq0.is c.in-Ok-eq0.field-0-test
+    (λ e. ap (λ p. known (patient_device p)) (read.over e).1)
     (λ e. (read.last room e).0) read.bytes in
     record {
       fault = search rules;
@@ -118,7 +119,12 @@ returns g c =
     record {
       fault = tt;
       turns = before.turns;
-      bytes = record { count = c.reads.at; within = before.within; whole = omega (arith, before.within, c.reads-test.false); device = before.got };
+      bytes = record {
+        count = c.reads.at;
+        within = before.within;
+        whole = omega (arith, before.within, c.reads-test.false);
+        device = before.got;
+      };
       ends = (before.turns, λ some. before.spent (omega (arith, some, c.reads-test.false, before.long)));
       empty = λ e. (refl, before.empty e);
       taken = before.taken;
