@@ -77,7 +77,8 @@ none_counted m bs is zero = drop_of_length-le bs {i = 0} (omega arith)
 
 -- the reader's end ends the copy
 pub copied_end : (room : ℕ) (E : List Event) (old mid : Told) (m n : ℕ) (buf : List ℕ) (after rest : List Event)
-    → Copied E old mid m after → Reads after (Ok n) buf rest → n ≡ 0 → length buf ≡ room → (room ≡ 0 → m ≡ 0) → Copies room E (Ok m) rest old mid
+    → Copied E old mid m after → Reads after (Ok n) buf rest → n ≡ 0 → length buf ≡ room → (room ≡ 0 → m ≡ 0)
+    → Copies room E (Ok m) rest old mid
 copied_end room E old mid m n buf after rest t read zero long none =
     let same : after ≡ rest = read.0 ∙ ap (λ k. events_of (take k buf) ++ rest) zero in (
       t.front,

@@ -39,26 +39,31 @@ one_piece room n left some gave fits =
     let nothing = no_pieces room some in
     let zero : div_ceil left room ≡ 0 = ap (λ k. div_ceil k room) none ∙ nothing in
     let room_once : (div_ceil left room + 1) * room ≡ room = ap (λ k. (k + 1) * room) zero ∙ omega arith in
-    only_multiple (div_ceil (n + left) room) (div_ceil left room + 1) room (n + left) all.0 all.1 (omega (arith, room_once, short)) (omega (arith, room_once, gave)))
+    only_multiple (div_ceil (n + left) room) (div_ceil left room + 1) room (n + left) all.0 all.1
+    (omega (arith, room_once, short)) (omega (arith, room_once, gave)))
     (λ full.
     let is : n ≡ room = omega (arith, fits, full) in
-    only_multiple (div_ceil (n + left) room) (div_ceil left room + 1) room (n + left) all.0 all.1 (omega (arith, more, rest.0, is)) (omega (arith, more, rest.1, is)))
+    only_multiple (div_ceil (n + left) room) (div_ceil left room + 1) room (n + left) all.0 all.1
+    (omega (arith, more, rest.0, is)) (omega (arith, more, rest.1, is)))
     (cases_lt (n + left) room)
 
 -- as many bytes as a read gives are no longer to come
 pub read_length : (E E' : List Event) (n : ℕ) (buf : List ℕ) → n ≤ length buf → E ≡ events_of (take n buf) ++ E' → length E ≡ n + length E'
 read_length E E' n buf fits read =
-    ap length read ∙ length-append (events_of (take n buf)) E' ∙ ap (λ m. m + length E') (length-events_of (take n buf) ∙ length-take-le n buf fits)
+    ap length read ∙ length-append (events_of (take n buf)) E'
+    ∙ ap (λ m. m + length E') (length-events_of (take n buf) ∙ length-take-le n buf fits)
 
 -- a read into the whole room that gave bytes
-pub one_read : (room size n left left' cost cost' all : ℕ) → 0 < room → size ≡ room → n ≡ min size left → 0 < n → left ≡ n + left' → cost' ≡ cost + min 1 size
+pub one_read : (room size n left left' cost cost' all : ℕ) → 0 < room → size ≡ room
+    → n ≡ min size left → 0 < n → left ≡ n + left' → cost' ≡ cost + min 1 size
     → cost + div_ceil left room ≡ all → cost' + div_ceil left' room ≡ all
 one_read room size n left left' cost cost' all some whole gave more fewer paid before =
     let piece = one_piece room n left' some more (gave ∙ ap (λ k. min k left) whole ∙ ap (min room) fewer) in
     omega (arith, some, whole, paid, before, ap (λ k. div_ceil k room) fewer, piece)
 
 -- the read that gave none
-pub last_read : (room size n left cost cost' old pieces : ℕ) → 0 < room → size ≡ room → n ≡ min size left → n ≡ 0 → cost' ≡ cost + min 1 size
+pub last_read : (room size n left cost cost' old pieces : ℕ) → 0 < room → size ≡ room
+    → n ≡ min size left → n ≡ 0 → cost' ≡ cost + min 1 size
     → cost + div_ceil left room ≡ old + pieces → cost' ≡ old + (pieces + 1)
 last_read room size n left cost cost' old pieces some whole gave zero paid before =
     let end : left ≡ 0 = omega (arith, some, whole, zero, gave) in

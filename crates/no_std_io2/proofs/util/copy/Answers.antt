@@ -61,8 +61,11 @@ reads-preserved-in-Ok g c =
 pub returns-in-Ok-eq0-clause-told : goal.returns-in-Ok-eq0-clause-told
 returns-in-Ok-eq0-clause-told g c = λ t.
     let so_far = c.reads.invariant.told t in
-    let now = c.read.ensures.told so_far.0 in
-    (now.0, copied_end g.row.S _ _ _ _ _ c.read.new.buf _ _ so_far.1 (rw c.in-Ok-eq0.is at now.1) (search rules) (search rules) (λ z. (c.reads.invariant.same z).1))
+    let now = c.read.ensures.told so_far.0 in (
+      now.0,
+      copied_end g.row.S _ _ _ _ _ c.read.new.buf _ _ so_far.1 (rw c.in-Ok-eq0.is at now.1)
+          (search rules) (search rules) (λ z. (c.reads.invariant.same z).1),
+    )
 
 pub returns-in-Ok-eq0-clause-moves : goal.returns-in-Ok-eq0-clause-moves
 returns-in-Ok-eq0-clause-moves g c = let so_far = c.reads.invariant.written in (so_far.accepted, so_far.count, so_far.moves)

@@ -15,7 +15,8 @@ invariant-reads g l =
       turns : g.R.Read.turns l.reader ≤ g.R.Read.turns l.initial.reader;
       metered : g.R.Read.is_metered l.initial.reader → g.R.Read.is_metered l.reader;
       reads : 0 < g.row.S → g.R.Read.is_metered l.initial.reader → g.R.Read.is_filling l.initial.reader
-          → g.R.Read.cost l.reader + div_ceil (length (g.R.Read.events l.reader)) g.row.S ≡ g.R.Read.cost l.initial.reader + div_ceil (length (g.R.Read.events l.initial.reader)) g.row.S;
+          → g.R.Read.cost l.reader + div_ceil (length (g.R.Read.events l.reader)) g.row.S
+          ≡ g.R.Read.cost l.initial.reader + div_ceil (length (g.R.Read.events l.initial.reader)) g.row.S;
       filling : g.R.Read.is_filling l.initial.reader → g.R.Read.is_filling l.reader;
       store : g.R.Stored.has_store l.initial.reader → g.R.Stored.has_store l.reader
           × (g.R.Stored.content l.reader ≡ g.R.Stored.content l.initial.reader)

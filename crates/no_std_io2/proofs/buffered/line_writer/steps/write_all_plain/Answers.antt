@@ -23,7 +23,8 @@ returns-clause-all g c = λ t. c.write_all.ensures.all (c.in_ok-send_line.ensure
 
 pub returns-clause-after : goal.returns-clause-after
 returns-clause-after g c =
-    onok_map c.write_all.result _ _ (λ e. e ∙ ap (λ h. buffer_after g.row.S h c.args.x.now) c.in_ok-send_line.ensures.held) c.write_all.ensures.after
+    onok_map c.write_all.result _ _
+    (λ e. e ∙ ap (λ h. buffer_after g.row.S h c.args.x.now) c.in_ok-send_line.ensures.held) c.write_all.ensures.after
 
 pub returns-clause-rest : goal.returns-clause-rest
 returns-clause-rest g c = IsEnd-either _ _ _ _ c.in_ok-send_line.ensures.rest c.write_all.ensures.rest

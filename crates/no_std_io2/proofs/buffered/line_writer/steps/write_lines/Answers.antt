@@ -180,4 +180,5 @@ returns-clause-rest g c =
     let end = c.tail_end-end.result in
     let whole = taken_then_held x c.args.len n end c.in_ok-n.ensures.bound c.tail_end-end.ensures.after in
     let held = c.hold.ensures.buffer ∙ ap (λ l. l ++ slice_range x n end) c.in_ok-send.ensures.empty in
-    IsEnd-split (sender_buffer c.args.w.now) (take end x) (take n (take c.args.len x)) _ (whole ∙ ap (λ l. take n (take c.args.len x) ++ l) (sym held))
+    IsEnd-split (sender_buffer c.args.w.now) (take end x) (take n (take c.args.len x)) _
+    (whole ∙ ap (λ l. take n (take c.args.len x) ++ l) (sym held))

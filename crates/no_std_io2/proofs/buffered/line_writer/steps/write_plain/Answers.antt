@@ -19,7 +19,8 @@ returns-clause-all g c = λ t. c.write.ensures.all (c.in_ok-send_line.ensures.al
 
 pub returns-clause-after : goal.returns-clause-after
 returns-clause-after g c =
-    onok_map c.write.result _ _ (λ e. e ∙ ap (λ h. buffer_after g.row.S h c.args.x.now) c.in_ok-send_line.ensures.held) c.write.ensures.after
+    onok_map c.write.result _ _
+    (λ e. e ∙ ap (λ h. buffer_after g.row.S h c.args.x.now) c.in_ok-send_line.ensures.held) c.write.ensures.after
 
 pub returns-clause-calm : goal.returns-clause-calm
 returns-clause-calm g c = c.write.ensures.calm

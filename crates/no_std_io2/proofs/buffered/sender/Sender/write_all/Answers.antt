@@ -13,5 +13,6 @@ pub returns-then-len-eq0 : goal.returns-then-len-eq0
 returns-then-len-eq0 g c =
     let inner = c.write_all.ensures in
     let none = none_of_length _ (sym c.len.ensures.len ∙ c.if-len-eq0.true) in
-    passed_all c.args.self.now c.hold_if_room.new.self c.args.buf.now c.write_all.result c.write_all.new.self (λ w h. g.met.W.Write.steady w h)
+    passed_all c.args.self.now c.hold_if_room.new.self c.args.buf.now c.write_all.result c.write_all.new.self
+    (λ w h. g.met.W.Write.steady w h)
     (way_empty c.args.self.now _ _ c.if-hold_if_room.ensures.same none) c.if-buf.true inner.fault inner.moves inner.all inner.cost
