@@ -130,9 +130,17 @@ impl<W: Write + Drop, const S: usize> Sender<W, S> {
         ensures { Buffers W.told W.takes_all W.is_metered W.cost self.old buf.now result self.new }
     {
         if !self.hold_if_room(buf) {
-            return self.write_cold(buf);
+            return self.write_slowly(buf);
         }
         Ok(buf.len())
+    }
+
+    // The call of `write_cold`. It stands between, so that the room for the answer is made on this way alone.
+    #[inline(always)]
+    fn write_slowly(&mut self, buf: &[u8]) -> Result<usize>
+        ensures { Buffers W.told W.takes_all W.is_metered W.cost self.old buf.now result self.new }
+    {
+        self.write_cold(buf)
     }
 
     /// The whole of `write`. It stands apart, so that callers inline no more than the hot path.
@@ -164,6 +172,14 @@ impl<W: Write + Drop, const S: usize> Sender<W, S> {
         if buf.len() >= S && self.window.len() == 0 {
             return self.inner.write_all(buf);
         }
+        self.write_all_slowly(buf)
+    }
+
+    // As `write_slowly`.
+    #[inline(always)]
+    fn write_all_slowly(&mut self, buf: &[u8]) -> Result<()>
+        ensures { BuffersAll W.told W.takes_all W.is_metered W.cost self.old buf.now result self.new }
+    {
         self.write_all_cold(buf)
     }
 

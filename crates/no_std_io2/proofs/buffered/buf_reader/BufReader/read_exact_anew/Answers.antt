@@ -20,7 +20,7 @@ reads-init g c =
     let all : n ≡ length (reader_held old) = omega arith in
     let left : length (reader_held new) ≡ 0 = omega (arith, ap length gave.held, length-drop n (reader_held old)) in
     let moved = moved_length (reader_held old) (reader_held new) got (g.R.Read.events (reader_inner old)) (g.R.Read.events
-        (reader_inner new)) n gave.told long in
+    (reader_inner new)) n gave.told long in
     let before = length-events (reader_held old) (g.R.Read.events (reader_inner old)) in
     let after = length-events (reader_held new) (g.R.Read.events (reader_inner new)) in
     let same = sym gave.inner in
@@ -67,16 +67,20 @@ reads-preserved-in-Ok g c =
           let now = read.gives before.0 in
           let tells = g.met.R.Read.filling_tells _ before.0 in
           let moved = moved_length (reader_held old) (reader_held new) (take n c.read_anew.new.buf) (g.R.Read.events (reader_inner
-              old)) (g.R.Read.events (reader_inner new)) n (read.told tells.0).1.0 (length-take-le n c.read_anew.new.buf read.bound) in
-          (now.0, exact_read _ _ _ _ _ _ _ n _ _ before.1 (omega arith) (omega (arith, now.1)) (λ h. ap length (read.direct before.0
-              (omega (arith, h)))) (λ h. read.filled before.0 (omega (arith, h))) moved (omega arith) (omega (arith, c.requires)));
+          old)) (g.R.Read.events (reader_inner new)) n (read.told tells.0).1.0 (length-take-le n c.read_anew.new.buf read.bound) in (
+            now.0,
+            exact_read _ _ _ _ _ _ _ n _ _ before.1 (omega arith) (omega (arith, now.1)) (λ h. ap length (read.direct before.0
+                (omega (arith, h)))) (λ h. read.filled before.0 (omega (arith, h))) moved (omega arith) (omega (arith, c.requires)),
+          );
       cost = λ m f.
           let before = c.reads.invariant.cost m f in
           let so_far = c.reads.invariant.filling f in
           let now = read.asks before.0 in
           let gives = read.gives so_far.0 in
-          let first = exact_first _ _ _ _ _ _ _ n so_far.1 (omega arith) (omega (arith, gives.1)) (omega arith) (omega (arith,
-              c.requires)) in
+          let first = exact_first _ _ _ _ _ _ _ n so_far.1 (omega arith) (omega (arith, gives.1)) (omega arith) (omega (
+            arith,
+            c.requires,
+          )) in
           (now.0, omega (arith, before.1, now.1, first));
     }
 
@@ -94,9 +98,11 @@ reads-preserved g c =
       told = λ t.
           let before = c.reads.invariant.told t in
           let now = read.told before.0 in
-          let long = length-take-le at buf (omega arith) in
-          (now.0, taken_interruption _ _ _ _ _ _ _ before.1 now.1 again (omega arith) (take-put_mid_below _ _ _ _ _ (le_refl _) (omega
-              arith)));
+          let long = length-take-le at buf (omega arith) in (
+            now.0,
+            taken_interruption _ _ _ _ _ _ _ before.1 now.1 again (omega arith) (take-put_mid_below _ _ _ _ _ (le_refl _) (omega
+                arith)),
+          );
       store = λ t.
           let before = c.reads.invariant.store t in
           let tells = g.met.R.Read.store_tells _ before.0.0 in
@@ -137,9 +143,11 @@ returns-in-Ok-eq0 g c =
       told = λ t.
           let before = c.reads.invariant.told t in
           let now = read.told before.0 in
-          let long = length-take-le c.reads.at c.reads.buf (omega arith) in
-          (now.0, inr (taken_end _ _ _ _ _ c.failed_to_fill.result _ c.in-Ok-eq0.field-0 _ before.1 now.1 zero (omega arith)
-              c.failed_to_fill.ensures (omega (arith, long))));
+          let long = length-take-le c.reads.at c.reads.buf (omega arith) in (
+            now.0,
+            inr (taken_end _ _ _ _ _ c.failed_to_fill.result _ c.in-Ok-eq0.field-0 _ before.1 now.1 zero (omega arith)
+                c.failed_to_fill.ensures (omega (arith, long))),
+          );
       fault = ap is_interruption c.failed_to_fill.ensures.0;
       no_later = omega (arith, read.no_later, c.reads.invariant.turns);
       store = λ t.
@@ -184,6 +192,6 @@ returns g c =
           let now = all.filling f in
           let to_come = length-events (reader_held c.reads.self) (g.R.Read.events (reader_inner c.reads.self)) in
           let left = exact_left-full _ _ _ _ _ _ _ (length (reader_events g.R.Read.events c.reads.self)) now.1 (omega arith) (omega
-              (arith, c.requires)) to_come in
+          (arith, c.requires)) to_come in
           (now.0, left.0, left.1);
     }

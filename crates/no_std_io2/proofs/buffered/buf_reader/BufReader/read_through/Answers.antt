@@ -41,9 +41,18 @@ returns g c =
       bound = omega arith;
       rest = λ less. no_bytes _ (omega (arith, less, gave.count, ap length gave.held, length-drop n mid));
       told = λ t.
-          let now = fill.told t in
-          (subst g.R.Read.tells (sym gave.inner) now.0, (sym now.1 ∙ gave.told, λ zero some. fill.end t (no_bytes mid (omega (arith,
-              gave.count, zero, some)))));
+          let now = fill.told t in (
+            subst g.R.Read.tells (sym gave.inner) now.0,
+            (
+              sym now.1 ∙ gave.told,
+              λ zero some. fill.end t (no_bytes mid (omega (
+                arith,
+                gave.count,
+                zero,
+                some,
+              ))),
+            ),
+          );
       no_later = omega (arith, gave.turns, fill.no_later);
       turn = λ some. omega (arith, gave.turns, fill.no_later, some);
       store = λ s.

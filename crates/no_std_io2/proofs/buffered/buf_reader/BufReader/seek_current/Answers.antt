@@ -20,7 +20,7 @@ returns-in-Some g c =
           let rest : ℤ = to_z w64 (of_z w64 c.in-Some.rest) in
           let is : rest ≡ c.args.offset -ℤ pos (length held) = omega (arith, ints, c.in-Some.ensures.1, c.len-held.ensures.len) in
           let done = sought_current c.args.offset rest c.seek_inner.result held (reader_held c.seek_inner.new.self) _ _ _ _ is s.1
-              now.1 now.2 seek.empty seek.kept in
+          now.1 now.2 seek.empty seek.kept in
           ((now.0, done.0), now.1, done.1);
       position = seek.position;
       empty = seek.empty;
@@ -29,7 +29,7 @@ returns-in-Some g c =
       dropped = λ s far.
           let same = to_z-of_z w64 c.args.offset c.ranges.offset in
           let fits : FitsSigned w64 (c.args.offset -ℤ pos c.len-held.result) = subst (λ (z : ℤ). FitsSigned w64 (z -ℤ pos
-              c.len-held.result)) same c.in-Some.ensures.0 in
+          c.len-held.result)) same c.in-Some.ensures.0 in
           absurd (fits_not_far c.args.offset c.len-held.result fits (search (rules, far)));
       sound = seek.sound;
     }
@@ -49,7 +49,7 @@ returns-in_ok-seek_back-in-None g c =
           let there = first.store s in
           let now = second.store there.0 in
           let done = sought_again c.args.offset _ answer (reader_held mid) (reader_held new) _ _ _ _ _ _ first.empty same there.2
-              there.3 now.2 second.empty second.kept in
+          there.3 now.2 second.empty second.kept in
           ((now.0, done.0), now.1 ∙ there.2, done.1);
       position = second.position;
       empty = second.empty;

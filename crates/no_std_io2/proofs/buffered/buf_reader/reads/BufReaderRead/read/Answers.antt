@@ -22,9 +22,11 @@ returns-then-len-eq0 g c =
       held = λ some. absurd (omega (arith, some, none));
       asks = λ m. let now = read.asks m in (now.0, omega (arith, now.1, none));
       gives = λ f.
-          let now = read.gives f in
-          (now.0, subst (λ k. IsOkAnd c.read_slowly.result (λ n. n ≡ min (length c.args.buf.now) k)) (sym (gives_to_come held to_come
-              none)) now.1);
+          let now = read.gives f in (
+            now.0,
+            subst (λ k. IsOkAnd c.read_slowly.result (λ n. n ≡ min (length c.args.buf.now) k)) (sym (gives_to_come held to_come
+                none)) now.1,
+          );
       direct = λ f empty past. read.direct f past;
       filled = λ f empty short. read.filled f short;
       behind = λ some. absurd (omega (arith, some, none));

@@ -49,8 +49,19 @@ returns g c =
       held = λ fits. (refl, gave.gave, gave.held, gave.behind, refl);
       empty = λ none. (refl, ap (λ a. record c.args.self.now { ahead = a }) (gave.empty none));
       asks = λ m f. (m, omega (arith, exact_reads-held n (length old) (length (events_of old ++ inner)) most));
-      left = λ f. (f, exact_left-held g.row.S n (length old) _ (length new) most left, omega (arith, left, length-events old inner,
-          length-events new inner));
-      sound = λ s. (s.0, sound_moved (reader_behind c.args.self.now) old (ahead_behind c.give_whole.new.self) new _ _ _ n gave.behind
-          gave.gave gave.held s.1);
+      left = λ f. (
+        f,
+        exact_left-held g.row.S n (length old) _ (length new) most left,
+        omega (
+          arith,
+          left,
+          length-events old inner,
+          length-events new inner,
+        ),
+      );
+      sound = λ s. (
+        s.0,
+        sound_moved (reader_behind c.args.self.now) old (ahead_behind c.give_whole.new.self) new _ _ _ n gave.behind
+            gave.gave gave.held s.1,
+      );
     }
