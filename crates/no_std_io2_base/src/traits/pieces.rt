@@ -1,5 +1,5 @@
 // What the calls that read pieces are made of.
-ghost use Rattle.std.specs.Prelude.{◌≡◌, ◌≢◌, ◌<◌, ◌≤◌, ◌+◌, ◌++◌, false, All, length, take, slice_index, IfSome, IfNone, OnOk, OnErr, IfErr, IfOk, IsOk, IsUtf8, vec_len, string_bytes, string_len};
+ghost use Rattle.std.specs.Prelude.{◌≡◌, ◌≢◌, ◌<◌, ◌≤◌, ◌+◌, ◌++◌, false, All, length, take, slice_index, IfSome, IfNone, OnOk, OnErr, IfErr, IfOk, IsOk, IsUtf8, vec_len, vec_capacity, string_bytes, string_len};
 ghost use Rattle.std.specs.List.{AllWithin};
 ghost use Rattle.no_std_io2_base.specs.Pieces.{FindsPiece, ends_in, without, line_text};
 ghost use Rattle.no_std_io2_base.specs.PieceItems.{IsInvalidText, AnswersLine};
@@ -72,6 +72,7 @@ pub fn append<A: Allocator>(buf: &mut Vec<u8, A>, bytes: &[u8]) -> Result<()>
     ensures err { OnErr result (buf.new.items ≡ buf.old.items) }
     ensures len { OnOk result (vec_len buf.new ≡ vec_len buf.old + length bytes.now) }
     ensures refused { IfErr result IsOutOfMemory }
+    ensures full { OnErr result (vec_capacity buf.old < vec_len buf.old + length bytes.now) }
 {
     match buf.extend_from_slice(bytes) {
         Ok(()) => Ok(()),

@@ -60,7 +60,7 @@ pub(crate) fn open_room<A: Allocator>(
 }
 
 /// Reads into the room that a vector has, until that is full or the reader is at its end, and says
-/// whether it is there. The vector never grows. It passes over interruptions. For a reader of more
+/// whether it is there. It asks for no room. It passes over interruptions. For a reader of more
 /// readers or pieces than one, before it hands on `read_to_end`.
 ///
 /// # Errors
