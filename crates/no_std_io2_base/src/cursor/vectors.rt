@@ -85,7 +85,7 @@ fn put_past_slowly<A: Allocator>(content: &mut Vec<u8, A>, start: usize, buf: &[
 }
 
 // Writes `buf` into the vector at the position, and moves that behind it. Callers inline the two
-// hot paths, over other bytes and behind the end.
+// hot paths, over other bytes and right behind the end.
 #[inline(always)]
 fn write_at<A: Allocator>(content: &mut Vec<u8, A>, pos: &mut u64, buf: &[u8]) -> Result<usize>
     ensures puts { PutsWhole content.old.items pos.old buf.now result content.new.items pos.new }
@@ -96,9 +96,8 @@ fn write_at<A: Allocator>(content: &mut Vec<u8, A>, pos: &mut u64, buf: &[u8]) -
     let len = content.len();
     if end <= len {
         overwrite(content, start, buf);
-    } else if end <= content.capacity() && len <= start {
-        // There is room, so neither can be refused.
-        let _ = content.resize(start, 0);
+    } else if start == len && buf.len() <= content.capacity() - len {
+        // It fits within the capacity, so no memory is asked for.
         let _ = content.extend_from_slice(buf);
     } else {
         put_past_slowly(content, start, buf)?;
