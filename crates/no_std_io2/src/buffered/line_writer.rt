@@ -183,49 +183,49 @@ impl<W: Write + Drop, const S: usize> Write for LineWriter<W, S> {
 
     ghost is_metered = { λ _. ⊥ };
 
-    /// Writes some front of `x`. Held complete lines are sent first. Without a newline in `x`, it is
-    /// held where it fits behind what is held, else that is sent first, and an `x` of at least `S`
-    /// bytes is then one inner write. With a newline in `x`, what is held is sent, one inner write
-    /// gets the lines of `x`, and of what it left over as much is held as makes up whole lines, or
+    /// Writes some front of `buf`. Held complete lines are sent first. Without a newline in `buf`, it is
+    /// held where it fits behind what is held, else that is sent first, and a `buf` of at least `S`
+    /// bytes is then one inner write. With a newline in `buf`, what is held is sent, one inner write
+    /// gets the lines of `buf`, and of what it left over as much is held as makes up whole lines, or
     /// no line.
     ///
     /// # Errors
     /// The inner writer's own, or `WriteZero` where it took no byte of some that were held. Nothing
-    /// of `x` was accepted then, and what was not sent is still held.
-    fn write(&mut self, x: &[u8]) -> Result<usize>
-        ensures bound { IfOk result (λ n. n ≤ length x.now) }
-        ensures moves { Moves (line_told W.told self.old) (taken result x.now)
-            (write_mishap result x.now) (line_told W.told self.new) }
-        ensures all { ⊥ → ⊥ × (result ≡ Ok (length x.now)) }
+    /// of `buf` was accepted then, and what was not sent is still held.
+    fn write(&mut self, buf: &[u8]) -> Result<usize>
+        ensures bound { IfOk result (λ n. n ≤ length buf.now) }
+        ensures moves { Moves (line_told W.told self.old) (taken result buf.now)
+            (write_mishap result buf.now) (line_told W.told self.new) }
+        ensures all { ⊥ → ⊥ × (result ≡ Ok (length buf.now)) }
         ensures cost { ⊥ → ⊥
             → ⊥ × (W.cost (line_inner self.new) ≡ W.cost (line_inner self.old) + 1) }
-        ensures fits { HasNoNewline x.now → HasNoNewline (line_buffer self.old)
-            → length x.now < S → length (line_buffer self.old) + length x.now ≤ S
+        ensures fits { HasNoNewline buf.now → HasNoNewline (line_buffer self.old)
+            → length buf.now < S → length (line_buffer self.old) + length buf.now ≤ S
             → IsOk result × (line_inner self.new ≡ line_inner self.old)
-            × (line_buffer self.new ≡ line_buffer self.old ++ x.now) }
-        ensures whole { HasNoNewline x.now → length x.now < S → IfOk result (λ n. n ≡ length x.now) }
-        ensures calm { HasNoNewline x.now → length x.now < S → IsNoInterruption result }
-        ensures rest { IsEnd (line_buffer self.old ++ taken result x.now) (line_buffer self.new) }
-        ensures after { HasNoNewline x.now → OnOk result (line_buffer self.new
-            ≡ buffer_after S (unfinished_line (line_buffer self.old)) x.now) }
-        ensures tail { HasNewline x.now → IfOk result (λ n. WritesLines S (W.told (line_inner self.old))
-            (line_buffer self.old) x.now n (W.told (line_inner self.new)) (line_buffer self.new)) }
+            × (line_buffer self.new ≡ line_buffer self.old ++ buf.now) }
+        ensures whole { HasNoNewline buf.now → length buf.now < S → IfOk result (λ n. n ≡ length buf.now) }
+        ensures calm { HasNoNewline buf.now → length buf.now < S → IsNoInterruption result }
+        ensures rest { IsEnd (line_buffer self.old ++ taken result buf.now) (line_buffer self.new) }
+        ensures after { HasNoNewline buf.now → OnOk result (line_buffer self.new
+            ≡ buffer_after S (unfinished_line (line_buffer self.old)) buf.now) }
+        ensures tail { HasNewline buf.now → IfOk result (λ n. WritesLines S (W.told (line_inner self.old))
+            (line_buffer self.old) buf.now n (W.told (line_inner self.new)) (line_buffer self.new)) }
         ensures lasts { W.takes_all (line_inner self.old)
             → W.takes_all (line_inner self.new) × IsOk result }
-        ensures plain { W.takes_all (line_inner self.old) → HasNoNewline x.now
-            → result ≡ Ok (length x.now) }
-        ensures lines { W.takes_all (line_inner self.old) → HasNewline x.now
-            → IsOkAnd result (λ n. n + (length (unfinished_line x.now) - S) ≡ length x.now)
-            × (line_buffer self.new ≡ take S (unfinished_line x.now)) }
+        ensures plain { W.takes_all (line_inner self.old) → HasNoNewline buf.now
+            → result ≡ Ok (length buf.now) }
+        ensures lines { W.takes_all (line_inner self.old) → HasNewline buf.now
+            → IsOkAnd result (λ n. n + (length (unfinished_line buf.now) - S) ≡ length buf.now)
+            × (line_buffer self.new ≡ take S (unfinished_line buf.now)) }
         ensures calls { W.is_metered (line_inner self.old) → W.takes_all (line_inner self.old)
             → W.is_metered (line_inner self.new)
             × (W.cost (line_inner self.new) ≤ W.cost (line_inner self.old) + 3) }
     {
-        let len = lines_len(x);
+        let len = lines_len(buf);
         if len == 0 {
-            return write_plain(&mut self.core.buffered, x);
+            return write_plain(&mut self.core.buffered, buf);
         }
-        write_lines(&mut self.core.buffered, x, len)
+        write_lines(&mut self.core.buffered, buf, len)
     }
 
     /// Sends what is held, then flushes the inner writer.
@@ -250,46 +250,46 @@ impl<W: Write + Drop, const S: usize> Write for LineWriter<W, S> {
         self.core.buffered.flush()
     }
 
-    /// Writes all of `x`. Without a newline in `x`, it goes the way of [`LineWriter::write`]. With
-    /// one, what is held and the lines of `x` are sent, and what follows them is held where it is
-    /// shorter than `S`, else it goes to the inner writer. After `Ok` no newline is held, and after an
-    /// `x` that ends in one nothing is.
+    /// Writes all of `buf`. Without a newline in `buf`, it goes the way of [`LineWriter::write`]. With
+    /// one, what is held and the lines of `buf` are sent, and what follows them is held where it is
+    /// shorter than `S`, else it goes to the inner writer. After `Ok` no newline is held, and after a
+    /// `buf` that ends in one nothing is.
     ///
     /// # Errors
     /// The inner writer's first fault, or `WriteZero` where it took no byte of some; never
-    /// `Interrupted`. Some front of `x`, possibly empty or whole, was accepted then: it is out or
+    /// `Interrupted`. Some front of `buf`, possibly empty or whole, was accepted then: it is out or
     /// held.
-    fn write_all(&mut self, x: &[u8]) -> Result<()>
+    fn write_all(&mut self, buf: &[u8]) -> Result<()>
         ensures fault { IsNoInterruption result }
-        ensures moves { MovesFront (line_told W.told self.old) x.now result
+        ensures moves { MovesFront (line_told W.told self.old) buf.now result
             (line_told W.told self.new) }
         ensures all { ⊥ → ⊥ }
         ensures cost { ⊥ → ⊥ → ⊥ × (W.cost (line_inner self.new)
-            ≡ W.cost (line_inner self.old) + calls_for x.now) }
+            ≡ W.cost (line_inner self.old) + calls_for buf.now) }
         ensures open { OnOk result (HasNoNewline (line_buffer self.new)) }
-        ensures fits { HasNoNewline x.now → HasNoNewline (line_buffer self.old)
-            → length x.now < S → length (line_buffer self.old) + length x.now ≤ S
+        ensures fits { HasNoNewline buf.now → HasNoNewline (line_buffer self.old)
+            → length buf.now < S → length (line_buffer self.old) + length buf.now ≤ S
             → IsOk result × (line_inner self.new ≡ line_inner self.old)
-            × (line_buffer self.new ≡ line_buffer self.old ++ x.now) }
+            × (line_buffer self.new ≡ line_buffer self.old ++ buf.now) }
         ensures lasts { W.takes_all (line_inner self.old)
             → W.takes_all (line_inner self.new) × IsOk result }
-        ensures plain { HasNoNewline x.now → OnOk result (line_buffer self.new
-            ≡ buffer_after S (unfinished_line (line_buffer self.old)) x.now) }
-        ensures lines { HasNewline x.now → OnOk result (line_buffer self.new
-            ≡ whole_if_short S (unfinished_line x.now)) }
-        ensures rest { HoldsEnd (line_buffer self.old) x.now (line_buffer self.new) }
-        ensures none { HasNoNewline x.now → length x.now < S → OnErr result (IsEnd
+        ensures plain { HasNoNewline buf.now → OnOk result (line_buffer self.new
+            ≡ buffer_after S (unfinished_line (line_buffer self.old)) buf.now) }
+        ensures lines { HasNewline buf.now → OnOk result (line_buffer self.new
+            ≡ whole_if_short S (unfinished_line buf.now)) }
+        ensures rest { HoldsEnd (line_buffer self.old) buf.now (line_buffer self.new) }
+        ensures none { HasNoNewline buf.now → length buf.now < S → OnErr result (IsEnd
             (line_buffer self.old) (line_buffer self.new)
             × Moves (line_told W.told self.old) [] (call_mishap result) (line_told W.told self.new)) }
         ensures calls { W.is_metered (line_inner self.old) → W.takes_all (line_inner self.old)
             → W.is_metered (line_inner self.new)
             × (W.cost (line_inner self.new) ≤ W.cost (line_inner self.old) + 3) }
     {
-        let len = lines_len(x);
+        let len = lines_len(buf);
         if len == 0 {
-            return write_all_plain(&mut self.core.buffered, x);
+            return write_all_plain(&mut self.core.buffered, buf);
         }
-        write_all_lines(&mut self.core.buffered, x, len)
+        write_all_lines(&mut self.core.buffered, buf, len)
     }
 
     ghost steady = { λ w h. absurd h };

@@ -156,13 +156,13 @@ impl<R: Seek, const S: usize> BufReader<R, S> {
 /// Success drops the bytes held and those that lie behind; a refusal of the first or only inner
 /// seek keeps them. Each error is the inner reader's own, with its text.
 impl<R: Seek, const S: usize> Seek for BufReader<R, S> {
-    fn seek(&mut self, target: SeekFrom) -> Result<u64>
+    fn seek(&mut self, pos: SeekFrom) -> Result<u64>
         // The trait's.
         ensures store { reader_has_store R.has_store R.position R.content self.old
             → reader_has_store R.has_store R.position R.content self.new
             × (R.content (reader_inner self.new) ≡ R.content (reader_inner self.old))
             × Seeks (length (R.content (reader_inner self.old))) (reader_position R.position self.old)
-            target result (reader_position R.position self.new) }
+            pos result (reader_position R.position self.new) }
         ensures position { IfOk result (λ n. reader_has_store R.has_store R.position R.content self.new
             → reader_position R.position self.new ≡ n) }
 
@@ -170,15 +170,15 @@ impl<R: Seek, const S: usize> Seek for BufReader<R, S> {
         ensures empty { OnOk result (reader_held self.new ≡ []) }
         ensures behind { OnOk result (reader_behind self.new ≡ []) }
         ensures kept { OnErr result (KeepsBuffer self.old self.new
-            ⊎ (IsTooFarBack target (length (reader_held self.old)) × HasNoBuffer self.new)) }
+            ⊎ (IsTooFarBack pos (length (reader_held self.old)) × HasNoBuffer self.new)) }
         ensures dropped { reader_has_store R.has_store R.position R.content self.old
-            → IsTooFarBack target (length (reader_held self.old)) → HasNoBuffer self.new }
+            → IsTooFarBack pos (length (reader_held self.old)) → HasNoBuffer self.new }
         ensures sound { reader_is_sound R.has_store R.position R.content self.old
             → reader_is_sound R.has_store R.position R.content self.new }
     {
-        match target {
+        match pos {
             SeekFrom::Current(offset) => self.seek_current(offset),
-            SeekFrom::Start(_) | SeekFrom::End(_) => self.seek_inner(target),
+            SeekFrom::Start(_) | SeekFrom::End(_) => self.seek_inner(pos),
         }
     }
 

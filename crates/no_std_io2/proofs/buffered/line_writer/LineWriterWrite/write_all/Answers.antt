@@ -81,7 +81,7 @@ write_all_lines-requires g c = (
 )
 
 pub returns-then-len-eq0-clause-rest : goal.returns-then-len-eq0-clause-rest
-returns-then-len-eq0-clause-rest g c = HoldsEnd-whole _ c.args.x.now _ c.write_all_plain.ensures.rest
+returns-then-len-eq0-clause-rest g c = HoldsEnd-whole _ c.args.buf.now _ c.write_all_plain.ensures.rest
 
 pub returns-clause-rest : goal.returns-clause-rest
 returns-clause-rest g c = c.write_all_lines.ensures.rest

@@ -23,9 +23,9 @@ returns-in-Start-clause-store g c = λ s.
     let new = reader_held c.seek_inner.new.self in
     let seek = c.seek_inner.ensures in
     let now = seek.store s.0 in
-    let there = elsewhere c.args.target c.in-Start.is in
-    let done = sought c.args.target c.args.target c.seek_inner.result held new _ _ _ _ (λ n. there _ _ _ n) (λ n. there _ _ _ n) s.1 now.1 now.2 seek.empty seek.kept in
+    let there = elsewhere c.args.pos c.in-Start.is in
+    let done = sought c.args.pos c.args.pos c.seek_inner.result held new _ _ _ _ (λ n. there _ _ _ n) (λ n. there _ _ _ n) s.1 now.1 now.2 seek.empty seek.kept in
     ((now.0, done.0), now.1, done.1)
 
 pub returns-in-Start-clause-dropped : goal.returns-in-Start-clause-dropped
-returns-in-Start-clause-dropped g c = λ s far. absurd (not_far c.args.target _ c.in-Start.is far)
+returns-in-Start-clause-dropped g c = λ s far. absurd (not_far c.args.pos _ c.in-Start.is far)
