@@ -1,6 +1,7 @@
 -- A buffer that is emptied into a vector, before the inner reader appends the rest.
-use Rattle.std.proofs.Common.{◌≡◌, ℕ, ◌+◌, ◌-◌, ◌*◌, ◌<◌, ◌≤◌, Bool, true, List, [], ◌++◌, length, take, drop, Ok, Err, refl, sym, ap, subst, ◌∙◌, arith, inr, take_all, take-append-drop, append-nil, append_assoc, length-append}
+use Rattle.std.proofs.Common.{◌≡◌, ℕ, ◌+◌, ◌-◌, ◌*◌, ◌<◌, ◌≤◌, Bool, true, List, [], ◌++◌, length, take, drop, Ok, Err, refl, sym, ap, subst, ◌∙◌, arith, take_all, take-append-drop, append-nil, append_assoc, length-append}
 use lib.Seq.{take-append-le}
+use Rattle.std.proofs.Math.Seq.{drop-append_seam}
 use Rattle.no_std_io2_base.specs.declared.error.Error.{Error}
 use Rattle.no_std_io2_base.specs.Errors.{IsOutOfMemory}
 use Rattle.no_std_io2_base.specs.Events.{Event, events_of, bytes, HasNoFault, FillsRoom, HasRoom, ReadsToEnd}
@@ -20,6 +21,21 @@ use Rattle.no_std_io2.proofs.Exact.{length-events}
 pub moved_all : (held held' old mid : List ℕ) → HasMoved held held' old mid → held' ≡ [] → mid ≡ old ++ held
 moved_all held held' old mid moved none =
     moved.2 ∙ ap (λ l. old ++ l) (sym (moved.1 ∙ ap (λ l. moved.0 ++ l) none ∙ append-nil moved.0))
+
+-- what was shown of the held bytes was moved, and then as many of these were dropped as are gone from it
+pub moved_from : {shown rest held left : List ℕ} (n : ℕ) (old new : List ℕ) → shown ≡ held → HasMoved shown rest old new
+    → n ≡ length held - length rest → left ≡ drop n held → HasMoved held left old new
+moved_from {shown} {rest} {held} n old new same moved count cut =
+    let x = moved.0 in
+    let split : held ≡ x ++ rest = sym same ∙ moved.1 in
+    let is : n ≡ length x = omega (arith, count, ap length split, length-append x rest) in
+    let left_is = cut ∙ ap (λ k. drop k held) is ∙ ap (drop (length x)) split ∙ drop-append_seam x rest in
+    (x, split ∙ ap (λ l. x ++ l) (sym left_is), moved.2)
+
+-- bytes that are dropped from the front of the held ones stand behind them
+pub kept_in_all : (n : ℕ) (behind held behind' left : List ℕ) → behind' ≡ behind ++ take n held → left ≡ drop n held → behind' ++ left ≡ behind ++ held
+kept_in_all n behind held behind' left b cut =
+    ap (λ l. l ++ left) b ∙ append_assoc behind (take n held) left ∙ ap (λ l. behind ++ (take n held ++ l)) cut ∙ ap (λ l. behind ++ l) (take-append-drop n held)
 
 emptied : (held old mid : List ℕ) (E : List Event) → mid ≡ old ++ held → Gathered (events_of held ++ E) old mid E
 emptied held old mid E is = record {

@@ -11,3 +11,15 @@ returns-clause-store g c = λ s.
     let fits = sound_fits _ (reader_held old) _ (g.met.R.Seek.seek_fits (reader_inner old) s.0) in
     let done = stays c.seek.result (length (g.R.Stored.content (reader_inner old))) _ _ fits.1 now.2 in
     (now.0, now.1, done.0, done.1)
+
+pub returns-clause-position : goal.returns-clause-position
+returns-clause-position g c = c.seek.ensures.position
+
+pub returns-clause-empty : goal.returns-clause-empty
+returns-clause-empty g c = c.seek.ensures.empty
+
+pub returns-clause-behind : goal.returns-clause-behind
+returns-clause-behind g c = c.seek.ensures.behind
+
+pub returns-clause-sound : goal.returns-clause-sound
+returns-clause-sound g c = c.seek.ensures.sound

@@ -10,3 +10,21 @@ returns-clause-store g c = λ s.
     let fits = g.met.W.Seek.seek_fits inner s.1 in
     let done = stays c.seek.result (length (g.W.Stored.content inner)) _ _ fits.1 now.2 in
     (now.0, now.1, done.0, done.1)
+
+pub returns-clause-position : goal.returns-clause-position
+returns-clause-position g c = c.seek.ensures.position
+
+pub returns-clause-rest : goal.returns-clause-rest
+returns-clause-rest g c = c.seek.ensures.rest
+
+pub returns-clause-refused : goal.returns-clause-refused
+returns-clause-refused g c = c.seek.ensures.refused
+
+pub returns-clause-fault : goal.returns-clause-fault
+returns-clause-fault g c = c.seek.ensures.fault
+
+pub returns-clause-empty : goal.returns-clause-empty
+returns-clause-empty g c = c.seek.ensures.empty
+
+pub returns-clause-sent : goal.returns-clause-sent
+returns-clause-sent g c = c.seek.ensures.sent

@@ -1,0 +1,18 @@
+use Rattle.no_std_io2.proofs.buffered.buf_writer.BufWriterWrite.write.Goals as goal
+
+pub returns : goal.returns
+returns g c =
+    let core = c.write.ensures in
+    record {
+      bound = core.bound;
+      moves = core.moves;
+      all = core.all;
+      cost = λ no. absurd no;
+      rest = core.rest;
+      fits = core.fits;
+      sent = core.sent;
+      whole = core.whole;
+      calm = core.calm;
+      after = core.after;
+      calls = core.calls;
+    }
