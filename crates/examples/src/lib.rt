@@ -1,19 +1,20 @@
 //! The examples that README and docs/DEVICES.md print, as the gate proves them. They stand on `no_std_io2` alone.
 #![tactic(auto)]
 
-ghost use Rattle.std.specs.Prelude.{◌≡◌, ◌++◌, [], IfOk, OnOk};
-ghost use Rattle.no_std_io2.specs.Writes.{Sends};
+ghost use Rattle.std.specs.Prelude.{◌≡◌, ◌++◌, IfOk};
 ghost use Rattle.no_std_io2.specs.Fits.{BufWriterFits};
 
 mod broken;
 mod inbox;
 mod narrow;
+mod patiently;
 mod serial;
 
 pub use broken::Broken;
 pub use inbox::{Inbox, Source};
 pub use narrow::Narrow;
 use no_std_io2::io::{BufWriter, Result, Write};
+pub use patiently::send_patiently;
 pub use serial::{Port, Serial};
 
 pub mod records;
@@ -42,15 +43,4 @@ pub fn save_to<W: Write + Drop>(device: W, text: &[u8]) -> Result<W>
         Ok(device) => Ok(device),
         Err(e) => Err(e.into()),
     }
-}
-
-/// Sends what is left of a text, and after a fault tries once more: no byte goes out twice.
-pub fn send_patiently<W: Write>(device: &mut W, rest: &mut &[u8]) -> Result<()>
-    ensures sends { Sends (W.told device.old) rest.old.now result (W.told device.new) rest.new.now }
-    ensures done { OnOk result (rest.new.now ≡ []) }
-{
-    if device.write_rest(rest).is_ok() {
-        return Ok(());
-    }
-    device.write_rest(rest)
 }
