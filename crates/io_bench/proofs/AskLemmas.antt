@@ -110,7 +110,7 @@ bytes-le (fails e ∷ E) = omega (arith, bytes-le E)
 
 -- a filled buffer is no longer than what was to come
 pub filled-le : (E : List Event) (buf : List ℕ) (E' : List Event) → Fills E buf E' → length buf ≤ length E
-filled-le E buf E' f = omega (arith, bytes-le (cut (length buf) E), ap length f.2, ap length f.0, length-append (cut (length buf) E) E')
+filled-le E buf E' f = omega (arith, bytes-le (cut (length buf) E), ap length f.filled, ap length f.split, length-append (cut (length buf) E) E')
 
 taken_whole : (E E' : List Event) → (E' ≡ [] ⊎ (⊥ × (E' ≡ E))) → TakesFront E E'
 taken_whole E E' (inl none) = (E, sym (append-nil E) ∙ ap (λ l. E ++ l) (sym none))
@@ -121,11 +121,11 @@ pub falls_short : (bs : List ℕ) (E : List Event) (e : Error) (buf : List ℕ) 
     → (error_kind e ≡ UnexpectedEof) × (length E < length buf) × TakesFront E E'
 falls_short bs E e buf E' is (inl stops) =
     let none : HasNoFault E = subst HasNoFault (sym is) (HasNoFault-events_of bs) in
-    let ends = stops.2 in
-    absurd (no_fault_at_end ends.0 e (subst HasNoFault ends.1 (HasNoFault-front stops.0 E' (subst HasNoFault stops.1 none))) ends.3)
+    let ends = stops.ends in
+    absurd (no_fault_at_end ends.0 e (subst HasNoFault ends.1 (HasNoFault-front stops.taken E' (subst HasNoFault stops.split none))) ends.3)
 falls_short bs E e buf E' is (inr short) =
     let long : length E ≡ length (bytes E) = ap length is ∙ length-events_of bs ∙ sym (ap length (ap bytes is ∙ bytes-events_of bs)) in
-    (short.2.0, omega (arith, short.1, long), taken_whole E E' short.3)
+    (short.answer.0, omega (arith, short.short, long), taken_whole E E' short.left)
 
 -- what is held and then bytes alone are bytes alone
 pub bytes_behind : (held bs : List ℕ) (E : List Event) → E ≡ events_of bs → events_of held ++ E ≡ events_of (held ++ bs)
@@ -144,8 +144,8 @@ lent_to_come reply s E E' is lends = subst (λ r. LendsFrom E r E') is lends
 
 -- an exact read takes a front, whatever its fault
 pub failed_front : (E : List Event) (e : Error) (room : List ℕ) (E' : List Event) → ReadsExact {A = Unit {0}} ⊥ E (Err e) room E' → TakesFront E E'
-failed_front E e buf E' (inl stops) = (stops.0, stops.1)
-failed_front E e buf E' (inr short) = taken_whole E E' short.3
+failed_front E e buf E' (inl stops) = (stops.taken, stops.split)
+failed_front E e buf E' (inr short) = taken_whole E E' short.left
 
 -- the step that an ask took
 pub asked_step : (S : ℕ) (ask : Ask) (h r h' r' : ℕ) (E E' : List Event) (is_end : Bool) → 0 < S → h ≤ length E → Asked S ask h r E is_end h' r' E' → Step ask E E'

@@ -79,7 +79,7 @@ pub Answers-write_all : {a b : Told} (x : Bor (List ℕ)) (u : Unit {0}) → Mov
 Answers-write_all {a} {b} x u moves = record {
   accepted = x.now;
   accepts = refl;
-  moves = subst (λ l. Moves a l [] b) moves.2 moves.3;
+  moves = subst (λ l. Moves a l [] b) moves.whole moves.moves;
   flushed = λ no. absurd no;
 }
 

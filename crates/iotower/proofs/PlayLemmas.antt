@@ -9,6 +9,6 @@ pub writes_text : {P : List ℕ → Type 0} {a b c : Told} {x shown : List ℕ} 
 writes_text {a = a} {b} {x = x} is same wrote flushed empty = record {
   text = x;
   is = is;
-  moves = Moves-ends (subst (λ l. Moves a l [] b) (wrote.2 ∙ same) wrote.3) flushed;
+  moves = Moves-ends (subst (λ l. Moves a l [] b) (wrote.whole ∙ same) wrote.moves) flushed;
   empty = empty;
 }

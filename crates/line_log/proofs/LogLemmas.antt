@@ -21,7 +21,7 @@ left_is rest sent left e =
 
 -- a write of nothing accepts nothing
 pub wrote_nothing : {a b : Told} (reply : Result (Unit {0}) Error) (x : List ℕ) → x ≡ [] → MovesFront a x reply b → Moves a [] (call_mishap reply) b
-wrote_nothing {a} {b} reply x none f = subst (λ l. Moves a l (call_mishap reply) b) (front_none f.0 x none f.1.0 f.1.1) f.3
+wrote_nothing {a} {b} reply x none f = subst (λ l. Moves a l (call_mishap reply) b) (front_none f.accepted x none f.front.0 f.front.1) f.moves
   where
     front_none : (front whole : List ℕ) → whole ≡ [] → (rest : List ℕ) → whole ≡ front ++ rest → front ≡ []
     front_none [] whole none rest e = refl

@@ -35,7 +35,7 @@ count_more n m k b got count long is = omega (arith, length-append b got)
 
 -- a whole piece was written
 whole_piece : (mid new : Told) (piece : List ℕ) → MovesFront mid piece (Ok tt) new → Moves mid piece [] new
-whole_piece mid new piece w = subst (λ l. Moves mid l [] new) w.2 w.3
+whole_piece mid new piece w = subst (λ l. Moves mid l [] new) w.whole w.moves
 
 pub written_more : (old mid new : Told) (n m k : ℕ) (buf : List ℕ) → Written old mid m → MovesFront mid (take n buf) (Ok tt) new → n ≤ length buf → k ≡ min (m + n) (2 ^ 64 - 1) → Written old new k
 written_more old mid new n m k buf t w fits is = record {
@@ -103,10 +103,10 @@ pub copied_refused : (room : ℕ) (E : List Event) (old mid new : Told) (m n : �
     → Copied E old mid m after → Reads after (Ok n) buf rest → 0 < n → n ≤ length buf → length buf ≡ room → MovesFront mid (take n buf) (Err e) new → Copies room E (Err e) rest old new
 copied_refused room E old mid new m n buf after rest e t read some fits long w =
     let got = take n buf in
-    let accepted = w.0 in
-    let lost = w.1.0 in
+    let accepted = w.accepted in
+    let lost = w.front.0 in
     let whole : bytes (t.front ++ events_of got) ≡ bytes t.front ++ got = bytes-append t.front (events_of got) ∙ ap (λ l. bytes t.front ++ l) (bytes-events_of got) in
-    let front : bytes (t.front ++ events_of got) ≡ (bytes t.front ++ accepted) ++ lost = whole ∙ ap (λ l. bytes t.front ++ l) w.1.1 ∙ sym (append_assoc (bytes t.front) accepted lost) in
+    let front : bytes (t.front ++ events_of got) ≡ (bytes t.front ++ accepted) ++ lost = whole ∙ ap (λ l. bytes t.front ++ l) w.front.1 ∙ sym (append_assoc (bytes t.front) accepted lost) in
     let short = length-take-le n buf fits in (
       t.front ++ events_of got,
       t.split ∙ ap (λ l. t.front ++ l) read.0 ∙ sym (append_assoc t.front (events_of got) rest),
@@ -118,14 +118,14 @@ copied_refused room E old mid new m n buf after rest e t read some fits long w =
           (
             bytes t.front ++ accepted,
             ((lost, front), omega (arith, ap length whole ∙ length-append (bytes t.front) got, length-append (bytes t.front) accepted, short)),
-            Moves-then t.moves w.3,
+            Moves-then t.moves w.moves,
           ),
         ),
       ),
     )
 
 pub written_refused : (old mid new : Told) (m : ℕ) (x : List ℕ) (e : Error) → Written old mid m → MovesFront mid x (Err e) new → CopyMoves (Err e) old new
-written_refused old mid new m x e t w = (t.accepted ++ w.0, inr (Moves-then t.moves w.3))
+written_refused old mid new m x e t w = (t.accepted ++ w.accepted, inr (Moves-then t.moves w.moves))
 
 -- all of a list without faults has none in front
 pub HasNoFault-front : (P Q : List Event) → HasNoFault (P ++ Q) → HasNoFault P

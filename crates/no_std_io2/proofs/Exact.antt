@@ -122,12 +122,13 @@ pub taken_end : (E : List Event) (room most : ℕ) (got : List ℕ) (after : Lis
     → Taken E room got after → Reads after (Ok n) buf rest → n ≡ 0 → 0 < length buf → IsUnexpectedEnd e → length got < most → FallsShort ⊥ E most e rest
 taken_end E room most got after e rest n buf t read zero some kind short =
     let end : after ≡ [] = read.1 zero some in
-    let whole : E ≡ t.front = t.split ∙ ap (λ l. t.front ++ l) end ∙ append-nil t.front in (
-      subst HasNoFault (sym whole) t.no_fault,
-      subst (λ l. length l < most) (sym (ap bytes whole ∙ t.gave)) short,
-      kind,
-      inl (sym (nothing_read after rest n buf read zero) ∙ end),
-    )
+    let whole : E ≡ t.front = t.split ∙ ap (λ l. t.front ++ l) end ∙ append-nil t.front in
+    record {
+      no_fault = subst HasNoFault (sym whole) t.no_fault;
+      short = subst (λ l. length l < most) (sym (ap bytes whole ∙ t.gave)) short;
+      answer = kind;
+      left = inl (sym (nothing_read after rest n buf read zero) ∙ end);
+    }
 
 -- the whole buffer was filled
 pub taken_whole : (E : List Event) (room at : ℕ) (buf : List ℕ) (after : List Event) → Taken E room (take at buf) after → length buf ≤ at → length buf ≡ room → Fills E buf after
@@ -160,7 +161,11 @@ fills_front E rest got is =
     let none : length got - length got ≡ 0 = omega arith in
     let front : cut (length got) E ≡ events_of got =
     ap (cut (length got)) is ∙ cut-bytes got rest (length got) (omega arith) ∙ ap (λ n. events_of got ++ cut n rest) none ∙ append-nil (events_of got) in
-    (is ∙ ap (λ l. l ++ rest) (sym front), subst HasNoFault (sym front) (HasNoFault-events_of got), ap bytes front ∙ bytes-events_of got)
+    record {
+      split = is ∙ ap (λ l. l ++ rest) (sym front);
+      no_fault = subst HasNoFault (sym front) (HasNoFault-events_of got);
+      filled = ap bytes front ∙ bytes-events_of got;
+    }
 
 -- where enough is held, that many bytes less are held
 pub exact_left-held : (room len held all next : ℕ) → len ≤ held → next ≡ held - len → next ≡ exact_left room len held all

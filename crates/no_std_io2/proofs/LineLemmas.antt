@@ -96,29 +96,36 @@ onerr_map (Ok t) P Q f p = tt
 onerr_map (Err e) P Q f p = f p
 
 pub MovesFront-then : {a b c : Told} (x : List ℕ) (r : Result (Unit {0}) Error) → Moves a [] [] b → MovesFront b x r c → MovesFront a x r c
-MovesFront-then x r m f = (f.0, f.1, f.2, Moves-then m f.3)
+MovesFront-then x r m f = record { accepted = f.accepted; front = f.front; whole = f.whole; moves = Moves-then m f.moves }
 
 pub MovesFront-passed : {a b : Told} (x : List ℕ) (r : Result (Unit {0}) Error) (held new : List ℕ) → held ≡ [] → new ≡ held → MovesFront a x r b → MovesFront (with_buffer a held) x r (with_buffer b new)
 MovesFront-passed x r held new e g f =
-    (f.0, f.1, f.2, Moves-buffered held new f.0 f.3 (ap (λ l. l ++ f.0) e ∙ sym (append-nil f.0) ∙ ap (λ l. f.0 ++ l) (sym (g ∙ e))))
+    let got = f.accepted in
+    record {
+      accepted = got;
+      front = f.front;
+      whole = f.whole;
+      moves = Moves-buffered held new got f.moves (ap (λ l. l ++ got) e ∙ sym (append-nil got) ∙ ap (λ l. got ++ l) (sym (g ∙ e)));
+    }
 
 pub MovesFront-ends : {a b c : Told} (x : List ℕ) (r : Result (Unit {0}) Error) → Moves a x [] b → Moves b [] (call_mishap r) c → MovesFront a x r c
-MovesFront-ends x r m n = (x, IsFront-refl x, onok r _ refl, Moves-ends m n)
+MovesFront-ends x r m n = record { accepted = x; front = IsFront-refl x; whole = onok r _ refl; moves = Moves-ends m n }
 
 pub MovesFront-whole : {a b : Told} (x : List ℕ) (u : Unit {0}) → MovesFront a x (Ok u) b → Moves a x [] b
-MovesFront-whole {a} {b} x u f = subst (λ l. Moves a l [] b) f.2 f.3
+MovesFront-whole {a} {b} x u f = subst (λ l. Moves a l [] b) f.whole f.moves
 
 pub MovesFront-part : {a b : Told} (front x : List ℕ) (e : Error) → IsFront front x → MovesFront a front (Err e) b → MovesFront a x (Err e) b
-MovesFront-part front x e p f = (f.0, IsFront-trans f.0 front x f.1 p, tt, f.3)
+MovesFront-part front x e p f = record { accepted = f.accepted; front = IsFront-trans f.accepted front x f.front p; whole = tt; moves = f.moves }
 
 pub MovesFront-rest : {a b c : Told} (n : ℕ) (x rest : List ℕ) (r : Result (Unit {0}) Error) → rest ≡ drop n x → Moves a (take n x) [] b → MovesFront b rest r c → MovesFront a x r c
 MovesFront-rest {a} {b} {c} n x rest r d m f =
-    let whole = ap (λ l. take n x ++ l) d ∙ take-append-drop n x in (
-      take n x ++ f.0,
-      (f.1.0, sym whole ∙ ap (λ l. take n x ++ l) f.1.1 ∙ sym (append_assoc (take n x) f.0 f.1.0)),
-      onok_map r _ _ (λ e. ap (λ l. take n x ++ l) e ∙ whole) f.2,
-      Moves-then m f.3,
-    )
+    let all = ap (λ l. take n x ++ l) d ∙ take-append-drop n x in
+    record {
+      accepted = take n x ++ f.accepted;
+      front = (f.front.0, sym all ∙ ap (λ l. take n x ++ l) f.front.1 ∙ sym (append_assoc (take n x) f.accepted f.front.0));
+      whole = onok_map r _ _ (λ e. ap (λ l. take n x ++ l) e ∙ all) f.whole;
+      moves = Moves-then m f.moves;
+    }
 
 pub HasNoNewline-none : (xs : List ℕ) → xs ≡ [] → HasNoNewline xs
 HasNoNewline-none xs e k h is = absurd (omega (arith, ap length e))

@@ -202,7 +202,7 @@ pub refused_all : {W : Type 0} {S : ℕ} {told : W → Told} {takes_all is_meter
     → MakesWay told takes_all is_metered cost old (length x) (Err e) mid → BuffersAll told takes_all is_metered cost old x (Err e) mid
 refused_all old mid x e way = record {
   fault = way.fault;
-  moves = ([], (x, refl), tt, way.moves);
+  moves = record { accepted = []; front = (x, refl); whole = tt; moves = way.moves };
   rest = inr way.rest;
   fits = λ _ room. no_ok (way.fits room).0;
   sent = λ _. tt;
@@ -231,7 +231,7 @@ passed_all {S} old mid x r inner steady way long fault moves all calls =
       fits = λ short. absurd (omega (arith, short, long));
       sent = λ _. onok r _ (IsEnd-none _ (sender_buffer mid) none);
       none = λ short. absurd (omega (arith, short, long));
-      all = λ t. let mid_all = (way.all t).0 in (all mid_all, call_steady r (steady _ mid_all) moves.3);
+      all = λ t. let mid_all = (way.all t).0 in (all mid_all, call_steady r (steady _ mid_all) moves.moves);
       after = onok r _ (none ∙ sym (after_long S (sender_buffer old) x long));
       calls = λ some m t.
           let first = way.calls m t in
@@ -250,7 +250,12 @@ pub held_all : {W : Type 0} {S : ℕ} {told : W → Told} {takes_all is_metered 
     → BuffersAll told takes_all is_metered cost old x (Ok tt) new
 held_all {S} {told} {takes_all} {is_metered} {cost} old mid new x way short same put = record {
   fault = tt;
-  moves = (x, IsFront-refl x, refl, Moves-then {k = []} way.moves (Moves-kept told _ _ (sender_buffer mid) (sender_buffer new) x same put));
+  moves = record {
+    accepted = x;
+    front = IsFront-refl x;
+    whole = refl;
+    moves = Moves-then {k = []} way.moves (Moves-kept told _ _ (sender_buffer mid) (sender_buffer new) x same put);
+  };
   rest = inl (IsEnd-held _ (sender_buffer mid) _ x way.rest put);
   fits = λ _ room. let kept = way.fits room in (refl, same ∙ kept.1, put ∙ ap (λ l. l ++ x) kept.2);
   sent = λ over. ([], sym (put ∙ ap (λ l. l ++ x) (way.sent over)));

@@ -86,7 +86,7 @@ puts_moves bs place x (Err e) bs' place' h =
 pub puts_moves_all : (bs : List ℕ) (place : ℕ) (x : List ℕ) (n : ℕ) (bs' : List ℕ) (place' : ℕ) → PutsWhole bs place x (Ok n) bs' place'
     → MovesFront (told_out (bytes_before place bs)) x (Ok tt) (told_out (bytes_before place' bs'))
 puts_moves_all bs place x n bs' place' h =
-    (x, ([], sym (append-nil x)), refl, appends_moves _ _ _ _ (put_goes_out bs place x bs' place' h.2 h.3) refl)
+    record { accepted = x; front = ([], sym (append-nil x)); whole = refl; moves = appends_moves _ _ _ _ (put_goes_out bs place x bs' place' h.2 h.3) refl }
 
 -- what fits in a slice goes out
 pub fitting_goes_out : (bs : List ℕ) (place : ℕ) (x bs' : List ℕ) (place' : ℕ) → PutsFitting bs place x bs' place'
@@ -121,28 +121,38 @@ pub fits_moves_part : (bs : List ℕ) (place : ℕ) (x : List ℕ) (e : Error) (
     → MovesFront (told_out (bytes_before place bs)) x (Err e) (told_out (bytes_before place' bs'))
 fits_moves_part bs place x e bs' place' kind h =
     let room = length bs - place in
-    (fitting place x bs, (drop room x, sym (take-append-drop room x)), tt, appends_moves _ _ _ _ (fitting_goes_out bs place x bs' place' h) (ap (λ k. count_by is_interruption (k ∷ [])) kind))
+    record {
+      accepted = fitting place x bs;
+      front = (drop room x, sym (take-append-drop room x));
+      whole = tt;
+      moves = appends_moves _ _ _ _ (fitting_goes_out bs place x bs' place' h) (ap (λ k. count_by is_interruption (k ∷ [])) kind);
+    }
 
 -- and where it does
 pub fits_moves_all : (bs : List ℕ) (place : ℕ) (x bs' : List ℕ) (place' : ℕ) → length x ≤ length bs - place → PutsFitting bs place x bs' place'
     → MovesFront (told_out (bytes_before place bs)) x (Ok tt) (told_out (bytes_before place' bs'))
 fits_moves_all bs place x bs' place' room h =
     let whole : fitting place x bs ≡ x = take_all (length bs - place) x room in
-    (x, ([], sym (append-nil x)), refl, appends_moves _ _ _ _ (fitting_goes_out bs place x bs' place' h ∙ ap (λ l. bytes_before place bs ++ l) whole) refl)
+    record {
+      accepted = x;
+      front = ([], sym (append-nil x));
+      whole = refl;
+      moves = appends_moves _ _ _ _ (fitting_goes_out bs place x bs' place' h ∙ ap (λ l. bytes_before place bs ++ l) whole) refl;
+    }
 
 -- an error of a vector: none was accepted
 pub puts_moves_none : (bs : List ℕ) (place : ℕ) (x : List ℕ) (e : Error) (bs' : List ℕ) (place' : ℕ)
     → PutsWhole bs place x (Err e) bs' place'
     → MovesFront (told_out (bytes_before place bs)) x (Err e) (told_out (bytes_before place' bs'))
 puts_moves_none bs place x e bs' place' h =
-    ([], (x, refl), tt, puts_moves bs place x (Err e) bs' place' h)
+    record { accepted = []; front = (x, refl); whole = tt; moves = puts_moves bs place x (Err e) bs' place' h }
 
 -- a vector that was refused memory has accepted none
 pub refused_moves : (old new x : List ℕ) (e : Error) → new ≡ old → IsOutOfMemory e
     → MovesFront (told_out old) x (Err e) (told_out new)
 refused_moves old new x e same refused =
     let quiet = ap (λ k. count_by is_interruption (k ∷ [])) refused.0 in
-    ([], (x, refl), tt, appends_moves old new [] _ (same ∙ sym (append-nil old)) quiet)
+    record { accepted = []; front = (x, refl); whole = tt; moves = appends_moves old new [] _ (same ∙ sym (append-nil old)) quiet }
 
 -- a refusal is no interruption
 pub refused_fault : (place : ℕ) (x : List ℕ) (e : Error) → IsRefusal place x e → IsFault e
@@ -158,7 +168,12 @@ puts_all_some bs place x n bs' place' h some = (λ _. (h.0, h.2), λ none. absur
 -- `write_all` of none
 pub moves_none : (old x : List ℕ) → x ≡ [] → MovesFront (told_out old) x (Ok tt) (told_out old)
 moves_none old x none =
-    (x, ([], sym (append-nil x)), refl, appends_moves old old x [] (sym (append-nil old) ∙ ap (λ l. old ++ l) (sym none)) refl)
+    record {
+      accepted = x;
+      front = ([], sym (append-nil x));
+      whole = refl;
+      moves = appends_moves old old x [] (sym (append-nil old) ∙ ap (λ l. old ++ l) (sym none)) refl;
+    }
 
 -- and nothing is put
 pub puts_all_none : (bs : List ℕ) (place : ℕ) (x : List ℕ) → x ≡ [] → PutsAll bs place x (Ok tt) bs place

@@ -96,21 +96,30 @@ zero_write-whole xs = grind (arith, nat_tests)
 -- `write_all(x)?; write_all(y)`, where the first answered `Ok`: some front of both was accepted, all of it at `Ok`
 pub MovesFront-join : {a b c : Told} (x y : List ℕ) (r : Result (Unit {0}) Error) → MovesFront a x (Ok tt) b → MovesFront b y r c → MovesFront a (x ++ y) r c
 MovesFront-join {a} {b} {c} x y r f g =
-    let first : Moves a x [] b = subst (λ l. Moves a l [] b) f.2 f.3 in
-    (x ++ g.0, (g.1.0, ap (λ l. x ++ l) g.1.1 ∙ sym (append_assoc x g.0 g.1.0)), joined r g.2, Moves-then first g.3)
+    let first : Moves a x [] b = subst (λ l. Moves a l [] b) f.whole f.moves in
+    record {
+      accepted = x ++ g.accepted;
+      front = (g.front.0, ap (λ l. x ++ l) g.front.1 ∙ sym (append_assoc x g.accepted g.front.0));
+      whole = joined r g.whole;
+      moves = Moves-then first g.moves;
+    }
   where
-    joined : (r : Result (Unit {0}) Error) → OnOk r (g.0 ≡ y) → OnOk r (x ++ g.0 ≡ x ++ y)
+    joined : (r : Result (Unit {0}) Error) → OnOk r (g.accepted ≡ y) → OnOk r (x ++ g.accepted ≡ x ++ y)
     joined (Ok u) e = ap (λ l. x ++ l) e
     joined (Err e) h = tt
 
 -- the same, where the first failed: the second made no call
 pub MovesFront-first : {a b : Told} (x y : List ℕ) (e : Error) → MovesFront a x (Err e) b → MovesFront a (x ++ y) (Err e) b
-MovesFront-first x y e f =
-    (f.0, (f.1.0 ++ y, ap (λ l. l ++ y) f.1.1 ∙ append_assoc f.0 f.1.0 y), tt, f.3)
+MovesFront-first x y e f = record {
+  accepted = f.accepted;
+  front = (f.front.0 ++ y, ap (λ l. l ++ y) f.front.1 ∙ append_assoc f.accepted f.front.0 y);
+  whole = tt;
+  moves = f.moves;
+}
 
 -- a call that says what is left is a call that accepted some front
 pub MovesFront-sends : {a b : Told} {r : Result (Unit {0}) Error} (x rest : List ℕ) → Sends a x r b rest → OnOk r (rest ≡ []) → MovesFront a x r b
-MovesFront-sends {r} x rest f none = (f.sent, (rest, f.split), whole r none, f.moves)
+MovesFront-sends {r} x rest f none = record { accepted = f.sent; front = (rest, f.split); whole = whole r none; moves = f.moves }
   where
     whole : (r : Result (Unit {0}) Error) → OnOk r (rest ≡ []) → OnOk r (f.sent ≡ x)
     whole (Ok u) e = sym (f.split ∙ ap (λ l. f.sent ++ l) e ∙ append-nil f.sent)

@@ -22,7 +22,11 @@ fill_bytes all buf rest n front long is =
     let none : length buf - length buf ≡ 0 = omega arith in
     let split : events_of all ≡ events_of buf ++ events_of rest = events_of-split all n ∙ ap (λ l. events_of l ++ events_of (drop n all)) (sym front) ∙ ap (λ l. events_of buf ++ events_of l) (sym is) in
     let stop : cut (length buf) (events_of all) ≡ events_of buf = ap (cut (length buf)) split ∙ cut-bytes buf (events_of rest) (length buf) (omega arith) ∙ ap (λ k. events_of buf ++ cut k (events_of rest)) none ∙ append-nil (events_of buf) in
-    (split ∙ ap (λ l. l ++ events_of rest) (sym stop), subst HasNoFault (sym stop) (HasNoFault-events_of buf), ap bytes stop ∙ bytes-events_of buf)
+    record {
+      split = split ∙ ap (λ l. l ++ events_of rest) (sym stop);
+      no_fault = subst HasNoFault (sym stop) (HasNoFault-events_of buf);
+      filled = ap bytes stop ∙ bytes-events_of buf;
+    }
 
 -- what a cursor's read copies from: the part from its position on, cut at the end
 pub part_from : (shown all : List ℕ) (start position : ℕ) → shown ≡ all → start ≡ min (length shown) position → take (length shown - start) (drop start shown) ≡ drop position all

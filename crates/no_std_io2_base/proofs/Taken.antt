@@ -51,27 +51,29 @@ pub taken_fills : (E : List Event) (room : ℕ) (got : List ℕ) (after : List E
     → Taken E room got after → length got ≡ room → Fills E got after
 taken_fills E room got after t h =
     let is : cut (length got) E ≡ t.front = ap (λ n. cut n E) h ∙ t.full h in
-    (t.split ∙ ap (λ l. l ++ after) (sym is), subst HasNoFault (sym is) t.no_fault, ap bytes is ∙ t.gave)
+    record { split = t.split ∙ ap (λ l. l ++ after) (sym is); no_fault = subst HasNoFault (sym is) t.no_fault; filled = ap bytes is ∙ t.gave }
 
 pub taken_fault : (E : List Event) (room most : ℕ) (got : List ℕ) (after : List Event) (e : Error) (rest : List Event)
     → Taken E room got after → after ≡ fails e ∷ rest → IsFault e → length got < most → StopsAtFault E most e rest
 taken_fault E room most got after e rest t read fault short =
-    let gave : bytes (t.front ++ fails e ∷ []) ≡ got = bytes-append t.front (fails e ∷ []) ∙ append-nil (bytes t.front) ∙ t.gave in (
-      t.front ++ fails e ∷ [],
-      t.split ∙ ap (λ l. t.front ++ l) read ∙ sym (append_assoc t.front (fails e ∷ []) rest),
-      (t.front, refl, t.no_fault, fault),
-      subst (λ l. length l < most) (sym gave) short,
-    )
+    let gave : bytes (t.front ++ fails e ∷ []) ≡ got = bytes-append t.front (fails e ∷ []) ∙ append-nil (bytes t.front) ∙ t.gave in
+    record {
+      taken = t.front ++ fails e ∷ [];
+      split = t.split ∙ ap (λ l. t.front ++ l) read ∙ sym (append_assoc t.front (fails e ∷ []) rest);
+      ends = (t.front, refl, t.no_fault, fault);
+      short = subst (λ l. length l < most) (sym gave) short;
+    }
 
 pub taken_short : (may_take_none : Type 0) (E : List Event) (room : ℕ) (got : List ℕ) (after : List Event) (e : Error) (rest : List Event)
     → Taken E room got after → after ≡ [] → after ≡ rest → IsUnexpectedEnd e → length got < room → FallsShort may_take_none E room e rest
 taken_short may_take_none E room got after e rest t end same kind short =
-    let whole : E ≡ t.front = t.split ∙ ap (λ l. t.front ++ l) end ∙ append-nil t.front in (
-      subst HasNoFault (sym whole) t.no_fault,
-      subst (λ l. length l < room) (sym (ap bytes whole ∙ t.gave)) short,
-      kind,
-      inl (sym same ∙ end),
-    )
+    let whole : E ≡ t.front = t.split ∙ ap (λ l. t.front ++ l) end ∙ append-nil t.front in
+    record {
+      no_fault = subst HasNoFault (sym whole) t.no_fault;
+      short = subst (λ l. length l < room) (sym (ap bytes whole ∙ t.gave)) short;
+      answer = kind;
+      left = inl (sym same ∙ end);
+    }
 
 -- one more read that gave bytes, in a loop that fills a buffer
 pub taken_read : (E : List Event) (room : ℕ) (got shown : List ℕ) (after rest : List Event) (n : ℕ) (buf : List ℕ)

@@ -51,18 +51,25 @@ abbrev pub given : Result ℕ Error → ℕ
 given (Ok n) = n
 given (Err e) = 0
 
--- P is the front of E that fills a buffer with these bytes: it stands right after the last of them
-abbrev pub Fills : List Event → List ℕ → List Event → Type 0
-Fills E buf after = (E ≡ cut (length buf) E ++ after) × HasNoFault (cut (length buf) E) × (bytes (cut (length buf) E) ≡ buf)
+-- The front of E that fills a buffer with these bytes is taken: it ends right behind the last of them.
+pub record Fills (E : List Event) (buf : List ℕ) (after : List Event) : Type 0 where
+  pub split : E ≡ cut (length buf) E ++ after
+  pub no_fault : HasNoFault (cut (length buf) E)
+  pub filled : bytes (cut (length buf) E) ≡ buf
 
--- E has no fault and fewer bytes than `room`, and all of it is taken; or, by a reader that may take none, nothing
-abbrev pub FallsShort : Type 0 → List Event → ℕ → Error → List Event → Type 0
-FallsShort may_take_none E room e after =
-    HasNoFault E × (length (bytes E) < room) × IsUnexpectedEnd e × ((after ≡ []) ⊎ (may_take_none × (after ≡ E)))
+-- E has no fault and fewer bytes than `room`, and all of it is taken; or, by a reader that may take none, nothing.
+pub record FallsShort (may_take_none : Type 0) (E : List Event) (room : ℕ) (e : Error) (after : List Event) : Type 0 where
+  pub no_fault : HasNoFault E
+  pub short : length (bytes E) < room
+  pub answer : IsUnexpectedEnd e
+  pub left : (after ≡ []) ⊎ (may_take_none × (after ≡ E))
 
--- E up to and with its first fault, the answer, is taken, and has fewer bytes than `room`
-abbrev pub StopsAtFault : List Event → ℕ → Error → List Event → Type 0
-StopsAtFault E room e after = (P : List Event) × (E ≡ P ++ after) × EndsInFault P e × (length (bytes P) < room)
+-- E up to and with its first fault, the answer, is taken, and has fewer bytes than `room`.
+pub record StopsAtFault (E : List Event) (room : ℕ) (e : Error) (after : List Event) : Type 0 where
+  pub taken : List Event
+  pub split : E ≡ taken ++ after
+  pub ends : EndsInFault taken e
+  pub short : length (bytes taken) < room
 
 -- `read_exact(buf)` turned E into after
 abbrev pub ReadsExact : {A : Type 0} → Type 0 → List Event → Result A Error → List ℕ → List Event → Type 0

@@ -58,9 +58,11 @@ call_mishap (Ok u) = []
 call_mishap (Err e) = error_kind e ∷ []
 
 -- From old to new a writer accepted some front of x, all of it at `Ok`.
-abbrev pub MovesFront : Told → List ℕ → Result (Unit {0}) Error → Told → Type 0
-MovesFront old x reply new =
-    (accepted : List ℕ) × IsFront accepted x × OnOk reply (accepted ≡ x) × Moves old accepted (call_mishap reply) new
+pub record MovesFront (old : Told) (x : List ℕ) (reply : Result (Unit {0}) Error) (new : Told) : Type 0 where
+  pub accepted : List ℕ
+  pub front : IsFront accepted x
+  pub whole : OnOk reply (accepted ≡ x)
+  pub moves : Moves old accepted (call_mishap reply) new
 
 -- From old to new a writer accepted exactly what is gone from the front of `rest`.
 pub record Sends (old : Told) (rest : List ℕ) (reply : Result (Unit {0}) Error) (new : Told) (left : List ℕ) : Type 0 where

@@ -12,7 +12,7 @@ returns-in-Ok-clause-asked g c = λ m f.
     let counted = done.asks m f in
     let left = done.left f in
     let within = filled-le _ _ _ filled.1 in
-    (counted.0, left.0, exact_asked g.row.S (length c.args.buf.now) _ _ _ _ _ _ _ (cut _ _, filled.1.0) left.2 (grind (arith, nat_tests, within)) counted.1 left.1)
+    (counted.0, left.0, exact_asked g.row.S (length c.args.buf.now) _ _ _ _ _ _ _ (cut _ _, filled.1.split) left.2 (grind (arith, nat_tests, within)) counted.1 left.1)
 
 pub returns-in-UnexpectedEof-clause-told : goal.returns-in-UnexpectedEof-clause-told
 returns-in-UnexpectedEof-clause-told g c = λ t. let failed = c.in-Err.ensures.told t in (failed.0, failed_front _ c.in-Err.e _ _ failed.1)

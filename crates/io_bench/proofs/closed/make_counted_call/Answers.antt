@@ -47,19 +47,19 @@ returns-in-Ok-write_all-clause-buffer g c = rw c.in-WriteAll.is c.in-Ok-write_al
 
 pub returns-in-Err-write_all-clause-answers : goal.returns-in-Err-write_all-clause-answers
 returns-in-Err-write_all-clause-answers g c =
-    absurd (Moves-steady (g.met.W.Write.steady _ c.requires.all) c.in-Err-write_all.ensures.moves.3)
+    absurd (Moves-steady (g.met.W.Write.steady _ c.requires.all) c.in-Err-write_all.ensures.moves.moves)
 
 pub returns-in-Err-write_all-clause-all : goal.returns-in-Err-write_all-clause-all
 returns-in-Err-write_all-clause-all g c =
-    absurd (Moves-steady (g.met.W.Write.steady _ c.requires.all) c.in-Err-write_all.ensures.moves.3)
+    absurd (Moves-steady (g.met.W.Write.steady _ c.requires.all) c.in-Err-write_all.ensures.moves.moves)
 
 pub returns-in-Err-write_all-clause-calls : goal.returns-in-Err-write_all-clause-calls
 returns-in-Err-write_all-clause-calls g c =
-    absurd (Moves-steady (g.met.W.Write.steady _ c.requires.all) c.in-Err-write_all.ensures.moves.3)
+    absurd (Moves-steady (g.met.W.Write.steady _ c.requires.all) c.in-Err-write_all.ensures.moves.moves)
 
 pub returns-in-Err-write_all-clause-buffer : goal.returns-in-Err-write_all-clause-buffer
 returns-in-Err-write_all-clause-buffer g c =
-    absurd (Moves-steady (g.met.W.Write.steady _ c.requires.all) c.in-Err-write_all.ensures.moves.3)
+    absurd (Moves-steady (g.met.W.Write.steady _ c.requires.all) c.in-Err-write_all.ensures.moves.moves)
 
 pub returns-in-Ok-flush-clause-all : goal.returns-in-Ok-flush-clause-all
 returns-in-Ok-flush-clause-all g c = rw c.in-Flush.is (c.in-Ok-flush.ensures.all c.requires.all, tt)

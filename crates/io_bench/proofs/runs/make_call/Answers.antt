@@ -3,7 +3,7 @@ use Rattle.io_bench.proofs.runs.make_call.Goals as goal
 
 pub returns-in-Err-write_all-clause-all : goal.returns-in-Err-write_all-clause-all
 returns-in-Err-write_all-clause-all g c =
-    λ t. absurd (Moves-steady (g.met.W.Write.steady _ t) c.in-Err-write_all.ensures.moves.3)
+    λ t. absurd (Moves-steady (g.met.W.Write.steady _ t) c.in-Err-write_all.ensures.moves.moves)
 
 pub returns-in-Err-flush-clause-all : goal.returns-in-Err-flush-clause-all
 returns-in-Err-flush-clause-all g c =

@@ -15,7 +15,7 @@ returns-then-is_empty-clause-moves g c =
 
 pub returns-then-is_empty-clause-all : goal.returns-then-is_empty-clause-all
 returns-then-is_empty-clause-all g c = λ t.
-    (c.write_all.ensures.all t, call_steady c.write_all.result (g.met.W.Write.steady _ t) c.write_all.ensures.moves.3)
+    (c.write_all.ensures.all t, call_steady c.write_all.result (g.met.W.Write.steady _ t) c.write_all.ensures.moves.moves)
 
 pub returns-in_err-write_all-clause-line : goal.returns-in_err-write_all-clause-line
 returns-in_err-write_all-clause-line g c =

@@ -9,7 +9,12 @@ use Rattle.no_std_io2_base.proofs.cursor.reading.CursorRead.read_exact.Goals as 
 pub returns-then-left-buf-clause-told : goal.returns-then-left-buf-clause-told
 returns-then-left-buf-clause-told g c =
     let left = cursor_left g.T.AsSlice.slice c.args.self.now in
-    inr (HasNoFault-events_of left, omega (arith, ap length (bytes-events_of left), ap length c.left-left.ensures.left), search rules, inr (tt, refl))
+    inr (record {
+      no_fault = HasNoFault-events_of left;
+      short = omega (arith, ap length (bytes-events_of left), ap length c.left-left.ensures.left);
+      answer = search rules;
+      left = inr (tt, refl);
+    })
 
 pub returns-clause-told : goal.returns-clause-told
 returns-clause-told g c =

@@ -8,7 +8,12 @@ use Rattle.no_std_io2_base.proofs.impls.slices.RefSliceU8Read.read_exact.Goals a
 pub returns-then-all-buf-clause-told : goal.returns-then-all-buf-clause-told
 returns-then-all-buf-clause-told c =
     let all = c.args.self.now.now in
-    inr (HasNoFault-events_of all, omega (arith, ap length (bytes-events_of all)), search rules, inr (tt, refl))
+    inr (record {
+      no_fault = HasNoFault-events_of all;
+      short = omega (arith, ap length (bytes-events_of all));
+      answer = search rules;
+      left = inr (tt, refl);
+    })
 
 pub returns-clause-told : goal.returns-clause-told
 returns-clause-told c =
