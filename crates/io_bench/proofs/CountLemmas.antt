@@ -1,7 +1,8 @@
 -- How many calls a loop of writes or of reads made.
-use Rattle.std.proofs.Common.{◌≡◌, ℕ, ◌+◌, ◌-◌, ◌<◌, ◌≤◌, List, length, take, drop, Ok, Err, min, arith, length-take, length-drop}
+use Rattle.std.proofs.Common.{◌≡◌, ℕ, ◌+◌, ◌-◌, ◌<◌, ◌≤◌, List, length, take, drop, Ok, Err, min, arith, inl, inr, length-take, length-drop}
 use Rattle.no_std_io2_base.specs.declared.error.Error.{Error}
-use Rattle.io_bench.specs.Calls.{CountsLoop}
+use Rattle.no_std_io2_base.specs.Errors.{IsOutOfMemory}
+use Rattle.io_bench.specs.Calls.{CountsLoop, CountsToEnd}
 
 -- what a loop has counted so far, with `left` still to do
 pub record CountedSoFar (wanted budget was left budget' now : ℕ) : Type 0 where
@@ -45,3 +46,21 @@ pub handed_once : {P Q : Type 0} (cost0 was cost now cost' now' room : ℕ) → 
     → Q × (cost' ≡ cost + min 1 room)
     → now' ≡ now + min 1 room → Q × (cost' + was ≡ cost0 + now')
 handed_once cost0 was cost now cost' now' room so_far read counts = (read.0, omega (arith, so_far.1, read.1, counts))
+
+-- the end was met
+pub counted_end : {A : Type 0} (x : A) (budget was budget' now budget'' now' : ℕ) → CountedSoFar 0 budget was 0 budget' now → now' ≡ now + 1 → budget'' ≤ budget'
+    → CountsToEnd was budget (Ok x) budget'' now'
+counted_end x budget was budget' now budget'' now' so_far one fewer =
+    record { least = omega (arith, so_far.least, one); asked = tt; most = omega (arith, so_far.most, one, fewer) }
+
+-- a fault came
+pub counted_fault : {A : Type 0} (budget was budget' now budget'' now' : ℕ) (e : Error) → CountedSoFar 0 budget was 0 budget' now → now' ≡ now + 1 → budget'' < budget'
+    → CountsToEnd {A = A} was budget (Err e) budget'' now'
+counted_fault budget was budget' now budget'' now' e so_far one fewer =
+    record { least = tt; asked = inr (omega (arith, so_far.least, one)); most = omega (arith, so_far.most, one, fewer) }
+
+-- memory was refused
+pub counted_refused : {A : Type 0} (budget was budget' now : ℕ) (e : Error) → CountedSoFar 0 budget was 0 budget' now → IsOutOfMemory e
+    → CountsToEnd {A = A} was budget (Err e) budget' now
+counted_refused budget was budget' now e so_far refused =
+    record { least = tt; asked = inl refused; most = omega (arith, so_far.most) }

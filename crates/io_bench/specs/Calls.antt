@@ -1,8 +1,8 @@
 -- What one call does: fails, or is handed on, by the laws of `Write` and of `Read`; and how many calls a loop makes.
-use Rattle.std.specs.Prelude.{◌≡◌, ℕ, ◌+◌, ◌≤◌, List, [], length, min, None, Result, Ok, Err, IfOk, OnOk, IsOkAnd, IsErrAnd}
+use Rattle.std.specs.Prelude.{◌≡◌, ℕ, ◌+◌, ◌<◌, ◌≤◌, ◌⊎◌, List, [], length, min, None, Result, Ok, Err, IfOk, IfErr, OnOk, IsOkAnd, IsErrAnd}
 use Rattle.no_std_io2_base.specs.declared.error.Error.{Error}
 use Rattle.no_std_io2_base.specs.declared.error.ErrorKind.{ErrorKind}
-use Rattle.no_std_io2_base.specs.Errors.{error_kind, error_text}
+use Rattle.no_std_io2_base.specs.Errors.{error_kind, error_text, IsOutOfMemory}
 use Rattle.no_std_io2_base.specs.Events.{Event, Reads, SpendsTurn}
 use Rattle.no_std_io2_base.specs.Writes.{Told, Moves, taken, write_mishap, call_mishap}
 
@@ -46,3 +46,15 @@ stopped (Err e) = 1
 pub record CountsLoop {A : Type 0} (wanted budget was : ℕ) (reply : Result A Error) (budget' now : ℕ) : Type 0 where
   pub least : was + min 1 wanted ≤ now
   pub most : now + budget' ≤ was + budget + stopped reply
+
+-- how many calls the end stops
+abbrev pub ended : {A : Type 0} → Result A Error → ℕ
+ended (Ok _) = 1
+ended (Err e) = 0
+
+-- A loop read to the end by `now - was` calls: one at least, unless memory was refused before it; and at most one for each part of
+-- its budget that is gone, and the one that met the end.
+pub record CountsToEnd {A : Type 0} (was budget : ℕ) (reply : Result A Error) (budget' now : ℕ) : Type 0 where
+  pub least : OnOk reply (was < now)
+  pub asked : IfErr reply (λ e. IsOutOfMemory e ⊎ (was < now))
+  pub most : now + budget' ≤ was + budget + ended reply

@@ -1,13 +1,15 @@
 // A stream that counts.
-ghost use Rattle.std.specs.Prelude.{◌≡◌, ◌+◌, ◌-◌, ◌^◌, ◌≤◌, [], Ok, IfOk, IfErr, OnOk, IsOk, IsOkAnd, ⊤, length, min};
-ghost use Rattle.no_std_io2_base.specs.Events.{given, Reads, ReadsExact, SpendsTurn};
+ghost use Rattle.std.specs.Prelude.{◌≡◌, ◌+◌, ◌-◌, ◌^◌, ◌≤◌, [], Ok, IfOk, IfErr, OnOk, IsOk, IsOkAnd, ⊤, length, min, take, vec_len, vec_capacity};
+ghost use Rattle.no_std_io2_base.specs.Events.{given, HasRoom, Reads, ReadsExact, ReadsToEnd, SpendsTurn};
 ghost use Rattle.no_std_io2_base.specs.Errors.{IsFault, IsNoInterruption};
 ghost use Rattle.no_std_io2_base.specs.Writes.{Moves, MovesFront, Sends, taken, write_mishap, call_mishap, calls_for};
-ghost use Rattle.io_bench.specs.Calls.{IsRead, IsWrite, IsFlush, CountsLoop};
+ghost use Rattle.io_bench.specs.Calls.{IsRead, IsWrite, IsFlush, CountsLoop, CountsToEnd};
 
 use no_std_io2::io::{Read, Result, Stored, Write};
 use no_std_io2::trace::Trace;
 use no_std_io2_base::error::{failed_to_fill, failed_to_write};
+use no_std_io2_base::traits::{LEAST_ROOM, open_room, reserve_room};
+use std::alloc::Allocator;
 use std::fmt;
 
 /// Hands each call on to an inner stream, and counts the calls of `write`, and those of `read` with
@@ -206,8 +208,8 @@ impl<T: Stored> Stored for Tally<T> {
     ghost position = { λ t. T.position (tally_inner t) };
 }
 
-/// As the inner reader, and metered: its cost is the exact count. `read_exact` reads through `read`, as the trait's
-/// own does, and `read_to_end` is the trait's own, so each of their reads counts.
+/// As the inner reader, and metered: its cost is the exact count. `read_exact` and `read_to_end` read through `read`,
+/// as the trait's own do, so each of their reads counts.
 impl<T: Read> Read for Tally<T> {
     ghost use Rattle.io_bench.specs.Tally.{tally_inner, tally_writes, tally_reads};
 
@@ -288,6 +290,53 @@ impl<T: Read> Read for Tally<T> {
             }
         }
         Ok(())
+    }
+
+    fn read_to_end<A: Allocator>(&mut self, buf: &mut Vec<u8, A>) -> Result<usize>
+        // The trait's.
+        ensures told { T.tells (tally_inner self.old) → T.tells (tally_inner self.new)
+            × ReadsToEnd (T.events (tally_inner self.old)) result buf.old.items buf.new.items
+            (T.events (tally_inner self.new)) }
+        ensures appends { take (vec_len buf.old) buf.new.items ≡ buf.old.items }
+        ensures count { IfOk result (λ n. vec_len buf.new ≡ vec_len buf.old + n) }
+        ensures capacity { vec_capacity buf.old ≤ vec_capacity buf.new }
+        ensures room { T.tells (tally_inner self.old)
+            → HasRoom (T.events (tally_inner self.old)) (vec_len buf.old) (vec_capacity buf.old) → IsOk result }
+        ensures fault { IfErr result IsFault }
+        ensures turns { T.turns (tally_inner self.new) ≤ T.turns (tally_inner self.old) }
+        ensures filling { T.is_filling (tally_inner self.old) → T.is_filling (tally_inner self.new) }
+        ensures store { T.has_store (tally_inner self.old) → T.has_store (tally_inner self.new)
+            × (T.content (tally_inner self.new) ≡ T.content (tally_inner self.old))
+            × (T.position (tally_inner self.new) + length (T.events (tally_inner self.new))
+            ≡ T.position (tally_inner self.old) + length (T.events (tally_inner self.old))) }
+
+        // Each read of the inner reader counts, and no other call: at most one for each turn that is spent, and the
+        // one that met the end.
+        ensures counts { CountsToEnd (tally_reads self.old) (T.turns (tally_inner self.old)) result
+            (T.turns (tally_inner self.new)) (tally_reads self.new) }
+        ensures handed { T.is_metered (tally_inner self.old) → T.is_metered (tally_inner self.new)
+            × (T.cost (tally_inner self.new) + tally_reads self.old
+            ≡ T.cost (tally_inner self.old) + tally_reads self.new) }
+        ensures writes { tally_writes self.new ≡ tally_writes self.old }
+    {
+        let start = buf.len();
+        let mut filled = start;
+        reserve_room(buf, LEAST_ROOM)?;
+        'reads: loop {
+            open_room(buf, filled, filled - start, LEAST_ROOM)?;
+            match self.read(&mut buf[filled..]) {
+                Ok(0) => {
+                    buf.truncate(filled);
+                    return Ok(filled - start);
+                }
+                Ok(n) => filled += n,
+                Err(e) if e.is_interrupted() => {}
+                Err(e) => {
+                    buf.truncate(filled);
+                    return Err(e);
+                }
+            }
+        }
     }
 
     ghost filling_tells = { λ t h. T.filling_tells (tally_inner t) h };

@@ -90,6 +90,10 @@ IsUnexpectedEnd e = SaysError UnexpectedEof (codes "failed to fill whole buffer"
 abbrev pub IsUnwritten : Error → Type 0
 IsUnwritten e = SaysError WriteZero (codes "failed to write whole buffer") e
 
+-- a seek has no target
+abbrev pub IsInvalidSeek : Error → Type 0
+IsInvalidSeek e = SaysError InvalidInput (codes "invalid seek to a negative or overflowing position") e
+
 -- errors of this kind are interruptions, all others are faults
 abbrev pub is_interruption : ErrorKind → Bool
 is_interruption Interrupted = true

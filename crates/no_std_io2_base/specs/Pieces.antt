@@ -1,5 +1,5 @@
 -- Pieces of bytes, each ended by a delimiter, and what a call that reads one piece does.
-use Rattle.std.specs.Prelude.{◌≡◌, ◌≢◌, ℕ, ◌<◌, ◌≤◌, ◌==◌, true, false, Bool, List, [], ◌∷◌, ◌++◌, length, take, filter, if◌then◌else◌, ◌⊎◌, Option, None, Some, Result, Ok, Err}
+use Rattle.std.specs.Prelude.{◌≡◌, ◌≢◌, ℕ, ◌+◌, ◌<◌, ◌≤◌, ◌==◌, true, false, Bool, List, [], ◌∷◌, ◌++◌, length, take, filter, if◌then◌else◌, ◌⊎◌, Option, None, Some, Result, Ok, Err}
 use Rattle.std.specs.List.{AllByRecursion, concat}
 use Rattle.no_std_io2_base.specs.declared.error.Error.{Error}
 use Rattle.no_std_io2_base.specs.Errors.{error_kind, is_interruption, IsOutOfMemory}
@@ -89,6 +89,15 @@ abbrev pub bytes_to_fault : List Event → List ℕ
 bytes_to_fault [] = []
 bytes_to_fault (byte b ∷ E) = b ∷ bytes_to_fault E
 bytes_to_fault (fails e ∷ E) = if is_interruption (error_kind e) then bytes_to_fault E else []
+
+-- the bytes up to and with the first d, all of them where there is none
+abbrev pub up_to : ℕ → List ℕ → List ℕ
+up_to d [] = []
+up_to d (b ∷ bs) = if b == d then b ∷ [] else b ∷ up_to d bs
+
+-- a vector of this length and capacity has room for the bytes of the piece that stands first in E
+abbrev pub HasPieceRoom : ℕ → List Event → ℕ → ℕ → Type 0
+HasPieceRoom d E len capacity = len + length (up_to d (bytes_to_fault E)) ≤ capacity
 
 -- the first fault, if there is one
 abbrev pub first_fault : List Event → Option Error

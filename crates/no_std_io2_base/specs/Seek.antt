@@ -1,10 +1,9 @@
 -- Where a seek goes.
 use Rattle.std.specs.Prelude.{◌≡◌, ℕ, ℤ, pos, negsuc, ◌+◌, ◌^◌, ◌<◌, Ok, Err, Result}
 use Rattle.no_std_io2_base.specs.declared.error.Error.{Error}
-use Rattle.no_std_io2_base.specs.declared.error.ErrorKind.TheVariants.{InvalidInput}
 use Rattle.no_std_io2_base.specs.declared.traits.seek.SeekFrom.{SeekFrom}
 use Rattle.no_std_io2_base.specs.declared.traits.seek.SeekFrom.TheVariants.{Start, End, Current}
-use Rattle.no_std_io2_base.specs.Errors.{error_kind}
+use Rattle.no_std_io2_base.specs.Errors.{IsInvalidSeek}
 
 -- n is `base + offset`
 abbrev pub IsAtOffset : ℕ → ℤ → ℕ → Type 0
@@ -17,7 +16,7 @@ IsTarget len position (Start k) n = n ≡ k
 IsTarget len position (End offset) n = IsAtOffset len offset n × (n < 2 ^ 64)
 IsTarget len position (Current offset) n = IsAtOffset position offset n × (n < 2 ^ 64)
 
--- `seek(from)` moved the position to its target, or stayed where there is none
+-- `seek(from)` moved the position to its target, or stayed where there is none, and said so
 abbrev pub Seeks : ℕ → ℕ → SeekFrom → Result ℕ Error → ℕ → Type 0
 Seeks len old from (Ok n) new = IsTarget len old from n × (new ≡ n)
-Seeks len old from (Err e) new = ((n : ℕ) → IsTarget len old from n → ⊥) × (error_kind e ≡ InvalidInput) × (new ≡ old)
+Seeks len old from (Err e) new = ((n : ℕ) → IsTarget len old from n → ⊥) × IsInvalidSeek e × (new ≡ old)

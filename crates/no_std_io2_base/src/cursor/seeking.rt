@@ -1,6 +1,5 @@
-ghost use Rattle.std.specs.Prelude.{◌≡◌, length, codes, Some, Ok, IfOk, IfErr};
+ghost use Rattle.std.specs.Prelude.{◌≡◌, length, Ok, IfOk};
 ghost use Rattle.no_std_io2_base.specs.Cursor.{cursor_place, cursor_inner, cursor_stores};
-ghost use Rattle.no_std_io2_base.specs.Errors.{error_text};
 ghost use Rattle.no_std_io2_base.specs.Seek.{Seeks};
 
 use super::{AsSlice, Cursor};
@@ -18,8 +17,6 @@ impl<T: AsSlice<u8>> Seek for Cursor<T> {
         // The same, whatever the content, which stays.
         ensures seeks { Seeks (length (T.slice (cursor_inner self.old))) (cursor_place self.old) pos result (cursor_place self.new) }
         ensures inner { cursor_inner self.new ≡ cursor_inner self.old }
-        ensures text { IfErr result (λ e. error_text e
-            ≡ Some (codes "invalid seek to a negative or overflowing position")) }
     {
         let (base, offset) = match pos {
             SeekFrom::Start(at) => (at, 0),

@@ -1,8 +1,8 @@
-ghost use Rattle.std.specs.Prelude.{◌≡◌, ℕ, List, [], ◌++◌, take, drop, ◌+◌, ◌≤◌, ◌<◌, length, IfOk, IfErr, IsOkAnd, false, vec_len, string_bytes, string_len};
+ghost use Rattle.std.specs.Prelude.{◌≡◌, ℕ, List, [], ◌++◌, take, drop, ◌+◌, ◌≤◌, ◌<◌, length, IfOk, IfErr, IsOkAnd, false, Some, vec_len, vec_capacity, string_bytes, string_len};
 ghost use types.Logic.{sem};
 ghost use Rattle.no_std_io2_base.specs.Events.{events_of};
 ghost use Rattle.no_std_io2_base.specs.Errors.{IsFault};
-ghost use Rattle.no_std_io2_base.specs.Pieces.{TakesPiece};
+ghost use Rattle.no_std_io2_base.specs.Pieces.{TakesPiece, HasPieceRoom, first_fault};
 ghost use Rattle.no_std_io2_base.specs.PieceItems.{TakesLine, split_reader, split_delim, split_is_ended, lines_reader, lines_is_ended};
 ghost use Rattle.no_std_io2_base.specs.Writes.{IsFront};
 ghost use Rattle.no_std_io2_base.specs.Lending.{Rests, IsNotEmpty, Lends, LendsFrom, LendingTurn, BeginsWith, reads_needed};
@@ -99,8 +99,8 @@ pub trait BufRead: Read {
             × (Self.position self.new ≡ Self.position self.old + amount) };
 
     /// Appends the bytes up to and with the first `delim`, or all that are left where there is none,
-    /// and answers their number: 0 means the end. It passes over interruptions. Follows
-    /// `std::io::BufRead::read_until`.
+    /// and answers their number: 0 means the end. It passes over interruptions. Where `buf` has room
+    /// for these bytes, it is never refused any. Follows `std::io::BufRead::read_until`.
     ///
     /// # Errors
     /// The first fault that comes before a `delim`: the reader stands right after it. `OutOfMemory`
@@ -120,6 +120,10 @@ pub trait BufRead: Read {
             × TakesPiece delim (Self.events self.old) result buf.old.items buf.new.items (Self.events self.new) }
         ensures appends { IsFront buf.old.items buf.new.items }
         ensures count { IfOk result (λ n. vec_len buf.new ≡ vec_len buf.old + n) }
+        ensures capacity { vec_capacity buf.old ≤ vec_capacity buf.new }
+        ensures room { Self.tells self.old
+            → HasPieceRoom delim (Self.events self.old) (vec_len buf.old) (vec_capacity buf.old)
+            → IfErr result (λ e. first_fault (Self.events self.old) ≡ Some e) }
         ensures fault { IfErr result IsFault }
         ensures turns { Self.turns self.new ≤ Self.turns self.old }
         ensures turn { IfOk result (λ n. 0 < n → Self.turns self.new < Self.turns self.old) }

@@ -73,6 +73,7 @@ pub fn append<A: Allocator>(buf: &mut Vec<u8, A>, bytes: &[u8]) -> Result<()>
     ensures len { OnOk result (vec_len buf.new ≡ vec_len buf.old + length bytes.now) }
     ensures refused { IfErr result IsOutOfMemory }
     ensures full { OnErr result (vec_capacity buf.old < vec_len buf.old + length bytes.now) }
+    ensures grows { vec_capacity buf.old ≤ vec_capacity buf.new }
 {
     match buf.extend_from_slice(bytes) {
         Ok(()) => Ok(()),

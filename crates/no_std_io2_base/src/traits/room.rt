@@ -7,16 +7,19 @@ use super::read::Read;
 use crate::error::Result;
 use std::alloc::Allocator;
 
-// The least room that `read_to_end` makes where there is none.
-pub(crate) const LEAST_ROOM: usize = 32;
+/// The least room that `read_to_end` makes where there is none. For a reader with a loop of its own.
+pub const LEAST_ROOM: usize = 32;
 
 // The least and the most zeros that it opens for reads at a time, where there is room for them.
 const FIRST_OPENED: usize = 8 * 1024;
 
 const MOST_OPENED: usize = 128 * 1024;
 
-// Makes room for `wanted` more bytes.
-pub(crate) fn reserve_room<A: Allocator>(buf: &mut Vec<u8, A>, wanted: usize) -> Result<()>
+/// Makes room for `wanted` more bytes.
+///
+/// # Errors
+/// `OutOfMemory` where there was too little and the growth was refused: nothing changes.
+pub fn reserve_room<A: Allocator>(buf: &mut Vec<u8, A>, wanted: usize) -> Result<()>
     ensures items { buf.new.items ≡ buf.old.items }
     ensures len { vec_len buf.new ≡ vec_len buf.old }
     ensures room { OnOk result (vec_len buf.new + wanted ≤ vec_capacity buf.new) }
@@ -28,10 +31,13 @@ pub(crate) fn reserve_room<A: Allocator>(buf: &mut Vec<u8, A>, wanted: usize) ->
     Ok(())
 }
 
-// Opens zeros behind the `filled` bytes for the next read, where none are left: as many as were
-// read so far, within bounds. So each byte is zeroed once, and few are that no read fills. Where
-// the capacity is full, it grows by at least `least`.
-pub(crate) fn open_room<A: Allocator>(
+/// Opens zeros behind the `filled` bytes for the next read, where none are left: as many as were
+/// read so far, within bounds. So each byte is zeroed once, and few are that no read fills. Where
+/// the capacity is full, it grows by at least `least`.
+///
+/// # Errors
+/// `OutOfMemory` where that growth was refused: nothing changes.
+pub fn open_room<A: Allocator>(
     buf: &mut Vec<u8, A>,
     filled: usize,
     read: usize,

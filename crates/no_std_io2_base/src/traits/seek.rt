@@ -37,8 +37,9 @@ pub trait Seek: Stored {
     /// keeps its content. Follows `std::io::Seek::seek`.
     ///
     /// # Errors
-    /// `InvalidInput` where the target is below 0 or above the greatest `u64`: a told store is as
-    /// it was. Where no store is told, the device's own.
+    /// `InvalidInput`, `invalid seek to a negative or overflowing position`, where the target is
+    /// below 0 or above the greatest `u64`: a told store is as it was. Where no store is told, the
+    /// device's own.
     ///
     /// ```rust
     /// let mut r = Cursor::new(*b"abcde");

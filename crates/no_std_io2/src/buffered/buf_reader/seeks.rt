@@ -97,8 +97,9 @@ impl<R: Seek, const S: usize> BufReader<R, S> {
     ///
     /// # Errors
     /// Those of `seek`, and none in the buffer: `InvalidInput` where the target is below 0 or above
-    /// the greatest `u64`. The position is as it was, and so is the buffer, unless the offset is too
-    /// far back for one seek of the inner reader; then the buffer is dropped.
+    /// the greatest `u64`, with the text of the inner reader's. The position is as it was, and so is
+    /// the buffer, unless the offset is too far back for one seek of the inner reader; then the
+    /// buffer is dropped.
     ///
     /// ```rust
     /// let mut r = BufReader::<_, 4>::new(Cursor::new(*b"abcdefgh"));

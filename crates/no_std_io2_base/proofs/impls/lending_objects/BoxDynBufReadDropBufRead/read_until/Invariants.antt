@@ -1,5 +1,5 @@
 -- As the trait's: it ends with its reader's turns, and has appended what it took, without an end so far.
-use Rattle.std.proofs.Common.{◌≡◌, ◌≤◌, ◌<◌, vec_len}
+use Rattle.std.proofs.Common.{◌≡◌, ◌≤◌, ◌<◌, vec_len, vec_capacity}
 use Rattle.no_std_io2_base.specs.Writes.{IsFront}
 use Rattle.no_std_io2_base.proofs.PieceLemmas.{PieceSoFar}
 use Rattle.no_std_io2_base.proofs.impls.lending_objects.BoxDynBufReadDropBufRead.read_until.Given as goal
@@ -11,6 +11,7 @@ invariant-pieces g l =
     record {
       start : l.start ≡ vec_len l.fn.buf;
       grows : vec_len l.fn.buf ≤ vec_len l.buf;
+      capacity : vec_capacity l.fn.buf ≤ vec_capacity l.buf;
       front : IsFront l.fn.buf.items l.buf.items;
       turns : is.Read.turns l.self.value ≤ was.Read.turns l.fn.self.value;
       spent : vec_len l.fn.buf < vec_len l.buf → is.Read.turns l.self.value < was.Read.turns l.fn.self.value;

@@ -1,6 +1,7 @@
 use Rattle.std.proofs.Common.{◌∙◌, length, refl, sym, arith, append-nil, [], le_refl, le_trans, lt_of_lt_of_le, lt_of_le_of_lt, ap, ap₂, ◌+◌}
 use Rattle.std.proofs.lemmas.Result.{err_from_is_err_and}
 use Rattle.no_std_io2_base.proofs.PieceLemmas.{piece_none, piece_more, piece_interruption, piece_ended, piece_fault, piece_memory, part_taken, none_taken, error_taken, error_turn, whole_part, front_more, front_same, spent_more, part_fits, memory_fault}
+use Rattle.no_std_io2_base.proofs.PieceRoom.{part_has_room, fault_is_first}
 use Rattle.no_std_io2_base.proofs.Taken.{moved_read, no_error}
 use Rattle.no_std_io2.specs.Reading.{reader_held, reader_events}
 use Rattle.no_std_io2.specs.Sound.{sound_tells}
@@ -11,6 +12,7 @@ pieces-init g c =
     record {
       start = c.len-start.ensures;
       grows = le_refl _;
+      capacity = le_refl _;
       front = ([], sym (append-nil _));
       turns = le_refl _;
       spent = λ more. absurd (omega (arith, more));
@@ -38,6 +40,8 @@ returns-then-is_whole g c =
           );
       appends = front_more _ _ _ _ before.front appended;
       count = omega (arith, c.len.ensures, before.start, before.grows, c.in_ok-append-in-Ok.ensures.len);
+      capacity = le_trans before.capacity c.append.ensures.grows;
+      room = λ t enough. tt;
       fault = tt;
       turns = omega (arith, dropped.turns, filled.turns, before.turns);
       turn = λ some. spent_more _ _ _ _ _ _ _ _ before.spent before.turns filled.turns dropped.turns dropped.turn grown (omega (arith, some, c.len.ensures, before.start));
@@ -62,6 +66,7 @@ pieces-preserved-else-is_whole g c =
     record {
       start = before.start;
       grows = omega (arith, before.grows, c.in_ok-append-in-Ok.ensures.len);
+      capacity = le_trans before.capacity c.append.ensures.grows;
       front = front_more _ _ _ _ before.front appended;
       turns = omega (arith, dropped.turns, filled.turns, before.turns);
       spent = spent_more _ _ _ _ _ _ _ _ before.spent before.turns filled.turns dropped.turns dropped.turn (part_fits _ _ _ _ c.in_ok-append-in-Ok.ensures.len found.within);
@@ -92,6 +97,7 @@ pieces-preserved g c =
     record {
       start = before.start;
       grows = before.grows;
+      capacity = before.capacity;
       front = before.front;
       turns = le_trans filled.turns before.turns;
       spent = λ more. lt_of_le_of_lt filled.turns (before.spent more);
@@ -121,6 +127,10 @@ returns-in-Err-2 g c =
           (lent.0, piece_fault _ _ _ _ _ _ _ so_far.1 (error_taken _ _ _ _ c.in-Err.is lent.1) fault);
       appends = before.front;
       count = tt;
+      capacity = before.capacity;
+      room = λ t enough.
+          let so_far = before.told t in
+          fault_is_first _ _ _ _ _ _ _ so_far.1 (error_taken _ _ _ _ c.in-Err.is (filled.told so_far.0).1) fault;
       fault = fault;
       turns = le_trans filled.turns before.turns;
       turn = tt;
@@ -146,6 +156,11 @@ returns-in_err-append-in-Ok g c =
           (lent.0, piece_memory _ _ _ _ _ _ _ _ so_far.1 (none_taken _ c.in-Ok.lent _ _ c.in-Ok.is lent.1) refused.err refused.refused);
       appends = front_same _ _ _ before.front refused.err;
       count = tt;
+      capacity = le_trans before.capacity c.append.ensures.grows;
+      room = λ t enough.
+          let so_far = before.told t in
+          let found = c.find_piece-len.ensures in
+          absurd (part_has_room _ _ _ _ _ _ _ _ _ _ _ _ so_far.1 (c.in-Ok.ensures.front so_far.0) found enough before.capacity c.args.buf.now.ok.0 c.pieces.buf.ok.0 refused.full);
       fault = memory_fault _ refused.refused;
       turns = le_trans filled.turns before.turns;
       turn = tt;

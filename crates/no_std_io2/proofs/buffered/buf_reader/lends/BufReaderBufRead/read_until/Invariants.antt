@@ -1,5 +1,5 @@
 -- `read_until` ends with its reader's turns, and has appended what it took, without an end so far.
-use Rattle.std.proofs.Common.{◌≡◌, ◌≤◌, ◌<◌, ◌+◌, length, vec_len}
+use Rattle.std.proofs.Common.{◌≡◌, ◌≤◌, ◌<◌, ◌+◌, length, vec_len, vec_capacity}
 use Rattle.no_std_io2_base.specs.Writes.{IsFront}
 use Rattle.no_std_io2_base.proofs.PieceLemmas.{PieceSoFar}
 use Rattle.no_std_io2.specs.Reading.{reader_inner, reader_events, reader_turns, reader_has_store, reader_position}
@@ -16,6 +16,7 @@ invariant-pieces g l =
     record {
       start : l.start ≡ vec_len l.fn.buf;
       grows : vec_len l.fn.buf ≤ vec_len l.buf;
+      capacity : vec_capacity l.fn.buf ≤ vec_capacity l.buf;
       front : IsFront l.fn.buf.items l.buf.items;
       turns : left l.self ≤ left l.fn.self;
       spent : vec_len l.fn.buf < vec_len l.buf → left l.self < left l.fn.self;
