@@ -12,7 +12,7 @@ one_more : (at i : ℕ) (bytes : List ℕ) (wanted : ℕ) (stands : Bool) → (s
 one_more at i bytes wanted stands before within none = λ k. λ d. λ from. λ below. λ is.
     let parts = or_parts stands (eqb (get_or bytes (at + i) 0) wanted) none in
     elim (cases_lt k (at + i)) [
-      inl sooner ↦ before parts.0 k d from sooner is
+      | inl sooner ↦ before parts.0 k d from sooner is
       | inr later ↦
           let here : at + i ≡ k = omega (arith, later, below) in
           eqb-false _ _ parts.1 (get_or_default bytes (at + i) 0 d within ∙ ap (λ j. get_or bytes j d) here ∙ is)
