@@ -1,7 +1,7 @@
 -- Bytes that are taken off a slice and appended, as a reader tells it.
-use Rattle.std.proofs.Common.{◌≡◌, ℕ, ◌+◌, ◌-◌, ◌<◌, ◌^◌, List, [], ◌++◌, Err, length, drop, sym, ap, ◌∙◌, arith, inr, append-nil, length-drop}
+use Rattle.std.proofs.Common.{◌≡◌, ℕ, ◌+◌, ◌-◌, ◌<◌, ◌≤◌, ◌^◌, List, [], ◌++◌, Err, length, take, drop, refl, sym, ap, ◌∙◌, arith, inr, append-nil, append_assoc, take-append-drop, length-drop}
 use Rattle.std.proofs.Math.Seq.{drop-append_seam}
-use Rattle.std.proofs.lemmas.List.{length-append}
+use Rattle.std.proofs.lemmas.List.{length-append, take_at}
 use Rattle.no_std_io2_base.specs.declared.error.Error.{Error}
 use Rattle.no_std_io2_base.specs.Errors.{IsOutOfMemory}
 use Rattle.no_std_io2_base.specs.Events.{events_of, bytes, HasNoFault, HasRoom, ReadsToEnd}
@@ -29,6 +29,41 @@ moved_part all rest old new e moved refused = (
   moved.2 ∙ ap (λ l. old ++ l) (sym (bytes-events_of moved.0)),
   inr (HasNoFault-events_of moved.0, refused),
 )
+
+-- nothing of it was appended
+pub moved_none : (all old new : List ℕ) → new ≡ old → HasMoved all all old new
+moved_none all old new same = ([], refl, same ∙ sym (append-nil old))
+
+-- and then nothing more
+pub moved_on : (all rest old mid new : List ℕ) → HasMoved all rest old mid → new ≡ mid → HasMoved all rest old new
+moved_on all rest old mid new moved same = (moved.0, moved.1, same ∙ moved.2)
+
+-- its first n bytes were appended
+pub moved_first : (n : ℕ) (all rest old mid new : List ℕ) → mid ≡ old → new ≡ mid ++ take n all → rest ≡ drop n all → HasMoved all rest old new
+moved_first n all rest old mid new same is left =
+    (take n all, sym (take-append-drop n all) ∙ ap (λ l. take n all ++ l) (sym left), is ∙ ap (λ l. l ++ take n all) same)
+
+-- and then what was left of it
+pub moved_second : (all rest old first last mid new : List ℕ) → HasMoved all rest old first → mid ≡ first → new ≡ mid ++ rest → last ≡ []
+    → HasMoved all last old new
+moved_second all rest old first last mid new moved same is none = (
+  all,
+  sym (append-nil all) ∙ ap (λ l. all ++ l) (sym none),
+  is ∙ ap (λ l. l ++ rest) (same ∙ moved.2) ∙ append_assoc old moved.0 rest ∙ ap (λ l. old ++ l) (sym moved.1),
+)
+
+-- what the vector had stays at its front
+pub front_stays : (len : ℕ) (all rest old new : List ℕ) → HasMoved all rest old new → len ≡ length old → take len new ≡ old
+front_stays len all rest old new moved long = ap (take len) moved.2 ∙ take_at old moved.0 len (sym long)
+
+-- and it is longer by all of it
+pub longer_by : (was is : ℕ) (all rest old new : List ℕ) → HasMoved all rest old new → rest ≡ [] → was ≡ length old → is ≡ length new → is ≡ was + length all
+longer_by was is all rest old new moved none before now =
+    omega (arith, before, now, ap length moved.2, length-append old moved.0, ap length moved.1, length-append moved.0 rest, ap length none)
+
+-- behind a place that moves on stand no more bytes
+pub fewer_behind : (place n : ℕ) (content : List ℕ) → length (drop (place + n) content) ≤ length (drop place content)
+fewer_behind place n content = omega (arith, length-drop (place + n) content, length-drop place content)
 
 -- where there is room for all of it, and for 32 bytes more, memory is never refused
 pub never_refused : (all : List ℕ) (len capacity : ℕ) → HasRoom (events_of all) len capacity → capacity < len + length all + 32 → ⊥

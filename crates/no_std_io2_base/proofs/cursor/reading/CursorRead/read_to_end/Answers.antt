@@ -1,42 +1,50 @@
 -- What was appended is a front of what the cursor had left, and it stands right behind that.
-use Rattle.std.proofs.Common.{◌≡◌, ◌+◌, ◌-◌, ◌<◌, ◌++◌, length, vec_len, vec_capacity, refl, sym, ap, subst, ◌∙◌, arith, length-drop}
+use Rattle.std.proofs.Common.{◌+◌, ◌<◌, length, vec_len, vec_capacity, refl, sym, subst}
 use Rattle.std.proofs.lemmas.Result.{err_from_is_err_and}
-use Rattle.no_std_io2_base.specs.Events.{events_of, bytes, HasNoFault, ReadsToEnd}
-use Rattle.no_std_io2_base.specs.Slices.{HasMoved}
-use Rattle.no_std_io2_base.proofs.SliceReads.{moved_whole, moved_part, never_refused, left_behind, place_behind}
+use Rattle.no_std_io2_base.proofs.PieceLemmas.{memory_fault}
+use Rattle.no_std_io2_base.proofs.SliceReads.{moved_whole, moved_part, never_refused, left_behind, place_behind, front_stays, longer_by, fewer_behind}
 use Rattle.no_std_io2_base.proofs.cursor.reading.CursorRead.read_to_end.Goals as goal
 
-pub returns-in_err-answer-clause-told : goal.returns-in_err-answer-clause-told
-returns-in_err-answer-clause-told g c = λ _.
+pub returns-in_err-answer : goal.returns-in_err-answer
+returns-in_err-answer g c =
     let p = err_from_is_err_and c.from_residual.result c.from_residual.ensures.1 in
     let content = g.T.AsSlice.slice c.args.self.now.inner in
+    let start = c.args.self.now.pos in
     let left = c.left-rest.ensures.left in
     let said = c.in_err-answer.ensures in
-    let after = left_behind content c.args.self.now.pos _ _ _ _ left said.moved in
-    rw (p.1, p.2, after, sym left) (tt, moved_part _ _ _ _ _ said.moved said.refused)
+    rw (p.1, p.2) (record {
+      told = λ _. rw (left_behind content start _ _ _ _ left said.moved, sym left) (tt, moved_part _ _ _ _ _ said.moved said.refused);
+      appends = front_stays _ _ _ _ _ said.moved c.args.buf.now.ok.0;
+      count = tt;
+      capacity = said.grows;
+      room = λ _. λ enough. absurd (never_refused _ _ _ enough (subst
+          (λ l. vec_capacity c.args.buf.now < vec_len c.args.buf.now + length l + 32) left said.full));
+      fault = memory_fault _ said.refused;
+      turns = fewer_behind start _ content;
+      metered = λ h. h;
+      filling = λ h. h;
+      store = λ h.
+          let place = place_behind content start _ _ _ _ h.0 h.1 left said.moved in
+          ((h.0, place.0), refl, place.1);
+    })
 
-pub returns-in_err-answer-clause-room : goal.returns-in_err-answer-clause-room
-returns-in_err-answer-clause-room g c = λ _. λ enough.
-    let left = c.left-rest.ensures.left in
-    absurd (never_refused _ _ _ enough (subst
-    (λ l. vec_capacity c.args.buf.now < vec_len c.args.buf.now + length l + 32) left c.in_err-answer.ensures.full))
-
-pub returns-clause-told : goal.returns-clause-told
-returns-clause-told g c = λ _.
+pub returns : goal.returns
+returns g c =
     let content = g.T.AsSlice.slice c.args.self.now.inner in
+    let start = c.args.self.now.pos in
     let left = c.left-rest.ensures.left in
     let said = c.in_ok-answer.ensures in
-    let after = left_behind content c.args.self.now.pos _ _ _ _ left said.moved in
-    rw (after, sym left) (tt, moved_whole _ _ _ _ said.moved said.done)
-
-pub returns-in_err-answer-clause-store : goal.returns-in_err-answer-clause-store
-returns-in_err-answer-clause-store g c = λ h.
-    let content = g.T.AsSlice.slice c.args.self.now.inner in
-    let place = place_behind content c.args.self.now.pos _ _ _ _ h.0 h.1 c.left-rest.ensures.left c.in_err-answer.ensures.moved in
-    ((h.0, place.0), refl, place.1)
-
-pub returns-clause-store : goal.returns-clause-store
-returns-clause-store g c = λ h.
-    let content = g.T.AsSlice.slice c.args.self.now.inner in
-    let place = place_behind content c.args.self.now.pos _ _ _ _ h.0 h.1 c.left-rest.ensures.left c.in_ok-answer.ensures.moved in
-    ((h.0, place.0), refl, place.1)
+    record {
+      told = λ _. rw (left_behind content start _ _ _ _ left said.moved, sym left) (tt, moved_whole _ _ _ _ said.moved said.done);
+      appends = front_stays _ _ _ _ _ said.moved c.args.buf.now.ok.0;
+      count = longer_by _ _ _ _ _ _ said.moved said.done c.args.buf.now.ok.0 c.append_rest-answer.new.buf.ok.0;
+      capacity = said.grows;
+      room = λ _. λ _. refl;
+      fault = tt;
+      turns = fewer_behind start _ content;
+      metered = λ h. h;
+      filling = λ h. h;
+      store = λ h.
+          let place = place_behind content start _ _ _ _ h.0 h.1 left said.moved in
+          ((h.0, place.0), refl, place.1);
+    }

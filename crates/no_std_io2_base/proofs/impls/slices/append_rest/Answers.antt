@@ -1,0 +1,101 @@
+-- What is gone from the slice was appended, in one part or in two.
+use Rattle.std.proofs.Common.{ℕ, ◌-◌, ap, length, length-take, take, drop, ◌∙◌, arith, le_trans, le_refl, length-append}
+use Rattle.std.proofs.lemmas.List.{take_rest, drop_all}
+use Rattle.std.proofs.lemmas.Result.{err_from_is_err_and}
+use Rattle.no_std_io2_base.proofs.SliceReads.{moved_none, moved_on, moved_first, moved_second}
+use Rattle.no_std_io2_base.proofs.impls.slices.append_rest.Goals as goal
+
+pub returns-in_err-reserve_room : goal.returns-in_err-reserve_room
+returns-in_err-reserve_room g c =
+    let p = err_from_is_err_and c.from_residual.result c.from_residual.ensures.1 in
+    let room = c.in_err-reserve_room.ensures in
+    rw (p.1, p.2) (record {
+      moved = moved_none _ _ _ room.items;
+      done = tt;
+      grows = room.grows;
+      refused = room.refused;
+      full = omega (arith, room.full);
+    })
+
+pub returns-in_err-extend_from_slice : goal.returns-in_err-extend_from_slice
+returns-in_err-extend_from_slice g c =
+    let p = err_from_is_err_and c.from_residual-in_err-extend_from_slice.result c.from_residual-in_err-extend_from_slice.ensures.1 in
+    let room = c.in_ok-reserve_room.ensures in
+    let same = c.in_err-extend_from_slice.ensures in
+    rw p.1 (record {
+      moved = moved_on _ _ _ _ _ (moved_none _ _ _ room.items) same.items;
+      done = tt;
+      grows = le_trans room.grows same.capacity;
+      refused = p.2;
+      full = omega (arith, same.full, room.grows, room.len, length-take {A = ℕ});
+    })
+
+pub returns-then-n-room : goal.returns-then-n-room
+returns-then-n-room g c =
+    let all = c.args.rest.now.now in
+    let n = c.min-n.result in
+    let room = c.in_ok-reserve_room.ensures in
+    let first = c.in_ok-extend_from_slice.ensures in
+    let left = take_rest all n in
+    record {
+      moved = moved_first n all _ _ _ _ room.items first.items left;
+      done = left ∙ drop_all n all (omega (arith, c.min-n.ensures, c.if-n-room.true));
+      grows = le_trans room.grows first.capacity;
+      refused = tt;
+      full = tt;
+    }
+
+pub returns-in_err-reserve_room-2 : goal.returns-in_err-reserve_room-2
+returns-in_err-reserve_room-2 g c =
+    let p = err_from_is_err_and c.from_residual-in_err-reserve_room-2.result c.from_residual-in_err-reserve_room-2.ensures.1 in
+    let all = c.args.rest.now.now in
+    let n = c.min-n.result in
+    let room = c.in_ok-reserve_room.ensures in
+    let first = c.in_ok-extend_from_slice.ensures in
+    let more = c.in_err-reserve_room-2.ensures in
+    let rest = take (length all - n) (drop n all) in
+    let moved = moved_first n all rest _ _ _ room.items first.items (take_rest all n) in
+    rw (p.1, p.2) (record {
+      moved = moved_on _ _ _ _ _ moved more.items;
+      done = tt;
+      grows = le_trans room.grows (le_trans first.capacity more.grows);
+      refused = more.refused;
+      full = omega (arith, more.full, c.saturating_add.ensures, room.grows, first.capacity, room.len, first.len, ap length moved.1, length-append moved.0 rest);
+    })
+
+pub returns-in_err-extend_from_slice-2 : goal.returns-in_err-extend_from_slice-2
+returns-in_err-extend_from_slice-2 g c =
+    let p = err_from_is_err_and c.from_residual-in_err-extend_from_slice-2.result c.from_residual-in_err-extend_from_slice-2.ensures.1 in
+    let all = c.args.rest.now.now in
+    let n = c.min-n.result in
+    let room = c.in_ok-reserve_room.ensures in
+    let first = c.in_ok-extend_from_slice.ensures in
+    let more = c.in_ok-reserve_room-2.ensures in
+    let same = c.in_err-extend_from_slice-2.ensures in
+    let rest = take (length all - n) (drop n all) in
+    let moved = moved_first n all rest _ _ _ room.items first.items (take_rest all n) in
+    rw p.1 (record {
+      moved = moved_on _ _ _ _ _ (moved_on _ _ _ _ _ moved more.items) same.items;
+      done = tt;
+      grows = le_trans room.grows (le_trans first.capacity (le_trans more.grows same.capacity));
+      refused = p.2;
+      full = omega (arith, same.full, more.grows, more.len, room.grows, first.capacity, room.len, first.len, ap length moved.1, length-append moved.0 rest);
+    })
+
+pub returns : goal.returns
+returns g c =
+    let all = c.args.rest.now.now in
+    let n = c.min-n.result in
+    let room = c.in_ok-reserve_room.ensures in
+    let first = c.in_ok-extend_from_slice.ensures in
+    let more = c.in_ok-reserve_room-2.ensures in
+    let second = c.in_ok-extend_from_slice-2.ensures in
+    let moved = moved_first n all (take (length all - n) (drop n all)) _ _ _ room.items first.items (take_rest all n) in
+    let none = take_rest all (length all) ∙ drop_all (length all) all (le_refl _) in
+    record {
+      moved = moved_second _ _ _ _ _ _ _ moved more.items second.items none;
+      done = none;
+      grows = le_trans room.grows (le_trans first.capacity (le_trans more.grows second.capacity));
+      refused = tt;
+      full = tt;
+    }
