@@ -1,5 +1,5 @@
 // Whole runs of `split` and of `lines`.
-ghost use Rattle.std.specs.Prelude.{◌≡◌, ◌<◌, ◌++◌, map, false, OnOk, OnErr, IfErr, vec_items, vec_len, vec_capacity, string_bytes};
+ghost use Rattle.std.specs.Prelude.{◌≡◌, ◌+◌, ◌<◌, ◌++◌, map, false, OnOk, OnErr, IfErr, vec_items, vec_len, vec_capacity, string_bytes};
 ghost use Rattle.no_std_io2_base.specs.Errors.{IsFault, IsOutOfMemory};
 ghost use Rattle.no_std_io2_base.specs.Pieces.{line_text, without};
 ghost use Rattle.no_std_io2_base.specs.PieceItems.{split_reader, split_delim, split_is_ended, lines_reader, lines_is_ended, RefusesLine};
@@ -14,6 +14,8 @@ fn make_room<T>(items: &mut Vec<T>) -> Result<()>
     ensures items { items.new.items ≡ items.old.items }
     ensures room { OnOk result (vec_len items.new < vec_capacity items.new) }
     ensures refused { IfErr result IsOutOfMemory }
+    // Nothing is refused where there is room.
+    ensures full { OnErr result (vec_capacity items.old < vec_len items.old + 1) }
 {
     match items.reserve(1) {
         Ok(()) => Ok(()),

@@ -5,10 +5,11 @@
 //! words that are no command.
 #![tactic(auto)]
 
-ghost use Rattle.std.specs.Prelude.{◌≡◌, IfSome, IfNone, OnOk, OnErr};
+ghost use Rattle.std.specs.Prelude.{◌≡◌, ◌^◌, ◌-◌, IfSome, IfNone, OnOk, OnErr};
 ghost use Rattle.std.specs.Process.{exit_status};
 ghost use Rattle.iotower.specs.declared.Command.{Command as Asked};
 ghost use Rattle.iotower.specs.Words.{verb_of, mode_of};
+ghost use Rattle.system_streams.specs.Patient.{patient_turns};
 
 mod copy;
 mod patient;
@@ -75,9 +76,16 @@ fn command_of(verb: &str, mode: &str) -> Option<Command>
     }
 }
 
+// A stream of the system's, asked again however often it is interrupted.
+fn patiently<D>(device: D) -> Patient<D>
+    ensures turns { patient_turns result ≡ 2 ^ 64 - 1 }
+{
+    Patient::new(device, u64::MAX)
+}
+
 fn run(rt: &HostRuntime, command: Command) -> Result<(), Fault> {
-    let input = Patient::new(rt.reader(), u64::MAX);
-    let output = Patient::new(io::writer(rt), u64::MAX);
+    let input = patiently(rt.reader());
+    let output = patiently(io::writer(rt));
     match command {
         Command::Copy(line) => {
             copy_through(input, output, line)?;
