@@ -1,5 +1,5 @@
 -- Bytes that are taken off a slice and appended, as a reader tells it.
-use Rattle.std.proofs.Common.{◌≡◌, ℕ, ◌+◌, ◌-◌, ◌<◌, ◌≤◌, ◌^◌, List, [], ◌++◌, Err, length, take, drop, refl, sym, ap, ◌∙◌, arith, inr, append-nil, append_assoc, take-append-drop, length-drop}
+use Rattle.std.proofs.Common.{◌≡◌, ℕ, ◌+◌, ◌-◌, ◌<◌, ◌≤◌, ◌^◌, min, List, [], ◌++◌, Err, length, take, drop, refl, sym, ap, ◌∙◌, arith, inr, append-nil, append_assoc, take-append-drop, length-drop, length-take}
 use Rattle.std.proofs.Math.Seq.{drop-append_seam}
 use Rattle.std.proofs.lemmas.List.{length-append, take_at}
 use Rattle.no_std_io2_base.specs.declared.error.Error.{Error}
@@ -51,6 +51,29 @@ moved_second all rest old first last mid new moved same is none = (
   sym (append-nil all) ∙ ap (λ l. all ++ l) (sym none),
   is ∙ ap (λ l. l ++ rest) (same ∙ moved.2) ∙ append_assoc old moved.0 rest ∙ ap (λ l. old ++ l) (sym moved.1),
 )
+
+-- and there was no room for all of it and 32 bytes more, where there was none for what was wanted next
+pub no_room : (all rest old first : List ℕ) (was is capacity capacity' wanted : ℕ) → HasMoved all rest old first → was ≡ length old → is ≡ length first → capacity ≤ capacity'
+    → capacity' < is + wanted → wanted ≤ length rest + 32 → capacity < was + length all + 32
+no_room all rest old first was is capacity capacity' wanted moved before now grown full within =
+    omega (arith, before, now, grown, full, within, ap length moved.2, length-append old moved.0, ap length moved.1, length-append moved.0 rest)
+
+-- what is wanted next: the least room, a part of the rest, all of it, or all and the least room, as far as a number goes
+pub wants_least : (n : ℕ) → 32 ≤ n + 32
+wants_least n = omega arith
+
+pub wants_part : (n : ℕ) (rest : List ℕ) → length (take n rest) ≤ length rest + 32
+wants_part n rest = omega (arith, length-take n rest)
+
+pub wants_rest : (n : ℕ) → n ≤ n + 32
+wants_rest n = omega arith
+
+pub wants_bounded : (wanted n bound : ℕ) → wanted ≡ min n bound → wanted ≤ n
+wants_bounded wanted n bound is = omega (arith, is)
+
+-- the lesser of two, where it is below the second
+pub least_first : (n a b : ℕ) → n ≡ min a b → n < b → a ≤ n
+least_first n a b is below = omega (arith, is, below)
 
 -- what the vector had stays at its front
 pub front_stays : (len : ℕ) (all rest old new : List ℕ) → HasMoved all rest old new → len ≡ length old → take len new ≡ old

@@ -1,8 +1,8 @@
 -- What is gone from the slice was appended, in one part or in two.
-use Rattle.std.proofs.Common.{ℕ, ◌-◌, ap, length, length-take, take, drop, ◌∙◌, arith, le_trans, le_refl, length-append}
+use Rattle.std.proofs.Common.{◌-◌, length, take, drop, refl, ◌∙◌, le_trans, le_refl}
 use Rattle.std.proofs.lemmas.List.{take_rest, drop_all}
 use Rattle.std.proofs.lemmas.Result.{err_from_is_err_and}
-use Rattle.no_std_io2_base.proofs.SliceReads.{moved_none, moved_on, moved_first, moved_second}
+use Rattle.no_std_io2_base.proofs.SliceReads.{moved_none, moved_on, moved_first, moved_second, no_room, wants_least, wants_part, wants_rest, wants_bounded, least_first}
 use Rattle.no_std_io2_base.proofs.impls.slices.append_rest.Goals as goal
 
 pub returns-in_err-reserve_room : goal.returns-in_err-reserve_room
@@ -14,7 +14,7 @@ returns-in_err-reserve_room g c =
       done = tt;
       grows = room.grows;
       refused = room.refused;
-      full = omega (arith, room.full);
+      full = no_room _ _ _ _ _ _ _ _ _ (moved_none c.args.rest.now.now _ _ refl) c.args.buf.now.ok.0 c.args.buf.now.ok.0 (le_refl _) room.full (wants_least _);
     })
 
 pub returns-in_err-extend_from_slice : goal.returns-in_err-extend_from_slice
@@ -22,12 +22,13 @@ returns-in_err-extend_from_slice g c =
     let p = err_from_is_err_and c.from_residual-in_err-extend_from_slice.result c.from_residual-in_err-extend_from_slice.ensures.1 in
     let room = c.in_ok-reserve_room.ensures in
     let same = c.in_err-extend_from_slice.ensures in
+    let moved = moved_none c.args.rest.now.now _ _ room.items in
     rw p.1 (record {
-      moved = moved_on _ _ _ _ _ (moved_none _ _ _ room.items) same.items;
+      moved = moved_on _ _ _ _ _ moved same.items;
       done = tt;
       grows = le_trans room.grows same.capacity;
       refused = p.2;
-      full = omega (arith, same.full, room.grows, room.len, length-take {A = ℕ});
+      full = no_room _ _ _ _ _ _ _ _ _ moved c.args.buf.now.ok.0 c.reserve_room.new.buf.ok.0 room.grows same.full (wants_part _ _);
     })
 
 pub returns-then-n-room : goal.returns-then-n-room
@@ -39,7 +40,7 @@ returns-then-n-room g c =
     let left = take_rest all n in
     record {
       moved = moved_first n all _ _ _ _ room.items first.items left;
-      done = left ∙ drop_all n all (omega (arith, c.min-n.ensures, c.if-n-room.true));
+      done = left ∙ drop_all n all (least_first _ _ _ c.min-n.ensures c.if-n-room.true);
       grows = le_trans room.grows first.capacity;
       refused = tt;
       full = tt;
@@ -60,7 +61,7 @@ returns-in_err-reserve_room-2 g c =
       done = tt;
       grows = le_trans room.grows (le_trans first.capacity more.grows);
       refused = more.refused;
-      full = omega (arith, more.full, c.saturating_add.ensures, room.grows, first.capacity, room.len, first.len, ap length moved.1, length-append moved.0 rest);
+      full = no_room _ _ _ _ _ _ _ _ _ moved c.args.buf.now.ok.0 c.extend_from_slice.new.self.ok.0 (le_trans room.grows first.capacity) more.full (wants_bounded _ _ _ c.saturating_add.ensures);
     })
 
 pub returns-in_err-extend_from_slice-2 : goal.returns-in_err-extend_from_slice-2
@@ -73,13 +74,13 @@ returns-in_err-extend_from_slice-2 g c =
     let more = c.in_ok-reserve_room-2.ensures in
     let same = c.in_err-extend_from_slice-2.ensures in
     let rest = take (length all - n) (drop n all) in
-    let moved = moved_first n all rest _ _ _ room.items first.items (take_rest all n) in
+    let moved = moved_on _ _ _ _ _ (moved_first n all rest _ _ _ room.items first.items (take_rest all n)) more.items in
     rw p.1 (record {
-      moved = moved_on _ _ _ _ _ (moved_on _ _ _ _ _ moved more.items) same.items;
+      moved = moved_on _ _ _ _ _ moved same.items;
       done = tt;
       grows = le_trans room.grows (le_trans first.capacity (le_trans more.grows same.capacity));
       refused = p.2;
-      full = omega (arith, same.full, more.grows, more.len, room.grows, first.capacity, room.len, first.len, ap length moved.1, length-append moved.0 rest);
+      full = no_room _ _ _ _ _ _ _ _ _ moved c.args.buf.now.ok.0 c.reserve_room-2.new.buf.ok.0 (le_trans room.grows (le_trans first.capacity more.grows)) same.full (wants_rest _);
     })
 
 pub returns : goal.returns
