@@ -47,18 +47,22 @@ told_err (Ok x) is h = absurd (false≢true is)
 told_err (Err e) is h = h
 
 -- zeros were put behind the bytes, and then x
-pub padded : (place len : ℕ) (x bs held mid bs' : List ℕ) (padding appending done : Bool) → held ≡ bs → len ≡ length held → length bs ≤ place
-    → padding ≡ true → mid ≡ cond padding (take place held ++ replicate (place - len) 0) held → appending ≡ true → bs' ≡ cond appending (mid ++ x) mid
+pub padded : (place len : ℕ) (x bs held mid bs' : List ℕ) (padding appending done : Bool) → held ≡ bs → len ≡ length held
+    → length bs ≤ place → padding ≡ true → mid ≡ cond padding (take place held ++ replicate (place - len) 0) held
+    → appending ≡ true → bs' ≡ cond appending (mid ++ x) mid
     → done ≡ true → bs' ≡ cond done (put_at place x bs) bs
 padded place len x bs held mid bs' padding appending done same long past p is a new d =
     let zeros : mid ≡ take place bs ++ replicate (place - length bs) 0 =
-    is ∙ cond-true padding _ _ p ∙ ap (λ n. take place held ++ replicate (place - n) 0) long ∙ ap (λ l. take place l ++ replicate (place - length l) 0) same in
+    is ∙ cond-true padding _ _ p ∙ ap (λ n. take place held ++ replicate (place - n) 0) long
+    ∙ ap (λ l. take place l ++ replicate (place - length l) 0) same in
     new ∙ cond-true appending _ _ a ∙ ap (λ l. l ++ x) zeros ∙ put_past place x bs past ∙ sym (cond-true done _ _ d)
 
 -- x was put over a part of the bytes
 pub overwritten : (place k : ℕ) (bs part x : List ℕ) → part ≡ x → k ≡ length x → put_mid place k bs part ≡ put_over place x bs
 overwritten place k bs part x same long =
-    ap (λ l. take place bs ++ (l ++ drop k (drop place bs))) same ∙ ap (λ n. take place bs ++ (x ++ drop n (drop place bs))) long ∙ ap (λ l. take place bs ++ (x ++ l)) (drop-drop (length x) place bs) ∙ sym (append_assoc (take place bs) x (drop (place + length x) bs))
+    ap (λ l. take place bs ++ (l ++ drop k (drop place bs))) same ∙ ap (λ n. take place bs ++ (x ++ drop n (drop place bs))) long
+    ∙ ap (λ l. take place bs ++ (x ++ l)) (drop-drop (length x) place bs)
+    ∙ sym (append_assoc (take place bs) x (drop (place + length x) bs))
 
 -- the end of x was appended, and its front put before it
 pub put_across : (place k : ℕ) (x bs : List ℕ) → place + k ≡ length bs → k ≤ length x

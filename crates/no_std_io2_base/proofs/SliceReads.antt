@@ -39,7 +39,8 @@ pub moved_on : (all rest old mid new : List ℕ) → HasMoved all rest old mid �
 moved_on all rest old mid new moved same = (moved.0, moved.1, same ∙ moved.2)
 
 -- its first n bytes were appended
-pub moved_first : (n : ℕ) (all rest old mid new : List ℕ) → mid ≡ old → new ≡ mid ++ take n all → rest ≡ drop n all → HasMoved all rest old new
+pub moved_first : (n : ℕ) (all rest old mid new : List ℕ) → mid ≡ old → new ≡ mid ++ take n all → rest ≡ drop n all
+    → HasMoved all rest old new
 moved_first n all rest old mid new same is left =
     (take n all, sym (take-append-drop n all) ∙ ap (λ l. take n all ++ l) (sym left), is ∙ ap (λ l. l ++ take n all) same)
 
@@ -53,10 +54,12 @@ moved_second all rest old first last mid new moved same is none = (
 )
 
 -- and there was no room for all of it and 32 bytes more, where there was none for what was wanted next
-pub no_room : (all rest old first : List ℕ) (was is capacity capacity' wanted : ℕ) → HasMoved all rest old first → was ≡ length old → is ≡ length first → capacity ≤ capacity'
+pub no_room : (all rest old first : List ℕ) (was is capacity capacity' wanted : ℕ) → HasMoved all rest old first → was ≡ length old
+    → is ≡ length first → capacity ≤ capacity'
     → capacity' < is + wanted → wanted ≤ length rest + 32 → capacity < was + length all + 32
 no_room all rest old first was is capacity capacity' wanted moved before now grown full within =
-    omega (arith, before, now, grown, full, within, ap length moved.2, length-append old moved.0, ap length moved.1, length-append moved.0 rest)
+    let first_is = ap length moved.2 ∙ length-append old moved.0 in
+    omega (arith, before, now, grown, full, within, first_is, ap length moved.1, length-append moved.0 rest)
 
 -- what is wanted next: the least room, a part of the rest, all of it, or all and the least room, as far as a number goes
 pub wants_least : (n : ℕ) → 32 ≤ n + 32
@@ -80,7 +83,8 @@ pub front_stays : (len : ℕ) (all rest old new : List ℕ) → HasMoved all res
 front_stays len all rest old new moved long = ap (take len) moved.2 ∙ take_at old moved.0 len (sym long)
 
 -- and it is longer by all of it
-pub longer_by : (was is : ℕ) (all rest old new : List ℕ) → HasMoved all rest old new → rest ≡ [] → was ≡ length old → is ≡ length new → is ≡ was + length all
+pub longer_by : (was is : ℕ) (all rest old new : List ℕ) → HasMoved all rest old new → rest ≡ [] → was ≡ length old
+    → is ≡ length new → is ≡ was + length all
 longer_by was is all rest old new moved none before now =
     omega (arith, before, now, ap length moved.2, length-append old moved.0, ap length moved.1, length-append moved.0 rest, ap length none)
 

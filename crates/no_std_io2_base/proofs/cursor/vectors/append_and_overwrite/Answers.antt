@@ -1,4 +1,4 @@
-use Rattle.std.proofs.Common.{◌≡◌, ◌+◌, ◌-◌, ◌++◌, ℕ, Bool, false, cond, List, arith, take, drop, length, sym, ap, ◌∙◌, length-take, length-drop, length-take-le, true≢false}
+use Rattle.std.proofs.Common.{◌≡◌, ◌+◌, ◌-◌, ◌++◌, ℕ, Bool, true, false, cond, List, arith, take, drop, sym, ap, ◌∙◌, length-take, length-drop, length-take-le, true≢false}
 use Rattle.std.proofs.lemmas.Bool.{cond-true, cond-false}
 use Rattle.std.proofs.lemmas.List.{with_items_is, take_rest}
 use Rattle.no_std_io2_base.specs.Cursor.{put_at}
@@ -8,6 +8,10 @@ use Rattle.no_std_io2_base.proofs.cursor.vectors.append_and_overwrite.Goals as g
 -- a call that failed leaves the bytes
 unchanged : (b : Bool) (more old new : List ℕ) → new ≡ cond b more old → b ≡ false → new ≡ old
 unchanged b more old new is failed = is ∙ cond-false b more old failed
+
+-- and one that succeeded changes them
+changed : (b : Bool) (more old new : List ℕ) → new ≡ cond b more old → b ≡ true → new ≡ more
+changed b more old new is done = is ∙ cond-true b more old done
 
 pub returns-then-is_err : goal.returns-then-is_err
 returns-then-is_err g c =
@@ -28,7 +32,8 @@ returns g c =
     let k = c.len.result - start in
     let shown = c.deref_mut.result.now in
     let append = c.extend_from_slice.ensures in
-    let grown : new.items ≡ bs ++ drop k x = append.items ∙ cond-true _ _ _ c.if-is_err.ensures.negation ∙ ap (λ l. bs ++ l) (take_rest x k) in
+    let added = changed _ _ _ _ append.items c.if-is_err.ensures.negation in
+    let grown : new.items ≡ bs ++ drop k x = added ∙ ap (λ l. bs ++ l) (take_rest x k) in
     let part = length-take-le k x (omega arith) in
     let over : c.overwrite.new.content ≡ put_at start x bs = c.overwrite.ensures ∙ ap (λ n. take start shown ++ take k x ++ drop (start + n) shown) part ∙ ap (λ l. take start l ++ take k x ++ drop (start + k) l) (c.deref_mut.ensures.value ∙ grown) ∙ put_across start k x bs (omega arith) (omega arith) in
     record {

@@ -32,7 +32,8 @@ returns-then-is_ok g c =
     let done = c.is_ok-then-is_ok.ensures.value ∙ sure in
     let bs = c.args.content.now.items in
     let past : length bs ≤ c.args.start = omega (arith, c.requires.gap, c.args.content.now.ok.0) in
+    let held = c.reserve.new.self.ok.0 in
     record {
-      puts = padded c.args.start _ c.args.buf.now _ _ _ _ _ _ _ reserve.items c.reserve.new.self.ok.0 past grown resize.items sure append.items done;
+      puts = padded c.args.start _ c.args.buf.now _ _ _ _ _ _ _ reserve.items held past grown resize.items sure append.items done;
       full = λ no. absurd (both_ways _ no done);
     }

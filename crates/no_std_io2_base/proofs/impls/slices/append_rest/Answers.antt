@@ -9,12 +9,13 @@ pub returns-in_err-reserve_room : goal.returns-in_err-reserve_room
 returns-in_err-reserve_room g c =
     let p = err_from_is_err_and c.from_residual.result c.from_residual.ensures.1 in
     let room = c.in_err-reserve_room.ensures in
+    let was = c.args.buf.now.ok.0 in
     rw (p.1, p.2) (record {
       moved = moved_none _ _ _ room.items;
       done = tt;
       grows = room.grows;
       refused = room.refused;
-      full = no_room _ _ _ _ _ _ _ _ _ (moved_none c.args.rest.now.now _ _ refl) c.args.buf.now.ok.0 c.args.buf.now.ok.0 (le_refl _) room.full (wants_least _);
+      full = no_room _ _ _ _ _ _ _ _ _ (moved_none c.args.rest.now.now _ _ refl) was was (le_refl _) room.full (wants_least _);
     })
 
 pub returns-in_err-extend_from_slice : goal.returns-in_err-extend_from_slice
@@ -54,6 +55,7 @@ returns-in_err-reserve_room-2 g c =
     let room = c.in_ok-reserve_room.ensures in
     let first = c.in_ok-extend_from_slice.ensures in
     let more = c.in_err-reserve_room-2.ensures in
+    let is = c.extend_from_slice.new.self.ok.0 in
     let rest = take (length all - n) (drop n all) in
     let moved = moved_first n all rest _ _ _ room.items first.items (take_rest all n) in
     rw (p.1, p.2) (record {
@@ -61,7 +63,7 @@ returns-in_err-reserve_room-2 g c =
       done = tt;
       grows = le_trans room.grows (le_trans first.capacity more.grows);
       refused = more.refused;
-      full = no_room _ _ _ _ _ _ _ _ _ moved c.args.buf.now.ok.0 c.extend_from_slice.new.self.ok.0 (le_trans room.grows first.capacity) more.full (wants_bounded _ _ _ c.saturating_add.ensures);
+      full = no_room _ _ _ _ _ _ _ _ _ moved c.args.buf.now.ok.0 is (le_trans room.grows first.capacity) more.full (wants_bounded _ _ _ c.saturating_add.ensures);
     })
 
 pub returns-in_err-extend_from_slice-2 : goal.returns-in_err-extend_from_slice-2
@@ -73,14 +75,16 @@ returns-in_err-extend_from_slice-2 g c =
     let first = c.in_ok-extend_from_slice.ensures in
     let more = c.in_ok-reserve_room-2.ensures in
     let same = c.in_err-extend_from_slice-2.ensures in
+    let is = c.reserve_room-2.new.buf.ok.0 in
+    let grown = le_trans room.grows (le_trans first.capacity more.grows) in
     let rest = take (length all - n) (drop n all) in
     let moved = moved_on _ _ _ _ _ (moved_first n all rest _ _ _ room.items first.items (take_rest all n)) more.items in
     rw p.1 (record {
       moved = moved_on _ _ _ _ _ moved same.items;
       done = tt;
-      grows = le_trans room.grows (le_trans first.capacity (le_trans more.grows same.capacity));
+      grows = le_trans grown same.capacity;
       refused = p.2;
-      full = no_room _ _ _ _ _ _ _ _ _ moved c.args.buf.now.ok.0 c.reserve_room-2.new.buf.ok.0 (le_trans room.grows (le_trans first.capacity more.grows)) same.full (wants_rest _);
+      full = no_room _ _ _ _ _ _ _ _ _ moved c.args.buf.now.ok.0 is grown same.full (wants_rest _);
     })
 
 pub returns : goal.returns

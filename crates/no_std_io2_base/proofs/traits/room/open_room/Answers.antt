@@ -9,7 +9,8 @@ use Rattle.no_std_io2_base.proofs.traits.room.open_room.Goals.{then-len-capacity
 front_opened : (filled end n : ℕ) (old mid new : List ℕ) → filled ≤ end → filled ≤ length mid → mid ≡ old
     → new ≡ take end mid ++ replicate n 0 → take filled new ≡ take filled old
 front_opened filled end n old mid new below within same is =
-    ap (take filled) is ∙ take-append-le filled (take end mid) _ (omega (arith, below, within, length-take end mid)) ∙ take-take filled end mid below ∙ ap (take filled) same
+    ap (take filled) is ∙ take-append-le filled (take end mid) _ (omega (arith, below, within, length-take end mid))
+    ∙ take-take filled end mid below ∙ ap (take filled) same
 
 pub returns-then-filled-len : goal.returns-then-filled-len
 returns-then-filled-len g c = record { within = omega arith; front = refl; room = omega arith; grows = le_refl _; refused = tt; full = tt }
@@ -32,11 +33,16 @@ returns g c =
     let old = c.args.buf.now in
     let mid = c.if-len-capacity.buf in
     let filled = c.args.filled in
-    let grown : (mid.items ≡ old.items) × (vec_len mid ≡ vec_len old) × (vec_len old < vec_capacity mid) × (vec_capacity old ≤ vec_capacity mid) = elim c.if-len-capacity.branch [
+    let grown : (mid.items ≡ old.items) × (vec_len mid ≡ vec_len old)
+    × (vec_len old < vec_capacity mid) × (vec_capacity old ≤ vec_capacity mid) = elim c.if-len-capacity.branch [
       | then-len-capacity+in_ok-reserve_room w ↦
           let room = w.in_ok-reserve_room.ensures in
-          let cap = ap vec_capacity w.buf-is in
-          (ap (λ v. v.items) w.buf-is ∙ room.items, ap vec_len w.buf-is ∙ room.len, omega (arith, room.room, room.len, c.requires.some, cap), omega (arith, room.grows, cap))
+          let cap = ap vec_capacity w.buf-is in (
+            ap (λ v. v.items) w.buf-is ∙ room.items,
+            ap vec_len w.buf-is ∙ room.len,
+            omega (arith, room.room, room.len, c.requires.some, cap),
+            omega (arith, room.grows, cap),
+          )
       | else-len-capacity w ↦
           let cap = ap vec_capacity w.buf-is in (
             ap (λ v. v.items) w.buf-is,
