@@ -63,6 +63,9 @@ def owner_of(head, module, types):
         generics, rest = cut(rest)
         parameters = [it.split(":")[0].split()[-1] for it in pieces(generics, ",")]
     of, *target = pieces(rest, r"\bfor\b")
+    # The checker counts a drop among the type's own functions.
+    if target and of.strip() == "Drop":
+        of, target = target[0], []
     if target:
         return f"{module}::{words_of(target[0], parameters)}{words_of(of, parameters)}"
     name = words_of(of.split("<")[0], [])
