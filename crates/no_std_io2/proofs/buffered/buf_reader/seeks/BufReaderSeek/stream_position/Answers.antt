@@ -15,11 +15,5 @@ returns-clause-store g c = λ s.
 pub returns-clause-position : goal.returns-clause-position
 returns-clause-position g c = c.seek.ensures.position
 
-pub returns-clause-empty : goal.returns-clause-empty
-returns-clause-empty g c = c.seek.ensures.empty
-
-pub returns-clause-behind : goal.returns-clause-behind
-returns-clause-behind g c = c.seek.ensures.behind
-
 pub returns-clause-sound : goal.returns-clause-sound
 returns-clause-sound g c = c.seek.ensures.sound
