@@ -1,5 +1,6 @@
 -- A header that was read of the buffer and stepped back over.
-use Rattle.std.proofs.Common.{◌≡◌, ℕ, ◌+◌, ◌≤◌, List, [], ◌∷◌, ◌++◌, length, take, drop, get_or, refl, sym, ap, ◌∙◌, arith, append_assoc, length-append, take-append-drop}
+use Rattle.std.proofs.Common.{◌≡◌, ℕ, ◌+◌, ◌≤◌, List, [], ◌∷◌, ◌++◌, length, take, drop, get_or, refl, sym, ap, ◌∙◌}
+use Rattle.std.proofs.Common.{arith, append_assoc, length-append, take-append-drop}
 use Rattle.std.proofs.lemmas.List.{length-take-le}
 use Rattle.std.proofs.Math.Seq.{take-append_seam, drop-append_seam, drop-append-add}
 
@@ -11,13 +12,16 @@ same_cut a b c d whole long = (
 )
 
 -- n bytes were given of the held ones, so that as many lie behind
-pub given_behind : (n : ℕ) (behind held header behind1 : List ℕ) → header ≡ take n held → n ≤ length held → behind1 ≡ behind ++ header → length behind1 ≡ length behind + n
+pub given_behind : (n : ℕ) (behind held header behind1 : List ℕ) → header ≡ take n held → n ≤ length held
+    → behind1 ≡ behind ++ header → length behind1 ≡ length behind + n
 given_behind n behind held header behind1 is enough after =
     ap length after ∙ length-append behind header ∙ ap (λ m. length behind + m) (ap length is ∙ length-take-le n held enough)
 
 -- n bytes were given of the held ones, and the border went back by as many
-pub stepped_back : (n : ℕ) (behind held header behind1 held1 behind2 held2 : List ℕ) → header ≡ take n held → n ≤ length held → held1 ≡ drop n held
-    → behind1 ≡ behind ++ header → behind2 ++ held2 ≡ behind1 ++ held1 → length behind2 + n ≡ length behind1 → (held2 ≡ held) × (behind2 ≡ behind)
+pub stepped_back : (n : ℕ) (behind held header behind1 held1 behind2 held2 : List ℕ) → header ≡ take n held
+    → n ≤ length held → held1 ≡ drop n held
+    → behind1 ≡ behind ++ header → behind2 ++ held2 ≡ behind1 ++ held1 → length behind2 + n ≡ length behind1
+    → (held2 ≡ held) × (behind2 ≡ behind)
 stepped_back n behind held header behind1 held1 behind2 held2 is enough left after whole back =
     let joined : behind2 ++ held2 ≡ behind ++ held =
     whole ∙ ap (λ l. l ++ held1) after ∙ ap (λ l. (behind ++ header) ++ l) left ∙ ap (λ l. (behind ++ l) ++ drop n held) is
@@ -26,9 +30,11 @@ stepped_back n behind held header behind1 held1 behind2 held2 is enough left aft
     (cut.1, cut.0)
 
 -- the border went on by n
-pub moved_on : (n : ℕ) (behind held behind1 held1 : List ℕ) → behind1 ++ held1 ≡ behind ++ held → length behind1 ≡ length behind + n → held1 ≡ drop n held
+pub moved_on : (n : ℕ) (behind held behind1 held1 : List ℕ) → behind1 ++ held1 ≡ behind ++ held
+    → length behind1 ≡ length behind + n → held1 ≡ drop n held
 moved_on n behind held behind1 held1 whole on =
-    sym (drop-append_seam behind1 held1) ∙ ap (drop (length behind1)) whole ∙ ap (λ m. drop m (behind ++ held)) on ∙ drop-append-add behind held n
+    sym (drop-append_seam behind1 held1) ∙ ap (drop (length behind1)) whole ∙ ap (λ m. drop m (behind ++ held)) on
+    ∙ drop-append-add behind held n
 
 -- the two items of a list of two
 pub both_items : (xs : List ℕ) → length xs ≡ 2 → get_or xs 0 0 ∷ get_or xs 1 0 ∷ [] ≡ xs

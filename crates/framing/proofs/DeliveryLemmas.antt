@@ -1,5 +1,6 @@
 -- How tries follow one another.
-use Rattle.std.proofs.Common.{◌≡◌, ℕ, ◌+◌, ◌<◌, ◌^◌, List, [], ◌∷◌, ◌++◌, length, true, Option, None, Some, Result, Ok, Err, refl, sym, ap, ◌∙◌, subst, arith, append_assoc, count_by}
+use Rattle.std.proofs.Common.{◌≡◌, ℕ, ◌+◌, ◌<◌, ◌^◌, List, [], ◌∷◌, ◌++◌, length, true, Option, None, Some, Result, Ok}
+use Rattle.std.proofs.Common.{Err, refl, sym, ap, ◌∙◌, subst, arith, append_assoc, count_by}
 use Rattle.std.specs.Result.{result_err, OnOk}
 use Rattle.std.proofs.lemmas.List.Recursion.{is_count_by}
 use Rattle.no_std_io2.specs.declared.io.Error.{Error}
@@ -11,16 +12,21 @@ use Rattle.framing.specs.Delivering.{TriesOnce, Delivers, HasAtMost, HasSpentTri
 use Rattle.std.proofs.lemmas.List.Elements.{All-append}
 
 -- the mishap of a flush
-flushed_mishap : (reply : Result (Unit {0}) Error) (fault : Option Error) → fault ≡ result_err reply → call_mishap reply ≡ tried_mishap (Ok fault)
+flushed_mishap : (reply : Result (Unit {0}) Error) (fault : Option Error) → fault ≡ result_err reply
+    → call_mishap reply ≡ tried_mishap (Ok fault)
 flushed_mishap (Ok u) fault is = ap (λ f. tried_mishap (Ok f)) (sym is)
 flushed_mishap (Err e) fault is = ap (λ f. tried_mishap (Ok f)) (sym is)
 
 -- all frames were sent, and then a flush
-pub tried_flush : {a b c : Told} (to_go mid_go left end shown under_way : List ℕ) (reply : Result (Unit {0}) Error) (fault : Option Error) → SendsFrames a to_go (Ok tt) under_way b mid_go → Sends b left reply c end
+pub tried_flush : {a b c : Told} (to_go mid_go left end shown under_way : List ℕ) (reply : Result (Unit {0}) Error)
+    (fault : Option Error)
+    → SendsFrames a to_go (Ok tt) under_way b mid_go → Sends b left reply c end
     → mid_go ≡ left ++ shown → shown ≡ [] → fault ≡ result_err reply → TriesOnce a to_go (Ok fault) c (end ++ shown)
 tried_flush {a} {b} {c} to_go mid_go left end shown under_way reply fault f s is none same = record {
   sent = f.sent ++ s.sent;
-  split = f.split ∙ ap (λ l. f.sent ++ l) (is ∙ ap (λ l. l ++ shown) s.split ∙ append_assoc s.sent end shown) ∙ sym (append_assoc f.sent s.sent (end ++ shown));
+  split =
+      f.split ∙ ap (λ l. f.sent ++ l) (is ∙ ap (λ l. l ++ shown) s.split ∙ append_assoc s.sent end shown)
+      ∙ sym (append_assoc f.sent s.sent (end ++ shown));
   moves = subst (λ k. Moves a (f.sent ++ s.sent) k c) (flushed_mishap reply fault same) (Moves-then f.moves s.moves);
 }
 
@@ -32,7 +38,8 @@ pub delivers_none : (a : Told) (to_go : List ℕ) → Delivers a to_go a to_go
 delivers_none a to_go = record { sent = []; split = refl; moves = Moves-refl a }
 
 -- one try more
-pub delivers_more : {a b c : Told} {whole to_go left : List ℕ} (reply : Result (Option Error) Error) → Delivers a whole b to_go → TriesOnce b to_go reply c left → Delivers a whole c left
+pub delivers_more : {a b c : Told} {whole to_go left : List ℕ} (reply : Result (Option Error) Error)
+    → Delivers a whole b to_go → TriesOnce b to_go reply c left → Delivers a whole c left
 delivers_more {left = left} reply f s = record {
   sent = f.sent ++ s.sent;
   split = f.split ∙ ap (λ l. f.sent ++ l) s.split ∙ sym (append_assoc f.sent s.sent left);
@@ -51,14 +58,16 @@ spent_none n None = tt
 spent_none n (Some old) = omega arith
 
 -- a mishap more was spent
-pub spent_more : (n left less : ℕ) (old mid new : Option (List ErrorKind)) (k : ErrorKind) → HasSpentTries n left old mid → HasSpent mid (k ∷ []) new → left ≡ less + 1 → HasSpentTries n less old new
+pub spent_more : (n left less : ℕ) (old mid new : Option (List ErrorKind)) (k : ErrorKind)
+    → HasSpentTries n left old mid → HasSpent mid (k ∷ []) new → left ≡ less + 1 → HasSpentTries n less old new
 spent_more n left less None mid new k f g is = tt
 spent_more n left less (Some old) None new k f g is = absurd f
 spent_more n left less (Some old) (Some mid) None k f g is = absurd g
 spent_more n left less (Some old) (Some mid) (Some new) k f g is = omega (arith, f, g (λ _. true), count_all mid, count_all new)
 
 -- no more mishaps than were told
-pub spent_all : (n : ℕ) (old mid new : Option (List ErrorKind)) (k : ErrorKind) → HasSpentTries n 0 old mid → HasSpent mid (k ∷ []) new → HasAtMost n old → ⊥
+pub spent_all : (n : ℕ) (old mid new : Option (List ErrorKind)) (k : ErrorKind) → HasSpentTries n 0 old mid
+    → HasSpent mid (k ∷ []) new → HasAtMost n old → ⊥
 spent_all n None mid new k f g most = most
 spent_all n (Some old) None new k f g most = f
 spent_all n (Some old) (Some mid) None k f g most = g

@@ -1,5 +1,6 @@
 -- How bytes and faults of events go with `++`, and what a loan leaves.
-use Rattle.std.proofs.Common.{◌≡◌, ℕ, ◌<◌, ◌==◌, arith, length, Bool, true, false, Bor, List, [], ◌∷◌, ◌++◌, take, Result, Ok, Err, refl, sym, ap, ◌∙◌, subst}
+use Rattle.std.proofs.Common.{◌≡◌, ℕ, ◌<◌, ◌==◌, arith, length, Bool, true, false, Bor, List, [], ◌∷◌, ◌++◌, take}
+use Rattle.std.proofs.Common.{Result, Ok, Err, refl, sym, ap, ◌∙◌, subst}
 use Rattle.std.proofs.lemmas.Bool.Decides.{nat_tests}
 use Rattle.no_std_io2.specs.declared.io.Error.{Error}
 use Rattle.no_std_io2.specs.Errors.{is_interruption, IsFault, IsOutOfMemory}
@@ -41,7 +42,8 @@ pub none_taken : (reply : Result (Bor (List ℕ)) Error) (s : Bor (List ℕ)) (E
 none_taken reply s E E' is same = subst (λ r. LendsFrom E r E') is same
 
 -- an error stood first
-pub error_taken : (reply : Result (Bor (List ℕ)) Error) (e : Error) (E E' : List Event) → reply ≡ Err e → LendsFrom E reply E' → E ≡ fails e ∷ E'
+pub error_taken : (reply : Result (Bor (List ℕ)) Error) (e : Error) (E E' : List Event) → reply ≡ Err e
+    → LendsFrom E reply E' → E ≡ fails e ∷ E'
 error_taken reply e E E' is gone = subst (λ r. LendsFrom E r E') is gone
 
 pub error_turn : (reply : Result (Bor (List ℕ)) Error) (e : Error) (old new : ℕ) → reply ≡ Err e → LendingTurn reply old new → new < old

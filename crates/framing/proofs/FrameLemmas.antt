@@ -1,5 +1,6 @@
 -- How a frame is gathered: its header, and then its payload.
-use Rattle.std.proofs.Common.{◌≡◌, ◌⊎◌, ℕ, ◌+◌, ◌<◌, ◌≤◌, min, Bool, true, false, List, [], ◌++◌, length, take, Ok, Err, refl, sym, ap, ◌∙◌, subst, inl, inr, arith, append-nil}
+use Rattle.std.proofs.Common.{◌≡◌, ◌⊎◌, ℕ, ◌+◌, ◌<◌, ◌≤◌, min, Bool, true, false, List, [], ◌++◌, length, take, Ok, Err}
+use Rattle.std.proofs.Common.{refl, sym, ap, ◌∙◌, subst, inl, inr, arith, append-nil}
 use Rattle.std.specs.Int.{w32, to_le_bytes, from_le_bytes}
 use Rattle.std.proofs.Math.Seq.{take-append_seam}
 use Rattle.no_std_io2.specs.declared.io.Error.{Error}
@@ -17,15 +18,27 @@ told_behind header payload four =
     ap (from_le_bytes w32) (ap (λ n. take n (header ++ payload)) (sym four) ∙ take-append_seam header payload)
 
 -- an error came, of the reader's or for want of memory
-pub stopped : (limit want : ℕ) (I mid after : List Event) (was part new : List ℕ) (e : Error) → Gathered I was part mid → Gathers want mid (Err e) part new after → (length new < want → IsPart new)
+pub stopped : (limit want : ℕ) (I mid after : List Event) (was part new : List ℕ) (e : Error) → Gathered I was part mid
+    → Gathers want mid (Err e) part new after → (length new < want → IsPart new)
     → TakesNone limit (events_of was ++ I) e (events_of new ++ after)
 stopped limit want I mid after was part new e g (inl h) short =
-    inl (inl (record { seen = new; rest = after; passes = gathered_passes (gathered_then g h.0); kept = refl; part = short h.1; fault = h.2 }))
+    inl
+    (inl
+    (record {
+      seen = new;
+      rest = after;
+      passes = gathered_passes (gathered_then g h.0);
+      kept = refl;
+      part = short h.1;
+      fault = h.2;
+    }))
 stopped limit want I mid after was part new e g (inr h) short =
     inr (inr (record { seen = new; rest = after; passes = gathered_passes (gathered_then g h.0); kept = refl; memory = h.1 }))
 
 -- the bytes ended inside the frame
-pub ended : (limit want : ℕ) (I mid after : List Event) (was part new : List ℕ) (b : Bool) (e : Error) → b ≡ false → Gathered I was part mid → Gathers want mid (Ok b) part new after → (length new < want → IsPart new) → 0 < length new
+pub ended : (limit want : ℕ) (I mid after : List Event) (was part new : List ℕ) (b : Bool) (e : Error) → b ≡ false
+    → Gathered I was part mid → Gathers want mid (Ok b) part new after → (length new < want → IsPart new)
+    → 0 < length new
     → error_kind e ≡ UnexpectedEof → TakesNone limit (events_of was ++ I) e (events_of new ++ after)
 ended limit want I mid after was part new true e is g h short some kind = let no : ⊥ = cc in absurd no
 ended limit want I mid after was part new false e is g h short some kind = inl (inr (record {
@@ -44,18 +57,21 @@ no_frame want I after was new true is h none = let no : ⊥ = cc in absurd no
 no_frame want I after was new false is h none = (subst (λ l. Passes (events_of was ++ I) l after) none (gathered_passes h.0), h.2, none)
 
 -- the part that was asked for is there
-pub whole_part : (want : ℕ) (I after : List Event) (was new : List ℕ) (b : Bool) → b ≡ true → Gathers want I (Ok b) was new after → Gathered I was new after × (want ≤ length new)
+pub whole_part : (want : ℕ) (I after : List Event) (was new : List ℕ) (b : Bool) → b ≡ true
+    → Gathers want I (Ok b) was new after → Gathered I was new after × (want ≤ length new)
 whole_part want I after was new true is h = h
 whole_part want I after was new false is h = let no : ⊥ = cc in absurd no
 
 -- the frame is longer than the limit
-pub too_long : (limit : ℕ) (I after : List Event) (was new : List ℕ) (e : Error) → Gathered I was new after → 4 ≤ length new → limit < told_length new → error_kind e ≡ InvalidData
+pub too_long : (limit : ℕ) (I after : List Event) (was new : List ℕ) (e : Error) → Gathered I was new after
+    → 4 ≤ length new → limit < told_length new → error_kind e ≡ InvalidData
     → TakesNone limit (events_of was ++ I) e (events_of new ++ after)
 too_long limit I after was new e g four above kind =
     inr (inl (record { seen = new; rest = after; passes = gathered_passes g; kept = refl; header = four; above = above; kind = kind }))
 
 -- a header and the payload that it tells are a frame
-pub frame_whole : (len : ℕ) (header payload : List ℕ) → to_le_bytes w32 len ≡ header → length payload ≡ len → header ++ payload ≡ frame payload
+pub frame_whole : (len : ℕ) (header payload : List ℕ) → to_le_bytes w32 len ≡ header → length payload ≡ len
+    → header ++ payload ≡ frame payload
 frame_whole len header payload is long = ap (λ l. l ++ payload) (sym is ∙ ap (to_le_bytes w32) (sym long))
 
 -- the same bytes under another name
@@ -63,21 +79,26 @@ pub passes_as : {E after : List Event} {x y : List ℕ} → Passes E x after →
 passes_as {E} {after} p is = subst (λ l. Passes E l after) is p
 
 -- the end, with nothing gathered
-pub end_taken : (E I : List Event) (part : List ℕ) → Passes E [] I × (I ≡ []) × (part ≡ []) → Passes E [] (events_of part ++ I) × (events_of part ++ I ≡ [])
+pub end_taken : (E I : List Event) (part : List ℕ) → Passes E [] I × (I ≡ []) × (part ≡ [])
+    → Passes E [] (events_of part ++ I) × (events_of part ++ I ≡ [])
 end_taken E I part h = subst (λ p. Passes E [] (events_of p ++ I) × (events_of p ++ I ≡ [])) (sym h.2) (h.0, h.1)
 
 -- a frame was taken, with nothing gathered behind it
-pub frame_taken : (limit : ℕ) (E I : List Event) (payload items part : List ℕ) → Passes E (frame payload) I × (length payload ≤ limit) → items ≡ payload → part ≡ []
+pub frame_taken : (limit : ℕ) (E I : List Event) (payload items part : List ℕ)
+    → Passes E (frame payload) I × (length payload ≤ limit) → items ≡ payload → part ≡ []
     → Passes E (frame items) (events_of part ++ I) × (length items ≤ limit)
 frame_taken limit E I payload items part h is none =
-    subst (λ l. Passes E (frame l) (events_of part ++ I) × (length l ≤ limit)) (sym is) (subst (λ p. Passes E (frame payload) (events_of p ++ I)) (sym none) h.0, h.1)
+    subst (λ l. Passes E (frame l) (events_of part ++ I) × (length l ≤ limit)) (sym is)
+    (subst (λ p. Passes E (frame payload) (events_of p ++ I)) (sym none) h.0, h.1)
 
 -- fewer bytes than the frame has
-pub part_short : (header payload : List ℕ) (len : ℕ) → length header ≡ 4 → len ≡ from_le_bytes w32 header → length (header ++ payload) < 4 + len → IsPart (header ++ payload)
+pub part_short : (header payload : List ℕ) (len : ℕ) → length header ≡ 4 → len ≡ from_le_bytes w32 header
+    → length (header ++ payload) < 4 + len → IsPart (header ++ payload)
 part_short header payload len four is short = inr (omega (arith, told_behind header payload four))
 
 -- some of a frame was gathered, now or before
-pub turn_spent : (was new old mid after : ℕ) → (was < new) ⊎ (0 < was) → (was < new → mid < old) → mid ≤ old → after ≤ mid → after < old + min 1 was
+pub turn_spent : (was new old mid after : ℕ) → (was < new) ⊎ (0 < was) → (was < new → mid < old) → mid ≤ old
+    → after ≤ mid → after < old + min 1 was
 turn_spent was new old mid after (inl grew) turn turns later = let less : mid < old = turn grew in omega arith
 turn_spent was new old mid after (inr some) turn turns later = omega arith
 
@@ -88,6 +109,7 @@ bytes_passed {after = after} p = ap bytes p.split ∙ bytes-append p.front after
 -- an error loses no byte
 pub none_lost : (limit : ℕ) (E : List Event) (e : Error) (after : List Event) → TakesNone limit E e after → bytes after ≡ bytes E
 none_lost limit E e after (inl (inl h)) = ap bytes h.kept ∙ bytes-behind h.seen h.rest ∙ sym (bytes_passed h.passes)
-none_lost limit E e after (inl (inr h)) = ap bytes (h.kept ∙ sym (append-nil (events_of h.seen))) ∙ bytes-behind h.seen [] ∙ sym (bytes_passed h.passes)
+none_lost limit E e after (inl (inr h)) =
+    ap bytes (h.kept ∙ sym (append-nil (events_of h.seen))) ∙ bytes-behind h.seen [] ∙ sym (bytes_passed h.passes)
 none_lost limit E e after (inr (inl h)) = ap bytes h.kept ∙ bytes-behind h.seen h.rest ∙ sym (bytes_passed h.passes)
 none_lost limit E e after (inr (inr h)) = ap bytes h.kept ∙ bytes-behind h.seen h.rest ∙ sym (bytes_passed h.passes)

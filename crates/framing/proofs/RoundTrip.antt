@@ -1,5 +1,7 @@
 -- Over the bytes of frames, those frames are what is taken.
-use Rattle.std.proofs.Common.{◌≡◌, ◌⊎◌, ℕ, ◌+◌, ◌<◌, ◌≤◌, ◌^◌, List, [], ◌∷◌, ◌++◌, length, take, drop, get_or, All, Result, Ok, Err, refl, sym, ap, ◌∙◌, subst, inl, inr, arith, append_assoc, append-nil, length-append}
+use Rattle.std.proofs.Common.{◌≡◌, ◌⊎◌, ℕ, ◌+◌, ◌<◌, ◌≤◌, ◌^◌, List, [], ◌∷◌, ◌++◌, length, take, drop, get_or, All}
+use Rattle.std.proofs.Common.{Result, Ok, Err, refl, sym, ap, ◌∙◌, subst, inl, inr, arith, append_assoc, append-nil}
+use Rattle.std.proofs.Common.{length-append}
 use Rattle.std.specs.Int.{w32, to_le_bytes, from_le_bytes}
 use Rattle.std.proofs.lemmas.Nat.{from_le_bytes-to_le_bytes_4}
 use Rattle.std.proofs.Math.Seq.{take-append_seam, drop-append_seam}
@@ -32,22 +34,35 @@ same_frame : (p q rest more : List ℕ) → length p < 2 ^ 32 → length q < 2 ^
 same_frame p q rest more small small' e =
     let size : length p ≡ length q = sym (told_frame p rest small) ∙ ap told_length e ∙ told_frame q more small' in
     let tails : p ++ rest ≡ q ++ more = sym (behind p rest) ∙ ap (drop 4) e ∙ behind q more in
-    let one : p ≡ q = sym (take-append_seam p rest) ∙ ap (take (length p)) tails ∙ ap (λ n. take n (q ++ more)) size ∙ take-append_seam q more in
-    (sym one, sym (drop-append_seam q more) ∙ ap (drop (length q)) (sym tails) ∙ ap (λ n. drop n (p ++ rest)) (sym size) ∙ drop-append_seam p rest)
+    let one : p ≡ q =
+    sym (take-append_seam p rest) ∙ ap (take (length p)) tails ∙ ap (λ n. take n (q ++ more)) size
+    ∙ take-append_seam q more in (
+      sym one,
+      sym (drop-append_seam q more) ∙ ap (drop (length q)) (sym tails) ∙ ap (λ n. drop n (p ++ rest)) (sym size)
+          ∙ drop-append_seam p rest,
+    )
   where
     behind : (p rest : List ℕ) → drop 4 (frame p ++ rest) ≡ p ++ rest
-    behind p rest = ap (drop 4) (append_assoc (to_le_bytes w32 (length p)) p rest) ∙ drop-append_seam (to_le_bytes w32 (length p)) (p ++ rest)
+    behind p rest =
+        ap (drop 4) (append_assoc (to_le_bytes w32 (length p)) p rest)
+        ∙ drop-append_seam (to_le_bytes w32 (length p)) (p ++ rest)
 
 -- Where bytes begin with frames, the lists of payloads begin alike.
-pub front_frames : (ps sent : List (List ℕ)) (left : List ℕ) → frames sent ≡ frames ps ++ left → All (λ p. length p < 2 ^ 32) sent → All (λ p. length p < 2 ^ 32) ps
+pub front_frames : (ps sent : List (List ℕ)) (left : List ℕ) → frames sent ≡ frames ps ++ left
+    → All (λ p. length p < 2 ^ 32) sent → All (λ p. length p < 2 ^ 32) ps
     → (more : List (List ℕ)) × (sent ≡ ps ++ more) × (left ≡ frames more)
 front_frames [] sent left e small small' = (sent, refl, sym e)
 front_frames (p ∷ ps) [] left e small small' =
-    let no : 0 ≡ 4 + length p + length (frames ps ++ left) = ap length (e ∙ append_assoc (frame p) (frames ps) left) ∙ long_frame p (frames ps ++ left) in
+    let no : 0 ≡ 4 + length p + length (frames ps ++ left) =
+    ap length (e ∙ append_assoc (frame p) (frames ps) left) ∙ long_frame p (frames ps ++ left) in
     absurd (omega arith)
 front_frames (p ∷ ps) (s ∷ ss) left e small small' =
-    let one = same_frame s p (frames ss) (frames ps ++ left) (All-head (λ q. length q < 2 ^ 32) s ss small) (All-head (λ q. length q < 2 ^ 32) p ps small') (e ∙ append_assoc (frame p) (frames ps) left) in
-    let others = front_frames ps ss left (sym one.1) (All-tail (λ q. length q < 2 ^ 32) s ss small) (All-tail (λ q. length q < 2 ^ 32) p ps small') in
+    let one =
+    same_frame s p (frames ss) (frames ps ++ left) (All-head (λ q. length q < 2 ^ 32) s ss small)
+    (All-head (λ q. length q < 2 ^ 32) p ps small') (e ∙ append_assoc (frame p) (frames ps) left) in
+    let others =
+    front_frames ps ss left (sym one.1) (All-tail (λ q. length q < 2 ^ 32) s ss small)
+    (All-tail (λ q. length q < 2 ^ 32) p ps small') in
     (others.0, ap (λ l. l ∷ ss) (sym one.0) ∙ ap (λ l. p ∷ l) others.1, others.2)
 
 pub All-right : {X : Type 0} (P : X → Type 0) (xs ys : List X) → All P (xs ++ ys) → All P ys
@@ -59,39 +74,63 @@ pub all_within : (n m : ℕ) → n < m → (ps : List (List ℕ)) → All (λ p.
 all_within n m h ps all = λ k d lt. let at : length (get_or ps k d) ≤ n = all k d lt in omega arith
 
 -- frames have no part that the bytes end in
-no_part : (seen : List ℕ) (more : List (List ℕ)) → seen ++ [] ≡ frames more → All (λ p. length p < 2 ^ 32) more → 0 < length seen → IsPart seen → ⊥
+no_part : (seen : List ℕ) (more : List (List ℕ)) → seen ++ [] ≡ frames more → All (λ p. length p < 2 ^ 32) more
+    → 0 < length seen → IsPart seen → ⊥
 no_part seen [] e small some part = omega (arith, ap length (sym (append-nil seen) ∙ e))
 no_part seen (p ∷ ps) e small some (inl short) = omega (arith, ap length (sym (append-nil seen) ∙ e), long_frame p (frames ps))
 no_part seen (p ∷ ps) e small some (inr short) =
     let is : seen ≡ frame p ++ frames ps = sym (append-nil seen) ∙ e in
-    omega (arith, ap length is, ap told_length is, long_frame p (frames ps), told_frame p (frames ps) (All-head (λ q. length q < 2 ^ 32) p ps small))
+    omega (
+      arith,
+      ap length is,
+      ap told_length is,
+      long_frame p (frames ps),
+      told_frame p (frames ps) (All-head (λ q. length q < 2 ^ 32) p ps small),
+    )
 
 -- nor a length above the limit
-no_long : (limit : ℕ) (seen left : List ℕ) (more : List (List ℕ)) → limit < 2 ^ 32 → seen ++ left ≡ frames more → All (λ p. length p ≤ limit) more → 4 ≤ length seen → limit < told_length seen → ⊥
+no_long : (limit : ℕ) (seen left : List ℕ) (more : List (List ℕ)) → limit < 2 ^ 32 → seen ++ left ≡ frames more
+    → All (λ p. length p ≤ limit) more → 4 ≤ length seen → limit < told_length seen → ⊥
 no_long limit seen left [] small e within four above = omega (arith, ap length e, length-append seen left)
 no_long limit seen left (p ∷ ps) small e within four above =
     let fits : length p ≤ limit = All-head (λ q. length q ≤ limit) p ps within in
     let front : take 4 (seen ++ left) ≡ take 4 seen = take-append-le 4 seen left four in
-    let same : told_length seen ≡ length p = ap (from_le_bytes w32) (sym front) ∙ ap told_length e ∙ told_frame p (frames ps) (omega arith) in
+    let same : told_length seen ≡ length p =
+    ap (from_le_bytes w32) (sym front) ∙ ap told_length e ∙ told_frame p (frames ps) (omega arith) in
     omega arith
 
 -- Over the bytes of the frames of `sent`, a run gives a front of `sent`, and the others are still to come.
-pub comes_back : (limit : ℕ) (sent : List (List ℕ)) (E : List Event) (reply : Result (Unit {0}) Error) (given : List (List ℕ)) (after : List Event) → limit < 2 ^ 32 → TakesFrames limit E reply given after
+pub comes_back : (limit : ℕ) (sent : List (List ℕ)) (E : List Event) (reply : Result (Unit {0}) Error)
+    (given : List (List ℕ)) (after : List Event)
+    → limit < 2 ^ 32 → TakesFrames limit E reply given after
     → bytes E ≡ frames sent → All (λ p. length p ≤ limit) sent → ComesBack sent E reply given (bytes after)
 comes_back limit sent E (Ok u) given after small h is within =
-    let m = front_frames given sent (bytes after) (sym is ∙ bytes_passed h.0.passes) (all_within limit (2 ^ 32) small sent within) (all_within limit (2 ^ 32) small given h.0.each) in
+    let m =
+    front_frames given sent (bytes after) (sym is ∙ bytes_passed h.0.passes)
+    (all_within limit (2 ^ 32) small sent within) (all_within limit (2 ^ 32) small given h.0.each) in
     record { more = m.0; split = m.1; rest = m.2; ok = no_frames m.0 (sym m.2 ∙ ap bytes h.1); err = tt }
   where
     no_frames : (more : List (List ℕ)) → frames more ≡ [] → more ≡ []
     no_frames [] e = refl
     no_frames (p ∷ ps) e = absurd (omega (arith, ap length e, long_frame p (frames ps)))
 comes_back limit sent E (Err e) given after small (mid, run, none) is within =
-    let m = front_frames given sent (bytes mid) (sym is ∙ bytes_passed run.passes) (all_within limit (2 ^ 32) small sent within) (all_within limit (2 ^ 32) small given run.each) in
-    let others : All (λ p. length p ≤ limit) m.0 = All-right (λ p. length p ≤ limit) given m.0 (subst (All (λ p. length p ≤ limit)) m.1 within) in
+    let m =
+    front_frames given sent (bytes mid) (sym is ∙ bytes_passed run.passes)
+    (all_within limit (2 ^ 32) small sent within) (all_within limit (2 ^ 32) small given run.each) in
+    let others : All (λ p. length p ≤ limit) m.0 =
+    All-right (λ p. length p ≤ limit) given m.0 (subst (All (λ p. length p ≤ limit)) m.1 within) in
     record { more = m.0; split = m.1; rest = none_lost limit mid e after none ∙ m.2; ok = tt; err = why m.0 m.2 others none }
   where
-    why : (more : List (List ℕ)) → bytes mid ≡ frames more → All (λ p. length p ≤ limit) more → TakesNone limit mid e after → IsFirstFault E e ⊎ IsOutOfMemory e
-    why more left fit (inl (inl t)) = inl (record { seen = frames given ++ t.seen; rest = t.rest; passes = passes_then run.passes t.passes; fault = t.fault })
-    why more left fit (inl (inr t)) = absurd (no_part t.seen more (sym (bytes_passed t.passes) ∙ left) (all_within limit (2 ^ 32) small more fit) t.some t.part)
-    why more left fit (inr (inl t)) = absurd (no_long limit t.seen (bytes t.rest) more small (sym (bytes_passed t.passes) ∙ left) fit t.header t.above)
+    why : (more : List (List ℕ)) → bytes mid ≡ frames more → All (λ p. length p ≤ limit) more
+        → TakesNone limit mid e after → IsFirstFault E e ⊎ IsOutOfMemory e
+    why more left fit (inl (inl t)) =
+        inl
+        (record
+        { seen = frames given ++ t.seen; rest = t.rest; passes = passes_then run.passes t.passes; fault = t.fault })
+    why more left fit (inl (inr t)) =
+        absurd
+        (no_part t.seen more (sym (bytes_passed t.passes) ∙ left) (all_within limit (2 ^ 32) small more fit) t.some
+        t.part)
+    why more left fit (inr (inl t)) =
+        absurd (no_long limit t.seen (bytes t.rest) more small (sym (bytes_passed t.passes) ∙ left) fit t.header t.above)
     why more left fit (inr (inr t)) = inr t.memory

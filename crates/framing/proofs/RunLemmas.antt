@@ -1,5 +1,6 @@
 -- What a run of frames took, payload by payload.
-use Rattle.std.proofs.Common.{◌≡◌, ℕ, ◌≤◌, List, [], ◌∷◌, ◌++◌, length, drop, map, Ok, Err, refl, sym, ap, ◌∙◌, subst, append_assoc, append-nil, inr}
+use Rattle.std.proofs.Common.{◌≡◌, ℕ, ◌≤◌, List, [], ◌∷◌, ◌++◌, length, drop, map, Ok, Err, refl, sym, ap, ◌∙◌, subst}
+use Rattle.std.proofs.Common.{append_assoc, append-nil, inr}
 use Rattle.std.specs.List.{concat}
 use Rattle.std.proofs.Math.Seq.{drop-append_seam}
 use Rattle.std.proofs.lemmas.List.{map-append}
@@ -18,40 +19,58 @@ frames_push : (ps : List (List ℕ)) (p : List ℕ) → frames (ps ++ p ∷ []) 
 frames_push ps p =
     ap concat (map-append frame ps (p ∷ [])) ∙ concat-append (map frame ps) (frame p ∷ []) ∙ ap (λ l. frames ps ++ l) (append-nil (frame p))
 
-appended_push : {X : Type 0} (old mid new : List X) (x : X) → mid ≡ old ++ appended old mid → new ≡ mid ++ x ∷ [] → appended old new ≡ appended old mid ++ x ∷ []
+appended_push : {X : Type 0} (old mid new : List X) (x : X) → mid ≡ old ++ appended old mid → new ≡ mid ++ x ∷ []
+    → appended old new ≡ appended old mid ++ x ∷ []
 appended_push old mid new x e is =
-    ap (drop (length old)) (is ∙ ap (λ l. l ++ x ∷ []) e ∙ append_assoc old (appended old mid) (x ∷ [])) ∙ drop-append_seam old (appended old mid ++ x ∷ [])
+    ap (drop (length old)) (is ∙ ap (λ l. l ++ x ∷ []) e ∙ append_assoc old (appended old mid) (x ∷ []))
+    ∙ drop-append_seam old (appended old mid ++ x ∷ [])
 
-pub appends_push : {X : Type 0} (old mid new : List X) (x : X) → mid ≡ old ++ appended old mid → new ≡ mid ++ x ∷ [] → new ≡ old ++ appended old new
+pub appends_push : {X : Type 0} (old mid new : List X) (x : X) → mid ≡ old ++ appended old mid → new ≡ mid ++ x ∷ []
+    → new ≡ old ++ appended old new
 appends_push old mid new x e is =
-    is ∙ ap (λ l. l ++ x ∷ []) e ∙ append_assoc old (appended old mid) (x ∷ []) ∙ ap (λ l. old ++ l) (sym (appended_push old mid new x e is))
+    is ∙ ap (λ l. l ++ x ∷ []) e ∙ append_assoc old (appended old mid) (x ∷ [])
+    ∙ ap (λ l. old ++ l) (sym (appended_push old mid new x e is))
 
 -- one frame more
-pub run_more : {X : Type 0} (f : X → List ℕ) (limit : ℕ) (E mid after : List Event) (old had new : List X) (x : X) → had ≡ old ++ appended old had → new ≡ had ++ x ∷ []
-    → PassesFrames limit E (map f (appended old had)) mid → Passes mid (frame (f x)) after × (length (f x) ≤ limit) → PassesFrames limit E (map f (appended old new)) after
+pub run_more : {X : Type 0} (f : X → List ℕ) (limit : ℕ) (E mid after : List Event) (old had new : List X) (x : X)
+    → had ≡ old ++ appended old had → new ≡ had ++ x ∷ []
+    → PassesFrames limit E (map f (appended old had)) mid → Passes mid (frame (f x)) after × (length (f x) ≤ limit)
+    → PassesFrames limit E (map f (appended old new)) after
 run_more f limit E mid after old had new x e is run h =
-    let all : map f (appended old new) ≡ map f (appended old had) ++ f x ∷ [] = ap (map f) (appended_push old had new x e is) ∙ map-append f (appended old had) (x ∷ []) in
+    let all : map f (appended old new) ≡ map f (appended old had) ++ f x ∷ [] =
+    ap (map f) (appended_push old had new x e is) ∙ map-append f (appended old had) (x ∷ []) in
     subst (λ ps. PassesFrames limit E ps after) (sym all) (record {
       passes = passes_as (passes_then run.passes h.0) (sym (frames_push (map f (appended old had)) (f x)));
       each = All-push (λ p. length p ≤ limit) (map f (appended old had)) (f x) run.each h.1;
     })
 
 -- the same payloads under another name
-pub run_same : {X : Type 0} (f : X → List ℕ) (limit : ℕ) (E after : List Event) (old had new : List X) → PassesFrames limit E (map f (appended old had)) after → new ≡ had → PassesFrames limit E (map f (appended old new)) after
+pub run_same : {X : Type 0} (f : X → List ℕ) (limit : ℕ) (E after : List Event) (old had new : List X)
+    → PassesFrames limit E (map f (appended old had)) after → new ≡ had
+    → PassesFrames limit E (map f (appended old new)) after
 run_same f limit E after old had new run is = subst (λ l. PassesFrames limit E (map f (appended old l)) after) (sym is) run
 
 -- the end after the frames
-pub run_ends : (limit : ℕ) (E mid after : List Event) (ps : List (List ℕ)) → PassesFrames limit E ps mid → Passes mid [] after × (after ≡ []) → TakesFrames limit E (Ok tt) ps after
-run_ends limit E mid after ps run h = (record { passes = passes_as (passes_then run.passes h.0) (append-nil (frames ps)); each = run.each }, h.1)
+pub run_ends : (limit : ℕ) (E mid after : List Event) (ps : List (List ℕ)) → PassesFrames limit E ps mid
+    → Passes mid [] after × (after ≡ []) → TakesFrames limit E (Ok tt) ps after
+run_ends limit E mid after ps run h =
+    (record { passes = passes_as (passes_then run.passes h.0) (append-nil (frames ps)); each = run.each }, h.1)
 
 -- want of memory after the frames
-pub run_refused : (limit : ℕ) (E after : List Event) (ps : List (List ℕ)) (e : Error) → PassesFrames limit E ps after → IsOutOfMemory e → TakesFrames limit E (Err e) ps after
-run_refused limit E after ps e run memory = (after, run, inr (inr (record { seen = []; rest = after; passes = passes_none after; kept = refl; memory = memory })))
+pub run_refused : (limit : ℕ) (E after : List Event) (ps : List (List ℕ)) (e : Error) → PassesFrames limit E ps after
+    → IsOutOfMemory e → TakesFrames limit E (Err e) ps after
+run_refused limit E after ps e run memory = (
+  after,
+  run,
+  inr (inr (record { seen = []; rest = after; passes = passes_none after; kept = refl; memory = memory })),
+)
 
 -- no frame after the frames
-pub run_stops : (limit most : ℕ) (E mid after : List Event) (ps : List (List ℕ)) (e : Error) → PassesFrames limit E ps mid → most ≡ limit → TakesNone most mid e after → TakesFrames limit E (Err e) ps after
+pub run_stops : (limit most : ℕ) (E mid after : List Event) (ps : List (List ℕ)) (e : Error)
+    → PassesFrames limit E ps mid → most ≡ limit → TakesNone most mid e after → TakesFrames limit E (Err e) ps after
 run_stops limit most E mid after ps e run same none = (mid, run, subst (λ n. TakesNone n mid e after) same none)
 
 -- a frame within the limit
-pub frame_within : (limit most : ℕ) (mid after : List Event) (p : List ℕ) → most ≡ limit → Passes mid (frame p) after × (length p ≤ most) → Passes mid (frame p) after × (length p ≤ limit)
+pub frame_within : (limit most : ℕ) (mid after : List Event) (p : List ℕ) → most ≡ limit
+    → Passes mid (frame p) after × (length p ≤ most) → Passes mid (frame p) after × (length p ≤ limit)
 frame_within limit most mid after p same h = subst (λ n. Passes mid (frame p) after × (length p ≤ n)) same h

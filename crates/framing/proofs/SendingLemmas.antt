@@ -1,5 +1,6 @@
 -- How frames go, piece by piece.
-use Rattle.std.proofs.Common.{◌≡◌, ℕ, ◌<◌, ◌^◌, List, [], ◌∷◌, ◌++◌, length, map, Result, Ok, Err, refl, sym, ap, ◌∙◌, subst, inr, arith, append_assoc, append-nil}
+use Rattle.std.proofs.Common.{◌≡◌, ℕ, ◌<◌, ◌^◌, List, [], ◌∷◌, ◌++◌, length, map, Result, Ok, Err, refl, sym, ap, ◌∙◌}
+use Rattle.std.proofs.Common.{subst, inr, arith, append_assoc, append-nil}
 use Rattle.std.specs.Result.{OnOk, OnErr}
 use Rattle.std.proofs.lemmas.List.Elements.{All-push}
 use Rattle.no_std_io2.specs.declared.io.Error.{Error}
@@ -18,10 +19,13 @@ pub goes_none : (a : Told) (to_go : List ℕ) → Goes a to_go a to_go
 goes_none a to_go = record { sent = []; split = refl; moves = Moves-refl a }
 
 -- the front of what is to go went on
-pub goes_on : {a b c : Told} {whole to_go left : List ℕ} (more : List ℕ) → Goes a whole b (to_go ++ more) → Sends b to_go (Ok tt) c left → Goes a whole c (left ++ more)
+pub goes_on : {a b c : Told} {whole to_go left : List ℕ} (more : List ℕ) → Goes a whole b (to_go ++ more)
+    → Sends b to_go (Ok tt) c left → Goes a whole c (left ++ more)
 goes_on {left = left} more f s = record {
   sent = f.sent ++ s.sent;
-  split = f.split ∙ ap (λ l. f.sent ++ (l ++ more)) s.split ∙ ap (λ l. f.sent ++ l) (append_assoc s.sent left more) ∙ sym (append_assoc f.sent s.sent (left ++ more));
+  split =
+      f.split ∙ ap (λ l. f.sent ++ (l ++ more)) s.split ∙ ap (λ l. f.sent ++ l) (append_assoc s.sent left more)
+      ∙ sym (append_assoc f.sent s.sent (left ++ more));
   moves = Moves-then f.moves s.moves;
 }
 
@@ -30,16 +34,20 @@ mishap_some e [] some = absurd (omega arith)
 mishap_some e (b ∷ bs) some = refl
 
 -- the front of what is to go went on, and stopped
-pub goes_stopped : {a b c : Told} {whole to_go left : List ℕ} (more : List ℕ) (e : Error) (under_way : List ℕ) → Goes a whole b (to_go ++ more) → Sends b to_go (Err e) c left → 0 < length under_way
+pub goes_stopped : {a b c : Told} {whole to_go left : List ℕ} (more : List ℕ) (e : Error) (under_way : List ℕ)
+    → Goes a whole b (to_go ++ more) → Sends b to_go (Err e) c left → 0 < length under_way
     → SendsFrames a whole (Err e) under_way c (left ++ more)
 goes_stopped {a} {c = c} {left = left} more e under_way f s some = record {
   sent = f.sent ++ s.sent;
-  split = f.split ∙ ap (λ l. f.sent ++ (l ++ more)) s.split ∙ ap (λ l. f.sent ++ l) (append_assoc s.sent left more) ∙ sym (append_assoc f.sent s.sent (left ++ more));
+  split =
+      f.split ∙ ap (λ l. f.sent ++ (l ++ more)) s.split ∙ ap (λ l. f.sent ++ l) (append_assoc s.sent left more)
+      ∙ sym (append_assoc f.sent s.sent (left ++ more));
   moves = subst (λ k. Moves a (f.sent ++ s.sent) k c) (mishap_some e under_way some) (Moves-then f.moves s.moves);
 }
 
 -- nothing more went, since a payload was refused
-pub goes_refused : {a b : Told} {whole left : List ℕ} (shown under_way : List ℕ) (e : Error) → Goes a whole b left → left ≡ shown → under_way ≡ [] → SendsFrames a whole (Err e) under_way b shown
+pub goes_refused : {a b : Told} {whole left : List ℕ} (shown under_way : List ℕ) (e : Error) → Goes a whole b left
+    → left ≡ shown → under_way ≡ [] → SendsFrames a whole (Err e) under_way b shown
 goes_refused {a} {b} shown under_way e f is none = record {
   sent = f.sent;
   split = f.split ∙ ap (λ l. f.sent ++ l) is;
@@ -47,7 +55,8 @@ goes_refused {a} {b} shown under_way e f is none = record {
 }
 
 -- all went
-pub goes_all : {a b : Told} {whole left : List ℕ} (shown under_way : List ℕ) → Goes a whole b left → left ≡ shown → SendsFrames a whole (Ok tt) under_way b shown
+pub goes_all : {a b : Told} {whole left : List ℕ} (shown under_way : List ℕ) → Goes a whole b left → left ≡ shown
+    → SendsFrames a whole (Ok tt) under_way b shown
 goes_all shown under_way f is = record { sent = f.sent; split = f.split ∙ ap (λ l. f.sent ++ l) is; moves = f.moves }
 
 -- the same left under another name
@@ -56,13 +65,16 @@ goes_shown shown f is = record { sent = f.sent; split = f.split ∙ ap (λ l. f.
 
 -- a frame that was staged went as far as it did
 pub sends_frame : (reply : Result (Unit {0}) Error) {old new : Told} {rest left : List ℕ} (payload was under_way : List ℕ)
-    → Sends old rest reply new left → rest ≡ frame payload → was ≡ frame payload → OnOk reply (under_way ≡ []) → OnOk reply (left ≡ []) → OnErr reply (under_way ≡ was) → SendsFrame old payload reply under_way left new
+    → Sends old rest reply new left → rest ≡ frame payload → was ≡ frame payload → OnOk reply (under_way ≡ [])
+    → OnOk reply (left ≡ []) → OnErr reply (under_way ≡ was) → SendsFrame old payload reply under_way left new
 sends_frame (Ok u) {old} {new} payload was under_way s is staged idle none err =
     (subst (λ l. Moves old l [] new) (sym (append-nil s.sent) ∙ ap (λ l. s.sent ++ l) (sym none) ∙ sym s.split ∙ is) s.moves, idle)
-sends_frame (Err e) payload was under_way s is staged idle none err = inr (record { is = err ∙ staged; went = s.sent; split = sym is ∙ s.split; moves = s.moves })
+sends_frame (Err e) payload was under_way s is staged idle none err =
+    inr (record { is = err ∙ staged; went = s.sent; split = sym is ∙ s.split; moves = s.moves })
 
 -- a flush behind what went
-pub sends_flush : {a b c : Told} {to_go : List ℕ} (reply : Result (Unit {0}) Error) (left shown : List ℕ) → Sends a to_go (Ok tt) b left → Moves b [] (call_mishap reply) c → left ≡ shown → Sends a to_go reply c shown
+pub sends_flush : {a b c : Told} {to_go : List ℕ} (reply : Result (Unit {0}) Error) (left shown : List ℕ)
+    → Sends a to_go (Ok tt) b left → Moves b [] (call_mishap reply) c → left ≡ shown → Sends a to_go reply c shown
 sends_flush reply left shown s m is = record { sent = s.sent; split = s.split ∙ ap (λ l. s.sent ++ l) is; moves = Moves-ends s.moves m }
 
 -- nothing was taken off
@@ -70,7 +82,8 @@ pub off_none : (xs : List (List ℕ)) → TakesOff xs xs
 off_none xs = record { front = []; split = refl; short = λ k d h. absurd (omega arith) }
 
 -- one payload more was taken off
-pub off_more : {xs : List (List ℕ)} (p : List ℕ) (ps shown : List (List ℕ)) → TakesOff xs shown → shown ≡ p ∷ ps → length p < 2 ^ 32 → TakesOff xs ps
+pub off_more : {xs : List (List ℕ)} (p : List ℕ) (ps shown : List (List ℕ)) → TakesOff xs shown → shown ≡ p ∷ ps
+    → length p < 2 ^ 32 → TakesOff xs ps
 off_more p ps shown t is short = record {
   front = t.front ++ p ∷ [];
   split = t.split ∙ ap (λ l. t.front ++ l) is ∙ sym (append_assoc t.front (p ∷ []) ps);
@@ -83,7 +96,9 @@ none_left [] h = refl
 none_left (x ∷ xs) h = absurd (omega arith)
 
 -- a payload that was staged is still to go in front of the others
-pub staged : {X : Type 0} (f : X → List ℕ) (xs : List X) (x : X) (others : List X) (left to_go payload : List ℕ) → xs ≡ x ∷ others → left ≡ [] → payload ≡ f x → to_go ≡ frame payload
+pub staged : {X : Type 0} (f : X → List ℕ) (xs : List X) (x : X) (others : List X) (left to_go payload : List ℕ)
+    → xs ≡ x ∷ others → left ≡ [] → payload ≡ f x → to_go ≡ frame payload
     → left ++ frames (map f xs) ≡ to_go ++ frames (map f others)
 staged f xs x others left to_go payload first none same is =
-    ap (λ l. l ++ frames (map f xs)) none ∙ ap (λ l. frames (map f l)) first ∙ ap (λ l. frame l ++ frames (map f others)) (sym same) ∙ ap (λ l. l ++ frames (map f others)) (sym is)
+    ap (λ l. l ++ frames (map f xs)) none ∙ ap (λ l. frames (map f l)) first
+    ∙ ap (λ l. frame l ++ frames (map f others)) (sym same) ∙ ap (λ l. l ++ frames (map f others)) (sym is)

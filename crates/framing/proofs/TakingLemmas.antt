@@ -1,5 +1,6 @@
 -- How what was taken of events follows one another.
-use Rattle.std.proofs.Common.{◌≡◌, ℕ, ◌+◌, Bool, true, false, List, [], ◌∷◌, ◌++◌, length, Result, Ok, Err, refl, sym, ap, ◌∙◌, subst, inl, inr, arith, append_assoc, append-nil, length-append}
+use Rattle.std.proofs.Common.{◌≡◌, ℕ, ◌+◌, Bool, true, false, List, [], ◌∷◌, ◌++◌, length, Result, Ok, Err, refl, sym}
+use Rattle.std.proofs.Common.{ap, ◌∙◌, subst, inl, inr, arith, append_assoc, append-nil, length-append}
 use Rattle.no_std_io2.specs.declared.io.Error.{Error}
 use Rattle.no_std_io2.specs.Errors.{IsInterruption}
 use Rattle.no_std_io2.specs.Events.{Event, fails, events_of, bytes}
@@ -35,38 +36,50 @@ gathered_then {a = a} g h = record {
 }
 
 -- some bytes more
-pub gathered_bytes : {E mid : List Event} {old part : List ℕ} (more new : List ℕ) (after : List Event) → Gathered E old part mid → mid ≡ events_of more ++ after → new ≡ part ++ more → Gathered E old new after
+pub gathered_bytes : {E mid : List Event} {old part : List ℕ} (more new : List ℕ) (after : List Event)
+    → Gathered E old part mid → mid ≡ events_of more ++ after → new ≡ part ++ more → Gathered E old new after
 gathered_bytes {mid = mid} {part = part} more new after g read is =
-    let next : Gathered mid part new after = record { more = more; is = is; passes = subst (λ l. Passes l more after) (sym read) (passes_bytes more after) } in
+    let next : Gathered mid part new after =
+    record { more = more; is = is; passes = subst (λ l. Passes l more after) (sym read) (passes_bytes more after) } in
     gathered_then g next
 
 -- an interruption was passed over
-pub gathered_interruption : {E mid : List Event} {old part : List ℕ} (e : Error) (after : List Event) → Gathered E old part mid → mid ≡ fails e ∷ after → IsInterruption e → Gathered E old part after
+pub gathered_interruption : {E mid : List Event} {old part : List ℕ} (e : Error) (after : List Event)
+    → Gathered E old part mid → mid ≡ fails e ∷ after → IsInterruption e → Gathered E old part after
 gathered_interruption {mid = mid} {part = part} e after g read again =
     let next : Passes mid [] after = record { front = fails e ∷ []; split = read; no_fault = (again, tt); gave = refl } in
     gathered_then g (record { more = []; is = sym (append-nil part); passes = next })
 
 -- the same part, with the same to come
-pub gathered_to : {E mid : List Event} {old part : List ℕ} (new : List ℕ) (after : List Event) → Gathered E old part mid → new ≡ part → mid ≡ after → Gathered E old new after
-gathered_to {E} {mid} {old} {part} new after g is same = subst (λ l. Gathered E old new l) same (subst (λ l. Gathered E old l mid) (sym is) g)
+pub gathered_to : {E mid : List Event} {old part : List ℕ} (new : List ℕ) (after : List Event) → Gathered E old part mid
+    → new ≡ part → mid ≡ after → Gathered E old new after
+gathered_to {E} {mid} {old} {part} new after g is same =
+    subst (λ l. Gathered E old new l) same (subst (λ l. Gathered E old l mid) (sym is) g)
 
 -- what was gathered before is taken with it
 pub gathered_passes : {E after : List Event} {old new : List ℕ} → Gathered E old new after → Passes (events_of old ++ E) new after
-gathered_passes {E} {after} {old} {new} g = subst (λ l. Passes (events_of old ++ E) l after) (sym g.is) (passes_then (passes_bytes old E) g.passes)
+gathered_passes {E} {after} {old} {new} g =
+    subst (λ l. Passes (events_of old ++ E) l after) (sym g.is) (passes_then (passes_bytes old E) g.passes)
 
-gathered_behind : {E after : List Event} {old new : List ℕ} (header : List ℕ) → Gathered E old new after → Gathered E (header ++ old) (header ++ new) after
-gathered_behind {old = old} header g = record { more = g.more; is = ap (λ l. header ++ l) g.is ∙ sym (append_assoc header old g.more); passes = g.passes }
+gathered_behind : {E after : List Event} {old new : List ℕ} (header : List ℕ) → Gathered E old new after
+    → Gathered E (header ++ old) (header ++ new) after
+gathered_behind {old = old} header g =
+    record { more = g.more; is = ap (λ l. header ++ l) g.is ∙ sym (append_assoc header old g.more); passes = g.passes }
 
 -- a part is gathered behind a header
 pub gathers_behind : (E after : List Event) (old new : List ℕ) (want : ℕ) (reply : Result Bool Error) (header : List ℕ) → length header ≡ 4
     → Gathers want E reply old new after → Gathers (4 + want) E reply (header ++ old) (header ++ new) after
 gathers_behind E after old new want (Ok true) header four h = (gathered_behind header h.0, omega (arith, h.1, length-append header new))
-gathers_behind E after old new want (Ok false) header four h = (gathered_behind header h.0, omega (arith, h.1, length-append header new), h.2)
-gathers_behind E after old new want (Err e) header four (inl h) = inl (gathered_behind header h.0, omega (arith, h.1, length-append header new), h.2)
+gathers_behind E after old new want (Ok false) header four h =
+    (gathered_behind header h.0, omega (arith, h.1, length-append header new), h.2)
+gathers_behind E after old new want (Err e) header four (inl h) =
+    inl (gathered_behind header h.0, omega (arith, h.1, length-append header new), h.2)
 gathers_behind E after old new want (Err e) header four (inr h) = inr (gathered_behind header h.0, h.1)
 
 -- a header is gathered, with no payload behind it
-pub gathers_alone : (E after : List Event) (old new payload : List ℕ) (want : ℕ) (reply : Result Bool Error) → payload ≡ [] → Gathers want E reply old new after → Gathers want E reply (old ++ payload) (new ++ payload) after
+pub gathers_alone : (E after : List Event) (old new payload : List ℕ) (want : ℕ) (reply : Result Bool Error)
+    → payload ≡ [] → Gathers want E reply old new after → Gathers want E reply (old ++ payload) (new ++ payload) after
 gathers_alone E after old new payload want reply none h =
     subst (λ p. Gathers want E reply (old ++ p) (new ++ p) after) (sym none)
-    (subst (λ l. Gathers want E reply l (new ++ []) after) (sym (append-nil old)) (subst (λ l. Gathers want E reply old l after) (sym (append-nil new)) h))
+    (subst (λ l. Gathers want E reply l (new ++ []) after) (sym (append-nil old))
+    (subst (λ l. Gathers want E reply old l after) (sym (append-nil new)) h))

@@ -1,5 +1,7 @@
 -- What went out, and what is read of it.
-use Rattle.std.proofs.Common.{◌≡◌, ◌⊎◌, ℕ, zero, suc, ◌<◌, ◌≤◌, ◌^◌, List, [], ◌∷◌, ◌++◌, length, take, drop, get_or, map, All, ◌-◌, length-drop, Ok, Err, refl, sym, ap, ◌∙◌, subst, inl, inr, arith, append-nil}
+use Rattle.std.proofs.Common.{◌≡◌, ◌⊎◌, ℕ, zero, suc, ◌<◌, ◌≤◌, ◌^◌, List, [], ◌∷◌, ◌++◌, length, take, drop, get_or}
+use Rattle.std.proofs.Common.{map, All, ◌-◌, length-drop, Ok, Err, refl, sym, ap, ◌∙◌, subst, inl, inr, arith}
+use Rattle.std.proofs.Common.{append-nil}
 use Rattle.std.proofs.Math.Seq.{drop-append_seam}
 use Rattle.std.proofs.lemmas.List.{take_all}
 use Rattle.std.proofs.lemmas.List.Elements.{All-head}
@@ -22,10 +24,14 @@ drop_none n bs e = ap (drop n) e ∙ none n
     none (suc k) = refl
 
 -- what is out behind what was out is what was sent
-pub went_out : (a b : Told) (to_go left sent : List ℕ) → Delivers a (to_go ++ sent) b left → to_go ≡ [] → left ≡ [] → a.held ≡ [] → b.held ≡ [] → drop (length a.out) b.out ≡ sent
+pub went_out : (a b : Told) (to_go left sent : List ℕ) → Delivers a (to_go ++ sent) b left → to_go ≡ [] → left ≡ []
+    → a.held ≡ [] → b.held ≡ [] → drop (length a.out) b.out ≡ sent
 went_out a b to_go left sent d none all before after =
     let is : d.sent ≡ sent = sym (append-nil d.sent) ∙ ap (λ l. d.sent ++ l) (sym all) ∙ sym d.split ∙ ap (λ l. l ++ sent) none in
-    let whole : b.out ≡ a.out ++ sent = sym (append-nil b.out) ∙ ap (λ l. b.out ++ l) (sym after) ∙ d.moves.bytes ∙ ap (λ l. (a.out ++ l) ++ d.sent) before ∙ ap (λ l. l ++ d.sent) (append-nil a.out) ∙ ap (λ l. a.out ++ l) is in
+    let whole : b.out ≡ a.out ++ sent =
+    sym (append-nil b.out) ∙ ap (λ l. b.out ++ l) (sym after) ∙ d.moves.bytes
+    ∙ ap (λ l. (a.out ++ l) ++ d.sent) before ∙ ap (λ l. l ++ d.sent) (append-nil a.out)
+    ∙ ap (λ l. a.out ++ l) is in
     ap (drop (length a.out)) whole ∙ drop-append_seam a.out sent
 
 -- all payloads were taken off, so each is short enough
@@ -37,10 +43,12 @@ all_short most old new t none is = λ k d lt.
     omega arith
 
 -- payloads that are short enough are refused for want of memory alone
-pub only_memory : (old new : List (List ℕ)) (e : Error) → TakesOff old new → All (λ p. length p < 2 ^ 32) old → RefusesFirst new e → IsOutOfMemory e
+pub only_memory : (old new : List (List ℕ)) (e : Error) → TakesOff old new → All (λ p. length p < 2 ^ 32) old
+    → RefusesFirst new e → IsOutOfMemory e
 only_memory old [] e t short h = absurd h
 only_memory old (p ∷ ps) e t short (inl long) =
-    let others : All (λ q. length q < 2 ^ 32) (p ∷ ps) = All-right (λ q. length q < 2 ^ 32) t.front (p ∷ ps) (subst (All (λ q. length q < 2 ^ 32)) t.split short) in
+    let others : All (λ q. length q < 2 ^ 32) (p ∷ ps) =
+    All-right (λ q. length q < 2 ^ 32) t.front (p ∷ ps) (subst (All (λ q. length q < 2 ^ 32)) t.split short) in
     let fits : length p < 2 ^ 32 = All-head (λ q. length q < 2 ^ 32) p ps others in
     absurd (omega (arith, long.0))
 only_memory old (p ∷ ps) e t short (inr memory) = memory
@@ -56,7 +64,9 @@ no_fault bs E front rest e is split = at bs front (sym is ∙ split)
     at (c ∷ cs) (q ∷ Q) h = at cs Q (let t : events_of cs ≡ Q ++ fails e ∷ rest = cc in t)
 
 -- over bytes alone an error is want of memory
-pub memory_alone : (sent : List (List ℕ)) (bs : List ℕ) (E : List Event) (e : Error) (given : List (List ℕ)) (left : List ℕ) → E ≡ events_of bs → ComesBack sent E (Err e) given left → IsOutOfMemory e
+pub memory_alone : (sent : List (List ℕ)) (bs : List ℕ) (E : List Event) (e : Error) (given : List (List ℕ))
+    (left : List ℕ)
+    → E ≡ events_of bs → ComesBack sent E (Err e) given left → IsOutOfMemory e
 memory_alone sent bs E e given left is back = why back.err
   where
     why : IsFirstFault E e ⊎ IsOutOfMemory e → IsOutOfMemory e
@@ -64,19 +74,25 @@ memory_alone sent bs E e given left is back = why back.err
     why (inr m) = m
 
 -- what was given is what was sent
-pub all_given : {X : Type 0} (f : X → List ℕ) (sent : List (List ℕ)) (E : List Event) (left : List ℕ) (old new : List X) → ComesBack sent E (Ok tt) (map f (appended old new)) left → new ≡ old ++ appended old new → old ≡ [] → map f new ≡ sent
+pub all_given : {X : Type 0} (f : X → List ℕ) (sent : List (List ℕ)) (E : List Event) (left : List ℕ) (old new : List X)
+    → ComesBack sent E (Ok tt) (map f (appended old new)) left → new ≡ old ++ appended old new → old ≡ []
+    → map f new ≡ sent
 all_given f sent E left old new back e none =
-    ap (map f) (e ∙ ap (λ l. l ++ appended old new) none) ∙ sym (append-nil (map f (appended old new))) ∙ ap (λ l. map f (appended old new) ++ l) (sym back.ok) ∙ sym back.split
+    ap (map f) (e ∙ ap (λ l. l ++ appended old new) none) ∙ sym (append-nil (map f (appended old new)))
+    ∙ ap (λ l. map f (appended old new) ++ l) (sym back.ok) ∙ sym back.split
 
 -- the bytes behind those that were shown before are the frames of the payloads
-pub shown_frames : (a b : Told) (to_go to_go' : List ℕ) (payloads left : List (List ℕ)) (before after : List ℕ) → Delivers a (to_go ++ frames payloads) b (to_go' ++ frames left)
-    → to_go ≡ [] → to_go' ≡ [] → left ≡ [] → a.held ≡ [] → b.held ≡ [] → before ≡ a.out → after ≡ b.out → drop (length before) after ≡ frames payloads
+pub shown_frames : (a b : Told) (to_go to_go' : List ℕ) (payloads left : List (List ℕ)) (before after : List ℕ)
+    → Delivers a (to_go ++ frames payloads) b (to_go' ++ frames left)
+    → to_go ≡ [] → to_go' ≡ [] → left ≡ [] → a.held ≡ [] → b.held ≡ [] → before ≡ a.out → after ≡ b.out
+    → drop (length before) after ≡ frames payloads
 shown_frames a b to_go to_go' payloads left before after d none none' all held held' was is =
     ap (λ l. drop (length l) after) was ∙ ap (drop (length a.out)) is
     ∙ went_out a b to_go (to_go' ++ frames left) (frames payloads) d none (ap (λ l. l ++ frames left) none' ∙ ap frames all) held held'
 
 -- and so are the bytes to come of a reader over them
-pub come_frames : (E : List Event) (bs : List ℕ) (payloads : List (List ℕ)) → E ≡ events_of bs → bs ≡ frames payloads → bytes E ≡ frames payloads
+pub come_frames : (E : List Event) (bs : List ℕ) (payloads : List (List ℕ)) → E ≡ events_of bs → bs ≡ frames payloads
+    → bytes E ≡ frames payloads
 come_frames E bs payloads e is = ap bytes e ∙ bytes-events_of bs ∙ is
 
 -- a slice from a place on

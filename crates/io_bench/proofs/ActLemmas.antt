@@ -1,5 +1,7 @@
 -- What is behind the acts that a call spends.
-use Rattle.std.proofs.Common.{◌≡◌, ℕ, ◌+◌, ◌<◌, ◌==◌, List, [], ◌∷◌, ◌++◌, drop, Option, None, Some, if◌then◌else◌, refl, sym, ap, ◌∙◌, subst, arith, count_by, append-nil, ◌≤◌, min, length, take, Result, Ok, Err, IfOk, length-take, take-take}
+use Rattle.std.proofs.Common.{◌≡◌, ℕ, ◌<◌, List, [], ◌∷◌, ◌++◌, drop, Option, None, Some}
+use Rattle.std.proofs.Common.{refl, sym, ap, ◌∙◌, subst, arith, append-nil, ◌≤◌, min, length, take, Result}
+use Rattle.std.proofs.Common.{Ok, Err, IfOk, length-take, take-take}
 use Rattle.std.proofs.lemmas.Bool.Decides.{nat_tests}
 use Rattle.no_std_io2_base.specs.declared.error.Error.{Error}
 use Rattle.no_std_io2_base.specs.declared.error.ErrorKind.TheVariants.{WriteZero}

@@ -1,5 +1,8 @@
 -- Asks in a row.
-use Rattle.std.proofs.Common.{Bor, Result, Ok, ◌⊎◌, inl, inr, Err, append-nil, nat_eq, ◌≡◌, ℕ, zero, suc, ◌+◌, ◌-◌, ◌<◌, ◌≤◌, min, nat_lt, if◌then◌else◌, false, Bool, List, [], ◌∷◌, ◌++◌, length, take, drop, get_or, refl, sym, ap, subst, ◌∙◌, arith, ⊎_elim, drop_of_length-le, length-take-le, length-drop, add_assoc, append_assoc, take_all, length-append}
+use Rattle.std.proofs.Common.{Bor, Result, Ok, ◌⊎◌, inl, inr, Err, append-nil, nat_eq, ◌≡◌, ℕ, zero, suc, ◌+◌, ◌-◌, ◌<◌}
+use Rattle.std.proofs.Common.{◌≤◌, min, nat_lt, if◌then◌else◌, false, Bool, List, [], ◌∷◌, ◌++◌, length, take, drop}
+use Rattle.std.proofs.Common.{get_or, refl, sym, ap, subst, ◌∙◌, arith, ⊎_elim, drop_of_length-le, length-take-le}
+use Rattle.std.proofs.Common.{length-drop, add_assoc, append_assoc, take_all, length-append}
 use Rattle.std.proofs.lemmas.List.{take_more}
 use Rattle.std.proofs.lemmas.Bool.Decides.{nat_tests}
 use Rattle.std.proofs.lemmas.Bool.{cases_lt}
@@ -23,7 +26,8 @@ use Rattle.io_bench.specs.Asks.{Drops, Step, Steps, TakesFront, Fits, AllFit, As
 abbrev pub ends_more : Ask → List Event → ℕ → ℕ
 ends_more ask E ends = ends + (if meets_end ask (length E) then 1 else 0)
 
-Steps-more : (asks : List Ask) (ask : Ask) (E mid after : List Event) (ends : ℕ) → Steps asks E mid ends → Step ask mid after → Steps (asks ++ ask ∷ []) E after (ends_more ask mid ends)
+Steps-more : (asks : List Ask) (ask : Ask) (E mid after : List Event) (ends : ℕ) → Steps asks E mid ends
+    → Step ask mid after → Steps (asks ++ ask ∷ []) E after (ends_more ask mid ends)
 Steps-more [] ask E mid after ends s t =
     let here = subst (λ l. Step ask l after) s.0 t in
     (after, 0, here, (refl, refl), grind (arith, s.0, s.1))
@@ -33,12 +37,15 @@ Steps-more (o ∷ asks) ask E mid after ends s t =
 pub Steps-none : (asks : List Ask) (E : List Event) → Steps (take 0 asks) E E 0
 Steps-none asks E = (refl, refl)
 
-pub Steps-next : (asks : List Ask) (i : ℕ) (d : Ask) (E mid after : List Event) (ends : ℕ) → i < length asks → Steps (take i asks) E mid ends → Step (get_or asks i d) mid after
+pub Steps-next : (asks : List Ask) (i : ℕ) (d : Ask) (E mid after : List Event) (ends : ℕ) → i < length asks
+    → Steps (take i asks) E mid ends → Step (get_or asks i d) mid after
     → Steps (take (i + 1) asks) E after (ends_more (get_or asks i d) mid ends)
 Steps-next asks i d E mid after ends h s t =
-    subst (λ made. Steps made E after (ends_more (get_or asks i d) mid ends)) (sym (take_more asks i d h)) (Steps-more (take i asks) (get_or asks i d) E mid after ends s t)
+    subst (λ made. Steps made E after (ends_more (get_or asks i d) mid ends)) (sym (take_more asks i d h))
+    (Steps-more (take i asks) (get_or asks i d) E mid after ends s t)
 
-pub Steps-all : (asks : List Ask) (i : ℕ) (E after : List Event) (ends : ℕ) → length asks ≤ i → Steps (take i asks) E after ends → Steps asks E after ends
+pub Steps-all : (asks : List Ask) (i : ℕ) (E after : List Event) (ends : ℕ) → length asks ≤ i
+    → Steps (take i asks) E after ends → Steps asks E after ends
 Steps-all asks i E after ends h s = subst (λ made. Steps made E after ends) (take_all i asks h) s
 
 pub fits_at : (room : ℕ) (asks : List Ask) (i : ℕ) (d : Ask) → i < length asks → AllFit room asks → Fits room (get_or asks i d)
@@ -66,8 +73,10 @@ drops S most h E E' ready some is = ⊎_elim
     (cases_lt (length E) 1)
 
 -- an ask, by the numbers of bytes
-asked_by : (S : ℕ) (ask : Ask) (h r h' r' : ℕ) (E E' : List Event) (is_end : Bool) (k : ℕ) → TakesFront E E' → length E ≡ k + length E' → k ≡ asked_bytes S ask h (length E)
-    → is_end ≡ meets_end ask (length E) → r' ≡ r + asked_reads ask h (length E) → h' ≡ asked_left S ask h (length E) → Asked S ask h r E is_end h' r' E'
+asked_by : (S : ℕ) (ask : Ask) (h r h' r' : ℕ) (E E' : List Event) (is_end : Bool) (k : ℕ) → TakesFront E E'
+    → length E ≡ k + length E' → k ≡ asked_bytes S ask h (length E)
+    → is_end ≡ meets_end ask (length E) → r' ≡ r + asked_reads ask h (length E) → h' ≡ asked_left S ask h (length E)
+    → Asked S ask h r E is_end h' r' E'
 asked_by S ask h r h' r' E E' is_end k front long count end reads left = record {
   events = front_gone E E' _ front (omega (arith, count));
   end = end;
@@ -76,9 +85,12 @@ asked_by S ask h r h' r' E E' is_end k front long count end reads left = record 
 }
 
 -- a read that gave n bytes
-pub read_asked : (S len r r' n : ℕ) (held held' buf : List ℕ) (inner E' : List Event) (is_end : Bool) → 0 < S → Reads (events_of held ++ inner) (Ok n) buf E' → n ≤ length buf
-    → n ≡ min len (held_or_to_come (length held) (length inner)) → (0 < length held → held' ≡ drop n held) → (held ≡ [] → S ≤ len → held' ≡ []) → (held ≡ [] → len < S → length held' + n ≡ min S (length inner))
-    → r' ≡ r + (1 - length held) → is_end ≡ (if nat_lt 0 n then false else nat_lt (length held') 1) → Asked S (Read len) (length held) r (events_of held ++ inner) is_end (length held') r' E'
+pub read_asked : (S len r r' n : ℕ) (held held' buf : List ℕ) (inner E' : List Event) (is_end : Bool) → 0 < S
+    → Reads (events_of held ++ inner) (Ok n) buf E' → n ≤ length buf
+    → n ≡ min len (held_or_to_come (length held) (length inner)) → (0 < length held → held' ≡ drop n held)
+    → (held ≡ [] → S ≤ len → held' ≡ []) → (held ≡ [] → len < S → length held' + n ≡ min S (length inner))
+    → r' ≡ r + (1 - length held) → is_end ≡ (if nat_lt 0 n then false else nat_lt (length held') 1)
+    → Asked S (Read len) (length held) r (events_of held ++ inner) is_end (length held') r' E'
 read_asked S len r r' n held held' buf inner E' is_end room read fits is gave straight filled reads end =
     let all = length-events held inner in
     let long = ap length read.0 ∙ length-events (take n buf) E' in
@@ -86,19 +98,24 @@ read_asked S len r r' n held held' buf inner E' is_end room read fits is gave st
     let left : 0 < length held → length held' ≡ length held - n = λ some. ap length (gave some) ∙ length-drop n held in
     let direct : length held ≡ 0 → S ≤ len → length held' ≡ 0 = λ none wide. ap length (straight (no_bytes held none) wide) in
     let kept : length held ≡ 0 → len < S → length held' + n ≡ min S (length inner) = λ none. filled (no_bytes held none) in
-    asked_by S (Read len) (length held) r (length held') r' (events_of held ++ inner) E' is_end n (events_of (take n buf), read.0) (omega (arith, long, within))
+    asked_by S (Read len) (length held) r (length held') r' (events_of held ++ inner) E' is_end n
+    (events_of (take n buf), read.0) (omega (arith, long, within))
     (grind (arith, nat_tests, all)) (grind (arith, nat_tests, all)) reads (grind (arith, nat_tests, all))
 
 -- a fill that lent some bytes, of which so many were consumed
-pub fill_asked : (S most h e r h' r' lent : ℕ) (E E' : List Event) (is_end : Bool) → 0 < S → TakesFront E E' → length E ≡ min most lent + length E' → length E ≡ h + e
-    → lent ≡ filled_length S h e → h' ≡ lent - min most lent → r' ≡ r + (1 - h) → is_end ≡ nat_eq lent 0 → Asked S (Fill most) h r E is_end h' r' E'
+pub fill_asked : (S most h e r h' r' lent : ℕ) (E E' : List Event) (is_end : Bool) → 0 < S → TakesFront E E'
+    → length E ≡ min most lent + length E' → length E ≡ h + e
+    → lent ≡ filled_length S h e → h' ≡ lent - min most lent → r' ≡ r + (1 - h) → is_end ≡ nat_eq lent 0
+    → Asked S (Fill most) h r E is_end h' r' E'
 fill_asked S most h e r h' r' lent E E' is_end room front long all is left reads end =
     let rest : length E - h ≡ e = omega arith in
     let same : filled_length S h (length E - h) ≡ lent = ap (filled_length S h) rest ∙ sym is in
-    asked_by S (Fill most) h r h' r' E E' is_end (min most lent) front long (ap (min most) (sym same)) (grind (arith, nat_tests)) reads (left ∙ (omega (arith, same)))
+    asked_by S (Fill most) h r h' r' E E' is_end (min most lent) front long (ap (min most) (sym same))
+    (grind (arith, nat_tests)) reads (left ∙ (omega (arith, same)))
 
 -- an exact read that is filled, or falls short
-pub exact_asked : (S len h r h' r' : ℕ) (E E' : List Event) (is_end : Bool) → TakesFront E E' → length E' ≡ length E - len → is_end ≡ nat_lt (length E) len
+pub exact_asked : (S len h r h' r' : ℕ) (E E' : List Event) (is_end : Bool) → TakesFront E E'
+    → length E' ≡ length E - len → is_end ≡ nat_lt (length E) len
     → r' ≡ r + exact_reads len h (length E) → h' ≡ exact_left S len h (length E) → Asked S (Exact len) h r E is_end h' r' E'
 exact_asked S len h r h' r' E E' is_end front long end reads left =
     asked_by S (Exact len) h r h' r' E E' is_end (min len (length E)) front (omega arith) refl end reads left
@@ -110,14 +127,22 @@ bytes-le (fails e ∷ E) = omega (arith, bytes-le E)
 
 -- a filled buffer is no longer than what was to come
 pub filled-le : (E : List Event) (buf : List ℕ) (E' : List Event) → Fills E buf E' → length buf ≤ length E
-filled-le E buf E' f = omega (arith, bytes-le (cut (length buf) E), ap length f.filled, ap length f.split, length-append (cut (length buf) E) E')
+filled-le E buf E' f =
+    omega (
+      arith,
+      bytes-le (cut (length buf) E),
+      ap length f.filled,
+      ap length f.split,
+      length-append (cut (length buf) E) E',
+    )
 
 taken_whole : (E E' : List Event) → (E' ≡ [] ⊎ (⊥ × (E' ≡ E))) → TakesFront E E'
 taken_whole E E' (inl none) = (E, sym (append-nil E) ∙ ap (λ l. E ++ l) (sym none))
 taken_whole E E' (inr n) = absurd n.0
 
 -- an exact read of bytes alone fails at their end, where all are taken
-pub falls_short : (bs : List ℕ) (E : List Event) (e : Error) (buf : List ℕ) (E' : List Event) → E ≡ events_of bs → ReadsExact {A = Unit {0}} ⊥ E (Err e) buf E'
+pub falls_short : (bs : List ℕ) (E : List Event) (e : Error) (buf : List ℕ) (E' : List Event) → E ≡ events_of bs
+    → ReadsExact {A = Unit {0}} ⊥ E (Err e) buf E'
     → (error_kind e ≡ UnexpectedEof) × (length E < length buf) × TakesFront E E'
 falls_short bs E e buf E' is (inl stops) =
     let none : HasNoFault E = subst HasNoFault (sym is) (HasNoFault-events_of bs) in
@@ -132,33 +157,42 @@ pub bytes_behind : (held bs : List ℕ) (E : List Event) → E ≡ events_of bs 
 bytes_behind held bs E is = ap (λ l. events_of held ++ l) is ∙ sym (events_of-append held bs)
 
 -- an error that `fill_buf` answered is gone
-pub lent_error : (reply : Result (Bor (List ℕ)) Error) (e : Error) (E E' : List Event) → reply ≡ Err e → LendsFrom E reply E' → TakesFront E E'
+pub lent_error : (reply : Result (Bor (List ℕ)) Error) (e : Error) (E E' : List Event) → reply ≡ Err e
+    → LendsFrom E reply E' → TakesFront E E'
 lent_error reply e E E' is lends = (fails e ∷ [], subst (λ r. LendsFrom E r E') is lends)
 
 -- what it lent is held, and still to come
 pub lent_held : (reply : Result (Bor (List ℕ)) Error) (s : Bor (List ℕ)) (held : List ℕ) → reply ≡ Ok s → Lends reply held → held ≡ s.now
 lent_held reply s held is lends = subst (λ r. Lends r held) is lends
 
-pub lent_to_come : (reply : Result (Bor (List ℕ)) Error) (s : Bor (List ℕ)) (E E' : List Event) → reply ≡ Ok s → LendsFrom E reply E' → E' ≡ E
+pub lent_to_come : (reply : Result (Bor (List ℕ)) Error) (s : Bor (List ℕ)) (E E' : List Event) → reply ≡ Ok s
+    → LendsFrom E reply E' → E' ≡ E
 lent_to_come reply s E E' is lends = subst (λ r. LendsFrom E r E') is lends
 
 -- an exact read takes a front, whatever its fault
-pub failed_front : (E : List Event) (e : Error) (room : List ℕ) (E' : List Event) → ReadsExact {A = Unit {0}} ⊥ E (Err e) room E' → TakesFront E E'
+pub failed_front : (E : List Event) (e : Error) (room : List ℕ) (E' : List Event)
+    → ReadsExact {A = Unit {0}} ⊥ E (Err e) room E' → TakesFront E E'
 failed_front E e buf E' (inl stops) = (stops.taken, stops.split)
 failed_front E e buf E' (inr short) = taken_whole E E' short.left
 
 -- the step that an ask took
-pub asked_step : (S : ℕ) (ask : Ask) (h r h' r' : ℕ) (E E' : List Event) (is_end : Bool) → 0 < S → h ≤ length E → Asked S ask h r E is_end h' r' E' → Step ask E E'
-asked_step S (Read len) h r h' r' E E' is_end room fits a = drops S len h E E' (if nat_lt 0 h then h else length E) (grind (arith, nat_tests)) a.events
-asked_step S (Fill most) h r h' r' E E' is_end room fits a = drops S most h E E' (filled_length S h (length E - h)) (grind (arith, nat_tests)) a.events
+pub asked_step : (S : ℕ) (ask : Ask) (h r h' r' : ℕ) (E E' : List Event) (is_end : Bool) → 0 < S → h ≤ length E
+    → Asked S ask h r E is_end h' r' E' → Step ask E E'
+asked_step S (Read len) h r h' r' E E' is_end room fits a =
+    drops S len h E E' (if nat_lt 0 h then h else length E) (grind (arith, nat_tests)) a.events
+asked_step S (Fill most) h r h' r' E E' is_end room fits a =
+    drops S most h E E' (filled_length S h (length E - h)) (grind (arith, nat_tests)) a.events
 asked_step S (Exact len) h r h' r' E E' is_end room fits a = ⊎_elim
     (λ short. a.events ∙ drop_of_length-le E (omega arith) ∙ sym (drop_of_length-le E (omega arith)))
     (λ long. a.events ∙ ap (λ n. drop n E) (omega arith))
     (cases_lt (length E) len)
 
 -- one more ask of a list
-pub Steps-asked : (S : ℕ) (asks : List Ask) (i : ℕ) (d : Ask) (h r h' r' : ℕ) (E mid after : List Event) (ends : ℕ) (is_end : Bool) (more : ℕ) → 0 < S → h ≤ length mid → i < length asks
-    → Steps (take i asks) E mid ends → Asked S (get_or asks i d) h r mid is_end h' r' after → more ≡ (if is_end then 1 else 0) → Steps (take (i + 1) asks) E after (ends + more)
+pub Steps-asked : (S : ℕ) (asks : List Ask) (i : ℕ) (d : Ask) (h r h' r' : ℕ) (E mid after : List Event) (ends : ℕ)
+    (is_end : Bool) (more : ℕ)
+    → 0 < S → h ≤ length mid → i < length asks
+    → Steps (take i asks) E mid ends → Asked S (get_or asks i d) h r mid is_end h' r' after
+    → more ≡ (if is_end then 1 else 0) → Steps (take (i + 1) asks) E after (ends + more)
 Steps-asked S asks i d h r h' r' E mid after ends is_end more room fits within s a is =
     let ask = get_or asks i d in
     let counted : more ≡ (if meets_end ask (length mid) then 1 else 0) = is ∙ ap (λ b. if b then 1 else 0) a.end in
@@ -166,7 +200,8 @@ Steps-asked S asks i d h r h' r' E mid after ends is_end more room fits within s
     (Steps-next asks i d E mid after ends within s (asked_step S ask h r h' r' mid after is_end room fits a))
 
 -- what it costs is paid for
-pub paid_asked : (S : ℕ) (ask : Ask) (c h r h' r' : ℕ) (E mid after : List Event) (ends : ℕ) (is_end : Bool) (more : ℕ) → 0 < S → h ≤ length mid → TakesFront E mid
+pub paid_asked : (S : ℕ) (ask : Ask) (c h r h' r' : ℕ) (E mid after : List Event) (ends : ℕ) (is_end : Bool) (more : ℕ)
+    → 0 < S → h ≤ length mid → TakesFront E mid
     → ReadsPaid S c (length E - length mid) ends h (length mid) → Asked S ask h r mid is_end h' r' after → more ≡ (if is_end then 1 else 0)
     → ReadsPaid S (c + asked_reads ask h (length mid)) (length E - length after) (ends + more) h' (length after)
 paid_asked S ask c h r h' r' E mid after ends is_end more room fits front paid a is =
@@ -175,4 +210,5 @@ paid_asked S ask c h r h' r' E mid after ends is_end more room fits front paid a
     let left : length after ≡ all - asked_bytes S ask h all = ap length a.events ∙ length-drop (asked_bytes S ask h all) mid in
     let within = asked-le S ask h all fits in
     let long : length E ≡ length front.0 + all = ap length front.1 ∙ length-append front.0 mid in
-    paid_same refl (omega (arith, left, within, long)) (omega (arith, counted)) (sym a.left) (sym left) (paid_ask S c (length E - all) ends ask h all room fits paid)
+    paid_same refl (omega (arith, left, within, long)) (omega (arith, counted)) (sym a.left) (sym left)
+    (paid_ask S c (length E - all) ends ask h all room fits paid)

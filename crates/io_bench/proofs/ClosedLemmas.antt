@@ -1,5 +1,7 @@
 -- The bytes that a list of calls is given, and what the calls cost.
-use Rattle.std.proofs.Common.{◌≡◌, ℕ, ◌+◌, ◌<◌, ◌≤◌, ◌*◌, ◌/◌, min, le_of_eq, take_all, add-zero, add_assoc, arith, length, take, get_or, List, [], ◌∷◌, ◌++◌, refl, sym, ap, ◌∙◌, subst, append_assoc, append-nil}
+use Rattle.std.proofs.Common.{◌≡◌, ℕ, ◌+◌, ◌<◌, ◌≤◌, ◌*◌, ◌/◌, min, le_of_eq, take_all, add-zero, add_assoc, arith}
+use Rattle.std.proofs.Common.{length, take, get_or, List, [], ◌∷◌, ◌++◌, refl, sym, ap, ◌∙◌, subst, append_assoc}
+use Rattle.std.proofs.Common.{append-nil}
 use Rattle.std.proofs.lemmas.List.{take_more, length-append}
 use Rattle.no_std_io2.specs.Buffered.{writing_calls, buffer_after}
 use Rattle.no_std_io2_base.specs.Writes.{calls_for}
@@ -32,7 +34,9 @@ whole_run (op ∷ ops) [] xs r w = absurd r
 
 given_bytes-more : (ops : List Op) (op : Op) → given_bytes (ops ++ op ∷ []) ≡ given_bytes ops ++ op_bytes op
 given_bytes-more [] op = append-nil (op_bytes op)
-given_bytes-more (o ∷ ops) op = ap (λ l. op_bytes o ++ l) (given_bytes-more ops op) ∙ sym (append_assoc (op_bytes o) (given_bytes ops) (op_bytes op))
+given_bytes-more (o ∷ ops) op =
+    ap (λ l. op_bytes o ++ l) (given_bytes-more ops op)
+    ∙ sym (append_assoc (op_bytes o) (given_bytes ops) (op_bytes op))
 
 flushes-more : (ops : List Op) (op : Op) → flushes (ops ++ op ∷ []) ≡ flushes ops + op_flushes op
 flushes-more [] op = omega arith
@@ -41,9 +45,14 @@ flushes-more (o ∷ ops) op = omega (arith, flushes-more ops op)
 -- one more call, and what it costs
 Paid-call : (S c f n : ℕ) (buffer : List ℕ) (op : Op) → 0 < S → length buffer ≤ S → Paid S c f n (length buffer)
     → Paid S (c + op_calls S buffer op) (f + op_flushes op) (n + length (op_bytes op)) (length (op_buffer S buffer op))
-Paid-call S c f n buffer (Write x) some fits p = subst (λ m. Paid S (c + writing_calls S buffer x.now) m (n + length x.now) (length (buffer_after S buffer x.now))) (sym (add-zero f)) (Paid-write S c f n buffer x.now some fits p)
-Paid-call S c f n buffer (WriteAll x) some fits p = subst (λ m. Paid S (c + writing_calls S buffer x.now) m (n + length x.now) (length (buffer_after S buffer x.now))) (sym (add-zero f)) (Paid-write S c f n buffer x.now some fits p)
-Paid-call S c f n buffer Flush some fits p = subst (λ m. Paid S (c + calls_for buffer) (f + 1) m 0) (sym (add-zero n)) (Paid-flush S c f n buffer p)
+Paid-call S c f n buffer (Write x) some fits p =
+    subst (λ m. Paid S (c + writing_calls S buffer x.now) m (n + length x.now) (length (buffer_after S buffer x.now)))
+    (sym (add-zero f)) (Paid-write S c f n buffer x.now some fits p)
+Paid-call S c f n buffer (WriteAll x) some fits p =
+    subst (λ m. Paid S (c + writing_calls S buffer x.now) m (n + length x.now) (length (buffer_after S buffer x.now)))
+    (sym (add-zero f)) (Paid-write S c f n buffer x.now some fits p)
+Paid-call S c f n buffer Flush some fits p =
+    subst (λ m. Paid S (c + calls_for buffer) (f + 1) m 0) (sym (add-zero n)) (Paid-flush S c f n buffer p)
 
 pub Paid-next : (S c d : ℕ) (ops : List Op) (i : ℕ) (o : Op) (buffer next : List ℕ) → 0 < S → length buffer ≤ S → i < length ops
     → Paid S c (flushes (take i ops)) (length (given_bytes (take i ops))) (length buffer)
@@ -55,7 +64,10 @@ Paid-next S c d ops i o buffer next some fits h p e g =
     let f = ap flushes more ∙ flushes-more made op in
     let n = ap (λ l. length (given_bytes l)) more ∙ ap length (given_bytes-more made op) ∙ length-append (given_bytes made) (op_bytes op) in
     subst (λ m. Paid S m (flushes (take (i + 1) ops)) (length (given_bytes (take (i + 1) ops))) (length next)) (sym e)
-    (subst (λ l. Paid S (c + op_calls S buffer op) (flushes (take (i + 1) ops)) (length (given_bytes (take (i + 1) ops))) (length l)) (sym g)
+    (subst
+    (λ l. Paid S (c + op_calls S buffer op) (flushes (take (i + 1) ops)) (length (given_bytes (take (i + 1) ops)))
+    (length l))
+    (sym g)
     (subst (λ m. Paid S (c + op_calls S buffer op) m (length (given_bytes (take (i + 1) ops))) (length (op_buffer S buffer op))) (sym f)
     (subst (λ m. Paid S (c + op_calls S buffer op) (flushes made + op_flushes op) m (length (op_buffer S buffer op))) (sym n)
     (Paid-call S c (flushes made) (length (given_bytes made)) buffer op some fits p))))
@@ -64,13 +76,18 @@ Paid-next S c d ops i o buffer next some fits h p e g =
 pub Paid-on : (S start old new : ℕ) (ops : List Op) (i : ℕ) (o : Op) (buffer next : List ℕ) → 0 < S → length buffer ≤ S → i < length ops
     → (calls : ℕ) × (old ≡ start + calls) × Paid S calls (flushes (take i ops)) (length (given_bytes (take i ops))) (length buffer)
     → new ≡ old + op_calls S buffer (get_or ops i o) → next ≡ op_buffer S buffer (get_or ops i o)
-    → (calls : ℕ) × (new ≡ start + calls) × Paid S calls (flushes (take (i + 1) ops)) (length (given_bytes (take (i + 1) ops))) (length next)
+    → (calls : ℕ) × (new ≡ start + calls)
+    × Paid S calls (flushes (take (i + 1) ops)) (length (given_bytes (take (i + 1) ops))) (length next)
 Paid-on S start old new ops i o buffer next some fits h p e g =
-    let more = op_calls S buffer (get_or ops i o) in
-    (p.0 + more, e ∙ ap (λ m. m + more) p.1 ∙ add_assoc start p.0 more, Paid-next S p.0 (p.0 + more) ops i o buffer next some fits h p.2 refl g)
+    let more = op_calls S buffer (get_or ops i o) in (
+      p.0 + more,
+      e ∙ ap (λ m. m + more) p.1 ∙ add_assoc start p.0 more,
+      Paid-next S p.0 (p.0 + more) ops i o buffer next some fits h p.2 refl g,
+    )
 
 -- the whole of a list of calls, once all are made
-pub given_all : (ops : List Op) (i : ℕ) (replies : List Reply) (xs : List ℕ) → length ops ≤ i → Run (take i ops) replies xs → AreWhole (take i ops) replies → xs ≡ given_bytes ops
+pub given_all : (ops : List Op) (i : ℕ) (replies : List Reply) (xs : List ℕ) → length ops ≤ i
+    → Run (take i ops) replies xs → AreWhole (take i ops) replies → xs ≡ given_bytes ops
 given_all ops i replies xs h r w = whole_run (take i ops) replies xs r w ∙ ap given_bytes (take_all i ops h)
 
 pub Paid-all : (S c : ℕ) (ops : List Op) (i h : ℕ) → length ops ≤ i → Paid S c (flushes (take i ops)) (length (given_bytes (take i ops))) h

@@ -48,13 +48,15 @@ pub handed_once : {P Q : Type 0} (cost0 was cost now cost' now' room : ℕ) → 
 handed_once cost0 was cost now cost' now' room so_far read counts = (read.0, omega (arith, so_far.1, read.1, counts))
 
 -- the end was met
-pub counted_end : {A : Type 0} (x : A) (budget was budget' now budget'' now' : ℕ) → CountedSoFar 0 budget was 0 budget' now → now' ≡ now + 1 → budget'' ≤ budget'
+pub counted_end : {A : Type 0} (x : A) (budget was budget' now budget'' now' : ℕ)
+    → CountedSoFar 0 budget was 0 budget' now → now' ≡ now + 1 → budget'' ≤ budget'
     → CountsToEnd was budget (Ok x) budget'' now'
 counted_end x budget was budget' now budget'' now' so_far one fewer =
     record { least = omega (arith, so_far.least, one); asked = tt; most = omega (arith, so_far.most, one, fewer) }
 
 -- a fault came
-pub counted_fault : {A : Type 0} (budget was budget' now budget'' now' : ℕ) (e : Error) → CountedSoFar 0 budget was 0 budget' now → now' ≡ now + 1 → budget'' < budget'
+pub counted_fault : {A : Type 0} (budget was budget' now budget'' now' : ℕ) (e : Error)
+    → CountedSoFar 0 budget was 0 budget' now → now' ≡ now + 1 → budget'' < budget'
     → CountsToEnd {A = A} was budget (Err e) budget'' now'
 counted_fault budget was budget' now budget'' now' e so_far one fewer =
     record { least = tt; asked = inr (omega (arith, so_far.least, one)); most = omega (arith, so_far.most, one, fewer) }

@@ -33,21 +33,26 @@ failures-length (op ∷ ops) [] = refl
 failures-length (op ∷ ops) (reply ∷ replies) =
     omega (arith, failures-length ops replies, length-mishap_of op reply, length-append (mishap_of op reply) (mishaps_of ops replies))
 
-shorter : (old : Option (List ErrorKind)) (happened : List ErrorKind) (new : Option (List ErrorKind)) → HasSpent old happened new → IsShorterBy (length happened) old new
+shorter : (old : Option (List ErrorKind)) (happened : List ErrorKind) (new : Option (List ErrorKind))
+    → HasSpent old happened new → IsShorterBy (length happened) old new
 shorter None happened new h = tt
 shorter (Some old) happened None h = absurd h
 shorter (Some old) happened (Some new) h = omega (arith, h (λ _. true), count_by-all old, count_by-all happened, count_by-all new)
 
-pub failures_told : (ops : List Op) (replies : List Reply) (old new : Option (List ErrorKind)) → HasSpent old (mishaps_of ops replies) new → IsShorterBy (failures ops replies) old new
-failures_told ops replies old new h = subst (λ n. IsShorterBy n old new) (sym (failures-length ops replies)) (shorter old (mishaps_of ops replies) new h)
+pub failures_told : (ops : List Op) (replies : List Reply) (old new : Option (List ErrorKind))
+    → HasSpent old (mishaps_of ops replies) new → IsShorterBy (failures ops replies) old new
+failures_told ops replies old new h =
+    subst (λ n. IsShorterBy n old new) (sym (failures-length ops replies)) (shorter old (mishaps_of ops replies) new h)
 
 none_left : (n : ℕ) (new : Option (List ErrorKind)) → IsShorterBy n (Some []) new → n ≡ 0
 none_left n None h = absurd h
 none_left n (Some new) h = omega (arith, h)
 
 -- over no mishap to come no call fails
-pub failures_none : (ops : List Op) (replies : List Reply) (old new : Option (List ErrorKind)) → HasSpent old (mishaps_of ops replies) new → old ≡ Some [] → failures ops replies ≡ 0
-failures_none ops replies old new h e = none_left _ new (subst (λ o. IsShorterBy (failures ops replies) o new) e (failures_told ops replies old new h))
+pub failures_none : (ops : List Op) (replies : List Reply) (old new : Option (List ErrorKind))
+    → HasSpent old (mishaps_of ops replies) new → old ≡ Some [] → failures ops replies ≡ 0
+failures_none ops replies old new h e =
+    none_left _ new (subst (λ o. IsShorterBy (failures ops replies) o new) e (failures_told ops replies old new h))
 
 -- and of each kind there are fewer to come by those that failed with it
 pub fewer_of : (kind : ErrorKind) (ops : List Op) (replies : List Reply) (old new : Option (List ErrorKind))

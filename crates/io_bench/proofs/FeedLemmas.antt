@@ -1,5 +1,6 @@
 -- What a feed's events give to a reader.
-use Rattle.std.proofs.Common.{◌≡◌, ℕ, zero, suc, ◌+◌, ◌<◌, ◌≤◌, min, List, [], ◌∷◌, ◌++◌, length, take, drop, set, Option, None, Some, Ok, refl, sym, ap, ◌∙◌, arith, add-one, length-drop}
+use Rattle.std.proofs.Common.{◌≡◌, ℕ, zero, suc, ◌+◌, ◌<◌, ◌≤◌, min, List, [], ◌∷◌, ◌++◌, length, take, drop, set}
+use Rattle.std.proofs.Common.{Option, None, Some, Ok, refl, sym, ap, ◌∙◌, arith, add-one, length-drop}
 use Rattle.std.proofs.Math.Seq.{take-add}
 use Rattle.std.proofs.lemmas.List.{take_more_set}
 use Rattle.std.specs.Option.{option_map}
@@ -12,7 +13,8 @@ use Rattle.io_bench.specs.declared.feed.Event.TheVariants.{Byte, Fail}
 use Rattle.io_bench.specs.Feed.{error_of, all_to_come, leading_bytes, first_failure}
 
 -- the first n bytes are given, and what stands behind them is left
-pub given_first : (n : ℕ) (left : List Event) → n ≤ length (leading_bytes left) → all_to_come left ≡ events_of (take n (leading_bytes left)) ++ all_to_come (drop n left)
+pub given_first : (n : ℕ) (left : List Event) → n ≤ length (leading_bytes left)
+    → all_to_come left ≡ events_of (take n (leading_bytes left)) ++ all_to_come (drop n left)
 given_first zero left h = refl
 given_first (suc n) [] h = absurd (omega arith)
 given_first (suc n) (Byte b ∷ left) h = ap (λ E. byte b ∷ E) (given_first n left (omega arith))
@@ -36,19 +38,28 @@ drop_next (suc n) [] x rest e = absurd (cc)
 drop_next (suc n) (y ∷ xs) x rest e = drop_next n xs x rest e
 
 -- one more byte was given
-pub given_next : (n b : ℕ) (left rest : List Event) (buf : List ℕ) → n < length buf → n ≤ length (leading_bytes left) → take n buf ≡ take n (leading_bytes left) → drop n left ≡ Byte b ∷ rest
+pub given_next : (n b : ℕ) (left rest : List Event) (buf : List ℕ) → n < length buf → n ≤ length (leading_bytes left)
+    → take n buf ≡ take n (leading_bytes left) → drop n left ≡ Byte b ∷ rest
     → (n + 1 ≤ length (leading_bytes left)) × (take (n + 1) (set buf n b) ≡ take (n + 1) (leading_bytes left)) × (rest ≡ drop (n + 1) left)
 given_next n b left rest buf room enough same e =
     let tail : drop n (leading_bytes left) ≡ b ∷ leading_bytes rest = sym (leading-drop n left enough) ∙ ap leading_bytes e in (
       omega (arith, ap length tail, length-drop n (leading_bytes left)),
-      take_more_set buf n b room ∙ ap (λ l. l ++ b ∷ []) same ∙ ap (λ l. take n (leading_bytes left) ++ take 1 l) (sym tail) ∙ sym (take-add n 1 (leading_bytes left)),
+      take_more_set buf n b room ∙ ap (λ l. l ++ b ∷ []) same
+          ∙ ap (λ l. take n (leading_bytes left) ++ take 1 l) (sym tail) ∙ sym (take-add n 1 (leading_bytes left)),
       sym (ap (λ m. drop m left) (add-one n) ∙ drop_next n left (Byte b) rest e),
     )
 
 -- no byte stands first any more
-pub given_all : (n : ℕ) (left rest : List Event) → n ≤ length (leading_bytes left) → rest ≡ drop n left → leading_bytes rest ≡ [] → n ≡ length (leading_bytes left)
+pub given_all : (n : ℕ) (left rest : List Event) → n ≤ length (leading_bytes left) → rest ≡ drop n left
+    → leading_bytes rest ≡ [] → n ≡ length (leading_bytes left)
 given_all n left rest enough e none =
-    omega (arith, ap length none, ap (λ l. length (leading_bytes l)) e, ap length (leading-drop n left enough), length-drop n (leading_bytes left))
+    omega (
+      arith,
+      ap length none,
+      ap (λ l. length (leading_bytes l)) e,
+      ap length (leading-drop n left enough),
+      length-drop n (leading_bytes left),
+    )
 
 no_text : {A B : Type 0} (f : A → B) (text : Option A) → option_map f text ≡ None → text ≡ None
 no_text f None h = refl
@@ -60,10 +71,14 @@ is_error_of kind e k t =
     ap (λ text. record { kind = e.kind; text = text }) (no_text _ e.text t) ∙ ap error_of k
 
 -- a read that gives bytes
-pub feed_reads : (n room piece : ℕ) (old left new : List Event) (buf : List ℕ) → 0 < piece → length buf ≡ room → left ≡ old → first_failure old ≡ None
-    → n ≡ min (min piece room) (length (leading_bytes left)) → take n buf ≡ take n (leading_bytes left) → new ≡ drop n left → Reads (all_to_come old) (Ok n) buf (all_to_come new)
+pub feed_reads : (n room piece : ℕ) (old left new : List Event) (buf : List ℕ) → 0 < piece → length buf ≡ room
+    → left ≡ old → first_failure old ≡ None
+    → n ≡ min (min piece room) (length (leading_bytes left)) → take n buf ≡ take n (leading_bytes left)
+    → new ≡ drop n left → Reads (all_to_come old) (Ok n) buf (all_to_come new)
 feed_reads n room piece old left new buf some fits e none count same rest =
     let len : length (leading_bytes left) ≡ length (leading_bytes old) = ap (λ l. length (leading_bytes l)) e in (
-      ap all_to_come (sym e) ∙ given_first n left (omega arith) ∙ ap (λ l. events_of l ++ all_to_come (drop n left)) (sym same) ∙ ap (λ l. events_of (take n buf) ++ all_to_come l) (sym rest),
+      ap all_to_come (sym e) ∙ given_first n left (omega arith)
+          ∙ ap (λ l. events_of l ++ all_to_come (drop n left)) (sym same)
+          ∙ ap (λ l. events_of (take n buf) ++ all_to_come l) (sym rest),
       λ z r. ap all_to_come (nothing_left old (omega (arith, z, r, len, count, some, fits)) none),
     )

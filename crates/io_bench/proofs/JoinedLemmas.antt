@@ -1,5 +1,6 @@
 -- A run whose replies say what was accepted, call by call.
-use Rattle.std.proofs.Common.{◌≡◌, ℕ, zero, suc, arith, min, ◌+◌, ◌<◌, ◌≤◌, take_all, length, take, get_or, List, [], ◌∷◌, ◌++◌, refl, sym, ap, ◌∙◌, subst, append_assoc, append-nil, inl, inr, Result, Ok, Err}
+use Rattle.std.proofs.Common.{◌≡◌, ℕ, zero, suc, arith, min, ◌+◌, ◌<◌, ◌≤◌, take_all, length, take, get_or, List, []}
+use Rattle.std.proofs.Common.{◌∷◌, ◌++◌, refl, sym, ap, ◌∙◌, subst, append_assoc, append-nil, inl, inr, Result, Ok, Err}
 use Rattle.std.specs.Result.{IsErrAnd, IfErr}
 use Rattle.no_std_io2_base.specs.declared.error.Error.{Error}
 use Rattle.std.proofs.lemmas.List.{take_more, length-take, length-append, append_cancel_left, nil_from_length}
@@ -29,8 +30,13 @@ last_call : (ops : List Op) (replies : List Reply) (op : Op) (reply : Reply) (ys
     → (first : List ℕ) × (last : List ℕ) × Run ops replies first × Accepts op reply last × (ys ≡ first ++ last)
 last_call [] [] op reply ys e r = ([], r.0, refl, r.2, r.4 ∙ ap (λ l. r.0 ++ l) r.3 ∙ append-nil r.0)
 last_call (o ∷ ops) (q ∷ replies) op reply ys e r =
-    let rest = last_call ops replies op reply r.1 (omega (arith, e)) r.3 in
-    (r.0 ++ rest.0, rest.1, (r.0, rest.0, r.2, rest.2, refl), rest.3, r.4 ∙ ap (λ l. r.0 ++ l) rest.4 ∙ sym (append_assoc r.0 rest.0 rest.1))
+    let rest = last_call ops replies op reply r.1 (omega (arith, e)) r.3 in (
+      r.0 ++ rest.0,
+      rest.1,
+      (r.0, rest.0, r.2, rest.2, refl),
+      rest.3,
+      r.4 ∙ ap (λ l. r.0 ++ l) rest.4 ∙ sym (append_assoc r.0 rest.0 rest.1),
+    )
 last_call [] (q ∷ replies) op reply ys e r = absurd (omega (arith, e))
 last_call (o ∷ ops) [] op reply ys e r = absurd (omega (arith, e))
 

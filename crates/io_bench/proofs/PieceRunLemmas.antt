@@ -1,5 +1,7 @@
 -- How the items of a run of `split` or `lines` come to be all pieces: once, by what one `next` yields.
-use Rattle.std.proofs.Common.{◌≡◌, ℕ, true, false, Bool, if◌then◌else◌, Option, Some, None, Result, Ok, Err, List, [], ◌∷◌, ◌++◌, map, filter, refl, sym, ap, ◌∙◌, subst, append-nil, append_assoc, inl, inr, ⊎_elim}
+use Rattle.std.proofs.Common.{◌≡◌, ℕ, true, false, Bool, if◌then◌else◌, Option, Some, None, Result, Ok, Err, List, []}
+use Rattle.std.proofs.Common.{◌∷◌, ◌++◌, map, filter, refl, sym, ap, ◌∙◌, subst, append-nil, append_assoc, inl, inr}
+use Rattle.std.proofs.Common.{⊎_elim}
 use Rattle.no_std_io2_base.specs.declared.error.Error.{Error}
 use Rattle.no_std_io2_base.specs.Errors.{error_kind, is_interruption, IsFault, IsOutOfMemory}
 use Rattle.no_std_io2_base.specs.Events.{Event, byte, fails, bytes, HasNoFault}
@@ -35,26 +37,36 @@ pub appended-same : {T : Type 0} (old mid new : List T) → new ≡ mid → mid 
 appended-same old mid new same h = subst (λ l. l ≡ old ++ appended old l) (sym same) h
 
 -- and one more
-pub appended-one : {T : Type 0} (old mid new : List T) (x : T) → mid ≡ old ++ appended old mid → new ≡ mid ++ x ∷ [] → appended old new ≡ appended old mid ++ x ∷ []
+pub appended-one : {T : Type 0} (old mid new : List T) (x : T) → mid ≡ old ++ appended old mid → new ≡ mid ++ x ∷ []
+    → appended old new ≡ appended old mid ++ x ∷ []
 appended-one old mid new x h is =
     let whole : new ≡ old ++ (appended old mid ++ x ∷ []) = is ∙ ap (λ l. l ++ x ∷ []) h ∙ append_assoc old (appended old mid) (x ∷ []) in
     ap (appended old) whole ∙ appended-are old (appended old mid ++ x ∷ [])
 
-pub appended-more : {T : Type 0} (old mid new : List T) (x : T) → mid ≡ old ++ appended old mid → new ≡ mid ++ x ∷ [] → new ≡ old ++ appended old new
-appended-more old mid new x h is = is ∙ ap (λ l. l ++ x ∷ []) h ∙ append_assoc old (appended old mid) (x ∷ []) ∙ ap (λ l. old ++ l) (sym (appended-one old mid new x h is))
+pub appended-more : {T : Type 0} (old mid new : List T) (x : T) → mid ≡ old ++ appended old mid → new ≡ mid ++ x ∷ []
+    → new ≡ old ++ appended old new
+appended-more old mid new x h is =
+    is ∙ ap (λ l. l ++ x ∷ []) h ∙ append_assoc old (appended old mid) (x ∷ [])
+    ∙ ap (λ l. old ++ l) (sym (appended-one old mid new x h is))
 
 -- what is shown of one item more
-pub shown-one : {T : Type 0} (view : T → List ℕ) (old mid new : List T) (x : T) → mid ≡ old ++ appended old mid → new ≡ mid ++ x ∷ [] → map view (appended old new) ≡ map view (appended old mid) ++ view x ∷ []
+pub shown-one : {T : Type 0} (view : T → List ℕ) (old mid new : List T) (x : T) → mid ≡ old ++ appended old mid
+    → new ≡ mid ++ x ∷ [] → map view (appended old new) ≡ map view (appended old mid) ++ view x ∷ []
 shown-one view old mid new x h is = ap (map view) (appended-one old mid new x h is) ∙ map-end view (appended old mid) x
 
 -- at the same delimiter, and of the same answer
-pub yields_at : {T : Type 0} (view : T → List ℕ) (trim : ℕ → List ℕ → List ℕ) (refuses : List ℕ → Error → Type 0) (d' d : ℕ) (E : List Event) (r' r : Option (Result T Error)) (after : List Event)
+pub yields_at : {T : Type 0} (view : T → List ℕ) (trim : ℕ → List ℕ → List ℕ) (refuses : List ℕ → Error → Type 0)
+    (d' d : ℕ) (E : List Event) (r' r : Option (Result T Error)) (after : List Event)
     → d' ≡ d → r' ≡ r → YieldsPiece view (trim d') refuses d' E r' after → YieldsPiece view (trim d) refuses d E r after
-yields_at view trim refuses d' d E r' r after same is h = subst (λ a. YieldsPiece view (trim d) refuses d E a after) is (subst (λ n. YieldsPiece view (trim n) refuses n E r' after) same h)
+yields_at view trim refuses d' d E r' r after same is h =
+    subst (λ a. YieldsPiece view (trim d) refuses d E a after) is
+    (subst (λ n. YieldsPiece view (trim n) refuses n E r' after) same h)
 
 -- one item more
-pub one_gathered : {T : Type 0} (view : T → List ℕ) (trim : List ℕ → List ℕ) (refuses : List ℕ → Error → Type 0) (d : ℕ) (E : List Event) (items shown : List (List ℕ)) (mid : List Event) (item : T) (after : List Event)
-    → shown ≡ items ++ view item ∷ [] → GatheredSoFar trim d E items mid → YieldsPiece view trim refuses d mid (Some (Ok item)) after → GatheredSoFar trim d E shown after
+pub one_gathered : {T : Type 0} (view : T → List ℕ) (trim : List ℕ → List ℕ) (refuses : List ℕ → Error → Type 0) (d : ℕ)
+    (E : List Event) (items shown : List (List ℕ)) (mid : List Event) (item : T) (after : List Event)
+    → shown ≡ items ++ view item ∷ [] → GatheredSoFar trim d E items mid
+    → YieldsPiece view trim refuses d mid (Some (Ok item)) after → GatheredSoFar trim d E shown after
 one_gathered view trim refuses d E items shown mid item after same t (piece, takes, trimmed) =
     let next = given_next d mid takes.count piece after takes.gives takes.some in
     record {
@@ -70,7 +82,8 @@ fault_free [] h = (tt, refl)
 fault_free (byte b ∷ E) h = let rest = fault_free E h in (rest.0, ap (λ l. b ∷ l) rest.1)
 fault_free (fails e ∷ E) h = by_kind (is_interruption (error_kind e)) refl h (fault_free E)
   where
-    by_kind : (t : Bool) → is_interruption (error_kind e) ≡ t → (if t then first_fault E else Some e) ≡ None → (first_fault E ≡ None → HasNoFault E × (bytes_to_fault E ≡ bytes E))
+    by_kind : (t : Bool) → is_interruption (error_kind e) ≡ t → (if t then first_fault E else Some e) ≡ None
+        → (first_fault E ≡ None → HasNoFault E × (bytes_to_fault E ≡ bytes E))
         → HasNoFault (fails e ∷ E) × (bytes_to_fault (fails e ∷ E) ≡ bytes (fails e ∷ E))
     by_kind true is h rest = let r = rest h in ((is, r.0), ap (λ t. if t then bytes_to_fault E else []) is ∙ r.1)
     by_kind false is h rest = cc
@@ -88,45 +101,103 @@ fault_first : (E : List Event) (e : Error) → first_fault E ≡ Some e → Befo
 fault_first [] e h = cc
 fault_first (byte b ∷ E) e h =
     let r = fault_first E e h in
-    record { before = byte b ∷ r.before; behind = r.behind; split = ap (λ l. byte b ∷ l) r.split; no_fault = r.no_fault; fault = r.fault; shown = ap (λ l. b ∷ l) r.shown }
+    record {
+      before = byte b ∷ r.before;
+      behind = r.behind;
+      split = ap (λ l. byte b ∷ l) r.split;
+      no_fault = r.no_fault;
+      fault = r.fault;
+      shown = ap (λ l. b ∷ l) r.shown;
+    }
 fault_first (fails f ∷ E) e h = by_kind (is_interruption (error_kind f)) refl h (fault_first E e)
   where
-    by_kind : (t : Bool) → is_interruption (error_kind f) ≡ t → (if t then first_fault E else Some f) ≡ Some e → (first_fault E ≡ Some e → BeforeFault E e) → BeforeFault (fails f ∷ E) e
+    by_kind : (t : Bool) → is_interruption (error_kind f) ≡ t → (if t then first_fault E else Some f) ≡ Some e
+        → (first_fault E ≡ Some e → BeforeFault E e) → BeforeFault (fails f ∷ E) e
     by_kind true is h rest =
         let r = rest h in
-        record { before = fails f ∷ r.before; behind = r.behind; split = ap (λ l. fails f ∷ l) r.split; no_fault = (is, r.no_fault); fault = r.fault; shown = ap (λ t. if t then bytes_to_fault E else []) is ∙ r.shown }
+        record {
+          before = fails f ∷ r.before;
+          behind = r.behind;
+          split = ap (λ l. fails f ∷ l) r.split;
+          no_fault =
+              (is, r.no_fault);
+          fault = r.fault;
+          shown = ap (λ t. if t then bytes_to_fault E else []) is ∙ r.shown;
+        }
     by_kind false is h rest =
         let same : f ≡ e = cc in
-        record { before = []; behind = E; split = ap (λ x. fails x ∷ E) same; no_fault = tt; fault = subst IsFault same is; shown = ap (λ t. if t then bytes_to_fault E else []) is }
+        record {
+          before = [];
+          behind = E;
+          split = ap (λ x. fails x ∷ E) same;
+          no_fault = tt;
+          fault =
+              subst IsFault same is;
+          shown = ap (λ t. if t then bytes_to_fault E else []) is;
+        }
 
 -- at the end all is gathered
-pub all_gathered : {T : Type 0} (view : T → List ℕ) (trim : List ℕ → List ℕ) (refuses : List ℕ → Error → Type 0) (d : ℕ) (E : List Event) (items shown : List (List ℕ)) (mid after : List Event)
+pub all_gathered : {T : Type 0} (view : T → List ℕ) (trim : List ℕ → List ℕ) (refuses : List ℕ → Error → Type 0) (d : ℕ)
+    (E : List Event) (items shown : List (List ℕ)) (mid after : List Event)
     → shown ≡ items → GatheredSoFar trim d E items mid → YieldsPiece view trim refuses d mid None after → AllPieces trim d E shown
 all_gathered view trim refuses d E items shown mid after same t (piece, gives) =
     let end = given_none d mid piece after gives in
     let none : first_fault E ≡ None = t.fault ∙ end.1 in
     let free = fault_free E none in
-    let given : pieces d (bytes E) ≡ t.before = ap (pieces d) (sym free.1) ∙ sym (ap (λ f. pieces_before d f (bytes_to_fault E)) none) ∙ t.given ∙ ap (λ l. t.before ++ l) end.0 ∙ append-nil t.before in
+    let given : pieces d (bytes E) ≡ t.before =
+    ap (pieces d) (sym free.1) ∙ sym (ap (λ f. pieces_before d f (bytes_to_fault E)) none) ∙ t.given
+    ∙ ap (λ l. t.before ++ l) end.0 ∙ append-nil t.before in
     record { no_fault = free.0; are = same ∙ t.are ∙ ap (map trim) (sym given) }
 
 -- an error ends it
-pub gathered_to : {T : Type 0} (A : Type 0) (view : T → List ℕ) (trim : List ℕ → List ℕ) (refuses : List ℕ → Error → Type 0) (d : ℕ) (E : List Event) (items shown : List (List ℕ)) (mid : List Event) (e : Error) (after : List Event)
-    → shown ≡ items → GatheredSoFar trim d E items mid → YieldsPiece view trim refuses d mid (Some (Err e)) after → GathersPieces {A = A} trim refuses d E (Err e) shown
+pub gathered_to : {T : Type 0} (A : Type 0) (view : T → List ℕ) (trim : List ℕ → List ℕ)
+    (refuses : List ℕ → Error → Type 0) (d : ℕ) (E : List Event) (items shown : List (List ℕ)) (mid : List Event)
+    (e : Error) (after : List Event)
+    → shown ≡ items → GatheredSoFar trim d E items mid → YieldsPiece view trim refuses d mid (Some (Err e)) after
+    → GathersPieces {A = A} trim refuses d E (Err e) shown
 gathered_to A view trim refuses d E items shown mid e after same t (piece, inr refused) =
     let next = given_next d mid refused.0.count piece after refused.0.gives refused.0.some in
-    inr (inl (record { before = t.before; piece = piece; behind = pieces_given d after; given = t.given ∙ ap (λ l. t.before ++ l) next.0; refused = refused.1; are = same ∙ t.are }))
+    inr
+    (inl
+    (record {
+      before = t.before;
+      piece = piece;
+      behind = pieces_given d after;
+      given =
+          t.given ∙ ap (λ l. t.before ++ l) next.0;
+      refused = refused.1;
+      are = same ∙ t.are;
+    }))
 gathered_to A view trim refuses d E items shown mid e after same t (piece, inl stops) = ⊎_elim
     (λ ends.
     let end = given_fault d mid e stops.taken after stops.split stops.no_end ends in
     let first = t.fault ∙ end.1 in
     let r = fault_first E e first in
     let given : filter (ends_in d) (pieces d (bytes r.before)) ≡ t.before =
-    ap (λ l. filter (ends_in d) (pieces d l)) (sym r.shown) ∙ sym (ap (λ f. pieces_before d f (bytes_to_fault E)) first) ∙ t.given ∙ ap (λ l. t.before ++ l) end.0 ∙ append-nil t.before in
-    inl (record { before = r.before; behind = r.behind; split = r.split; no_fault = r.no_fault; fault = r.fault; are = same ∙ t.are ∙ ap (map trim) (sym given) }))
-    (λ memory. inr (inr (record { before = t.before; behind = pieces_given d mid; given = t.given; refused = memory.1; are = same ∙ t.are })))
+    ap (λ l. filter (ends_in d) (pieces d l)) (sym r.shown) ∙ sym (ap (λ f. pieces_before d f (bytes_to_fault E)) first)
+    ∙ t.given ∙ ap (λ l. t.before ++ l) end.0 ∙ append-nil t.before in
+    inl
+    (record {
+      before = r.before;
+      behind = r.behind;
+      split = r.split;
+      no_fault = r.no_fault;
+      fault = r.fault;
+      are =
+          same ∙ t.are ∙ ap (map trim) (sym given);
+    }))
+    (λ memory. inr
+    (inr
+    (record
+    { before = t.before; behind = pieces_given d mid; given = t.given; refused = memory.1; are = same ∙ t.are })))
     stops.stops
 
 -- there was no room for one item more
-pub gathered_full : (A : Type 0) (trim : List ℕ → List ℕ) (refuses : List ℕ → Error → Type 0) (d : ℕ) (E : List Event) (items shown : List (List ℕ)) (mid : List Event) (e : Error)
+pub gathered_full : (A : Type 0) (trim : List ℕ → List ℕ) (refuses : List ℕ → Error → Type 0) (d : ℕ) (E : List Event)
+    (items shown : List (List ℕ)) (mid : List Event) (e : Error)
     → shown ≡ items → GatheredSoFar trim d E items mid → IsOutOfMemory e → GathersPieces {A = A} trim refuses d E (Err e) shown
-gathered_full A trim refuses d E items shown mid e same t refused = inr (inr (record { before = t.before; behind = pieces_given d mid; given = t.given; refused = refused; are = same ∙ t.are }))
+gathered_full A trim refuses d E items shown mid e same t refused =
+    inr
+    (inr
+    (record
+    { before = t.before; behind = pieces_given d mid; given = t.given; refused = refused; are = same ∙ t.are }))

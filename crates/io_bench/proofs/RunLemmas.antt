@@ -1,5 +1,6 @@
 -- A run goes on by one call.
-use Rattle.std.proofs.Common.{◌≡◌, ℕ, Bor, Ok, ◌+◌, ◌<◌, ◌≤◌, take_all, length, take, drop, get_or, List, [], ◌∷◌, ◌++◌, refl, sym, ap, ◌∙◌, subst, append_assoc, append-nil}
+use Rattle.std.proofs.Common.{◌≡◌, ℕ, Bor, Ok, ◌+◌, ◌<◌, ◌≤◌, take_all, length, take, drop, get_or, List, [], ◌∷◌, ◌++◌}
+use Rattle.std.proofs.Common.{refl, sym, ap, ◌∙◌, subst, append_assoc, append-nil}
 use Rattle.std.proofs.Math.Seq.{drop-append_seam}
 use Rattle.std.proofs.lemmas.List.{take_more}
 use Rattle.no_std_io2_base.specs.Writes.{Told, Moves, MovesFront, zero_write}
@@ -8,24 +9,29 @@ use Rattle.io_bench.specs.declared.runs.Op.{Op}
 use Rattle.io_bench.specs.declared.runs.Op.TheVariants.{Write, WriteAll}
 use Rattle.io_bench.specs.declared.runs.Reply.{Reply}
 use Rattle.io_bench.specs.declared.runs.Reply.TheVariants.{Took, Done}
-use Rattle.io_bench.specs.Runs.{appended, Accepts, Run, mishap_of, mishaps_of, IsFlushed, EndsFlushed, IsWhole, AreWhole, Answers, Ran, PassesOver, AllPassOver}
+use Rattle.io_bench.specs.Runs.{appended, Accepts, Run, mishap_of, mishaps_of, IsFlushed, EndsFlushed, IsWhole}
+use Rattle.io_bench.specs.Runs.{AreWhole, Answers, Ran, PassesOver, AllPassOver}
 
 -- one call more
-pub Run-more : (ops : List Op) (replies : List Reply) (xs : List ℕ) (op : Op) (reply : Reply) (ys : List ℕ) → Run ops replies xs → Accepts op reply ys → Run (ops ++ op ∷ []) (replies ++ reply ∷ []) (xs ++ ys)
+pub Run-more : (ops : List Op) (replies : List Reply) (xs : List ℕ) (op : Op) (reply : Reply) (ys : List ℕ)
+    → Run ops replies xs → Accepts op reply ys → Run (ops ++ op ∷ []) (replies ++ reply ∷ []) (xs ++ ys)
 Run-more [] [] xs op reply ys r a = (ys, [], a, refl, ap (λ l. l ++ ys) r ∙ sym (append-nil ys))
 Run-more (o ∷ ops) (q ∷ replies) xs op reply ys r a =
     (r.0, r.1 ++ ys, r.2, Run-more ops replies r.1 op reply ys r.3 a, ap (λ l. l ++ ys) r.4 ∙ append_assoc r.0 r.1 ys)
 Run-more [] (q ∷ replies) xs op reply ys r a = absurd r
 Run-more (o ∷ ops) [] xs op reply ys r a = absurd r
 
-mishaps_of-more : (ops : List Op) (replies : List Reply) (xs : List ℕ) (op : Op) (reply : Reply) → Run ops replies xs → mishaps_of (ops ++ op ∷ []) (replies ++ reply ∷ []) ≡ mishaps_of ops replies ++ mishap_of op reply
+mishaps_of-more : (ops : List Op) (replies : List Reply) (xs : List ℕ) (op : Op) (reply : Reply) → Run ops replies xs
+    → mishaps_of (ops ++ op ∷ []) (replies ++ reply ∷ []) ≡ mishaps_of ops replies ++ mishap_of op reply
 mishaps_of-more [] [] xs op reply r = append-nil (mishap_of op reply)
 mishaps_of-more (o ∷ ops) (q ∷ replies) xs op reply r =
-    ap (λ l. mishap_of o q ++ l) (mishaps_of-more ops replies r.1 op reply r.3) ∙ sym (append_assoc (mishap_of o q) (mishaps_of ops replies) (mishap_of op reply))
+    ap (λ l. mishap_of o q ++ l) (mishaps_of-more ops replies r.1 op reply r.3)
+    ∙ sym (append_assoc (mishap_of o q) (mishaps_of ops replies) (mishap_of op reply))
 mishaps_of-more [] (q ∷ replies) xs op reply r = absurd r
 mishaps_of-more (o ∷ ops) [] xs op reply r = absurd r
 
-EndsFlushed-more : (ops : List Op) (replies : List Reply) (xs : List ℕ) (op : Op) (reply : Reply) → Run ops replies xs → EndsFlushed (ops ++ op ∷ []) (replies ++ reply ∷ []) → IsFlushed op reply
+EndsFlushed-more : (ops : List Op) (replies : List Reply) (xs : List ℕ) (op : Op) (reply : Reply) → Run ops replies xs
+    → EndsFlushed (ops ++ op ∷ []) (replies ++ reply ∷ []) → IsFlushed op reply
 EndsFlushed-more [] [] xs op reply r e = e
 EndsFlushed-more (o ∷ []) (q ∷ []) xs op reply r e = e
 EndsFlushed-more (o ∷ p ∷ ops) (q ∷ s ∷ replies) xs op reply r e = EndsFlushed-more (p ∷ ops) (s ∷ replies) r.1 op reply r.3 e
@@ -34,7 +40,8 @@ EndsFlushed-more (o ∷ p ∷ ops) (q ∷ []) xs op reply r e = absurd r.3
 EndsFlushed-more [] (q ∷ replies) xs op reply r e = absurd r
 EndsFlushed-more (o ∷ ops) [] xs op reply r e = absurd r
 
-pub AreWhole-more : (ops : List Op) (replies : List Reply) (op : Op) (reply : Reply) → AreWhole ops replies → IsWhole op reply → AreWhole (ops ++ op ∷ []) (replies ++ reply ∷ [])
+pub AreWhole-more : (ops : List Op) (replies : List Reply) (op : Op) (reply : Reply) → AreWhole ops replies
+    → IsWhole op reply → AreWhole (ops ++ op ∷ []) (replies ++ reply ∷ [])
 AreWhole-more [] [] op reply r a = (a, tt)
 AreWhole-more (o ∷ ops) (q ∷ replies) op reply r a = (r.0, AreWhole-more ops replies op reply r.1 a)
 AreWhole-more [] (q ∷ replies) op reply r a = absurd r
@@ -43,31 +50,45 @@ AreWhole-more (o ∷ ops) [] op reply r a = absurd r
 pub Ran-none : (a : Told) → Ran a [] [] a
 Ran-none a = record { accepted = []; run = refl; moves = Moves-refl a }
 
-pub Ran-more : {a b c : Told} {op : Op} {reply : Reply} (ops : List Op) (replies : List Reply) → Ran a ops replies b → Answers b op reply c → Ran a (ops ++ op ∷ []) (replies ++ reply ∷ []) c
+pub Ran-more : {a b c : Told} {op : Op} {reply : Reply} (ops : List Op) (replies : List Reply) → Ran a ops replies b
+    → Answers b op reply c → Ran a (ops ++ op ∷ []) (replies ++ reply ∷ []) c
 Ran-more {a} {b} {c} {op} {reply} ops replies r s = record {
   accepted = r.accepted ++ s.accepted;
   run = Run-more ops replies r.accepted op reply s.accepted r.run s.accepts;
-  moves = subst (λ k. Moves a (r.accepted ++ s.accepted) k c) (sym (mishaps_of-more ops replies r.accepted op reply r.run)) (Moves-trans r.moves s.moves);
+  moves =
+      subst (λ k. Moves a (r.accepted ++ s.accepted) k c) (sym (mishaps_of-more ops replies r.accepted op reply r.run))
+      (Moves-trans r.moves s.moves);
 }
 
 -- the next of a list of calls
-pub Ran-next : {a b c : Told} {reply : Reply} (ops : List Op) (i : ℕ) (d : Op) (replies : List Reply) → i < length ops → Ran a (take i ops) replies b → Answers b (get_or ops i d) reply c → Ran a (take (i + 1) ops) (replies ++ reply ∷ []) c
+pub Ran-next : {a b c : Told} {reply : Reply} (ops : List Op) (i : ℕ) (d : Op) (replies : List Reply) → i < length ops
+    → Ran a (take i ops) replies b → Answers b (get_or ops i d) reply c
+    → Ran a (take (i + 1) ops) (replies ++ reply ∷ []) c
 Ran-next {a} {b} {c} {reply} ops i d replies h r s =
     subst (λ made. Ran a made (replies ++ reply ∷ []) c) (sym (take_more ops i d h)) (Ran-more (take i ops) replies r s)
 
-pub AreWhole-next : (reply : Reply) (ops : List Op) (i : ℕ) (d : Op) (replies : List Reply) → i < length ops → AreWhole (take i ops) replies → IsWhole (get_or ops i d) reply → AreWhole (take (i + 1) ops) (replies ++ reply ∷ [])
+pub AreWhole-next : (reply : Reply) (ops : List Op) (i : ℕ) (d : Op) (replies : List Reply) → i < length ops
+    → AreWhole (take i ops) replies → IsWhole (get_or ops i d) reply
+    → AreWhole (take (i + 1) ops) (replies ++ reply ∷ [])
 AreWhole-next reply ops i d replies h r s =
-    subst (λ made. AreWhole made (replies ++ reply ∷ [])) (sym (take_more ops i d h)) (AreWhole-more (take i ops) replies (get_or ops i d) reply r s)
+    subst (λ made. AreWhole made (replies ++ reply ∷ [])) (sym (take_more ops i d h))
+    (AreWhole-more (take i ops) replies (get_or ops i d) reply r s)
 
 -- a last flush that succeeded is the last call
-pub EndsFlushed-next : {a b c : Told} {reply : Reply} (ops : List Op) (i : ℕ) (d : Op) (replies : List Reply) → i < length ops → Ran a (take i ops) replies b → Answers b (get_or ops i d) reply c → EndsFlushed (take (i + 1) ops) (replies ++ reply ∷ []) → c.held ≡ []
+pub EndsFlushed-next : {a b c : Told} {reply : Reply} (ops : List Op) (i : ℕ) (d : Op) (replies : List Reply)
+    → i < length ops → Ran a (take i ops) replies b → Answers b (get_or ops i d) reply c
+    → EndsFlushed (take (i + 1) ops) (replies ++ reply ∷ []) → c.held ≡ []
 EndsFlushed-next {reply} ops i d replies h r s e =
-    s.flushed (EndsFlushed-more (take i ops) replies r.accepted (get_or ops i d) reply r.run (subst (λ made. EndsFlushed made (replies ++ reply ∷ [])) (take_more ops i d h) e))
+    s.flushed
+    (EndsFlushed-more (take i ops) replies r.accepted (get_or ops i d) reply r.run
+    (subst (λ made. EndsFlushed made (replies ++ reply ∷ [])) (take_more ops i d h) e))
 
 -- what holds of the calls made holds of all, once all are made
-pub all_made : (P : List Op → List Reply → Type 0) (ops : List Op) (i : ℕ) (old new more : List Reply) → length ops ≤ i → new ≡ old ++ more → P (take i ops) more → P ops (appended old new)
+pub all_made : (P : List Op → List Reply → Type 0) (ops : List Op) (i : ℕ) (old new more : List Reply) → length ops ≤ i
+    → new ≡ old ++ more → P (take i ops) more → P ops (appended old new)
 all_made P ops i old new more h e p =
-    subst (λ made. P made (appended old new)) (take_all i ops h) (subst (P (take i ops)) (sym (ap (drop (length old)) e ∙ drop-append_seam old more)) p)
+    subst (λ made. P made (appended old new)) (take_all i ops h)
+    (subst (P (take i ops)) (sym (ap (drop (length old)) e ∙ drop-append_seam old more)) p)
 
 -- a `write` that took n bytes
 pub Answers-write : {a b : Told} (x : Bor (List ℕ)) (n : ℕ) → n ≤ length x.now → Moves a (take n x.now) (zero_write n x.now) b

@@ -1,5 +1,7 @@
 -- Which acts a loop of writes has spent.
-use Rattle.std.proofs.Common.{◌≡◌, ℕ, zero, suc, ◌+◌, ◌-◌, ◌<◌, ◌≤◌, min, List, [], ◌∷◌, ◌++◌, length, take, drop, Result, Ok, Err, Some, refl, sym, ap, ◌∙◌, subst, arith, append_assoc, append-nil, take-append-drop, length-append, length-take, length-drop}
+use Rattle.std.proofs.Common.{◌≡◌, ℕ, zero, suc, ◌+◌, ◌-◌, ◌<◌, ◌≤◌, min, List, [], ◌∷◌, ◌++◌, length, take, drop}
+use Rattle.std.proofs.Common.{Result, Ok, Err, Some, refl, sym, ap, ◌∙◌, arith, append_assoc}
+use Rattle.std.proofs.Common.{take-append-drop, length-append, length-take, length-drop}
 use Rattle.no_std_io2_base.specs.declared.error.Error.{Error}
 use Rattle.no_std_io2_base.specs.declared.error.ErrorKind.{ErrorKind}
 use Rattle.no_std_io2_base.specs.Errors.{is_interruption, IsInterruption}
@@ -7,7 +9,7 @@ use Rattle.no_std_io2_base.proofs.WriteExits.{rest_is}
 use Rattle.io_bench.specs.declared.faulty.Act.{Act}
 use Rattle.io_bench.specs.declared.faulty.Act.TheVariants.{Take, Zero, Fail}
 use Rattle.io_bench.specs.Calls.{FailsWith}
-use Rattle.io_bench.specs.Faulty.{first_act, acts_bytes, AllGoOn, SpendsActs, act_bytes}
+use Rattle.io_bench.specs.Faulty.{first_act, acts_bytes, AllGoOn, SpendsActs}
 
 -- the acts that were spent so far, with `left` still to write
 pub record ActsSoFar (acts : List Act) (wanted turns left turns' : ℕ) (acts' : List Act) : Type 0 where

@@ -1,5 +1,6 @@
 -- What one call does: fails, or is handed on, by the laws of `Write` and of `Read`; and how many calls a loop makes.
-use Rattle.std.specs.Prelude.{◌≡◌, ℕ, ◌+◌, ◌<◌, ◌≤◌, ◌⊎◌, List, [], length, min, None, Result, Ok, Err, IfOk, IfErr, OnOk, IsOkAnd, IsErrAnd}
+use Rattle.std.specs.Prelude.{◌≡◌, ℕ, ◌+◌, ◌<◌, ◌≤◌, ◌⊎◌, List, [], length, min, None, Result, Ok, Err, IfOk, IfErr}
+use Rattle.std.specs.Prelude.{OnOk, IsOkAnd, IsErrAnd}
 use Rattle.no_std_io2_base.specs.declared.error.Error.{Error}
 use Rattle.no_std_io2_base.specs.declared.error.ErrorKind.{ErrorKind}
 use Rattle.no_std_io2_base.specs.Errors.{error_kind, error_text, IsOutOfMemory}

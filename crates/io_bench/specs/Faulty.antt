@@ -1,6 +1,7 @@
 -- What a clause reads of a `Faulty`, and which acts a loop of writes spends.
 use Rattle.std.proofs.Common.{ap, ◌∙◌}
-use Rattle.std.specs.Prelude.{◌≡◌, Some, None, Option, List, [], ◌∷◌, ◌++◌, drop, if◌then◌else◌, ◌==◌, ℕ, ◌+◌, ◌≤◌, ◌<◌, true, count_by, length, min, Result, OnOk, ⊤}
+use Rattle.std.specs.Prelude.{◌≡◌, Some, None, Option, List, [], ◌∷◌, ◌++◌, drop, if◌then◌else◌, ◌==◌, ℕ, ◌+◌, ◌≤◌, ◌<◌}
+use Rattle.std.specs.Prelude.{true, count_by, length, min, Result, OnOk, ⊤}
 use Rattle.no_std_io2_base.specs.declared.error.Error.{Error}
 use Rattle.io_bench.specs.Calls.{stopped}
 use Rattle.no_std_io2_base.specs.Errors.{is_interruption}
@@ -81,7 +82,8 @@ AllGoOn [] = ⊤
 AllGoOn (act ∷ acts) = GoesOn act × AllGoOn acts
 
 -- A loop of writes had `wanted` bytes to write, and `left` are left, and with its turns each call spent an act, as long as there was one.
-pub record SpendsActs (acts : List Act) (wanted turns : ℕ) (reply : Result (Unit {0}) Error) (left turns' : ℕ) (acts' : List Act) : Type 0 where
+pub record SpendsActs (acts : List Act) (wanted turns : ℕ) (reply : Result (Unit {0}) Error) (left turns' : ℕ)
+    (acts' : List Act) : Type 0 where
   pub spent : List Act
   pub split : acts ≡ spent ++ acts'
   -- some bytes ask for one at least
@@ -94,5 +96,6 @@ pub record SpendsActs (acts : List Act) (wanted turns : ℕ) (reply : Result (Un
   pub on : OnOk reply (AllGoOn spent)
 
 -- behind no act, a writer with no mishap to come has none
-pub faulty_steady : {W : Type 0} (told : W → Told) (f : Faulty W) → (told (faulty_inner f)).mishaps ≡ Some [] → acts_left f ≡ [] → (faulty_told told f).mishaps ≡ Some []
+pub faulty_steady : {W : Type 0} (told : W → Told) (f : Faulty W) → (told (faulty_inner f)).mishaps ≡ Some []
+    → acts_left f ≡ [] → (faulty_told told f).mishaps ≡ Some []
 faulty_steady told f e g = ap (option_map (λ kinds. kinds ++ act_mishaps (acts_left f))) e ∙ ap (λ acts. Some (act_mishaps acts)) g

@@ -20,7 +20,8 @@ pub record PiecesToFault (trim : List ℕ → List ℕ) (d : ℕ) (E : List Even
   pub are : items ≡ map trim (filter (ends_in d) (pieces d (bytes before)))
 
 -- these are the pieces before one that e refuses, trimmed
-pub record PiecesToRefused (trim : List ℕ → List ℕ) (refuses : List ℕ → Error → Type 0) (d : ℕ) (E : List Event) (e : Error) (items : List (List ℕ)) : Type 0 where
+pub record PiecesToRefused (trim : List ℕ → List ℕ) (refuses : List ℕ → Error → Type 0) (d : ℕ) (E : List Event)
+    (e : Error) (items : List (List ℕ)) : Type 0 where
   pub before : List (List ℕ)
   pub piece : List ℕ
   pub behind : List (List ℕ)
@@ -37,7 +38,8 @@ pub record PiecesToMemory (trim : List ℕ → List ℕ) (d : ℕ) (E : List Eve
   pub are : items ≡ map trim before
 
 -- a whole run over a reader with these events to come gathered these items and ended so
-abbrev pub GathersPieces : {A : Type 0} → (List ℕ → List ℕ) → (List ℕ → Error → Type 0) → ℕ → List Event → Result A Error → List (List ℕ) → Type 0
+abbrev pub GathersPieces : {A : Type 0} → (List ℕ → List ℕ) → (List ℕ → Error → Type 0) → ℕ → List Event
+    → Result A Error → List (List ℕ) → Type 0
 GathersPieces trim refuses d E (Ok _) items = AllPieces trim d E items
 GathersPieces trim refuses d E (Err e) items =
     PiecesToFault trim d E e items ⊎ (PiecesToRefused trim refuses d E e items ⊎ PiecesToMemory trim d E e items)

@@ -5,7 +5,8 @@ use Rattle.no_std_io2_base.proofs.MovesLemmas.{Moves-ends}
 use Rattle.iotower.specs.Play.{Writes}
 
 -- one text is written and flushed
-pub writes_text : {P : List ℕ → Type 0} {a b c : Told} {x shown : List ℕ} → P x → shown ≡ x → MovesFront a shown (Ok tt) b → Moves b [] [] c → c.held ≡ [] → Writes P a c
+pub writes_text : {P : List ℕ → Type 0} {a b c : Told} {x shown : List ℕ} → P x → shown ≡ x
+    → MovesFront a shown (Ok tt) b → Moves b [] [] c → c.held ≡ [] → Writes P a c
 writes_text {a = a} {b} {x = x} is same wrote flushed empty = record {
   text = x;
   is = is;

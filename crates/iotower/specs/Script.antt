@@ -3,7 +3,13 @@ use Rattle.std.specs.Prelude.{◌≡◌, ℕ, ◌==◌, ◌≤◌, ◌<◌, ◌^
 use Rattle.std.specs.List.{flat_map}
 use Rattle.std.specs.Str.Parse.{IsNumeral, digits_value}
 use Rattle.no_std_io2_base.specs.declared.error.ErrorKind.{ErrorKind}
-use Rattle.no_std_io2_base.specs.declared.error.ErrorKind.TheVariants.{NotFound, PermissionDenied, ConnectionRefused, ConnectionReset, ConnectionAborted, NotConnected, AddrInUse, AddrNotAvailable, BrokenPipe, AlreadyExists, WouldBlock, InvalidInput, InvalidData, TimedOut, WriteZero, Interrupted, Other, UnexpectedEof, Unsupported, OutOfMemory, Uncategorized}
+use Rattle.no_std_io2_base.specs.declared.error.ErrorKind.TheVariants.{NotFound, PermissionDenied, ConnectionRefused}
+use Rattle.no_std_io2_base.specs.declared.error.ErrorKind.TheVariants.{ConnectionReset, ConnectionAborted, NotConnected}
+use Rattle.no_std_io2_base.specs.declared.error.ErrorKind.TheVariants.{AddrInUse, AddrNotAvailable, BrokenPipe}
+use Rattle.no_std_io2_base.specs.declared.error.ErrorKind.TheVariants.{AlreadyExists, WouldBlock, InvalidInput}
+use Rattle.no_std_io2_base.specs.declared.error.ErrorKind.TheVariants.{InvalidData, TimedOut, WriteZero, Interrupted}
+use Rattle.no_std_io2_base.specs.declared.error.ErrorKind.TheVariants.{Other, UnexpectedEof, Unsupported, OutOfMemory}
+use Rattle.no_std_io2_base.specs.declared.error.ErrorKind.TheVariants.{Uncategorized}
 
 -- a byte as a text shows it: a newline is a backslash and `n`, a backslash two backslashes
 abbrev pub escaped_byte : ℕ → List ℕ

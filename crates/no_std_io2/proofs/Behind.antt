@@ -1,5 +1,7 @@
 -- What lies behind the held bytes.
-use Rattle.std.proofs.Common.{◌≡◌, ℕ, ◌+◌, ◌-◌, ◌≤◌, ◌<◌, ◌^◌, ℤ, pos, negsuc, ◌+ℤ◌, List, [], ◌++◌, length, take, drop, refl, sym, ap, ◌∙◌, subst, arith, length-take-le, append_assoc, take-append-drop, unsigned_abs, Ok}
+use Rattle.std.proofs.Common.{◌≡◌, ℕ, ◌+◌, ◌-◌, ◌≤◌, ◌<◌, ◌^◌, ℤ, pos, negsuc, ◌+ℤ◌, List, [], ◌++◌, length, take, drop}
+use Rattle.std.proofs.Common.{refl, sym, ap, ◌∙◌, subst, arith, length-take-le, append_assoc, take-append-drop}
+use Rattle.std.proofs.Common.{unsigned_abs, Ok}
 use Rattle.std.proofs.lemmas.Int.{ints}
 use Rattle.std.proofs.lemmas.List.{take-take}
 use Rattle.std.proofs.Math.Seq.{take-add, drop-append_seam, drop-append-add}
@@ -22,7 +24,8 @@ whole l start end ordered =
     sym (ap (λ n. take n l) split ∙ take-add start (end - start) l)
 
 -- n bytes more lie behind
-pub behind_more : (l : List ℕ) (start end n : ℕ) → n ≤ end - start → take (start + n) l ≡ take start l ++ take n (take (end - start) (drop start l))
+pub behind_more : (l : List ℕ) (start end n : ℕ) → n ≤ end - start
+    → take (start + n) l ≡ take start l ++ take n (take (end - start) (drop start l))
 behind_more l start end n fits =
     take-add start n l ∙ ap (λ m. take start l ++ m) (sym (take-take n (end - start) (drop start l) fits))
 
@@ -47,33 +50,40 @@ cut_on l o start end at ordered within room is =
     )
 
 -- with n bytes more behind it is the same list
-pub moved_whole : (behind held behind' held' got : List ℕ) (n : ℕ) → behind' ≡ behind ++ got → got ≡ take n held → held' ≡ drop n held → behind' ++ held' ≡ behind ++ held
+pub moved_whole : (behind held behind' held' got : List ℕ) (n : ℕ) → behind' ≡ behind ++ got → got ≡ take n held
+    → held' ≡ drop n held → behind' ++ held' ≡ behind ++ held
 moved_whole behind held behind' held' got n after front rest =
     ap (λ l. l ++ held') (after ∙ ap (λ l. behind ++ l) front) ∙ append_assoc behind (take n held) held'
     ∙ ap (λ l. behind ++ (take n held ++ l)) rest ∙ ap (λ l. behind ++ l) (take-append-drop n held)
 
-pub sound_moved : (behind held behind' held' got : List ℕ) (position : ℕ) (content : List ℕ) (n : ℕ) → behind' ≡ behind ++ got → got ≡ take n held → held' ≡ drop n held
+pub sound_moved : (behind held behind' held' got : List ℕ) (position : ℕ) (content : List ℕ) (n : ℕ)
+    → behind' ≡ behind ++ got → got ≡ take n held → held' ≡ drop n held
     → IsSound (behind ++ held) position content → IsSound (behind' ++ held') position content
 sound_moved behind held behind' held' got position content n after front rest s =
     subst (λ l. IsSound l position content) (sym (moved_whole behind held behind' held' got n after front rest)) s
 
 -- the same list at the same position of the same content
-pub sound_stayed : (whole whole' : List ℕ) (position position' : ℕ) (content content' : List ℕ) → whole' ≡ whole → position' ≡ position → content' ≡ content
+pub sound_stayed : (whole whole' : List ℕ) (position position' : ℕ) (content content' : List ℕ) → whole' ≡ whole
+    → position' ≡ position → content' ≡ content
     → IsSound whole position content → IsSound whole' position' content'
 sound_stayed whole whole' position position' content content' same here kept s =
-    subst (λ l. IsSound l position' content') (sym same) (subst (λ c. IsSound whole position' c) (sym kept) (subst (λ p. IsSound whole p content) (sym here) s))
+    subst (λ l. IsSound l position' content') (sym same)
+    (subst (λ c. IsSound whole position' c) (sym kept) (subst (λ p. IsSound whole p content) (sym here) s))
 
 -- with nothing behind
-pub sound_alone : (behind held : List ℕ) (position : ℕ) (content : List ℕ) → behind ≡ [] → IsSound held position content → IsSound (behind ++ held) position content
+pub sound_alone : (behind held : List ℕ) (position : ℕ) (content : List ℕ) → behind ≡ [] → IsSound held position content
+    → IsSound (behind ++ held) position content
 sound_alone behind held position content none s = subst (λ l. IsSound (l ++ held) position content) (sym none) s
 
 -- with nothing behind and nothing held
-pub sound_empty : (behind held : List ℕ) (position : ℕ) (content : List ℕ) → behind ≡ [] → held ≡ [] → IsSound (behind ++ held) position content
+pub sound_empty : (behind held : List ℕ) (position : ℕ) (content : List ℕ) → behind ≡ [] → held ≡ []
+    → IsSound (behind ++ held) position content
 sound_empty behind held position content none empty =
     sound_alone behind held position content none (subst (λ l. IsSound l position content) (sym empty) (omega arith, refl))
 
 -- what is held of a sound list
-pub sound_held : (behind held : List ℕ) (position : ℕ) (content : List ℕ) → IsSound (behind ++ held) position content → IsSound held position content
+pub sound_held : (behind held : List ℕ) (position : ℕ) (content : List ℕ) → IsSound (behind ++ held) position content
+    → IsSound held position content
 sound_held behind held position content s =
     subst (λ l. IsSound l position content) (drop-append_seam behind held)
     (sound_drop (behind ++ held) position content (length behind) s (omega (arith, length-append behind held)))
@@ -85,24 +95,38 @@ held_on behind held behind' held' same = sym (drop-append_seam behind' held') �
 pub cut_moves : (o : ℤ) (behind held behind' held' : List ℕ) (E : List Event) → IsCutOn o behind held behind' held'
     → MovesEvents o behind held (events_of held ++ E) (events_of held' ++ E)
 cut_moves (pos k) behind held behind' held' E cut =
-    give_events held held' (take k held) E k (held_on behind held behind' held' cut.0 ∙ ap (λ n. drop n (behind ++ held)) cut.1 ∙ drop-append-add behind held k) refl
+    give_events held held' (take k held) E k
+    (held_on behind held behind' held' cut.0 ∙ ap (λ n. drop n (behind ++ held)) cut.1
+    ∙ drop-append-add behind held k)
+    refl
 cut_moves (negsuc k) behind held behind' held' E cut =
     let n = length behind - (k + 1) in
     let at : length behind' ≡ n = omega (arith, cut.1) in
-    let rest : held' ≡ drop n behind ++ held = held_on behind held behind' held' cut.0 ∙ ap (λ m. drop m (behind ++ held)) at ∙ drop-append-le n behind held (omega arith) in
-    ap (λ l. events_of l ++ E) rest ∙ ap (λ l. l ++ E) (events_of-append (drop n behind) held) ∙ append_assoc (events_of (drop n behind)) (events_of held) E
+    let rest : held' ≡ drop n behind ++ held =
+    held_on behind held behind' held' cut.0 ∙ ap (λ m. drop m (behind ++ held)) at
+    ∙ drop-append-le n behind held (omega arith) in
+    ap (λ l. events_of l ++ E) rest ∙ ap (λ l. l ++ E) (events_of-append (drop n behind) held)
+    ∙ append_assoc (events_of (drop n behind)) (events_of held) E
 
 -- the position moves with the border
-pub cut_place : (o : ℤ) (at behind held behind' held' : ℕ) → behind + held ≤ at → behind' + held' ≡ behind + held → IsAtOffset behind o behind' → IsAtOffset (at - held) o (at - held')
+pub cut_place : (o : ℤ) (at behind held behind' held' : ℕ) → behind + held ≤ at → behind' + held' ≡ behind + held
+    → IsAtOffset behind o behind' → IsAtOffset (at - held) o (at - held')
 cut_place (pos k) at behind held behind' held' fits same on = omega arith
 cut_place (negsuc k) at behind held behind' held' fits same on = omega arith
 
-pub cut_seeks : (o : ℤ) (len at : ℕ) (behind held behind' held' content : List ℕ) → IsSound (behind ++ held) at content → at < 2 ^ 64 → IsCutOn o behind held behind' held'
+pub cut_seeks : (o : ℤ) (len at : ℕ) (behind held behind' held' content : List ℕ) → IsSound (behind ++ held) at content
+    → at < 2 ^ 64 → IsCutOn o behind held behind' held'
     → Seeks len (at - length held) (Current o) (Ok (at - length held')) (at - length held')
 cut_seeks o len at behind held behind' held' content s small cut =
     let before = length-append behind held in
-    let after = length-append behind' held' in
-    ((cut_place o at (length behind) (length held) (length behind') (length held') (omega (arith, s.0, before)) (omega (arith, before, after, ap length cut.0)) cut.1, omega arith), refl)
+    let after = length-append behind' held' in (
+      (
+        cut_place o at (length behind) (length held) (length behind') (length held') (omega (arith, s.0, before))
+            (omega (arith, before, after, ap length cut.0)) cut.1,
+        omega arith,
+      ),
+      refl,
+    )
 
 -- a seek without its number
 pub numberless : (len old new n : ℕ) (from : SeekFrom) → Seeks len old from (Ok n) new → Seeks len old from (Ok new) new

@@ -1,5 +1,7 @@
 -- A buffer in front of a writer.
-use Rattle.std.proofs.Common.{◌≡◌, ◌⊎◌, ⊎_elim, inl, inr, ℕ, ◌-◌, ◌<◌, ◌≤◌, subst, length-take, Result, Ok, Err, IsOk, Some, List, [], ◌∷◌, refl, ◌++◌, length, take, drop, length-drop, sym, ap, ◌∙◌, arith, length-append, append_assoc, append-nil, take-append-drop}
+use Rattle.std.proofs.Common.{◌≡◌, ◌⊎◌, ⊎_elim, inl, inr, ℕ, ◌-◌, ◌<◌, ◌≤◌, subst, length-take, Result, Ok, Err, IsOk}
+use Rattle.std.proofs.Common.{Some, List, [], ◌∷◌, refl, ◌++◌, length, take, drop, length-drop, sym, ap, ◌∙◌, arith}
+use Rattle.std.proofs.Common.{length-append, append_assoc, append-nil, take-append-drop}
 use Rattle.std.proofs.lemmas.Bool.Decides.{nat_tests}
 use Rattle.no_std_io2_base.specs.declared.error.ErrorKind.{ErrorKind}
 use Rattle.no_std_io2_base.specs.declared.error.Error.{Error}
@@ -15,14 +17,17 @@ none_left xs ys zs e h = omega (arith, ap length e, ap length h, length-append y
 -- n more bytes are gone
 pub gone_more : (xs ys zs : List ℕ) (n : ℕ) (next : List ℕ) → xs ≡ ys ++ zs → next ≡ drop n zs → xs ≡ (ys ++ take n zs) ++ next
 gone_more xs ys zs n next e h =
-    e ∙ ap (λ l. ys ++ l) (sym (take-append-drop n zs)) ∙ sym (append_assoc ys (take n zs) (drop n zs)) ∙ ap (λ l. (ys ++ take n zs) ++ l) (sym h)
+    e ∙ ap (λ l. ys ++ l) (sym (take-append-drop n zs)) ∙ sym (append_assoc ys (take n zs) (drop n zs))
+    ∙ ap (λ l. (ys ++ take n zs) ++ l) (sym h)
 
 -- What the inner writer accepted, x, came from the front of the buffer and of what was given, y.
-pub Moves-buffered : {a b : Told} {x : List ℕ} {k : List ErrorKind} (old new y : List ℕ) → Moves a x k b → old ++ y ≡ x ++ new → Moves (with_buffer a old) y k (with_buffer b new)
+pub Moves-buffered : {a b : Told} {x : List ℕ} {k : List ErrorKind} (old new y : List ℕ) → Moves a x k b
+    → old ++ y ≡ x ++ new → Moves (with_buffer a old) y k (with_buffer b new)
 Moves-buffered {a} {b} {x} old new y f e = record {
   front = f.front;
   bytes = sym (append_assoc b.out b.held new) ∙ ap (λ l. l ++ new) f.bytes ∙ append_assoc (a.out ++ a.held) x new
-      ∙ ap (λ l. (a.out ++ a.held) ++ l) (sym e) ∙ sym (append_assoc (a.out ++ a.held) old y) ∙ ap (λ l. l ++ y) (append_assoc a.out a.held old);
+      ∙ ap (λ l. (a.out ++ a.held) ++ l) (sym e) ∙ sym (append_assoc (a.out ++ a.held) old y)
+      ∙ ap (λ l. l ++ y) (append_assoc a.out a.held old);
   mishaps = f.mishaps;
   turns = f.turns;
 }
@@ -40,11 +45,13 @@ pub ok_same : {A E : Type 0} {x y : A} → ◌≡◌ {A = Result A E} (Ok x) (Ok
 ok_same e = cc
 
 -- after the whole buffer was sent
-pub Moves-sent : {a b : Told} {k : List ErrorKind} (old new : List ℕ) → new ≡ [] → Moves a old k b → Moves (with_buffer a old) [] k (with_buffer b new)
+pub Moves-sent : {a b : Told} {k : List ErrorKind} (old new : List ℕ) → new ≡ [] → Moves a old k b
+    → Moves (with_buffer a old) [] k (with_buffer b new)
 Moves-sent old new e f = Moves-buffered old new [] f (ap (λ l. old ++ l) (sym e))
 
 -- after a part of the buffer was sent
-pub Moves-sent_part : {a b : Told} {k : List ErrorKind} (sent old new : List ℕ) → old ≡ sent ++ new → Moves a sent k b → Moves (with_buffer a old) [] k (with_buffer b new)
+pub Moves-sent_part : {a b : Told} {k : List ErrorKind} (sent old new : List ℕ) → old ≡ sent ++ new → Moves a sent k b
+    → Moves (with_buffer a old) [] k (with_buffer b new)
 Moves-sent_part sent old new e f = Moves-buffered old new [] f (append-nil old ∙ e)
 
 -- after more was put into the buffer
@@ -52,7 +59,8 @@ pub Moves-held : (a : Told) (old new x : List ℕ) → new ≡ old ++ x → Move
 Moves-held a old new x e = Moves-buffered old new x (Moves-refl a) (sym e)
 
 -- past an empty buffer
-pub Moves-passed : {a b : Told} {x : List ℕ} {k : List ErrorKind} (held : List ℕ) → held ≡ [] → Moves a x k b → Moves (with_buffer a held) x k (with_buffer b held)
+pub Moves-passed : {a b : Told} {x : List ℕ} {k : List ErrorKind} (held : List ℕ) → held ≡ [] → Moves a x k b
+    → Moves (with_buffer a held) x k (with_buffer b held)
 Moves-passed {a} {b} {x} held e f = Moves-buffered held held x f (ap (λ l. l ++ x) e ∙ sym (append-nil x) ∙ ap (λ l. x ++ l) (sym e))
 
 pub none_of_length : (xs : List ℕ) → length xs ≡ 0 → xs ≡ []
@@ -64,7 +72,8 @@ pub buffer-le : {W : Type 0} {S : ℕ} (w : BufWriter W S) → length (writer_bu
 buffer-le w = let c = w.core.window in omega (arith, length-take (c.end - c.start) (drop c.start c.bytes), c.in_range)
 
 -- behind an empty buffer
-pub Moves-bare : {a b : Told} {x : List ℕ} {k : List ErrorKind} (buffer : List ℕ) → buffer ≡ [] → Moves (with_buffer a buffer) x k b → Moves a x k b
+pub Moves-bare : {a b : Told} {x : List ℕ} {k : List ErrorKind} (buffer : List ℕ) → buffer ≡ []
+    → Moves (with_buffer a buffer) x k b → Moves a x k b
 Moves-bare {a} {b} {x} buffer e f = record {
   front = f.front;
   bytes = f.bytes ∙ ap (λ l. a.out ++ (a.held ++ l) ++ x) e ∙ ap (λ l. a.out ++ l ++ x) (append-nil a.held);
@@ -118,22 +127,27 @@ HoldsEnd-rest held x mid rest end n none is r =
         (take n x, ap (λ l. l ++ x) none ∙ sym (take-append-drop n x) ∙ ap (λ l. take n x ++ l) (sym is ∙ ap (λ l. l ++ rest) (sym none)))
 
 -- a call of a writer with no mishap to come answers `Ok`
-pub call_steady : {a c : Told} {x : List ℕ} (reply : Result (Unit {0}) Error) → a.mishaps ≡ Some [] → Moves a x (call_mishap reply) c → IsOk reply
+pub call_steady : {a c : Told} {x : List ℕ} (reply : Result (Unit {0}) Error) → a.mishaps ≡ Some []
+    → Moves a x (call_mishap reply) c → IsOk reply
 call_steady (Ok u) e f = refl
 call_steady (Err err) e f = absurd (Moves-steady e f)
 
 -- the same, with the inner writer the same
-pub Moves-kept : {W : Type 0} (told : W → Told) (inner next : W) (old new x : List ℕ) → next ≡ inner → new ≡ old ++ x → Moves (with_buffer (told inner) old) x [] (with_buffer (told next) new)
+pub Moves-kept : {W : Type 0} (told : W → Told) (inner next : W) (old new x : List ℕ) → next ≡ inner → new ≡ old ++ x
+    → Moves (with_buffer (told inner) old) x [] (with_buffer (told next) new)
 Moves-kept told inner next old new x same e =
     subst (λ w. Moves (with_buffer (told inner) old) x [] (with_buffer (told w) new)) (sym same) (Moves-held (told inner) old new x e)
 
 -- after the whole buffer was sent, with no buffer left
-pub Moves-out : {a b : Told} {k : List ErrorKind} (old sent rest : List ℕ) → old ≡ sent ++ rest → rest ≡ [] → Moves a sent k b → Moves (with_buffer a old) [] k b
+pub Moves-out : {a b : Told} {k : List ErrorKind} (old sent rest : List ℕ) → old ≡ sent ++ rest → rest ≡ []
+    → Moves a sent k b → Moves (with_buffer a old) [] k b
 Moves-out {a} {b} old sent rest e none f =
     let whole : old ≡ sent = e ∙ ap (λ l. sent ++ l) none ∙ append-nil sent in
     record {
       front = f.front;
-      bytes = f.bytes ∙ append_assoc a.out a.held sent ∙ ap (λ l. a.out ++ (a.held ++ l)) (sym whole) ∙ sym (append-nil (a.out ++ (a.held ++ old)));
+      bytes =
+          f.bytes ∙ append_assoc a.out a.held sent ∙ ap (λ l. a.out ++ (a.held ++ l)) (sym whole)
+          ∙ sym (append-nil (a.out ++ (a.held ++ old)));
       mishaps = f.mishaps;
       turns = f.turns;
     }

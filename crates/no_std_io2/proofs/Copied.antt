@@ -1,5 +1,7 @@
 -- What a loop of reads and writes has moved so far.
-use Rattle.std.proofs.Common.{◌≡◌, Option, None, Some, true, ℕ, ◌+◌, ◌-◌, ◌^◌, ◌<◌, ◌≤◌, min, List, [], ◌∷◌, ◌++◌, length, take, refl, sym, ap, ◌∙◌, subst, arith, Ok, Err, append_assoc, append-nil, inl, inr, length-append, length-take-le, drop_of_length-le}
+use Rattle.std.proofs.Common.{◌≡◌, Option, None, Some, true, ℕ, ◌+◌, ◌-◌, ◌^◌, ◌<◌, ◌≤◌, min, List, [], ◌∷◌, ◌++◌}
+use Rattle.std.proofs.Common.{length, take, refl, sym, ap, ◌∙◌, subst, arith, Ok, Err, append_assoc, append-nil, inl}
+use Rattle.std.proofs.Common.{inr, length-append, length-take-le, drop_of_length-le}
 use Rattle.std.proofs.lemmas.List.Sums.{sum_by-cons}
 use Rattle.no_std_io2_base.specs.declared.error.Error.{Error}
 use Rattle.no_std_io2_base.specs.declared.error.ErrorKind.{ErrorKind}
@@ -37,18 +39,21 @@ count_more n m k b got count long is = omega (arith, length-append b got)
 whole_piece : (mid new : Told) (piece : List ℕ) → MovesFront mid piece (Ok tt) new → Moves mid piece [] new
 whole_piece mid new piece w = subst (λ l. Moves mid l [] new) w.whole w.moves
 
-pub written_more : (old mid new : Told) (n m k : ℕ) (buf : List ℕ) → Written old mid m → MovesFront mid (take n buf) (Ok tt) new → n ≤ length buf → k ≡ min (m + n) (2 ^ 64 - 1) → Written old new k
+pub written_more : (old mid new : Told) (n m k : ℕ) (buf : List ℕ) → Written old mid m
+    → MovesFront mid (take n buf) (Ok tt) new → n ≤ length buf → k ≡ min (m + n) (2 ^ 64 - 1) → Written old new k
 written_more old mid new n m k buf t w fits is = record {
   accepted = t.accepted ++ take n buf;
   moves = Moves-then t.moves (whole_piece mid new (take n buf) w);
   count = count_more n m k t.accepted (take n buf) t.count (length-take-le n buf fits) is;
 }
 
-pub copied_more : (E : List Event) (old mid new : Told) (n m k : ℕ) (buf : List ℕ) (after rest : List Event) → Copied E old mid m after → Reads after (Ok n) buf rest
+pub copied_more : (E : List Event) (old mid new : Told) (n m k : ℕ) (buf : List ℕ) (after rest : List Event)
+    → Copied E old mid m after → Reads after (Ok n) buf rest
     → MovesFront mid (take n buf) (Ok tt) new → n ≤ length buf → k ≡ min (m + n) (2 ^ 64 - 1) → Copied E old new k rest
 copied_more E old mid new n m k buf after rest t read w fits is =
     let got = take n buf in
-    let whole : bytes (t.front ++ events_of got) ≡ bytes t.front ++ got = bytes-append t.front (events_of got) ∙ ap (λ l. bytes t.front ++ l) (bytes-events_of got) in
+    let whole : bytes (t.front ++ events_of got) ≡ bytes t.front ++ got =
+    bytes-append t.front (events_of got) ∙ ap (λ l. bytes t.front ++ l) (bytes-events_of got) in
     record {
       front = t.front ++ events_of got;
       split = t.split ∙ ap (λ l. t.front ++ l) read.0 ∙ sym (append_assoc t.front (events_of got) rest);
@@ -100,13 +105,16 @@ copied_fault room E old mid m after e rest t read fault none =
 
 -- the writer's fault ends it, in the middle of a piece
 pub copied_refused : (room : ℕ) (E : List Event) (old mid new : Told) (m n : ℕ) (buf : List ℕ) (after rest : List Event) (e : Error)
-    → Copied E old mid m after → Reads after (Ok n) buf rest → 0 < n → n ≤ length buf → length buf ≡ room → MovesFront mid (take n buf) (Err e) new → Copies room E (Err e) rest old new
+    → Copied E old mid m after → Reads after (Ok n) buf rest → 0 < n → n ≤ length buf → length buf ≡ room
+    → MovesFront mid (take n buf) (Err e) new → Copies room E (Err e) rest old new
 copied_refused room E old mid new m n buf after rest e t read some fits long w =
     let got = take n buf in
     let accepted = w.accepted in
     let lost = w.front.0 in
-    let whole : bytes (t.front ++ events_of got) ≡ bytes t.front ++ got = bytes-append t.front (events_of got) ∙ ap (λ l. bytes t.front ++ l) (bytes-events_of got) in
-    let front : bytes (t.front ++ events_of got) ≡ (bytes t.front ++ accepted) ++ lost = whole ∙ ap (λ l. bytes t.front ++ l) w.front.1 ∙ sym (append_assoc (bytes t.front) accepted lost) in
+    let whole : bytes (t.front ++ events_of got) ≡ bytes t.front ++ got =
+    bytes-append t.front (events_of got) ∙ ap (λ l. bytes t.front ++ l) (bytes-events_of got) in
+    let front : bytes (t.front ++ events_of got) ≡ (bytes t.front ++ accepted) ++ lost =
+    whole ∙ ap (λ l. bytes t.front ++ l) w.front.1 ∙ sym (append_assoc (bytes t.front) accepted lost) in
     let short = length-take-le n buf fits in (
       t.front ++ events_of got,
       t.split ∙ ap (λ l. t.front ++ l) read.0 ∙ sym (append_assoc t.front (events_of got) rest),
@@ -117,14 +125,23 @@ copied_refused room E old mid new m n buf after rest e t read some fits long w =
           omega arith,
           (
             bytes t.front ++ accepted,
-            ((lost, front), omega (arith, ap length whole ∙ length-append (bytes t.front) got, length-append (bytes t.front) accepted, short)),
+            (
+              (lost, front),
+              omega (
+                arith,
+                ap length whole ∙ length-append (bytes t.front) got,
+                length-append (bytes t.front) accepted,
+                short,
+              ),
+            ),
             Moves-then t.moves w.moves,
           ),
         ),
       ),
     )
 
-pub written_refused : (old mid new : Told) (m : ℕ) (x : List ℕ) (e : Error) → Written old mid m → MovesFront mid x (Err e) new → CopyMoves (Err e) old new
+pub written_refused : (old mid new : Told) (m : ℕ) (x : List ℕ) (e : Error) → Written old mid m
+    → MovesFront mid x (Err e) new → CopyMoves (Err e) old new
 written_refused old mid new m x e t w = (t.accepted ++ w.accepted, inr (Moves-then t.moves w.moves))
 
 -- all of a list without faults has none in front
@@ -139,7 +156,8 @@ no_fault_at_end (byte b ∷ Q) e h fault = no_fault_at_end Q e h fault
 no_fault_at_end (fails f ∷ Q) e h fault = no_fault_at_end Q e h.1 fault
 
 -- a copy fails for a fault of the reader, or a mishap of the writer
-pub copies_steadily : (room : ℕ) (E : List Event) (e : Error) (after : List Event) (old new : Told) → Copies room E (Err e) after old new → HasNoFault E → old.mishaps ≡ Some [] → ⊥
+pub copies_steadily : (room : ℕ) (E : List Event) (e : Error) (after : List Event) (old new : Told)
+    → Copies room E (Err e) after old new → HasNoFault E → old.mishaps ≡ Some [] → ⊥
 copies_steadily room E e after old new (P, split, none, inl at_fault) whole steady =
     let is : P ≡ at_fault.0.0 ++ fails e ∷ [] = at_fault.0.1 in
     no_fault_at_end at_fault.0.0 e (subst HasNoFault is (HasNoFault-front P after (subst HasNoFault split whole))) at_fault.0.3

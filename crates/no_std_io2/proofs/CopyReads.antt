@@ -1,5 +1,6 @@
 -- How many reads a loop makes of a reader that gives as many bytes as fit.
-use Rattle.std.proofs.Common.{◌≡◌, ℕ, ◌+◌, ◌*◌, ◌<◌, ◌≤◌, min, List, ◌++◌, length, take, ap, ◌∙◌, arith, ⊎_elim, length-append, length-take-le}
+use Rattle.std.proofs.Common.{◌≡◌, ℕ, ◌+◌, ◌*◌, ◌<◌, ◌≤◌, min, List, ◌++◌, length, take, ap, ◌∙◌, arith, ⊎_elim}
+use Rattle.std.proofs.Common.{length-append, length-take-le}
 use Rattle.std.specs.Int.{div_ceil}
 use Rattle.std.proofs.Math.Nat.{add-mul, mul-le-mul_right}
 use Rattle.std.proofs.lemmas.Bool.{cases_lt}

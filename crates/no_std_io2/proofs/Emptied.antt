@@ -1,5 +1,7 @@
 -- A buffer that is emptied into a vector, before the inner reader appends the rest.
-use Rattle.std.proofs.Common.{◌≡◌, ℕ, ◌+◌, ◌-◌, ◌*◌, ◌<◌, ◌≤◌, Bool, true, List, [], ◌++◌, length, take, drop, Ok, Err, refl, sym, ap, subst, ◌∙◌, arith, take_all, take-append-drop, append-nil, append_assoc, length-append}
+use Rattle.std.proofs.Common.{◌≡◌, ℕ, ◌+◌, ◌-◌, ◌*◌, ◌<◌, ◌≤◌, Bool, true, List, [], ◌++◌, length, take, drop, Ok, Err}
+use Rattle.std.proofs.Common.{refl, sym, ap, subst, ◌∙◌, arith, take_all, take-append-drop, append-nil, append_assoc}
+use Rattle.std.proofs.Common.{length-append}
 use lib.Seq.{take-append-le}
 use Rattle.std.proofs.Math.Seq.{drop-append_seam}
 use Rattle.no_std_io2_base.specs.declared.error.Error.{Error}
@@ -33,9 +35,11 @@ moved_from {shown} {rest} {held} n old new same moved count cut =
     (x, split ∙ ap (λ l. x ++ l) (sym left_is), moved.2)
 
 -- bytes that are dropped from the front of the held ones stand behind them
-pub kept_in_all : (n : ℕ) (behind held behind' left : List ℕ) → behind' ≡ behind ++ take n held → left ≡ drop n held → behind' ++ left ≡ behind ++ held
+pub kept_in_all : (n : ℕ) (behind held behind' left : List ℕ) → behind' ≡ behind ++ take n held → left ≡ drop n held
+    → behind' ++ left ≡ behind ++ held
 kept_in_all n behind held behind' left b cut =
-    ap (λ l. l ++ left) b ∙ append_assoc behind (take n held) left ∙ ap (λ l. behind ++ (take n held ++ l)) cut ∙ ap (λ l. behind ++ l) (take-append-drop n held)
+    ap (λ l. l ++ left) b ∙ append_assoc behind (take n held) left ∙ ap (λ l. behind ++ (take n held ++ l)) cut
+    ∙ ap (λ l. behind ++ l) (take-append-drop n held)
 
 emptied : (held old mid : List ℕ) (E : List Event) → mid ≡ old ++ held → Gathered (events_of held ++ E) old mid E
 emptied held old mid E is = record {
@@ -46,7 +50,8 @@ emptied held old mid E is = record {
 }
 
 -- and then the rest, in two parts
-pub emptied_all : (held held' old mid then new : List ℕ) (E E' after : List Event) (at_end : Bool) (n k : ℕ) → mid ≡ old ++ held → held' ≡ []
+pub emptied_all : (held held' old mid then new : List ℕ) (E E' after : List Event) (at_end : Bool) (n k : ℕ)
+    → mid ≡ old ++ held → held' ≡ []
     → FillsRoom E (Ok at_end) mid then after → ReadsToEnd after (Ok n) then new E' → k ≡ length new - length old
     → ReadsToEnd (events_of held ++ E) (Ok k) old new (events_of held' ++ E')
 emptied_all held held' old mid then new E E' after at_end n k is none more read count =
@@ -63,7 +68,8 @@ emptied_done held held' old mid new E E' at_end k is none more end count =
     (gathered_done _ _ _ _ _ k (gathered_then _ _ _ _ _ _ _ (emptied held old mid E is) more) left left count)
 
 -- or what came before an error in the second
-pub emptied_stop : (held held' old mid then new : List ℕ) (E E' after : List Event) (at_end : Bool) (e : Error) → mid ≡ old ++ held → held' ≡ []
+pub emptied_stop : (held held' old mid then new : List ℕ) (E E' after : List Event) (at_end : Bool) (e : Error)
+    → mid ≡ old ++ held → held' ≡ []
     → FillsRoom E (Ok at_end) mid then after → ReadsToEnd after (Err e) then new E'
     → ReadsToEnd (events_of held ++ E) (Err e) old new (events_of held' ++ E')
 emptied_stop held held' old mid then new E E' after at_end e is none more read =
@@ -123,7 +129,8 @@ emptied_on held old mid E len capacity n capacity' enough long more is grows =
 -- where room for all that is held was refused, a front of it was appended
 pub part_refused : (held held' old new : List ℕ) (E : List Event) (e : Error) → HasMoved held held' old new → IsOutOfMemory e
     → ReadsToEnd (events_of held ++ E) (Err e) old new (events_of held' ++ E)
-part_refused held held' old new E e moved refused = stopped_first (events_of held) E old new (events_of held') e (moved_part held held' old new e moved refused)
+part_refused held held' old new E e moved refused =
+    stopped_first (events_of held) E old new (events_of held') e (moved_part held held' old new e moved refused)
 
 pub part_front : (held held' old new : List ℕ) (len : ℕ) → len ≡ length old → HasMoved held held' old new → take len new ≡ old
 part_front held held' old new len long moved =
@@ -133,7 +140,8 @@ pub part_turns : (held held' old new : List ℕ) (room turns : ℕ) → HasMoved
     → length held' + (room + 1) * turns ≤ length held + (room + 1) * turns
 part_turns held held' old new room turns moved = omega (arith, ap length moved.1, length-append moved.0 held')
 
-pub part_sound : (held held' old new : List ℕ) (position : ℕ) (content : List ℕ) → HasMoved held held' old new → IsSound held position content
+pub part_sound : (held held' old new : List ℕ) (position : ℕ) (content : List ℕ) → HasMoved held held' old new
+    → IsSound held position content
     → IsSound held' position content
 part_sound held held' old new position content moved sound =
     sound_held moved.0 held' position content (subst (λ l. IsSound l position content) moved.1 sound)

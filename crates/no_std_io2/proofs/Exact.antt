@@ -1,5 +1,6 @@
 -- How far an exact read has come.
-use Rattle.std.proofs.Common.{◌≡◌, ℕ, ◌+◌, ◌-◌, ◌<◌, ◌≤◌, List, [], ◌∷◌, ◌++◌, length, take, min, Ok, sym, ap, ◌∙◌, arith, length-append, append-nil, inl, subst, drop_of_length-le, take_all}
+use Rattle.std.proofs.Common.{◌≡◌, ℕ, ◌+◌, ◌-◌, ◌<◌, ◌≤◌, List, [], ◌∷◌, ◌++◌, length, take, min, Ok, sym, ap, ◌∙◌}
+use Rattle.std.proofs.Common.{arith, length-append, append-nil, inl, subst, drop_of_length-le, take_all}
 use Rattle.std.proofs.lemmas.Bool.Decides.{nat_tests}
 use Rattle.no_std_io2_base.specs.declared.error.Error.{Error}
 use Rattle.no_std_io2_base.specs.Errors.{IsUnexpectedEnd}
@@ -17,7 +18,8 @@ pub record Exact (room len held all at now_held now_inner : ℕ) : Type 0 where
   pub left : held < at → now_held ≡ exact_left room len held all
 
 -- the held bytes were given first
-pub exact_begins : (room len held all at now_held now_inner : ℕ) → at ≡ held → now_held ≡ 0 → now_held + now_inner + at ≡ all → Exact room len held all at now_held now_inner
+pub exact_begins : (room len held all at now_held now_inner : ℕ) → at ≡ held → now_held ≡ 0
+    → now_held + now_inner + at ≡ all → Exact room len held all at now_held now_inner
 exact_begins room len held all at now_held now_inner begun none total = record {
   begun = omega arith;
   total = total;
@@ -36,7 +38,8 @@ exact_none room len held all at now_held now_inner t more =
     grind arith
 
 -- where bytes still come, none were read yet
-pub exact_first : (room len held all at now_held now_inner n : ℕ) → Exact room len held all at now_held now_inner → at < len → n ≡ min (len - at) now_inner → 0 < n → held < len → at ≡ held
+pub exact_first : (room len held all at now_held now_inner n : ℕ) → Exact room len held all at now_held now_inner
+    → at < len → n ≡ min (len - at) now_inner → 0 < n → held < len → at ≡ held
 exact_first room len held all at now_held now_inner n t more is some short =
     let zero : now_held ≡ 0 = exact_none room len held all at now_held now_inner t more in
     let begun = t.begun in
@@ -45,7 +48,8 @@ exact_first room len held all at now_held now_inner n t more is some short =
     grind arith
 
 -- one read, straight into the buffer or over the own one
-pub exact_read : (room len held all at now_held now_inner n next_held next_inner : ℕ) → Exact room len held all at now_held now_inner → at < len
+pub exact_read : (room len held all at now_held now_inner n next_held next_inner : ℕ)
+    → Exact room len held all at now_held now_inner → at < len
     → n ≡ min (len - at) now_inner → (room ≤ len - at → next_held ≡ 0) → (len - at < room → next_held + n ≡ min room now_inner)
     → next_held + next_inner + n ≡ now_held + now_inner → 0 < n → held < len → Exact room len held all (at + n) next_held next_inner
 exact_read room len held all at now_held now_inner n next_held next_inner t more is direct filled moved some short =
@@ -60,12 +64,14 @@ exact_read room len held all at now_held now_inner n next_held next_inner t more
     }
 
 -- how many inner reads it took
-pub exact_end : (room len held all at now_held now_inner : ℕ) → Exact room len held all at now_held now_inner → len ≤ at → held < len → exact_reads len held all ≡ min 1 (at - held)
+pub exact_end : (room len held all at now_held now_inner : ℕ) → Exact room len held all at now_held now_inner → len ≤ at
+    → held < len → exact_reads len held all ≡ min 1 (at - held)
 exact_end room len held all at now_held now_inner t done short =
     let whole : at ≡ min len all = t.read (omega arith) in
     grind (arith, nat_tests)
 
-pub exact_short : (room len held all at now_held now_inner : ℕ) → Exact room len held all at now_held now_inner → at < len → now_inner ≡ 0 → held < len → exact_reads len held all ≡ min 1 (at - held) + 1
+pub exact_short : (room len held all at now_held now_inner : ℕ) → Exact room len held all at now_held now_inner
+    → at < len → now_inner ≡ 0 → held < len → exact_reads len held all ≡ min 1 (at - held) + 1
 exact_short room len held all at now_held now_inner t more end short =
     let zero : now_held ≡ 0 = exact_none room len held all at now_held now_inner t more in
     let whole : at ≡ all = omega (arith, t.total) in
@@ -77,7 +83,8 @@ pub exact_left-short : (room len held all : ℕ) → all < len → held ≤ all 
 exact_left-short room len held all short within = grind (arith, nat_tests)
 
 -- the first bytes that were taken, fewer than there is room
-pub taken_first : (E : List Event) (room : ℕ) (more : List ℕ) (rest : List Event) → E ≡ events_of more ++ rest → length more < room → Taken E room more rest
+pub taken_first : (E : List Event) (room : ℕ) (more : List ℕ) (rest : List Event) → E ≡ events_of more ++ rest
+    → length more < room → Taken E room more rest
 taken_first E room more rest is short = record {
   front = events_of more;
   split = is;
@@ -90,11 +97,13 @@ pub length-events : (held : List ℕ) (E : List Event) → length (events_of hel
 length-events held E = length-append (events_of held) E ∙ ap (λ n. n + length E) (length-events_of held)
 
 -- as many fewer are held and to come as were given
-pub moved_length : (held held' got : List ℕ) (E E' : List Event) (n : ℕ) → events_of held ++ E ≡ events_of got ++ (events_of held' ++ E') → length got ≡ n
+pub moved_length : (held held' got : List ℕ) (E E' : List Event) (n : ℕ)
+    → events_of held ++ E ≡ events_of got ++ (events_of held' ++ E') → length got ≡ n
     → length held' + length E' + n ≡ length held + length E
 moved_length held held' got E E' n is long =
     let all : length held + length E ≡ length got + (length held' + length E') =
-    sym (length-events held E) ∙ ap length is ∙ length-events got (events_of held' ++ E') ∙ ap (λ k. length got + k) (length-events held' E') in
+    sym (length-events held E) ∙ ap length is ∙ length-events got (events_of held' ++ E')
+    ∙ ap (λ k. length got + k) (length-events held' E') in
     omega arith
 
 pub no_bytes : (xs : List ℕ) → length xs ≡ 0 → xs ≡ []
@@ -119,7 +128,8 @@ nothing_read E E' n buf read zero = read.0 ∙ ap (λ m. events_of (take m buf) 
 
 -- the end came before the buffer was full
 pub taken_end : (E : List Event) (room most : ℕ) (got : List ℕ) (after : List Event) (e : Error) (rest : List Event) (n : ℕ) (buf : List ℕ)
-    → Taken E room got after → Reads after (Ok n) buf rest → n ≡ 0 → 0 < length buf → IsUnexpectedEnd e → length got < most → FallsShort ⊥ E most e rest
+    → Taken E room got after → Reads after (Ok n) buf rest → n ≡ 0 → 0 < length buf → IsUnexpectedEnd e
+    → length got < most → FallsShort ⊥ E most e rest
 taken_end E room most got after e rest n buf t read zero some kind short =
     let end : after ≡ [] = read.1 zero some in
     let whole : E ≡ t.front = t.split ∙ ap (λ l. t.front ++ l) end ∙ append-nil t.front in
@@ -131,13 +141,15 @@ taken_end E room most got after e rest n buf t read zero some kind short =
     }
 
 -- the whole buffer was filled
-pub taken_whole : (E : List Event) (room at : ℕ) (buf : List ℕ) (after : List Event) → Taken E room (take at buf) after → length buf ≤ at → length buf ≡ room → Fills E buf after
+pub taken_whole : (E : List Event) (room at : ℕ) (buf : List ℕ) (after : List Event) → Taken E room (take at buf) after
+    → length buf ≤ at → length buf ≡ room → Fills E buf after
 taken_whole E room at buf after t full long =
     let whole : take at buf ≡ buf = take_all at buf full in
     subst (λ l. Fills E l after) whole (taken_fills E room (take at buf) after t (ap length whole ∙ long))
 
 -- what is left after a read of no byte over a filling reader
-pub exact_left-end : (room len held all at now_held now_inner next_held rest : ℕ) → Exact room len held all at now_held now_inner → at < len → now_inner ≡ 0
+pub exact_left-end : (room len held all at now_held now_inner next_held rest : ℕ)
+    → Exact room len held all at now_held now_inner → at < len → now_inner ≡ 0
     → (room ≤ rest → next_held ≡ 0) → (rest < room → next_held + 0 ≡ min room now_inner) → held < len
     → (next_held ≡ exact_left room len held all) × (0 ≡ all - len)
 exact_left-end room len held all at now_held now_inner next_held rest t more end direct filled short =
@@ -149,7 +161,8 @@ exact_left-end room len held all at now_held now_inner next_held rest t more end
     (none ∙ sym left, omega arith)
 
 -- what is left once the buffer is full
-pub exact_left-full : (room len held all at now_held now_inner next : ℕ) → Exact room len held all at now_held now_inner → len ≤ at → held < len → next ≡ now_held + now_inner
+pub exact_left-full : (room len held all at now_held now_inner next : ℕ) → Exact room len held all at now_held now_inner
+    → len ≤ at → held < len → next ≡ now_held + now_inner
     → (now_held ≡ exact_left room len held all) × (next ≡ all - len)
 exact_left-full room len held all at now_held now_inner next t full short is =
     let whole : at ≡ min len all = t.read (omega arith) in
@@ -160,7 +173,8 @@ pub fills_front : (E rest : List Event) (got : List ℕ) → E ≡ events_of got
 fills_front E rest got is =
     let none : length got - length got ≡ 0 = omega arith in
     let front : cut (length got) E ≡ events_of got =
-    ap (cut (length got)) is ∙ cut-bytes got rest (length got) (omega arith) ∙ ap (λ n. events_of got ++ cut n rest) none ∙ append-nil (events_of got) in
+    ap (cut (length got)) is ∙ cut-bytes got rest (length got) (omega arith)
+    ∙ ap (λ n. events_of got ++ cut n rest) none ∙ append-nil (events_of got) in
     record {
       split = is ∙ ap (λ l. l ++ rest) (sym front);
       no_fault = subst HasNoFault (sym front) (HasNoFault-events_of got);

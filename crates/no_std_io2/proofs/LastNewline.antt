@@ -1,5 +1,7 @@
 -- The lines of a list of bytes, and what follows them.
-use Rattle.std.proofs.Common.{◌≡◌, ◌≢◌, ℕ, ◌+◌, ◌-◌, ◌<◌, ◌≤◌, ◌==◌, not, true, false, List, [], ◌++◌, length, take, drop, get_or, slice_index, sym, ap, ◌∙◌, subst, append-nil, arith, min, length-drop, length-take}
+use Rattle.std.proofs.Common.{◌≡◌, ◌≢◌, ℕ, ◌+◌, ◌-◌, ◌<◌, ◌≤◌, ◌==◌, not, true, false, List, [], ◌++◌, length, take}
+use Rattle.std.proofs.Common.{drop, get_or, slice_index, sym, ap, ◌∙◌, subst, append-nil, arith, min, length-drop}
+use Rattle.std.proofs.Common.{length-take}
 use Rattle.std.proofs.lemmas.Bool.Decides.{nat_tests}
 use Rattle.std.proofs.lemmas.List.{get_or-drop, get_or-take, drop_all, take_min, take-take, get_or_default}
 use Rattle.std.proofs.lemmas.List.Sums.{suffix_len_is}
@@ -19,12 +21,15 @@ is_ten b h = grind (arith, nat_tests)
 
 none_from : (xs : List ℕ) (n k : ℕ) → HasNoNewline (drop n xs) → n ≤ k → k < length xs → get_or xs k 0 ≢ 10
 none_from xs n k h le lt e =
-    h (k - n) (omega (arith, length-drop n xs)) (get_or-drop n xs (k - n) 0 ∙ ap (λ i. get_or xs i 0) (let same : n + (k - n) ≡ k = omega arith in same) ∙ e)
+    h (k - n) (omega (arith, length-drop n xs))
+    (get_or-drop n xs (k - n) 0 ∙ ap (λ i. get_or xs i 0) (let same : n + (k - n) ≡ k = omega arith in same) ∙ e)
 
 -- what follows the lines
 pub unfinished_line-is : (xs : List ℕ) (n : ℕ) → IsLinesLen xs n → unfinished_line xs ≡ drop n xs
 unfinished_line-is xs n h =
-    let s = suffix_len_is (λ b. not (b == 10)) xs n 0 h.within (λ k le lt. is_not_ten _ (none_from xs n k h.none_after le lt)) (λ some. is_ten _ (h.ends some)) in
+    let s =
+    suffix_len_is (λ b. not (b == 10)) xs n 0 h.within (λ k le lt. is_not_ten _ (none_from xs n k h.none_after le lt))
+    (λ some. is_ten _ (h.ends some)) in
     ap (λ m. drop m xs) (omega (arith, h.within))
 
 pub lines_len-is : (xs : List ℕ) (n : ℕ) → IsLinesLen xs n → lines_len xs ≡ n
@@ -65,10 +70,12 @@ lines_or_all-some xs n some h = grind (arith, nat_tests)
 pub held_tail-all : (S : ℕ) (x : List ℕ) (len n : ℕ) → lines_len x ≡ len → len ≤ n → held_tail S x n ≡ take S (drop n x)
 held_tail-all S x len n e h = grind (arith, nat_tests)
 
-pub held_tail-rest : (S : ℕ) (x : List ℕ) (len n : ℕ) → lines_len x ≡ len → n < len → len - n ≤ S → held_tail S x n ≡ take (len - n) (drop n x)
+pub held_tail-rest : (S : ℕ) (x : List ℕ) (len n : ℕ) → lines_len x ≡ len → n < len → len - n ≤ S
+    → held_tail S x n ≡ take (len - n) (drop n x)
 held_tail-rest S x len n e h g = grind (arith, nat_tests)
 
-pub held_tail-part : (S : ℕ) (x : List ℕ) (len n : ℕ) → lines_len x ≡ len → n < len → S < len - n → held_tail S x n ≡ lines_or_all (take S (drop n x))
+pub held_tail-part : (S : ℕ) (x : List ℕ) (len n : ℕ) → lines_len x ≡ len → n < len → S < len - n
+    → held_tail S x n ≡ lines_or_all (take S (drop n x))
 held_tail-part S x len n e h g = grind (arith, nat_tests)
 
 -- windows of x behind its first n bytes
@@ -87,10 +94,13 @@ IsLineState-all x len n end h e =
 pub IsLineState-rest : (x : List ℕ) (len n : ℕ) → IsLinesLen x len → n < len → IsLineState (slice_range x n len)
 IsLineState-rest x len n h lt =
     IsLineState-lines (drop n x) (len - n) (omega (arith, length-drop n x, h.within))
-    (λ some. get_or-drop n x (len - n - 1) 0 ∙ ap (λ i. get_or x i 0) (let same : n + (len - n - 1) ≡ len - 1 = omega arith in same) ∙ h.ends (omega arith))
+    (λ some. get_or-drop n x (len - n - 1) 0
+    ∙ ap (λ i. get_or x i 0) (let same : n + (len - n - 1) ≡ len - 1 = omega arith in same) ∙ h.ends (omega arith))
 
 -- the part of the tail that ends in a newline, or all of it where it has none
-pub tail_part : (S : ℕ) (x : List ℕ) (len n part : ℕ) → IsLinesLen x len → n < len → S < len - n → IsLinesLen (slice_range x n (n + S)) part → (part ≡ 0 → slice_range x n (n + S) ≡ held_tail S x n) × (0 < part → slice_range x n (n + part) ≡ held_tail S x n)
+pub tail_part : (S : ℕ) (x : List ℕ) (len n part : ℕ) → IsLinesLen x len → n < len → S < len - n
+    → IsLinesLen (slice_range x n (n + S)) part
+    → (part ≡ 0 → slice_range x n (n + S) ≡ held_tail S x n) × (0 < part → slice_range x n (n + part) ≡ held_tail S x n)
 tail_part S x len n part h lt more p =
     let here : IsLinesLen (take S (drop n x)) part = subst (λ l. IsLinesLen l part) (window_some x n S) p in
     let whole = held_tail-part S x len n (lines_len-is x len h) lt more in (
@@ -99,13 +109,20 @@ tail_part S x len n part h lt more p =
           ∙ sym (lines_or_all-some _ part some (lines_len-is _ part here)) ∙ sym whole,
     )
 
-pub IsLineState-part : (S : ℕ) (x : List ℕ) (n part : ℕ) → IsLinesLen (slice_range x n (n + S)) part → 0 < part → IsLineState (slice_range x n (n + part))
+pub IsLineState-part : (S : ℕ) (x : List ℕ) (n part : ℕ) → IsLinesLen (slice_range x n (n + S)) part → 0 < part
+    → IsLineState (slice_range x n (n + part))
 IsLineState-part S x n part p some =
     let here : IsLinesLen (take S (drop n x)) part = subst (λ l. IsLinesLen l part) (window_some x n S) p in
-    subst IsLineState (take-take part S (drop n x) (omega (arith, here.within, length-take S (drop n x))) ∙ sym (window_some x n part)) (IsLineState-lines _ part here.within here.ends)
+    subst IsLineState
+    (take-take part S (drop n x) (omega (arith, here.within, length-take S (drop n x))) ∙ sym (window_some x n part))
+    (IsLineState-lines _ part here.within here.ends)
 
 -- what a write of lines leaves, where the inner writer got what was held and took n bytes of the lines
-pub writes_lines : {a b c : Told} {k : List ErrorKind} (S : ℕ) (old x : List ℕ) (len n end : ℕ) (sent mid passed new : List ℕ) → IsLinesLen x len → 0 < n → Moves a sent [] b → old ≡ sent ++ mid → mid ≡ [] → n ≤ length (take len x) → Moves b (take n (take len x)) k c → passed ≡ mid → new ≡ passed ++ slice_range x n end → slice_range x n end ≡ held_tail S x n → n ≤ end → end ≤ length x → WritesLines S a old x end c new
+pub writes_lines : {a b c : Told} {k : List ErrorKind} (S : ℕ) (old x : List ℕ) (len n end : ℕ)
+    (sent mid passed new : List ℕ)
+    → IsLinesLen x len → 0 < n → Moves a sent [] b → old ≡ sent ++ mid → mid ≡ [] → n ≤ length (take len x)
+    → Moves b (take n (take len x)) k c → passed ≡ mid → new ≡ passed ++ slice_range x n end
+    → slice_range x n end ≡ held_tail S x n → n ≤ end → end ≤ length x → WritesLines S a old x end c new
 writes_lines {a} {b} {c} S old x len n end sent mid passed new h some first gone none bound through same held tail le within =
     let front = length-take len x in
     let is_held : new ≡ slice_range x n end = held ∙ ap (λ l. l ++ slice_range x n end) (same ∙ none) in
@@ -113,31 +130,51 @@ writes_lines {a} {b} {c} S old x len n end sent mid passed new h some first gone
     record {
       sent = n;
       within = omega (arith, lines_len-is x len h);
-      moves = subst (λ l. Moves a l [] c) (ap (λ l. l ++ take n (take len x)) is_sent ∙ ap (λ l. old ++ l) (take-take n len x (omega arith))) (Moves-then first (Moves-quiet through));
+      moves =
+          subst (λ l. Moves a l [] c)
+          (ap (λ l. l ++ take n (take len x)) is_sent ∙ ap (λ l. old ++ l) (take-take n len x (omega arith)))
+          (Moves-then first (Moves-quiet through));
       none = λ e. absurd (omega arith);
       some = λ _. is_held ∙ tail;
       count = omega (arith, ap length is_held, length-take (end - n) (drop n x), length-drop n x);
     }
 
 -- where it took all of the lines
-pub lines_taken : (S : ℕ) (x : List ℕ) (len n end : ℕ) (new : List ℕ) → IsLinesLen x len → n ≡ length (take len x) → new ≡ slice_range x n end → slice_range x n end ≡ held_tail S x n → n ≤ end → end ≤ length x → (new ≡ take S (unfinished_line x)) × (end + (length (unfinished_line x) - S) ≡ length x)
+pub lines_taken : (S : ℕ) (x : List ℕ) (len n end : ℕ) (new : List ℕ) → IsLinesLen x len → n ≡ length (take len x)
+    → new ≡ slice_range x n end → slice_range x n end ≡ held_tail S x n → n ≤ end → end ≤ length x
+    → (new ≡ take S (unfinished_line x)) × (end + (length (unfinished_line x) - S) ≡ length x)
 lines_taken S x len n end new h e held tail le within =
     let front = length-take len x in
     let all : n ≡ len = omega (arith, h.within) in
     let rest = unfinished_line-is x len h in
     let is : new ≡ take S (unfinished_line x) = held ∙ tail ∙ held_tail-all S x len n (lines_len-is x len h) (omega arith)
     ∙ ap (take S) (ap (λ m. drop m x) all ∙ sym rest) in
-    let count = length-take (end - n) (drop n x) in
-    (is, omega (arith, ap length held, length-drop n x, ap length is, length-take S (unfinished_line x), ap length rest, length-drop len x, h.within))
+    let count = length-take (end - n) (drop n x) in (
+      is,
+      omega (
+        arith,
+        ap length held,
+        length-drop n x,
+        ap length is,
+        length-take S (unfinished_line x),
+        ap length rest,
+        length-drop len x,
+        h.within,
+      ),
+    )
 
 -- where it took nothing of the lines
-pub writes_none : {a b c : Told} {k : List ErrorKind} (S : ℕ) (old x y : List ℕ) (n : ℕ) (sent mid new : List ℕ) → n ≡ 0 → Moves a sent [] b → old ≡ sent ++ mid → mid ≡ [] → Moves b (take n y) k c → new ≡ mid → WritesLines S a old x 0 c new
+pub writes_none : {a b c : Told} {k : List ErrorKind} (S : ℕ) (old x y : List ℕ) (n : ℕ) (sent mid new : List ℕ) → n ≡ 0
+    → Moves a sent [] b → old ≡ sent ++ mid → mid ≡ [] → Moves b (take n y) k c → new ≡ mid
+    → WritesLines S a old x 0 c new
 writes_none {a} {b} {c} S old x y n sent mid new e first gone none through same =
     let is_sent : sent ≡ old = sym (append-nil sent) ∙ ap (λ l. sent ++ l) (sym none) ∙ sym gone in
     record {
       sent = 0;
       within = omega arith;
-      moves = subst (λ l. Moves a l [] c) (ap (λ l. l ++ take n y) is_sent ∙ ap (λ m. old ++ take m y) e) (Moves-then first (Moves-quiet through));
+      moves =
+          subst (λ l. Moves a l [] c) (ap (λ l. l ++ take n y) is_sent ∙ ap (λ m. old ++ take m y) e)
+          (Moves-then first (Moves-quiet through));
       none = λ h. same ∙ none;
       some = λ h. absurd (omega arith);
       count = omega (arith, ap length (same ∙ none));

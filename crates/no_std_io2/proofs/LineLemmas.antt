@@ -1,5 +1,7 @@
 -- Line states under the changes that a line writer makes.
-use Rattle.std.proofs.Common.{Result, Ok, Err, ◌⊎◌, slice_index, refl, append-nil, append_assoc, take-append-drop, ◌≡◌, ◌≢◌, ℕ, ◌+◌, ◌-◌, ◌<◌, ◌≤◌, List, [], ◌++◌, length, take, drop, get_or, sym, ap, ◌∙◌, subst, arith, length-append, length-take, ⊎_elim}
+use Rattle.std.proofs.Common.{Result, Ok, Err, ◌⊎◌, slice_index, refl, append-nil, append_assoc, take-append-drop, ◌≡◌}
+use Rattle.std.proofs.Common.{◌≢◌, ℕ, ◌+◌, ◌-◌, ◌<◌, ◌≤◌, List, [], ◌++◌, length, take, drop, get_or, sym, ap, ◌∙◌}
+use Rattle.std.proofs.Common.{subst, arith, length-append, length-take, ⊎_elim}
 use Rattle.std.proofs.Math.Seq.{get_or-append_right}
 use Rattle.std.proofs.lemmas.List.{get_or-append-add, get_or_append_left, get_or-take}
 use Rattle.std.proofs.lemmas.Bool.{cases_lt}
@@ -49,7 +51,8 @@ HasNoNewline-end whole end f plain k h e =
     let sum = length-append f.0 end in
     plain (length f.0 + k) (omega (arith, ap length f.1)) (ap (λ l. get_or l (length f.0 + k) 0) f.1 ∙ get_or-append-add f.0 end k 0 ∙ e)
 
-pub HasNoNewline-after : (old x new : List ℕ) → HasNoNewline old → HasNoNewline x → (IsEnd (old ++ x) new) ⊎ (IsEnd old new) → HasNoNewline new
+pub HasNoNewline-after : (old x new : List ℕ) → HasNoNewline old → HasNoNewline x
+    → (IsEnd (old ++ x) new) ⊎ (IsEnd old new) → HasNoNewline new
 HasNoNewline-after old x new p q r =
     ⊎_elim (λ f. HasNoNewline-end _ new f (HasNoNewline-append old x p q)) (λ f. HasNoNewline-end _ new f p) r
 
@@ -58,10 +61,12 @@ HasNoNewline-taken (Ok n) xs p = HasNoNewline-take n xs p
 HasNoNewline-taken (Err e) xs p = λ k h. absurd (omega arith)
 
 -- what was taken of the lines, and what is held after it
-pub taken_then_held : (x : List ℕ) (len n end : ℕ) → n ≤ length (take len x) → n ≤ end → take end x ≡ take n (take len x) ++ slice_range x n end
+pub taken_then_held : (x : List ℕ) (len n end : ℕ) → n ≤ length (take len x) → n ≤ end
+    → take end x ≡ take n (take len x) ++ slice_range x n end
 taken_then_held x len n end h g =
     let lines = length-take len x in
-    ap (λ m. take m x) (let e : end ≡ n + (end - n) = omega arith in e) ∙ take-add n (end - n) x ∙ ap (λ l. l ++ slice_range x n end) (sym (take-take n len x (omega arith)))
+    ap (λ m. take m x) (let e : end ≡ n + (end - n) = omega arith in e) ∙ take-add n (end - n) x
+    ∙ ap (λ l. l ++ slice_range x n end) (sym (take-take n len x (omega arith)))
 
 pub zero_write-lines : (x : List ℕ) (len : ℕ) → 0 < len → len ≤ length x → zero_write 0 (take len x) ≡ zero_write 0 x
 zero_write-lines x len h g = let lines = length-take len x in grind (arith, nat_tests)
@@ -69,7 +74,8 @@ zero_write-lines x len h g = let lines = length-take len x in grind (arith, nat_
 pub zero_write-some : (x : List ℕ) (n : ℕ) → 0 < n → zero_write n x ≡ []
 zero_write-some x n h = grind (arith, nat_tests)
 
-pub held_after : (mid passed new more front whole : List ℕ) → mid ≡ [] → passed ≡ mid → new ≡ passed ++ more → whole ≡ front ++ more → mid ++ whole ≡ front ++ new
+pub held_after : (mid passed new more front whole : List ℕ) → mid ≡ [] → passed ≡ mid → new ≡ passed ++ more
+    → whole ≡ front ++ more → mid ++ whole ≡ front ++ new
 held_after mid passed new more front whole e f g h =
     ap (λ l. l ++ whole) e ∙ h ∙ ap (λ l. front ++ l) (sym (g ∙ ap (λ l. l ++ more) (f ∙ e)))
 
@@ -80,7 +86,8 @@ IsLineState-ended xs ys some ends k h e =
     let last : length (xs ++ ys) - 1 ≡ length xs + (length ys - 1) = omega arith in
     ap (λ m. get_or (xs ++ ys) m 0) last ∙ get_or-append-add xs ys (length ys - 1) 0 ∙ ends
 
-pub IsLineState-after : (old x new : List ℕ) → IsLineState old → IsLineState (old ++ x) → (IsEnd (old ++ x) new) ⊎ (IsEnd old new) → IsLineState new
+pub IsLineState-after : (old x new : List ℕ) → IsLineState old → IsLineState (old ++ x)
+    → (IsEnd (old ++ x) new) ⊎ (IsEnd old new) → IsLineState new
 IsLineState-after old x new l m r = ⊎_elim (λ f. IsLineState-end _ new f m) (λ f. IsLineState-end _ new f l) r
 
 pub onok : {T : Type 0} (r : Result T Error) (P : Type 0) → P → OnOk r P
@@ -98,7 +105,8 @@ onerr_map (Err e) P Q f p = f p
 pub MovesFront-then : {a b c : Told} (x : List ℕ) (r : Result (Unit {0}) Error) → Moves a [] [] b → MovesFront b x r c → MovesFront a x r c
 MovesFront-then x r m f = record { accepted = f.accepted; front = f.front; whole = f.whole; moves = Moves-then m f.moves }
 
-pub MovesFront-passed : {a b : Told} (x : List ℕ) (r : Result (Unit {0}) Error) (held new : List ℕ) → held ≡ [] → new ≡ held → MovesFront a x r b → MovesFront (with_buffer a held) x r (with_buffer b new)
+pub MovesFront-passed : {a b : Told} (x : List ℕ) (r : Result (Unit {0}) Error) (held new : List ℕ) → held ≡ []
+    → new ≡ held → MovesFront a x r b → MovesFront (with_buffer a held) x r (with_buffer b new)
 MovesFront-passed x r held new e g f =
     let got = f.accepted in
     record {
@@ -108,16 +116,20 @@ MovesFront-passed x r held new e g f =
       moves = Moves-buffered held new got f.moves (ap (λ l. l ++ got) e ∙ sym (append-nil got) ∙ ap (λ l. got ++ l) (sym (g ∙ e)));
     }
 
-pub MovesFront-ends : {a b c : Told} (x : List ℕ) (r : Result (Unit {0}) Error) → Moves a x [] b → Moves b [] (call_mishap r) c → MovesFront a x r c
+pub MovesFront-ends : {a b c : Told} (x : List ℕ) (r : Result (Unit {0}) Error) → Moves a x [] b
+    → Moves b [] (call_mishap r) c → MovesFront a x r c
 MovesFront-ends x r m n = record { accepted = x; front = IsFront-refl x; whole = onok r _ refl; moves = Moves-ends m n }
 
 pub MovesFront-whole : {a b : Told} (x : List ℕ) (u : Unit {0}) → MovesFront a x (Ok u) b → Moves a x [] b
 MovesFront-whole {a} {b} x u f = subst (λ l. Moves a l [] b) f.whole f.moves
 
-pub MovesFront-part : {a b : Told} (front x : List ℕ) (e : Error) → IsFront front x → MovesFront a front (Err e) b → MovesFront a x (Err e) b
-MovesFront-part front x e p f = record { accepted = f.accepted; front = IsFront-trans f.accepted front x f.front p; whole = tt; moves = f.moves }
+pub MovesFront-part : {a b : Told} (front x : List ℕ) (e : Error) → IsFront front x → MovesFront a front (Err e) b
+    → MovesFront a x (Err e) b
+MovesFront-part front x e p f =
+    record { accepted = f.accepted; front = IsFront-trans f.accepted front x f.front p; whole = tt; moves = f.moves }
 
-pub MovesFront-rest : {a b c : Told} (n : ℕ) (x rest : List ℕ) (r : Result (Unit {0}) Error) → rest ≡ drop n x → Moves a (take n x) [] b → MovesFront b rest r c → MovesFront a x r c
+pub MovesFront-rest : {a b c : Told} (n : ℕ) (x rest : List ℕ) (r : Result (Unit {0}) Error) → rest ≡ drop n x
+    → Moves a (take n x) [] b → MovesFront b rest r c → MovesFront a x r c
 MovesFront-rest {a} {b} {c} n x rest r d m f =
     let all = ap (λ l. take n x ++ l) d ∙ take-append-drop n x in
     record {

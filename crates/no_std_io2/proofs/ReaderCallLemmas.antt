@@ -1,5 +1,6 @@
 -- What one inner read does to a reader with a buffer in front that held nothing.
-use Rattle.std.proofs.Common.{◌≡◌, ℕ, ◌+◌, ◌*◌, ◌<◌, ◌≤◌, true, false, nat_le, if◌then◌else◌, List, [], ◌∷◌, ◌++◌, Ok, Err, Result, length, min, refl, sym, ap, subst, ◌∙◌, arith}
+use Rattle.std.proofs.Common.{◌≡◌, ℕ, ◌+◌, ◌*◌, ◌<◌, ◌≤◌, true, false, nat_le, if◌then◌else◌, List, [], ◌∷◌, ◌++◌, Ok}
+use Rattle.std.proofs.Common.{Err, Result, length, min, refl, sym, ap, subst, ◌∙◌, arith}
 use Rattle.std.specs.Result.{OnOk, OnErr, IsOk}
 use Rattle.std.proofs.Math.Nat.{mul-le-mul_left}
 use Rattle.std.proofs.lemmas.Bool.Decides.{nat_tests}
@@ -14,7 +15,8 @@ use Rattle.no_std_io2.proofs.Exact.{no_bytes}
 pub nothing_held : (held : List ℕ) (E : List Event) → length held ≡ 0 → events_of held ++ E ≡ E
 nothing_held held E none = ap (λ l. events_of l ++ E) (no_bytes held none)
 
-pub fill_told : {A : Type 0} (r : Result A Error) (held held' : List ℕ) (E E' : List Event) → length held ≡ 0 → OnErr r (held' ≡ []) → ReadsAhead E r held' E'
+pub fill_told : {A : Type 0} (r : Result A Error) (held held' : List ℕ) (E E' : List Event) → length held ≡ 0
+    → OnErr r (held' ≡ []) → ReadsAhead E r held' E'
     → FillsFrom (events_of held ++ E) r (events_of held' ++ E')
 fill_told (Ok _) held held' E E' none no_more read = sym (nothing_held held E none ∙ read.0)
 fill_told (Err e) held held' E E' none no_more read = nothing_held held E none ∙ read ∙ ap (λ l. fails e ∷ events_of l ++ E') (sym no_more)
@@ -29,7 +31,8 @@ more_turns : (room held held' t t' : ℕ) → held' ≤ room → t' < t → held
 more_turns room held held' t t' fits spent = grind (arith, mul-le-mul_left)
 
 -- an error spends an inner turn
-pub fill_turn : {A : Type 0} (r : Result A Error) (room held held' t t' : ℕ) → held' ≤ room → OnErr r (t' < t) → OnErr r (held' + (room + 1) * t' < held + (room + 1) * t)
+pub fill_turn : {A : Type 0} (r : Result A Error) (room held held' t t' : ℕ) → held' ≤ room → OnErr r (t' < t)
+    → OnErr r (held' + (room + 1) * t' < held + (room + 1) * t)
 fill_turn (Ok _) room held held' t t' fits spent = tt
 fill_turn (Err e) room held held' t t' fits spent = more_turns room held held' t t' fits spent
 
@@ -40,7 +43,8 @@ through_told r buf held held' E E' none empty read =
     let after : Reads E r buf (events_of held' ++ E') = subst (Reads E r buf) (sym (ap (λ l. events_of l ++ E') empty)) read in
     subst (λ l. Reads l r buf (events_of held' ++ E')) (sym (nothing_held held E none)) after
 
-pub through_turn : (r : Result ℕ Error) (room held held' t t' : ℕ) → held' ≤ room → SpendsTurn r t t' → SpendsTurn r (held + (room + 1) * t) (held' + (room + 1) * t')
+pub through_turn : (r : Result ℕ Error) (room held held' t t' : ℕ) → held' ≤ room → SpendsTurn r t t'
+    → SpendsTurn r (held + (room + 1) * t) (held' + (room + 1) * t')
 through_turn (Ok n) room held held' t t' fits spent = λ some. more_turns room held held' t t' fits (spent some)
 through_turn (Err e) room held held' t t' fits spent = more_turns room held held' t t' fits spent
 

@@ -1,5 +1,7 @@
 -- A seek of a buffered reader, by one or two seeks of its inner reader.
-use Rattle.std.proofs.Common.{◌≡◌, ℕ, ◌-◌, ◌^◌, ◌<◌, ◌≤◌, ℤ, pos, negsuc, ◌+ℤ◌, ◌-ℤ◌, IsOk, IsOkAnd, ◌⊎◌, inl, inr, List, [], length, Ok, Err, Result, OnOk, OnErr, FitsSigned, refl, sym, ap, ◌∙◌, subst, arith, rules}
+use Rattle.std.proofs.Common.{◌≡◌, ℕ, ◌-◌, ◌^◌, ◌<◌, ◌≤◌, ℤ, pos, negsuc, ◌+ℤ◌, ◌-ℤ◌, IsOk, IsOkAnd, ◌⊎◌, inl, inr}
+use Rattle.std.proofs.Common.{List, [], length, Ok, Err, Result, OnOk, OnErr, FitsSigned, refl, sym, ap, ◌∙◌, subst}
+use Rattle.std.proofs.Common.{arith, rules}
 use Rattle.std.proofs.lemmas.Int.{ints}
 use Rattle.std.specs.Int.{w64}
 use Rattle.no_std_io2_base.specs.declared.error.Error.{Error}
@@ -30,7 +32,8 @@ at_offset_behind at held n o rest fits is h =
     at_offset_sum at rest n (omega (arith, ints))
 
 -- an offset that one seek can't say is too far back
-pub far_unless_fits : (o : ℤ) (held : ℕ) → FitsSigned w64 o → held < 2 ^ 63 → (FitsSigned w64 (o -ℤ pos held) → ⊥) → IsTooFarBack (Current o) held
+pub far_unless_fits : (o : ℤ) (held : ℕ) → FitsSigned w64 o → held < 2 ^ 63 → (FitsSigned w64 (o -ℤ pos held) → ⊥)
+    → IsTooFarBack (Current o) held
 far_unless_fits (pos k) held fits small not_fits = absurd (not_fits (search rules))
 far_unless_fits (negsuc k) held fits small not_fits = grind (arith, ints, not_fits)
 
@@ -47,21 +50,25 @@ pub sought : (from inner : SeekFrom) (r : Result ℕ Error) (held held' content 
 sought from inner (Ok n) held held' content content' at at' there back sound same seeks empty kept =
     (subst (λ l. IsSound l at' content') (sym empty) (omega arith, refl), (there n seeks.0, omega (arith, seeks.1, ap length empty)))
 sought from inner (Err e) held held' content content' at at' there back sound same seeks empty kept = (
-  subst (λ l. IsSound l at' content') (sym kept) (subst (λ c. IsSound held at' c) (sym same) (subst (λ p. IsSound held p content) (sym seeks.2) sound)),
+  subst (λ l. IsSound l at' content') (sym kept)
+      (subst (λ c. IsSound held at' c) (sym same) (subst (λ p. IsSound held p content) (sym seeks.2) sound)),
   (λ n t. seeks.0 n (back n t), seeks.1, omega (arith, seeks.2, ap length kept)),
 )
 
 -- one seek by `Current`, of an inner reader that is ahead
 pub sought_current : (o rest : ℤ) (r : Result ℕ Error) (held held' content content' : List ℕ) (at at' : ℕ) → rest ≡ o -ℤ pos (length held)
-    → IsSound held at content → content' ≡ content → Seeks (length content) at (Current rest) r at' → OnOk r (held' ≡ []) → OnErr r (held' ≡ held)
+    → IsSound held at content → content' ≡ content → Seeks (length content) at (Current rest) r at'
+    → OnOk r (held' ≡ []) → OnErr r (held' ≡ held)
     → IsSound held' at' content' × Seeks (length content) (at - length held) (Current o) r (at' - length held')
 sought_current o rest r held held' content content' at at' is sound same seeks empty kept =
     sought (Current o) (Current rest) r held held' content content' at at'
-    (λ n t. (at_offset_ahead at (length held) n o rest sound.0 is t.0, t.1)) (λ n t. (at_offset_behind at (length held) n o rest sound.0 is t.0, t.1))
+    (λ n t. (at_offset_ahead at (length held) n o rest sound.0 is t.0, t.1))
+    (λ n t. (at_offset_behind at (length held) n o rest sound.0 is t.0, t.1))
     sound same seeks empty kept
 
 -- a seek back to where the held bytes begin arrives
-pub back_arrives : (o : ℤ) (r : Result ℕ Error) (len at at' held : ℕ) → o ≡ pos 0 -ℤ pos held → held ≤ at → at < 2 ^ 64 → Seeks len at (Current o) r at' → IsOk r × (at' ≡ at - held)
+pub back_arrives : (o : ℤ) (r : Result ℕ Error) (len at at' held : ℕ) → o ≡ pos 0 -ℤ pos held → held ≤ at → at < 2 ^ 64
+    → Seeks len at (Current o) r at' → IsOk r × (at' ≡ at - held)
 back_arrives o (Ok n) len at at' held is fits small seeks =
     let sum = sum_at_offset at o n seeks.0.0 in
     (refl, omega (arith, ints, seeks.1))
@@ -85,8 +92,10 @@ dropped_far (Ok n) P X p = tt
 dropped_far (Err e) P X p = inr p
 
 -- the second, with nothing held any more
-pub sought_again : (o shown : ℤ) (r : Result ℕ Error) (held held' old content content' : List ℕ) (at at' place : ℕ) → held ≡ [] → shown ≡ o → content ≡ old → at ≡ place
-    → Seeks (length content) at (Current shown) r at' → OnOk r (held' ≡ []) → OnErr r (held' ≡ held) → IsSound held' at' content' × Seeks (length old) place (Current o) r (at' - length held')
+pub sought_again : (o shown : ℤ) (r : Result ℕ Error) (held held' old content content' : List ℕ) (at at' place : ℕ)
+    → held ≡ [] → shown ≡ o → content ≡ old → at ≡ place
+    → Seeks (length content) at (Current shown) r at' → OnOk r (held' ≡ []) → OnErr r (held' ≡ held)
+    → IsSound held' at' content' × Seeks (length old) place (Current o) r (at' - length held')
 sought_again o shown r held held' old content content' at at' place none same kept_content here seeks empty kept =
     let still = still_none r held held' none empty kept in
     let ends : at' ≡ at' - length held' = omega (arith, ap length still) in
@@ -97,7 +106,8 @@ sought_again o shown r held held' old content content' at at' place none same ke
     )
 
 -- `Start` and `End` go to the same place from everywhere
-pub elsewhere : (target : SeekFrom) → ((k : ℕ) × (target ≡ Start k)) ⊎ ((o : ℤ) × (target ≡ End o)) → (len at at' n : ℕ) → IsTarget len at target n → IsTarget len at' target n
+pub elsewhere : (target : SeekFrom) → ((k : ℕ) × (target ≡ Start k)) ⊎ ((o : ℤ) × (target ≡ End o)) → (len at at' n : ℕ)
+    → IsTarget len at target n → IsTarget len at' target n
 elsewhere (Start k) is len at at' n h = h
 elsewhere (End o) is len at at' n h = h
 elsewhere (Current o) (inl is) len at at' n h = absurd (current_not_start o is.0 is.1)
@@ -114,7 +124,8 @@ not_far target held (inl is) far = subst (λ t. IsTooFarBack t held) is.1 far
 not_far target held (inr is) far = subst (λ t. IsTooFarBack t held) is.1 far
 
 -- a seek by nothing stays, and answers where
-pub stays : (r : Result ℕ Error) (len at at' : ℕ) → at < 2 ^ 64 → Seeks len at (Current (pos 0)) r at' → (at' ≡ at) × IsOkAnd r (λ n. n ≡ at)
+pub stays : (r : Result ℕ Error) (len at at' : ℕ) → at < 2 ^ 64 → Seeks len at (Current (pos 0)) r at'
+    → (at' ≡ at) × IsOkAnd r (λ n. n ≡ at)
 stays (Ok n) len at at' small seeks = (omega (arith, seeks.0.0, seeks.1), omega (arith, seeks.0.0))
 stays (Err e) len at at' small seeks = absurd (seeks.0 at (omega arith, small))
 

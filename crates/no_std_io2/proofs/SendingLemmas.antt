@@ -1,5 +1,6 @@
 -- The three ends of a write through a buffer: what was held could not be sent, the bytes go past it, or they are held.
-use Rattle.std.proofs.Common.{◌≡◌, false, true, ℕ, ◌+◌, ◌<◌, ◌≤◌, ◌∙◌, List, [], ◌++◌, length, Result, Ok, Err, Some, IfOk, OnOk, refl, sym, ap, subst, inl, inr, arith, le_refl, take_all, append-nil, ⊎_elim}
+use Rattle.std.proofs.Common.{◌≡◌, false, true, ℕ, ◌+◌, ◌<◌, ◌≤◌, ◌∙◌, List, [], ◌++◌, length, Result, Ok, Err, Some}
+use Rattle.std.proofs.Common.{IfOk, OnOk, refl, sym, ap, subst, inl, inr, arith, le_refl, take_all, append-nil, ⊎_elim}
 use Rattle.std.proofs.lemmas.Bool.{cases_lt}
 use Rattle.std.proofs.lemmas.Bool.Decides.{nat_tests}
 use Rattle.no_std_io2_base.specs.declared.error.Error.{Error}
@@ -9,7 +10,8 @@ use Rattle.no_std_io2_base.proofs.MovesLemmas.{IsFront-refl, Moves-then, Moves-e
 use Rattle.no_std_io2.specs.declared.buffered.sender.Sender.{Sender}
 use Rattle.no_std_io2.specs.Buffered.{sender_inner, sender_buffer, sender_told, sender_with_inner, way_calls, writing_calls, buffer_after}
 use Rattle.no_std_io2.specs.Sending.{Sent, MakesWay, Buffers, BuffersAll, Flushes}
-use Rattle.no_std_io2.proofs.BufferLemmas.{Moves-kept, Moves-passed, Moves-sent, Moves-sent_part, Moves-out, none_of_length, IsEnd-none, IsEnd-held, call_steady}
+use Rattle.no_std_io2.proofs.BufferLemmas.{Moves-kept, Moves-passed, Moves-sent, Moves-sent_part, Moves-out}
+use Rattle.no_std_io2.proofs.BufferLemmas.{none_of_length, IsEnd-none, IsEnd-held, call_steady}
 use Rattle.no_std_io2.proofs.LineLemmas.{MovesFront-then, MovesFront-passed, onok, onok_map}
 
 -- the buffer after a write, case by case
@@ -125,7 +127,8 @@ all_sent {told} {old} sent same =
     (Moves-out {k = []} _ sent.sends.sent _ sent.sends.split sent.empty sent.sends.moves)
 
 -- `write`: sending failed, and nothing was accepted
-pub refused : {W : Type 0} {S : ℕ} {told : W → Told} {takes_all is_metered : W → Type 0} {cost : W → ℕ} (old mid : Sender W S) (x : List ℕ) (e : Error)
+pub refused : {W : Type 0} {S : ℕ} {told : W → Told} {takes_all is_metered : W → Type 0} {cost : W → ℕ}
+    (old mid : Sender W S) (x : List ℕ) (e : Error)
     → MakesWay told takes_all is_metered cost old (length x) (Err e) mid → Buffers told takes_all is_metered cost old x (Err e) mid
 refused old mid x e way = record {
   bound = tt;
@@ -141,7 +144,8 @@ refused old mid x e way = record {
 }
 
 -- `write`: one inner write, past the empty buffer
-pub passed : {W : Type 0} {S : ℕ} {told : W → Told} {takes_all is_metered : W → Type 0} {cost : W → ℕ} (old mid : Sender W S) (x : List ℕ) (r : Result ℕ Error) (inner : W)
+pub passed : {W : Type 0} {S : ℕ} {told : W → Told} {takes_all is_metered : W → Type 0} {cost : W → ℕ}
+    (old mid : Sender W S) (x : List ℕ) (r : Result ℕ Error) (inner : W)
     → MakesWay told takes_all is_metered cost old (length x) (Ok tt) mid → S ≤ length x
     → IfOk r (λ n. n ≤ length x)
     → Moves (told (sender_inner mid)) (taken r x) (write_mishap r x) (told inner)
@@ -167,7 +171,8 @@ passed {S} old mid x r inner way long bound moves all calls =
     }
 
 -- what is held in the end, where x was put behind what was left
-held_after : {W : Type 0} {S : ℕ} {told : W → Told} {takes_all is_metered : W → Type 0} {cost : W → ℕ} (old mid new : Sender W S) (x : List ℕ)
+held_after : {W : Type 0} {S : ℕ} {told : W → Told} {takes_all is_metered : W → Type 0} {cost : W → ℕ}
+    (old mid new : Sender W S) (x : List ℕ)
     → MakesWay told takes_all is_metered cost old (length x) (Ok tt) mid → length x < S → sender_buffer new ≡ sender_buffer mid ++ x
     → sender_buffer new ≡ buffer_after S (sender_buffer old) x
 held_after {S} old mid new x way short put = ⊎_elim
@@ -184,7 +189,9 @@ held {S} {told} {takes_all} {is_metered} {cost} old mid new x way short same put
     let whole = take_all _ x (le_refl (length x)) in
     record {
       bound = le_refl _;
-      moves = rw (whole, zero_write-whole x) (Moves-then {k = []} way.moves (Moves-kept told _ _ (sender_buffer mid) (sender_buffer new) x same put));
+      moves =
+          rw (whole, zero_write-whole x)
+          (Moves-then {k = []} way.moves (Moves-kept told _ _ (sender_buffer mid) (sender_buffer new) x same put));
       rest = rw whole (IsEnd-held _ (sender_buffer mid) _ x way.rest put);
       fits = λ _ room. let kept = way.fits room in (refl, same ∙ kept.1, put ∙ ap (λ l. l ++ x) kept.2);
       sent = λ over. rw whole ([], sym (put ∙ ap (λ l. l ++ x) (way.sent over)));
@@ -198,7 +205,8 @@ held {S} {told} {takes_all} {is_metered} {cost} old mid new x way short same put
     }
 
 -- `write_all`: sending failed, and nothing was accepted
-pub refused_all : {W : Type 0} {S : ℕ} {told : W → Told} {takes_all is_metered : W → Type 0} {cost : W → ℕ} (old mid : Sender W S) (x : List ℕ) (e : Error)
+pub refused_all : {W : Type 0} {S : ℕ} {told : W → Told} {takes_all is_metered : W → Type 0} {cost : W → ℕ}
+    (old mid : Sender W S) (x : List ℕ) (e : Error)
     → MakesWay told takes_all is_metered cost old (length x) (Err e) mid → BuffersAll told takes_all is_metered cost old x (Err e) mid
 refused_all old mid x e way = record {
   fault = way.fault;
@@ -214,13 +222,15 @@ refused_all old mid x e way = record {
 }
 
 -- `write_all`: one inner `write_all`, past the empty buffer
-pub passed_all : {W : Type 0} {S : ℕ} {told : W → Told} {takes_all is_metered : W → Type 0} {cost : W → ℕ} (old mid : Sender W S) (x : List ℕ) (r : Result (Unit {0}) Error) (inner : W)
+pub passed_all : {W : Type 0} {S : ℕ} {told : W → Told} {takes_all is_metered : W → Type 0} {cost : W → ℕ}
+    (old mid : Sender W S) (x : List ℕ) (r : Result (Unit {0}) Error) (inner : W)
     → ((w : W) → takes_all w → (told w).mishaps ≡ Some [])
     → MakesWay told takes_all is_metered cost old (length x) (Ok tt) mid → S ≤ length x
     → IsNoInterruption r
     → MovesFront (told (sender_inner mid)) x r (told inner)
     → (takes_all (sender_inner mid) → takes_all inner)
-    → (is_metered (sender_inner mid) → takes_all (sender_inner mid) → is_metered inner × (cost inner ≡ cost (sender_inner mid) + calls_for x))
+    → (is_metered (sender_inner mid) → takes_all (sender_inner mid)
+    → is_metered inner × (cost inner ≡ cost (sender_inner mid) + calls_for x))
     → BuffersAll told takes_all is_metered cost old x r (sender_with_inner mid inner)
 passed_all {S} old mid x r inner steady way long fault moves all calls =
     let none = way.empty long in
@@ -244,7 +254,8 @@ passed_all {S} old mid x r inner steady way long fault moves all calls =
     }
 
 -- `write_all`: x is held behind what was left
-pub held_all : {W : Type 0} {S : ℕ} {told : W → Told} {takes_all is_metered : W → Type 0} {cost : W → ℕ} (old mid new : Sender W S) (x : List ℕ)
+pub held_all : {W : Type 0} {S : ℕ} {told : W → Told} {takes_all is_metered : W → Type 0} {cost : W → ℕ}
+    (old mid new : Sender W S) (x : List ℕ)
     → MakesWay told takes_all is_metered cost old (length x) (Ok tt) mid → length x < S
     → sender_inner new ≡ sender_inner mid → sender_buffer new ≡ sender_buffer mid ++ x
     → BuffersAll told takes_all is_metered cost old x (Ok tt) new
@@ -271,7 +282,8 @@ held_all {S} {told} {takes_all} {is_metered} {cost} old mid new x way short same
 }
 
 -- `flush`: all was sent, and then the inner writer was flushed
-pub flushed : {W : Type 0} {S : ℕ} {told : W → Told} {takes_all is_metered : W → Type 0} {cost : W → ℕ} (old mid : Sender W S) (r : Result (Unit {0}) Error) (inner : W)
+pub flushed : {W : Type 0} {S : ℕ} {told : W → Told} {takes_all is_metered : W → Type 0} {cost : W → ℕ}
+    (old mid : Sender W S) (r : Result (Unit {0}) Error) (inner : W)
     → ((w : W) → takes_all w → (told w).mishaps ≡ Some [])
     → Sent told takes_all is_metered cost old (Ok tt) mid
     → OnOk r ((told inner).held ≡ [])
@@ -283,7 +295,12 @@ flushed {told} old mid r inner steady sent empty moves all calls =
     let none = sent.empty in
     record {
       empty = onok_both r _ _ empty (λ e. ap (λ l. (told inner).held ++ l) none ∙ append-nil _ ∙ e);
-      moves = Moves-ends {k = []} (Moves-sent _ (sender_buffer mid) none (subst (λ l. Moves _ l [] _) (sym (sent.sends.split ∙ ap (λ l. sent.sends.sent ++ l) none ∙ append-nil _)) sent.sends.moves)) (Moves-passed (sender_buffer mid) none moves);
+      moves =
+          Moves-ends {k = []}
+          (Moves-sent _ (sender_buffer mid) none
+          (subst (λ l. Moves _ l [] _) (sym (sent.sends.split ∙ ap (λ l. sent.sends.sent ++ l) none ∙ append-nil _))
+          sent.sends.moves))
+          (Moves-passed (sender_buffer mid) none moves);
       sent = onok r _ none;
       rest = IsEnd-none _ (sender_buffer mid) none;
       all = λ t. let mid_all = (sent.all t).0 in (all mid_all, call_steady r (steady _ mid_all) moves);

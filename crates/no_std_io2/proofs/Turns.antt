@@ -11,10 +11,13 @@ pub read_length : (n : ℕ) (buf : List ℕ) → n ≤ length buf → length (ta
 read_length n buf fits = ap length (held_read n buf) ∙ length-take-le n buf fits
 
 -- what was read is held, and is nothing only at the end
-pub read_held : (n : ℕ) (buf : List ℕ) (E E' : List Event) (room : ℕ) → n ≤ length buf → length buf ≡ room → 0 < room → Reads E (Ok n) buf E'
+pub read_held : (n : ℕ) (buf : List ℕ) (E E' : List Event) (room : ℕ) → n ≤ length buf → length buf ≡ room → 0 < room
+    → Reads E (Ok n) buf E'
     → (E ≡ events_of (take (n - 0) buf) ++ E') × (take (n - 0) buf ≡ [] → E ≡ [])
-read_held n buf E E' room fits long some read =
-    (read.0 ∙ ap (λ l. events_of l ++ E') (sym (held_read n buf)), λ none. read.1 (sym (read_length n buf fits) ∙ ap length none) (omega arith))
+read_held n buf E E' room fits long some read = (
+  read.0 ∙ ap (λ l. events_of l ++ E') (sym (held_read n buf)),
+  λ none. read.1 (sym (read_length n buf fits) ∙ ap length none) (omega arith),
+)
 
 -- a fill spends a turn for what it holds, at most a full buffer
 pub turns_read : (room held held' t t' : ℕ) → held' ≤ room → t' ≤ t → (0 < held' → t' < t) → held' + (room + 1) * t' ≤ held + (room + 1) * t

@@ -1,5 +1,6 @@
 -- Lines in a list of bytes, and what is held of them.
-use Rattle.std.specs.Prelude.{◌≡◌, ℕ, ◌+◌, ◌-◌, ◌<◌, ◌≤◌, ◌==◌, List, [], ◌++◌, length, take, drop, slice_index, nat_lt, nat_le, if◌then◌else◌}
+use Rattle.std.specs.Prelude.{◌≡◌, ℕ, ◌+◌, ◌-◌, ◌<◌, ◌≤◌, ◌==◌, List, [], ◌++◌, length, take, drop, slice_index, nat_lt}
+use Rattle.std.specs.Prelude.{nat_le, if◌then◌else◌}
 use Rattle.std.specs.List.{after_last, Contains}
 use Rattle.no_std_io2_base.specs.Writes.{Told, Moves}
 use Rattle.no_std_io2.specs.LineState.{HasNoNewline}
@@ -33,7 +34,8 @@ held_tail S x n =
     if nat_le (lines_len x) n then take S (drop n x)
     else (if nat_le (lines_len x - n) S then take (lines_len x - n) (drop n x) else lines_or_all (take S (drop n x)))
 
--- A write of x, which has a newline, answered Ok(n) and left this buffer. The inner writer got the old buffer and, in one write of the lines,
+-- A write of x, which has a newline, answered Ok(n) and left this buffer. The inner writer got the old buffer and, in
+-- one write of the lines,
 -- took `sent` bytes of x. Where it took none, nothing is held and n is 0, else the tail is held.
 pub record WritesLines (S : ℕ) (told_old : Told) (old x : List ℕ) (n : ℕ) (told_new : Told) (new : List ℕ) : Type 0 where
   pub sent : ℕ

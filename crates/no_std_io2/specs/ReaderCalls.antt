@@ -6,7 +6,9 @@ use Rattle.no_std_io2_base.specs.Errors.{IsFault}
 use Rattle.no_std_io2_base.specs.Events.{Event, given, Reads, ReadsExact, SpendsTurn}
 use Rattle.no_std_io2_base.specs.Lending.{IsNotEmpty, reads_needed}
 use Rattle.no_std_io2.specs.declared.buffered.buf_reader.BufReader.{BufReader}
-use Rattle.no_std_io2.specs.Reading.{reader_held, reader_behind, reader_inner, reader_events, reader_turns, reader_has_store, reader_is_sound, reader_position, reader_lent_length, behind_anew, exact_reads, exact_left, FillsFrom}
+use Rattle.no_std_io2.specs.Reading.{reader_held, reader_behind, reader_inner, reader_events, reader_turns}
+use Rattle.no_std_io2.specs.Reading.{reader_has_store, reader_is_sound, reader_position, reader_lent_length}
+use Rattle.no_std_io2.specs.Reading.{behind_anew, exact_reads, exact_left, FillsFrom}
 
 -- Where nothing was held, the inner reader was read once into the buffer.
 pub record FillsBuffer {R : Type 0} {S : ℕ} (tells : R → Type 0) (events : R → List Event) (turns : R → ℕ)

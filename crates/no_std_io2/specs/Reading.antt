@@ -1,5 +1,6 @@
 -- What a clause reads of a `BufReader`.
-use Rattle.std.specs.Prelude.{◌≡◌, ℕ, ◌^◌, ◌<◌, negsuc, ◌+◌, ◌-◌, ◌*◌, ◌&&◌, min, nat_lt, nat_le, if◌then◌else◌, List, [], ◌∷◌, ◌++◌, Ok, Err, Result, length, ◌⊎◌}
+use Rattle.std.specs.Prelude.{◌≡◌, ℕ, ◌^◌, ◌<◌, negsuc, ◌+◌, ◌-◌, ◌*◌, ◌&&◌, min, nat_lt, nat_le, if◌then◌else◌, List}
+use Rattle.std.specs.Prelude.{[], ◌∷◌, ◌++◌, Ok, Err, Result, length, ◌⊎◌}
 use Rattle.no_std_io2_base.specs.declared.error.Error.{Error}
 use Rattle.no_std_io2_base.specs.Errors.{IsOutOfMemory}
 use Rattle.no_std_io2_base.specs.Slices.{HasMoved}

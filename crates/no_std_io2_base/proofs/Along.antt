@@ -1,12 +1,20 @@
 -- What `Take` removes, its inner reader loses.
-use Rattle.std.proofs.Common.{◌≡◌, ℕ, zero, suc, ◌+◌, ◌-◌, ◌<◌, ◌≤◌, List, [], ◌∷◌, ◌++◌, Ok, length, take, sym, ap, ◌∙◌, arith, append_assoc, length-append, length-take-le}
+use Rattle.std.proofs.Common.{◌≡◌, ℕ, zero, suc, ◌+◌, ◌-◌, ◌<◌, ◌≤◌, List, [], ◌∷◌, ◌++◌, Ok, length, take, sym, ap}
+use Rattle.std.proofs.Common.{◌∙◌, arith, append_assoc, length-append, length-take-le}
 use Rattle.no_std_io2_base.specs.declared.error.Error.{Error}
 use Rattle.no_std_io2_base.specs.Events.{Event, fails, events_of, bytes, cut, Reads}
 use Rattle.no_std_io2_base.specs.Take.{TakesAlong}
 use Rattle.no_std_io2_base.proofs.Events.{bytes-append, bytes-events_of, cut-bytes}
 
 pub along_none : (k k' : ℕ) (E E' : List Event) → k' ≡ k → E' ≡ E → TakesAlong k E k' E'
-along_none k k' E E' same is = record { removed = []; below = sym is; here = ap (λ l. cut k l) (sym is) ∙ ap (λ n. cut n E') (sym same); falls = omega (arith, same) }
+along_none k k' E E' same is =
+    record {
+      removed = [];
+      below = sym is;
+      here = ap (λ l. cut k l) (sym is) ∙ ap (λ n. cut n E') (sym same);
+      falls =
+          omega (arith, same);
+    }
 
 -- some bytes that fit under the limit
 pub along_bytes : (k k' : ℕ) (E E' : List Event) (bs : List ℕ) → E ≡ events_of bs ++ E' → k' + length bs ≡ k → TakesAlong k E k' E'
@@ -19,8 +27,10 @@ along_bytes k k' E E' bs is falls =
       falls = ap (λ l. k' + length l) (bytes-events_of bs) ∙ falls;
     }
 
-pub along_read : (k k' : ℕ) (E E' : List Event) (n : ℕ) (buf : List ℕ) → Reads E (Ok n) buf E' → n ≤ length buf → k' + n ≡ k → TakesAlong k E k' E'
-along_read k k' E E' n buf read fits falls = along_bytes k k' E E' (take n buf) read.0 (ap (λ m. k' + m) (length-take-le n buf fits) ∙ falls)
+pub along_read : (k k' : ℕ) (E E' : List Event) (n : ℕ) (buf : List ℕ) → Reads E (Ok n) buf E' → n ≤ length buf
+    → k' + n ≡ k → TakesAlong k E k' E'
+along_read k k' E E' n buf read fits falls =
+    along_bytes k k' E E' (take n buf) read.0 (ap (λ m. k' + m) (length-take-le n buf fits) ∙ falls)
 
 -- an error, where the limit isn't 0
 pub along_error : (k : ℕ) (E E' : List Event) (e : Error) → E ≡ fails e ∷ E' → 0 < k → TakesAlong k E k E'
@@ -33,5 +43,12 @@ along_then k k' k'' E E' E'' first next = record {
   removed = first.removed ++ next.removed;
   below = first.below ∙ ap (λ l. first.removed ++ l) next.below ∙ sym (append_assoc first.removed next.removed E'');
   here = first.here ∙ ap (λ l. first.removed ++ l) next.here ∙ sym (append_assoc first.removed next.removed (cut k'' E''));
-  falls = omega (arith, first.falls, next.falls, ap length (bytes-append first.removed next.removed), length-append (bytes first.removed) (bytes next.removed));
+  falls =
+      omega (
+        arith,
+        first.falls,
+        next.falls,
+        ap length (bytes-append first.removed next.removed),
+        length-append (bytes first.removed) (bytes next.removed),
+      );
 }

@@ -1,5 +1,7 @@
 -- What a read of two readers in a row does.
-use Rattle.std.proofs.Common.{◌≡◌, ℕ, ◌+◌, ◌<◌, ◌≤◌, Bool, true, false, List, [], ◌∷◌, ◌++◌, Result, Ok, Err, OnOk, length, take, length-take-le, true≢false, length-append, if◌then◌else◌, refl, sym, ap, subst, ◌∙◌, arith, le_refl}
+use Rattle.std.proofs.Common.{◌≡◌, ℕ, ◌+◌, ◌<◌, ◌≤◌, Bool, true, false, List, [], ◌∷◌, ◌++◌, Result, Ok, Err, OnOk}
+use Rattle.std.proofs.Common.{length, take, length-take-le, true≢false, length-append, if◌then◌else◌, refl, sym, ap}
+use Rattle.std.proofs.Common.{subst, ◌∙◌, arith, le_refl}
 use Rattle.no_std_io2_base.specs.declared.error.Error.{Error}
 use Rattle.no_std_io2_base.specs.declared.traits.chain.Chain.{Chain}
 use Rattle.no_std_io2_base.specs.Events.{Event, fails, events_of, bytes, HasNoFault, FillsRoom, HasRoom, Reads, SpendsTurn}

@@ -1,9 +1,10 @@
 -- A content and a position in it.
-use Rattle.std.proofs.Common.{◌≡◌, ℕ, Bool, true, cond, ◌+◌, ◌-◌, ◌<◌, ◌≤◌, min, List, [], ◌∷◌, ◌++◌, Ok, Err, Result, length, take, drop, replicate, refl, sym, ap, ◌∙◌, arith, count_by, inl, inr, append-nil, append_assoc, take-append-drop, length-append, length-take}
+use Rattle.std.proofs.Common.{◌≡◌, ℕ, Bool, true, cond, ◌+◌, ◌-◌, ◌<◌, ◌≤◌, min, List, [], ◌∷◌, ◌++◌, Ok, Err, Result}
+use Rattle.std.proofs.Common.{length, take, drop, replicate, refl, sym, ap, ◌∙◌, arith, count_by, inl, inr, append-nil}
+use Rattle.std.proofs.Common.{append_assoc, take-append-drop, length-append, length-take}
 use Rattle.std.proofs.lemmas.Bool.{cases_lt, cond-true, false≢true}
 use Rattle.std.proofs.lemmas.List.{length-replicate, drop-drop, take_all, take_at, take_min, drop_all, drop_at, take-append-le}
 use Rattle.std.specs.Result.{OnOk, OnErr, is_ok, is_err}
-use borrow.Rule.Slice.PartMut.{put_mid}
 use Rattle.std.proofs.lemmas.Grind.{common_steps}
 use Rattle.std.proofs.lemmas.Bool.Decides.{nat_tests}
 use Rattle.no_std_io2_base.specs.declared.error.Error.{Error}
@@ -24,7 +25,12 @@ bytes_before-within place bs within =
 
 pub length-bytes_before : (place : ℕ) (bs : List ℕ) → length (bytes_before place bs) ≡ place
 length-bytes_before place bs =
-    omega (arith, length-append (take place bs) (replicate (place - length bs) 0), length-take place bs, length-replicate {A = ℕ} (place - length bs) 0)
+    omega (
+      arith,
+      length-append (take place bs) (replicate (place - length bs) 0),
+      length-take place bs,
+      length-replicate {A = ℕ} (place - length bs) 0,
+    )
 
 -- x inside the bytes
 pub put_within : (place : ℕ) (x bs : List ℕ) → place ≤ length bs → take place bs ++ x ++ drop (place + length x) bs ≡ put_at place x bs
@@ -57,33 +63,33 @@ padded place len x bs held mid bs' padding appending done same long past p is a 
     ∙ ap (λ l. take place l ++ replicate (place - length l) 0) same in
     new ∙ cond-true appending _ _ a ∙ ap (λ l. l ++ x) zeros ∙ put_past place x bs past ∙ sym (cond-true done _ _ d)
 
--- x was put over a part of the bytes
-pub overwritten : (place k : ℕ) (bs part x : List ℕ) → part ≡ x → k ≡ length x → put_mid place k bs part ≡ put_over place x bs
-overwritten place k bs part x same long =
-    ap (λ l. take place bs ++ (l ++ drop k (drop place bs))) same ∙ ap (λ n. take place bs ++ (x ++ drop n (drop place bs))) long
-    ∙ ap (λ l. take place bs ++ (x ++ l)) (drop-drop (length x) place bs)
-    ∙ sym (append_assoc (take place bs) x (drop (place + length x) bs))
-
 -- the end of x was appended, and its front put before it
 pub put_across : (place k : ℕ) (x bs : List ℕ) → place + k ≡ length bs → k ≤ length x
     → take place (bs ++ drop k x) ++ take k x ++ drop (place + k) (bs ++ drop k x) ≡ put_at place x bs
 put_across place k x bs seam fits =
-    let front : take place (bs ++ drop k x) ≡ bytes_before place bs = take-append-le place bs (drop k x) (omega arith) ∙ sym (bytes_before-within place bs (omega arith)) in
+    let front : take place (bs ++ drop k x) ≡ bytes_before place bs =
+    take-append-le place bs (drop k x) (omega arith) ∙ sym (bytes_before-within place bs (omega arith)) in
     let back : drop (place + k) (bs ++ drop k x) ≡ drop k x = drop_at bs (drop k x) (place + k) (sym seam) in
     let whole : take k x ++ drop k x ≡ x = grind (arith, common_steps) in
     let none : drop (place + length x) bs ≡ [] = drop_all (place + length x) bs (omega arith) in
-    ap (λ l. l ++ take k x ++ drop (place + k) (bs ++ drop k x)) front ∙ ap (λ l. bytes_before place bs ++ take k x ++ l) back ∙ append_assoc (bytes_before place bs) (take k x) (drop k x) ∙ ap (λ l. bytes_before place bs ++ l) whole ∙ sym (append-nil _) ∙ ap (λ l. bytes_before place bs ++ x ++ l) (sym none)
+    ap (λ l. l ++ take k x ++ drop (place + k) (bs ++ drop k x)) front
+    ∙ ap (λ l. bytes_before place bs ++ take k x ++ l) back
+    ∙ append_assoc (bytes_before place bs) (take k x) (drop k x) ∙ ap (λ l. bytes_before place bs ++ l) whole
+    ∙ sym (append-nil _) ∙ ap (λ l. bytes_before place bs ++ x ++ l) (sym none)
 
 -- what was put stands right before the place behind it
 pub before_put : (place : ℕ) (x bs : List ℕ) → bytes_before (place + length x) (put_at place x bs) ≡ bytes_before place bs ++ x
 before_put place x bs =
     let front = bytes_before place bs ++ x in
     let rest = drop (place + length x) bs in
-    let long : length front ≡ place + length x = length-append (bytes_before place bs) x ∙ ap (λ n. n + length x) (length-bytes_before place bs) in
-    bytes_before-within (place + length x) (front ++ rest) (omega (arith, long, length-append front rest)) ∙ take_at front rest (place + length x) long
+    let long : length front ≡ place + length x =
+    length-append (bytes_before place bs) x ∙ ap (λ n. n + length x) (length-bytes_before place bs) in
+    bytes_before-within (place + length x) (front ++ rest) (omega (arith, long, length-append front rest))
+    ∙ take_at front rest (place + length x) long
 
 -- bytes went out as soon as they were accepted
-pub appends_moves : (old new x : List ℕ) (k : List ErrorKind) → new ≡ old ++ x → count_by is_interruption k ≡ 0 → Moves (told_out old) x k (told_out new)
+pub appends_moves : (old new x : List ℕ) (k : List ErrorKind) → new ≡ old ++ x → count_by is_interruption k ≡ 0
+    → Moves (told_out old) x k (told_out new)
 appends_moves old new x k is none = record {
   front = (x, is);
   bytes = append-nil new ∙ is ∙ ap (λ l. l ++ x) (sym (append-nil old));
@@ -96,7 +102,8 @@ refused_quietly place x e (inl h) = ap (λ k. count_by is_interruption (k ∷ []
 refused_quietly place x e (inr h) = ap (λ k. count_by is_interruption (k ∷ [])) h.1
 
 -- x that was put goes out
-put_goes_out : (bs : List ℕ) (place : ℕ) (x bs' : List ℕ) (place' : ℕ) → bs' ≡ put_at place x bs → place' ≡ place + length x → bytes_before place' bs' ≡ bytes_before place bs ++ x
+put_goes_out : (bs : List ℕ) (place : ℕ) (x bs' : List ℕ) (place' : ℕ) → bs' ≡ put_at place x bs
+    → place' ≡ place + length x → bytes_before place' bs' ≡ bytes_before place bs ++ x
 put_goes_out bs place x bs' place' is at =
     ap (λ l. bytes_before place' l) is ∙ ap (λ m. bytes_before m (put_at place x bs)) at ∙ before_put place x bs
 
@@ -104,19 +111,27 @@ quiet_count : (n : ℕ) (x : List ℕ) → count_by is_interruption (zero_write 
 quiet_count n x = grind (arith, nat_tests)
 
 -- `write` to a vector keeps the law of writers
-pub puts_moves : (bs : List ℕ) (place : ℕ) (x : List ℕ) (reply : Result ℕ Error) (bs' : List ℕ) (place' : ℕ) → PutsWhole bs place x reply bs' place'
+pub puts_moves : (bs : List ℕ) (place : ℕ) (x : List ℕ) (reply : Result ℕ Error) (bs' : List ℕ) (place' : ℕ)
+    → PutsWhole bs place x reply bs' place'
     → Moves (told_out (bytes_before place bs)) (taken reply x) (write_mishap reply x) (told_out (bytes_before place' bs'))
 puts_moves bs place x (Ok n) bs' place' h =
     let all : take n x ≡ x = take_all n x (omega (arith, h.1)) in
     appends_moves _ _ _ _ (put_goes_out bs place x bs' place' h.2 h.3 ∙ ap (λ l. bytes_before place bs ++ l) (sym all)) (quiet_count n x)
 puts_moves bs place x (Err e) bs' place' h =
-    appends_moves _ _ _ _ (ap (λ l. bytes_before place' l) h.2 ∙ ap (λ m. bytes_before m bs) h.3 ∙ sym (append-nil _)) (refused_quietly place x e h.1)
+    appends_moves _ _ _ _ (ap (λ l. bytes_before place' l) h.2 ∙ ap (λ m. bytes_before m bs) h.3 ∙ sym (append-nil _))
+    (refused_quietly place x e h.1)
 
 -- and so does `write_all`
 pub puts_moves_all : (bs : List ℕ) (place : ℕ) (x : List ℕ) (n : ℕ) (bs' : List ℕ) (place' : ℕ) → PutsWhole bs place x (Ok n) bs' place'
     → MovesFront (told_out (bytes_before place bs)) x (Ok tt) (told_out (bytes_before place' bs'))
 puts_moves_all bs place x n bs' place' h =
-    record { accepted = x; front = ([], sym (append-nil x)); whole = refl; moves = appends_moves _ _ _ _ (put_goes_out bs place x bs' place' h.2 h.3) refl }
+    record {
+      accepted = x;
+      front = ([], sym (append-nil x));
+      whole = refl;
+      moves =
+          appends_moves _ _ _ _ (put_goes_out bs place x bs' place' h.2 h.3) refl;
+    }
 
 -- what fits in a slice goes out
 pub fitting_goes_out : (bs : List ℕ) (place : ℕ) (x bs' : List ℕ) (place' : ℕ) → PutsFitting bs place x bs' place'
@@ -134,20 +149,27 @@ fitting_goes_out bs place x bs' place' h = elim (cases_lt (length bs) place) [ i
         let none : length bs - place ≡ 0 = omega arith in
         let empty : front ≡ [] = ap (λ n. take n x) none in
         let rest : drop (place + 0) bs ≡ [] = drop_all (place + 0) bs (omega arith) in
-        let same : put_over place [] bs ≡ bs = ap (λ l. take place bs ++ [] ++ l) rest ∙ append-nil (take place bs ++ []) ∙ append-nil (take place bs) ∙ take_all place bs (omega arith) in
+        let same : put_over place [] bs ≡ bs =
+        ap (λ l. take place bs ++ [] ++ l) rest ∙ append-nil (take place bs ++ []) ∙ append-nil (take place bs)
+        ∙ take_all place bs (omega arith) in
         let stays : bs' ≡ bs = h.0 ∙ ap (λ l. put_over place l bs) empty ∙ same in
         let at : place' ≡ place = omega (arith, h.1, ap length empty) in
-        ap (λ l. bytes_before place' l) stays ∙ ap (λ m. bytes_before m bs) at ∙ sym (append-nil (bytes_before place bs)) ∙ ap (λ l. bytes_before place bs ++ l) (sym empty)
+        ap (λ l. bytes_before place' l) stays ∙ ap (λ m. bytes_before m bs) at
+        ∙ sym (append-nil (bytes_before place bs)) ∙ ap (λ l. bytes_before place bs ++ l) (sym empty)
 
 -- `write` to a slice keeps the law of writers
-pub fits_moves : (bs : List ℕ) (place : ℕ) (x : List ℕ) (n : ℕ) (bs' : List ℕ) (place' : ℕ) → n ≡ min (length x) (length bs - place) → PutsFitting bs place x bs' place'
+pub fits_moves : (bs : List ℕ) (place : ℕ) (x : List ℕ) (n : ℕ) (bs' : List ℕ) (place' : ℕ)
+    → n ≡ min (length x) (length bs - place) → PutsFitting bs place x bs' place'
     → Moves (told_out (bytes_before place bs)) (take n x) (write_mishap (Ok n) x) (told_out (bytes_before place' bs'))
 fits_moves bs place x n bs' place' count h =
-    let part : take n x ≡ fitting place x bs = ap (λ m. take m x) (let e : n ≡ min (length bs - place) (length x) = omega arith in e) ∙ take_min (length bs - place) x in
+    let part : take n x ≡ fitting place x bs =
+    ap (λ m. take m x) (let e : n ≡ min (length bs - place) (length x) = omega arith in e)
+    ∙ take_min (length bs - place) x in
     appends_moves _ _ _ _ (fitting_goes_out bs place x bs' place' h ∙ ap (λ l. bytes_before place bs ++ l) (sym part)) (quiet_count n x)
 
 -- and so does `write_all`, where not all fits
-pub fits_moves_part : (bs : List ℕ) (place : ℕ) (x : List ℕ) (e : Error) (bs' : List ℕ) (place' : ℕ) → error_kind e ≡ WriteZero → PutsFitting bs place x bs' place'
+pub fits_moves_part : (bs : List ℕ) (place : ℕ) (x : List ℕ) (e : Error) (bs' : List ℕ) (place' : ℕ)
+    → error_kind e ≡ WriteZero → PutsFitting bs place x bs' place'
     → MovesFront (told_out (bytes_before place bs)) x (Err e) (told_out (bytes_before place' bs'))
 fits_moves_part bs place x e bs' place' kind h =
     let room = length bs - place in
@@ -159,7 +181,8 @@ fits_moves_part bs place x e bs' place' kind h =
     }
 
 -- and where it does
-pub fits_moves_all : (bs : List ℕ) (place : ℕ) (x bs' : List ℕ) (place' : ℕ) → length x ≤ length bs - place → PutsFitting bs place x bs' place'
+pub fits_moves_all : (bs : List ℕ) (place : ℕ) (x bs' : List ℕ) (place' : ℕ) → length x ≤ length bs - place
+    → PutsFitting bs place x bs' place'
     → MovesFront (told_out (bytes_before place bs)) x (Ok tt) (told_out (bytes_before place' bs'))
 fits_moves_all bs place x bs' place' room h =
     let whole : fitting place x bs ≡ x = take_all (length bs - place) x room in

@@ -1,5 +1,6 @@
 -- Reads under a limit.
-use Rattle.std.proofs.Common.{◌≡◌, ℕ, zero, suc, ◌-◌, ◌<◌, ◌≤◌, min, List, [], ◌∷◌, ◌++◌, Ok, length, take, refl, sym, ap, ◌∙◌, arith, drop, ◌+◌, length-take, length-take-le, length-append, length-drop}
+use Rattle.std.proofs.Common.{◌≡◌, ℕ, zero, suc, ◌-◌, ◌<◌, ◌≤◌, min, List, [], ◌∷◌, ◌++◌, Ok, length, take, refl, sym}
+use Rattle.std.proofs.Common.{ap, ◌∙◌, arith, drop, ◌+◌, length-take, length-take-le, length-append, length-drop}
 use lib.Seq.{take-append-le}
 use Rattle.no_std_io2_base.specs.declared.error.Error.{Error}
 use Rattle.no_std_io2_base.specs.Events.{Event, fails, events_of, bytes, cut, Reads}

@@ -1,5 +1,7 @@
 -- What a loop of reads has appended so far.
-use Rattle.std.proofs.Common.{◌≡◌, ℕ, ◌-◌, ◌+◌, ◌<◌, ◌≤◌, Bool, true, true≢false, List, [], ◌∷◌, ◌++◌, length, take, refl, sym, ap, ◌∙◌, subst, arith, Ok, Err, append_assoc, append-nil, inl, inr, length-append}
+use Rattle.std.proofs.Common.{◌≡◌, ℕ, ◌-◌, ◌<◌, ◌≤◌, Bool, true, true≢false, List, [], ◌∷◌, ◌++◌, length, take}
+use Rattle.std.proofs.Common.{refl, sym, ap, ◌∙◌, subst, arith, Ok, Err, append_assoc, append-nil, inl, inr}
+use Rattle.std.proofs.Common.{length-append}
 use lib.Seq.{take-append-le}
 use Rattle.no_std_io2_base.specs.declared.error.Error.{Error}
 use Rattle.no_std_io2_base.specs.Errors.{IsInterruption, IsFault, IsOutOfMemory}
@@ -16,7 +18,8 @@ pub record Gathered (E : List Event) (old new : List ℕ) (after : List Event) :
 pub gathered_none : (E : List Event) (old new : List ℕ) → new ≡ old → Gathered E old new E
 gathered_none E old new is = record { front = []; split = refl; no_fault = tt; gave = is ∙ sym (append-nil old) }
 
-pub gathered_same : (E : List Event) (old new shown : List ℕ) (after : List Event) → Gathered E old new after → shown ≡ new → Gathered E old shown after
+pub gathered_same : (E : List Event) (old new shown : List ℕ) (after : List Event) → Gathered E old new after
+    → shown ≡ new → Gathered E old shown after
 gathered_same E old new shown after t is = subst (λ l. Gathered E old l after) (sym is) t
 
 pub gathered_read : (E : List Event) (old new shown : List ℕ) (after rest : List Event) (n : ℕ) (buf : List ℕ)
@@ -26,7 +29,10 @@ gathered_read E old new shown after rest n buf t read is = record {
   split = t.split ∙ ap (λ l. t.front ++ l) read.0 ∙ sym (append_assoc t.front (events_of (take n buf)) rest);
   no_fault = HasNoFault-append t.front (events_of (take n buf)) t.no_fault (HasNoFault-events_of (take n buf));
   gave = is ∙ ap (λ l. l ++ take n buf) t.gave ∙ append_assoc old (bytes t.front) (take n buf)
-      ∙ ap (λ l. old ++ l) (sym (bytes-append t.front (events_of (take n buf)) ∙ ap (λ l. bytes t.front ++ l) (bytes-events_of (take n buf))));
+      ∙ ap (λ l. old ++ l)
+      (sym
+      (bytes-append t.front (events_of (take n buf))
+      ∙ ap (λ l. bytes t.front ++ l) (bytes-events_of (take n buf))));
 }
 
 pub gathered_interruption : (E : List Event) (old new : List ℕ) (after : List Event) (e : Error) (rest : List Event)
@@ -39,13 +45,18 @@ gathered_interruption E old new after e rest t read again = record {
 }
 
 pub gathered_end : (E : List Event) (old new : List ℕ) (after rest : List Event) (n k : ℕ) (buf : List ℕ)
-    → Gathered E old new after → Reads after (Ok n) buf rest → n ≡ 0 → 0 < length buf → k ≡ length new - length old → ReadsToEnd E (Ok k) old new rest
+    → Gathered E old new after → Reads after (Ok n) buf rest → n ≡ 0 → 0 < length buf → k ≡ length new - length old
+    → ReadsToEnd E (Ok k) old new rest
 gathered_end E old new after rest n k buf t read zero some is =
     let none : after ≡ [] = read.1 zero some in
     let same : after ≡ rest = read.0 ∙ ap (λ m. events_of (take m buf) ++ rest) zero in
     let long = ap length t.gave ∙ length-append old (bytes t.front) in
-    let whole : E ≡ t.front = t.split ∙ ap (λ l. t.front ++ l) none ∙ append-nil t.front in
-    (subst HasNoFault (sym whole) t.no_fault, t.gave ∙ ap (λ l. old ++ bytes l) (sym whole), omega (arith, ap (λ l. length (bytes l)) whole), sym same ∙ none)
+    let whole : E ≡ t.front = t.split ∙ ap (λ l. t.front ++ l) none ∙ append-nil t.front in (
+      subst HasNoFault (sym whole) t.no_fault,
+      t.gave ∙ ap (λ l. old ++ bytes l) (sym whole),
+      omega (arith, ap (λ l. length (bytes l)) whole),
+      sym same ∙ none,
+    )
 
 pub gathered_fault : (E : List Event) (old new : List ℕ) (after : List Event) (e : Error) (rest : List Event)
     → Gathered E old new after → after ≡ fails e ∷ rest → IsFault e → ReadsToEnd E (Err e) old new rest
@@ -107,7 +118,8 @@ gathered_no_fault E old new after e rest t read fault clean =
     true≢false (sym (subst HasNoFault read left).0 ∙ fault)
 
 -- a whole stream was read, before another one
-pub gathered_first : (E F : List Event) (n : ℕ) (old new : List ℕ) (after : List Event) → ReadsToEnd E (Ok n) old new after → Gathered (E ++ F) old new F
+pub gathered_first : (E F : List Event) (n : ℕ) (old new : List ℕ) (after : List Event)
+    → ReadsToEnd E (Ok n) old new after → Gathered (E ++ F) old new F
 gathered_first E F n old new after read = record { front = E; split = refl; no_fault = read.0; gave = read.1 }
 
 -- and then the rest, to its end
@@ -115,7 +127,9 @@ pub gathered_all : (E : List Event) (old mid new : List ℕ) (after rest : List 
     → Gathered E old mid after → ReadsToEnd after (Ok n) mid new rest → k ≡ length new - length old → ReadsToEnd E (Ok k) old new rest
 gathered_all E old mid new after rest n k t read is =
     let both : bytes E ≡ bytes t.front ++ bytes after = ap bytes t.split ∙ bytes-append t.front after in
-    let gave : new ≡ old ++ bytes E = read.1 ∙ ap (λ l. l ++ bytes after) t.gave ∙ append_assoc old (bytes t.front) (bytes after) ∙ ap (λ l. old ++ l) (sym both) in
+    let gave : new ≡ old ++ bytes E =
+    read.1 ∙ ap (λ l. l ++ bytes after) t.gave ∙ append_assoc old (bytes t.front) (bytes after)
+    ∙ ap (λ l. old ++ l) (sym both) in
     let long = ap length gave ∙ length-append old (bytes E) in
     (subst HasNoFault (sym t.split) (HasNoFault-append t.front after t.no_fault read.0), gave, omega (arith, long, is), read.3)
 
@@ -125,9 +139,15 @@ pub gathered_stop : (E : List Event) (old mid new : List ℕ) (after : List Even
 gathered_stop E old mid new after e rest t read = (
   t.front ++ read.0,
   t.split ∙ ap (λ l. t.front ++ l) read.1 ∙ sym (append_assoc t.front read.0 rest),
-  read.2 ∙ ap (λ l. l ++ bytes read.0) t.gave ∙ append_assoc old (bytes t.front) (bytes read.0) ∙ ap (λ l. old ++ l) (sym (bytes-append t.front read.0)),
+  read.2 ∙ ap (λ l. l ++ bytes read.0) t.gave ∙ append_assoc old (bytes t.front) (bytes read.0)
+      ∙ ap (λ l. old ++ l) (sym (bytes-append t.front read.0)),
   elim read.3 [
-    | inl f ↦ inl (t.front ++ f.0, ap (λ l. t.front ++ l) f.1 ∙ sym (append_assoc t.front f.0 (fails e ∷ [])), HasNoFault-append t.front f.0 t.no_fault f.2, f.3)
+    | inl f ↦ inl (
+      t.front ++ f.0,
+      ap (λ l. t.front ++ l) f.1 ∙ sym (append_assoc t.front f.0 (fails e ∷ [])),
+      HasNoFault-append t.front f.0 t.no_fault f.2,
+      f.3,
+    )
     | inr m ↦ inr (HasNoFault-append t.front read.0 t.no_fault m.0, m.1)
   ],
 )

@@ -1,8 +1,11 @@
 -- What one piece taken says of all pieces that a reader gives.
-use Rattle.std.proofs.Common.{◌≡◌, ℕ, ◌<◌, ◌⊎◌, true, false, cond, if◌then◌else◌, Option, Some, None, List, [], ◌∷◌, ◌++◌, length, filter, refl, sym, ap, ap₂, ◌∙◌, subst, arith, append-nil, append_assoc, eq-eqb, ne_eqb, inl, inr, length-append, drop_of_length-le}
+use Rattle.std.proofs.Common.{◌≡◌, ℕ, ◌<◌, ◌⊎◌, true, false, cond, if◌then◌else◌, Option, Some, None, List, [], ◌∷◌}
+use Rattle.std.proofs.Common.{◌++◌, length, filter, refl, sym, ap, ap₂, ◌∙◌, subst, arith, append-nil, append_assoc}
+use Rattle.std.proofs.Common.{eq-eqb, ne_eqb, inl, inr, length-append, drop_of_length-le}
 use Rattle.no_std_io2_base.specs.declared.error.Error.{Error}
 use Rattle.no_std_io2_base.specs.Events.{Event, byte, fails, bytes, HasNoFault, EndsInFault}
-use Rattle.no_std_io2_base.specs.Pieces.{Lacks, ends_in, in_front, pieces, GivesPiece, bytes_to_fault, first_fault, pieces_before, pieces_given}
+use Rattle.no_std_io2_base.specs.Pieces.{Lacks, ends_in, in_front, pieces, GivesPiece, bytes_to_fault, first_fault}
+use Rattle.no_std_io2_base.specs.Pieces.{pieces_before, pieces_given}
 use Rattle.no_std_io2_base.proofs.Events.{bytes-append}
 use Rattle.no_std_io2_base.proofs.PieceLaws.{pieces-at, pieces-other}
 
@@ -38,13 +41,15 @@ ends_in-lacks d (b ∷ []) h = ne_eqb b d h.0
 ends_in-lacks d (b ∷ c ∷ bs) h = ends_in-lacks d (c ∷ bs) h.1
 
 -- a piece that d ended comes first, whatever comes behind it
-before-first : (d : ℕ) (f : Option Error) (bs cs : List ℕ) → Lacks d bs → pieces_before d f (bs ++ d ∷ cs) ≡ (bs ++ d ∷ []) ∷ pieces_before d f cs
+before-first : (d : ℕ) (f : Option Error) (bs cs : List ℕ) → Lacks d bs
+    → pieces_before d f (bs ++ d ∷ cs) ≡ (bs ++ d ∷ []) ∷ pieces_before d f cs
 before-first d None bs cs h = pieces-first d bs cs h
 before-first d (Some e) bs cs h = ap (filter (ends_in d)) (pieces-first d bs cs h)
     ∙ ap (λ t. cond t ((bs ++ d ∷ []) ∷ filter (ends_in d) (pieces d cs)) (filter (ends_in d) (pieces d cs))) (ends_in-end d bs)
 
 -- what a front without faults is in what is given
-given-front : (d : ℕ) (P Q : List Event) → HasNoFault P → pieces_given d (P ++ Q) ≡ pieces_before d (first_fault Q) (bytes P ++ bytes_to_fault Q)
+given-front : (d : ℕ) (P Q : List Event) → HasNoFault P
+    → pieces_given d (P ++ Q) ≡ pieces_before d (first_fault Q) (bytes P ++ bytes_to_fault Q)
 given-front d P Q h = ap₂ (pieces_before d) (first_fault-append P Q h) (bytes_to_fault-append P Q h)
 
 -- some bytes without a d, and nothing behind them
@@ -71,12 +76,20 @@ given_next d E n piece after g some = (by_end g.ends, ap first_fault g.split ∙
         ∙ ap (λ l. l ∷ []) (sym g.appended) ∙ ap (λ l. piece ∷ pieces_given d l) (sym end.1)
 
 -- no byte was given: nothing is to come
-pub given_none : (d : ℕ) (E : List Event) (piece : List ℕ) (after : List Event) → GivesPiece d E 0 [] piece after → (pieces_given d E ≡ []) × (first_fault E ≡ None)
+pub given_none : (d : ℕ) (E : List Event) (piece : List ℕ) (after : List Event) → GivesPiece d E 0 [] piece after
+    → (pieces_given d E ≡ []) × (first_fault E ≡ None)
 given_none d E piece after g = by_end g.ends
   where
     by_end : ((front : List Event) × (g.taken ≡ front ++ byte d ∷ []) × Lacks d (bytes front)) ⊎ (Lacks d (bytes g.taken) × (after ≡ []))
         → (pieces_given d E ≡ []) × (first_fault E ≡ None)
-    by_end (inl end) = absurd (omega (arith, g.count, ap length (ap bytes end.1 ∙ bytes-append end.0 (byte d ∷ [])), length-append (bytes end.0) (d ∷ [])))
+    by_end (inl end) =
+        absurd
+        (omega (
+          arith,
+          g.count,
+          ap length (ap bytes end.1 ∙ bytes-append end.0 (byte d ∷ [])),
+          length-append (bytes end.0) (d ∷ []),
+        ))
     by_end (inr end) =
         let all : E ≡ g.taken ++ [] = g.split ∙ ap (λ l. g.taken ++ l) end.1 in
         let none : bytes g.taken ≡ [] = drop_of_length-le (bytes g.taken) {i = 0} (omega (arith, g.count)) in (
@@ -90,7 +103,8 @@ none_ended d [] h = refl
 none_ended d (b ∷ bs) h = ap (filter (ends_in d)) (pieces-last d b bs h) ∙ ap (λ t. cond t ((b ∷ bs) ∷ []) []) (ends_in-lacks d (b ∷ bs) h)
 
 -- the first fault ends what is given
-pub given_fault : (d : ℕ) (E : List Event) (e : Error) (taken after : List Event) → E ≡ taken ++ after → Lacks d (bytes taken) → EndsInFault taken e
+pub given_fault : (d : ℕ) (E : List Event) (e : Error) (taken after : List Event) → E ≡ taken ++ after
+    → Lacks d (bytes taken) → EndsInFault taken e
     → (pieces_given d E ≡ []) × (first_fault E ≡ Some e)
 given_fault d E e taken after split none f =
     let all : E ≡ f.0 ++ fails e ∷ after = split ∙ ap (λ l. l ++ after) f.1 ∙ append_assoc f.0 (fails e ∷ []) after in

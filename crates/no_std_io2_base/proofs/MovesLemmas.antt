@@ -1,5 +1,6 @@
 -- How calls of a writer follow one another.
-use Rattle.std.proofs.Common.{◌≡◌, Result, Ok, Err, ℕ, ◌+◌, length, Bool, true, subst, List, [], ◌∷◌, ◌++◌, Option, None, Some, sym, ap, ◌∙◌, arith, count_by, append_assoc, append-nil}
+use Rattle.std.proofs.Common.{◌≡◌, Result, Ok, Err, ℕ, ◌+◌, length, Bool, true, subst, List, [], ◌∷◌, ◌++◌, Option}
+use Rattle.std.proofs.Common.{None, Some, sym, ap, ◌∙◌, arith, count_by, append_assoc, append-nil}
 use Rattle.std.proofs.lemmas.List.Sums.{sum_by-append, sum_by-cons}
 use Rattle.std.proofs.lemmas.Bool.Decides.{nat_tests}
 use Rattle.no_std_io2_base.specs.declared.error.ErrorKind.{ErrorKind}
@@ -22,20 +23,29 @@ pub HasSpent-refl : (old : Option (List ErrorKind)) → HasSpent old [] old
 HasSpent-refl None = tt
 HasSpent-refl (Some old) = λ p. omega arith
 
-pub HasSpent-trans : (a : Option (List ErrorKind)) (k : List ErrorKind) (b : Option (List ErrorKind)) (l : List ErrorKind) (c : Option (List ErrorKind)) → HasSpent a k b → HasSpent b l c → HasSpent a (k ++ l) c
+pub HasSpent-trans : (a : Option (List ErrorKind)) (k : List ErrorKind) (b : Option (List ErrorKind))
+    (l : List ErrorKind) (c : Option (List ErrorKind))
+    → HasSpent a k b → HasSpent b l c → HasSpent a (k ++ l) c
 HasSpent-trans None k b l c f g = tt
 HasSpent-trans (Some a) k None l c f g = absurd f
 HasSpent-trans (Some a) k (Some b) l None f g = absurd g
 HasSpent-trans (Some a) k (Some b) l (Some c) f g = λ p. omega (arith, f p, g p, count_by-append p k l)
 
 -- fewer mishaps than happened may be told
-pub HasSpent-forget : (a : Option (List ErrorKind)) (k l : List ErrorKind) (c : Option (List ErrorKind)) → HasSpent a (k ++ l) c → HasSpent a l c
+pub HasSpent-forget : (a : Option (List ErrorKind)) (k l : List ErrorKind) (c : Option (List ErrorKind))
+    → HasSpent a (k ++ l) c → HasSpent a l c
 HasSpent-forget None k l c f = tt
 HasSpent-forget (Some a) k l None f = absurd f
 HasSpent-forget (Some a) k l (Some c) f = λ p. omega (arith, f p, count_by-append p k l)
 
 pub Moves-refl : (a : Told) → Moves a [] [] a
-Moves-refl a = record { front = IsFront-refl a.out; bytes = sym (append-nil (a.out ++ a.held)); mishaps = HasSpent-refl a.mishaps; turns = omega arith }
+Moves-refl a =
+    record {
+      front = IsFront-refl a.out;
+      bytes = sym (append-nil (a.out ++ a.held));
+      mishaps = HasSpent-refl a.mishaps;
+      turns = omega arith;
+    }
 
 -- one step after another
 pub Moves-trans : {a b c : Told} {x y : List ℕ} {k l : List ErrorKind} → Moves a x k b → Moves b y l c → Moves a (x ++ y) (k ++ l) c
@@ -94,7 +104,8 @@ pub zero_write-whole : (xs : List ℕ) → zero_write (length xs) xs ≡ []
 zero_write-whole xs = grind (arith, nat_tests)
 
 -- `write_all(x)?; write_all(y)`, where the first answered `Ok`: some front of both was accepted, all of it at `Ok`
-pub MovesFront-join : {a b c : Told} (x y : List ℕ) (r : Result (Unit {0}) Error) → MovesFront a x (Ok tt) b → MovesFront b y r c → MovesFront a (x ++ y) r c
+pub MovesFront-join : {a b c : Told} (x y : List ℕ) (r : Result (Unit {0}) Error) → MovesFront a x (Ok tt) b
+    → MovesFront b y r c → MovesFront a (x ++ y) r c
 MovesFront-join {a} {b} {c} x y r f g =
     let first : Moves a x [] b = subst (λ l. Moves a l [] b) f.whole f.moves in
     record {
@@ -118,7 +129,8 @@ MovesFront-first x y e f = record {
 }
 
 -- a call that says what is left is a call that accepted some front
-pub MovesFront-sends : {a b : Told} {r : Result (Unit {0}) Error} (x rest : List ℕ) → Sends a x r b rest → OnOk r (rest ≡ []) → MovesFront a x r b
+pub MovesFront-sends : {a b : Told} {r : Result (Unit {0}) Error} (x rest : List ℕ) → Sends a x r b rest
+    → OnOk r (rest ≡ []) → MovesFront a x r b
 MovesFront-sends {r} x rest f none = record { accepted = f.sent; front = (rest, f.split); whole = whole r none; moves = f.moves }
   where
     whole : (r : Result (Unit {0}) Error) → OnOk r (rest ≡ []) → OnOk r (f.sent ≡ x)
@@ -126,7 +138,8 @@ MovesFront-sends {r} x rest f none = record { accepted = f.sent; front = (rest, 
     whole (Err e) h = tt
 
 -- two calls that say what is left, one after the other: nothing went out twice
-pub Sends-then : {a b c : Told} {r s : Result (Unit {0}) Error} (x rest left : List ℕ) → Sends a x r b rest → Sends b rest s c left → Sends a x s c left
+pub Sends-then : {a b c : Told} {r s : Result (Unit {0}) Error} (x rest left : List ℕ) → Sends a x r b rest
+    → Sends b rest s c left → Sends a x s c left
 Sends-then x rest left f g = record {
   sent = f.sent ++ g.sent;
   split = f.split ∙ ap (λ l. f.sent ++ l) g.split ∙ sym (append_assoc f.sent g.sent left);

@@ -1,5 +1,7 @@
 -- The laws that determine the pieces of some bytes.
-use Rattle.std.proofs.Common.{◌≡◌, ◌≢◌, ℕ, ◌==◌, true, false, Bool, if◌then◌else◌, List, [], ◌∷◌, ◌++◌, length, refl, sym, ap, ◌∙◌, subst, arith, true≢false, eqb-true, eq-eqb, ne_eqb, suc-ne-zero, get_or, drop}
+use Rattle.std.proofs.Common.{◌≡◌, ◌≢◌, ℕ, ◌==◌, true, false, Bool, if◌then◌else◌, List, [], ◌∷◌, ◌++◌, length, refl}
+use Rattle.std.proofs.Common.{sym, ap, ◌∙◌, subst, arith, true≢false, eqb-true, eq-eqb, ne_eqb, suc-ne-zero, get_or}
+use Rattle.std.proofs.Common.{drop}
 use Rattle.std.specs.List.{concat}
 use Rattle.no_std_io2_base.specs.Pieces.{in_front, pieces, ArePieces}
 
@@ -12,15 +14,36 @@ pieces-other d b bs differ = ap (λ t. if t then (b ∷ []) ∷ pieces d bs else
 
 -- a byte in front of the first piece
 front_are : (d b : ℕ) (bs : List ℕ) (ps : List (List ℕ)) → b ≢ d → ArePieces d bs ps → ArePieces d (b ∷ bs) (in_front b ps)
-front_are d b bs [] differ h = record { joined = ap (λ l. b ∷ l) h.joined; none_empty = (omega arith, tt); ended = tt; nowhere_else = (tt, tt) }
+front_are d b bs [] differ h =
+    record { joined = ap (λ l. b ∷ l) h.joined; none_empty = (omega arith, tt); ended = tt; nowhere_else = (tt, tt) }
 front_are d b bs ([] ∷ ps) differ h = absurd (omega (arith, h.none_empty.0))
-front_are d b bs ((c ∷ p) ∷ []) differ h = record { joined = ap (λ l. b ∷ l) h.joined; none_empty = (omega arith, tt); ended = tt; nowhere_else = ((differ, h.nowhere_else.0), tt) }
-front_are d b bs ((c ∷ p) ∷ q ∷ ps) differ h = record { joined = ap (λ l. b ∷ l) h.joined; none_empty = (omega arith, h.none_empty.1); ended = h.ended; nowhere_else = ((differ, h.nowhere_else.0), h.nowhere_else.1) }
+front_are d b bs ((c ∷ p) ∷ []) differ h =
+    record {
+      joined = ap (λ l. b ∷ l) h.joined;
+      none_empty = (omega arith, tt);
+      ended = tt;
+      nowhere_else =
+          ((differ, h.nowhere_else.0), tt);
+    }
+front_are d b bs ((c ∷ p) ∷ q ∷ ps) differ h =
+    record {
+      joined = ap (λ l. b ∷ l) h.joined;
+      none_empty = (omega arith, h.none_empty.1);
+      ended = h.ended;
+      nowhere_else = ((differ, h.nowhere_else.0), h.nowhere_else.1);
+    }
 
 -- d alone as the first piece
 end_are : (d b : ℕ) (bs : List ℕ) (ps : List (List ℕ)) → b ≡ d → ArePieces d bs ps → ArePieces d (b ∷ bs) ((b ∷ []) ∷ ps)
 end_are d b bs [] is h = record { joined = ap (λ l. b ∷ l) h.joined; none_empty = (omega arith, tt); ended = tt; nowhere_else = (tt, tt) }
-end_are d b bs (p ∷ ps) is h = record { joined = ap (λ l. b ∷ l) h.joined; none_empty = (omega arith, h.none_empty); ended = (eq-eqb b d is, h.ended); nowhere_else = (tt, h.nowhere_else) }
+end_are d b bs (p ∷ ps) is h =
+    record {
+      joined = ap (λ l. b ∷ l) h.joined;
+      none_empty = (omega arith, h.none_empty);
+      ended =
+          (eq-eqb b d is, h.ended);
+      nowhere_else = (tt, h.nowhere_else);
+    }
 
 -- of one byte more, by whether that is d
 more_are : (d b : ℕ) (bs : List ℕ) (t : Bool) → (b == d) ≡ t → ArePieces d bs (pieces d bs) → ArePieces d (b ∷ bs) (pieces d (b ∷ bs))
@@ -59,15 +82,29 @@ pieces_only d (b ∷ bs) ((c ∷ []) ∷ []) h =
 pieces_only d (b ∷ bs) ((c ∷ []) ∷ q ∷ ps) h =
     let is = joined_rest b c bs (concat (q ∷ ps)) h.joined in
     let end : c ≡ d = eqb-true c d h.ended.0 in
-    let rest = pieces_only d bs (q ∷ ps) (record { joined = is.1; none_empty = h.none_empty.1; ended = h.ended.1; nowhere_else = h.nowhere_else.1 }) in
+    let rest =
+    pieces_only d bs (q ∷ ps)
+    (record { joined = is.1; none_empty = h.none_empty.1; ended = h.ended.1; nowhere_else = h.nowhere_else.1 }) in
     ap (λ l. (c ∷ []) ∷ l) rest ∙ ap (λ n. (n ∷ []) ∷ pieces d bs) is.0 ∙ sym (pieces-at d b bs (sym is.0 ∙ end))
 pieces_only d (b ∷ bs) ((c ∷ e ∷ p) ∷ []) h =
     let is = joined_rest b c bs (e ∷ p ++ []) h.joined in
     let differ : c ≢ d = h.nowhere_else.0.0 in
-    let rest = pieces_only d bs ((e ∷ p) ∷ []) (record { joined = is.1; none_empty = (omega arith, tt); ended = tt; nowhere_else = (h.nowhere_else.0.1, tt) }) in
+    let rest =
+    pieces_only d bs ((e ∷ p) ∷ [])
+    (record { joined = is.1; none_empty = (omega arith, tt); ended = tt; nowhere_else = (h.nowhere_else.0.1, tt) })
+    in
     ap (in_front c) rest ∙ ap (λ n. in_front n (pieces d bs)) is.0 ∙ sym (pieces-other d b bs (λ same. differ (is.0 ∙ same)))
 pieces_only d (b ∷ bs) ((c ∷ e ∷ p) ∷ q ∷ ps) h =
     let is = joined_rest b c bs (e ∷ p ++ concat (q ∷ ps)) h.joined in
     let differ : c ≢ d = h.nowhere_else.0.0 in
-    let rest = pieces_only d bs ((e ∷ p) ∷ q ∷ ps) (record { joined = is.1; none_empty = (omega arith, h.none_empty.1); ended = h.ended; nowhere_else = (h.nowhere_else.0.1, h.nowhere_else.1) }) in
+    let rest =
+    pieces_only d bs ((e ∷ p) ∷ q ∷ ps)
+    (record {
+      joined = is.1;
+      none_empty = (omega arith, h.none_empty.1);
+      ended = h.ended;
+      nowhere_else =
+          (h.nowhere_else.0.1, h.nowhere_else.1);
+    })
+    in
     ap (in_front c) rest ∙ ap (λ n. in_front n (pieces d bs)) is.0 ∙ sym (pieces-other d b bs (λ same. differ (is.0 ∙ same)))

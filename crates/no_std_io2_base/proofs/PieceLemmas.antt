@@ -1,5 +1,8 @@
 -- What a loop that reads one piece has appended so far.
-use Rattle.std.proofs.Common.{◌≡◌, ℕ, ◌-◌, ◌⊎◌, List, [], ◌∷◌, ◌++◌, length, refl, sym, ap, ◌∙◌, subst, arith, append_assoc, append-nil, inl, inr, length-append, ◌+◌, ◌==◌, Bool, true, zero, suc, ⊎_elim, All, slice_index, add-one, take, take-suc, ◌<◌, ◌≤◌, ◌≢◌, Result, Ok, Err, true≢false, eqb-true, eq-eqb, drop_of_length-le, take_all, le_refl, length-take-le}
+use Rattle.std.proofs.Common.{◌≡◌, ℕ, ◌-◌, ◌⊎◌, List, [], ◌∷◌, ◌++◌, length, refl, sym, ap, ◌∙◌, subst, arith}
+use Rattle.std.proofs.Common.{append_assoc, append-nil, inl, inr, length-append, ◌+◌, ◌==◌, Bool, true, zero, suc}
+use Rattle.std.proofs.Common.{⊎_elim, All, slice_index, add-one, take, take-suc, ◌<◌, ◌≤◌, ◌≢◌, Result, Ok, Err}
+use Rattle.std.proofs.Common.{true≢false, eqb-true, eq-eqb, drop_of_length-le, take_all, le_refl, length-take-le}
 use Rattle.std.proofs.lemmas.List.Elements.{recursion_from_All}
 use Rattle.std.specs.Borrow.{Bor}
 use Rattle.no_std_io2_base.specs.declared.error.Error.{Error}
@@ -26,7 +29,8 @@ pub piece_none : (d : ℕ) (E : List Event) (old new : List ℕ) → new ≡ old
 piece_none d E old new is = record { front = []; split = refl; no_fault = tt; gave = is ∙ sym (append-nil old); no_end = tt }
 
 -- the bytes of a front, and some more
-gave_more : (front : List Event) (old mid new part : List ℕ) → mid ≡ old ++ bytes front → new ≡ mid ++ part → new ≡ old ++ bytes (front ++ events_of part)
+gave_more : (front : List Event) (old mid new part : List ℕ) → mid ≡ old ++ bytes front → new ≡ mid ++ part
+    → new ≡ old ++ bytes (front ++ events_of part)
 gave_more front old mid new part gave is = is ∙ ap (λ l. l ++ part) gave ∙ append_assoc old (bytes front) part
     ∙ ap (λ l. old ++ l) (sym (bytes-append front (events_of part) ∙ ap (λ l. bytes front ++ l) (bytes-events_of part)))
 
@@ -38,7 +42,9 @@ piece_more d E old mid new after rest part t read none is = record {
   split = t.split ∙ ap (λ l. t.front ++ l) read ∙ sym (append_assoc t.front (events_of part) rest);
   no_fault = HasNoFault-append t.front (events_of part) t.no_fault (HasNoFault-events_of part);
   gave = gave_more t.front old mid new part t.gave is;
-  no_end = subst (Lacks d) (sym (bytes-append t.front (events_of part) ∙ ap (λ l. bytes t.front ++ l) (bytes-events_of part))) (Lacks-append d (bytes t.front) part t.no_end none);
+  no_end =
+      subst (Lacks d) (sym (bytes-append t.front (events_of part) ∙ ap (λ l. bytes t.front ++ l) (bytes-events_of part)))
+      (Lacks-append d (bytes t.front) part t.no_end none);
 }
 
 pub piece_interruption : (d : ℕ) (E : List Event) (old new : List ℕ) (after : List Event) (e : Error) (rest : List Event)
@@ -59,7 +65,8 @@ counted k old new bs gave is = omega (arith, ap length gave ∙ length-append ol
 
 -- the bytes that end the piece, or none at the end
 pub piece_ended : (d : ℕ) (E : List Event) (old mid new : List ℕ) (after rest : List Event) (part : List ℕ) (k : ℕ)
-    → PieceSoFar d E old mid after → after ≡ events_of part ++ rest → EndsPiece d part ⊎ ((part ≡ []) × (after ≡ [])) → new ≡ mid ++ part → k ≡ length new - length old
+    → PieceSoFar d E old mid after → after ≡ events_of part ++ rest → EndsPiece d part ⊎ ((part ≡ []) × (after ≡ []))
+    → new ≡ mid ++ part → k ≡ length new - length old
     → GivesPiece d E k old new rest
 piece_ended d E old mid new after rest part k t read (inl end) is count =
     let gave = gave_more t.front old mid new part t.gave is in
@@ -71,8 +78,11 @@ piece_ended d E old mid new after rest part k t read (inl end) is count =
       no_fault = HasNoFault-append t.front (events_of part) t.no_fault (HasNoFault-events_of part);
       ends = inl (
         t.front ++ events_of end.0,
-        ap (λ l. t.front ++ events_of l) end.1 ∙ ap (λ l. t.front ++ l) (events_of-append end.0 (d ∷ [])) ∙ sym (append_assoc t.front (events_of end.0) (byte d ∷ [])),
-        subst (Lacks d) (sym (bytes-append t.front (events_of end.0) ∙ ap (λ l. bytes t.front ++ l) (bytes-events_of end.0))) (Lacks-append d (bytes t.front) end.0 t.no_end end.2),
+        ap (λ l. t.front ++ events_of l) end.1 ∙ ap (λ l. t.front ++ l) (events_of-append end.0 (d ∷ []))
+            ∙ sym (append_assoc t.front (events_of end.0) (byte d ∷ [])),
+        subst (Lacks d)
+            (sym (bytes-append t.front (events_of end.0) ∙ ap (λ l. bytes t.front ++ l) (bytes-events_of end.0)))
+            (Lacks-append d (bytes t.front) end.0 t.no_end end.2),
       );
     }
 piece_ended d E old mid new after rest part k t read (inr end) is count =
@@ -110,7 +120,8 @@ piece_memory d E old mid new after rest e t same is refused = record {
 }
 
 -- where d stands first, the piece ends
-pub found_at : (d : ℕ) (bs : List ℕ) (at : ℕ) → at < length bs → slice_index bs at ≡ d → All (λ b. b ≢ d) (take at bs) → FindsPiece d bs (at + 1) true
+pub found_at : (d : ℕ) (bs : List ℕ) (at : ℕ) → at < length bs → slice_index bs at ≡ d → All (λ b. b ≢ d) (take at bs)
+    → FindsPiece d bs (at + 1) true
 found_at d bs at within is none = record {
   within = omega (arith, within);
   whole = λ _. inl (
@@ -122,7 +133,8 @@ found_at d bs at within is none = record {
 }
 
 -- and where it doesn't stand, all belongs to it
-pub found_none : (d : ℕ) (bs : List ℕ) (is_whole : Bool) → is_whole ≡ (length bs == 0) → All (λ b. b ≢ d) bs → FindsPiece d bs (length bs) is_whole
+pub found_none : (d : ℕ) (bs : List ℕ) (is_whole : Bool) → is_whole ≡ (length bs == 0) → All (λ b. b ≢ d) bs
+    → FindsPiece d bs (length bs) is_whole
 found_none d bs is_whole is none = record {
   within = omega arith;
   whole = λ e. inr (drop_of_length-le bs {i = 0} (omega (arith, eqb-true (length bs) 0 (sym is ∙ e))));
@@ -144,7 +156,8 @@ pub none_taken : (reply : Result (Bor (List ℕ)) Error) (s : Bor (List ℕ)) (E
 none_taken reply s E E' is same = subst (λ r. LendsFrom E r E') is same
 
 -- an error stood first
-pub error_taken : (reply : Result (Bor (List ℕ)) Error) (e : Error) (E E' : List Event) → reply ≡ Err e → LendsFrom E reply E' → E ≡ fails e ∷ E'
+pub error_taken : (reply : Result (Bor (List ℕ)) Error) (e : Error) (E E' : List Event) → reply ≡ Err e
+    → LendsFrom E reply E' → E ≡ fails e ∷ E'
 error_taken reply e E E' is gone = subst (λ r. LendsFrom E r E') is gone
 
 pub error_turn : (reply : Result (Bor (List ℕ)) Error) (e : Error) (old new : ℕ) → reply ≡ Err e → LendingTurn reply old new → new < old
@@ -156,7 +169,8 @@ take-none zero = refl
 take-none (suc n) = refl
 
 -- the part that makes the piece whole, or nothing at the end
-pub whole_part : (d : ℕ) (E : List Event) (lent : List ℕ) (n : ℕ) (is_whole : Bool) → FindsPiece d lent n is_whole → is_whole ≡ true → (lent ≡ [] → E ≡ [])
+pub whole_part : (d : ℕ) (E : List Event) (lent : List ℕ) (n : ℕ) (is_whole : Bool) → FindsPiece d lent n is_whole
+    → is_whole ≡ true → (lent ≡ [] → E ≡ [])
     → EndsPiece d (take n lent) ⊎ ((take n lent ≡ []) × (E ≡ []))
 whole_part d E lent n is_whole found whole end = ⊎_elim (λ e. inl e) (λ e. inr (ap (take n) e ∙ take-none n, end e)) (found.whole whole)
 
@@ -168,7 +182,8 @@ pub front_same : (old mid new : List ℕ) → IsFront old mid → new ≡ mid �
 front_same old mid new front is = (front.0, is ∙ front.1)
 
 -- a turn was spent where anything was appended
-pub spent_more : (old mid new n t r s u : ℕ) → (old < mid → r < t) → r ≤ t → s ≤ r → u ≤ s → (0 < n → u < s) → new ≤ mid + n → old < new → u < t
+pub spent_more : (old mid new n t r s u : ℕ) → (old < mid → r < t) → r ≤ t → s ≤ r → u ≤ s → (0 < n → u < s)
+    → new ≤ mid + n → old < new → u < t
 spent_more old mid new zero t r s u before a b c now within grown = let early : r < t = before (omega arith) in omega arith
 spent_more old mid new (suc n) t r s u before a b c now within grown = let late : u < s = now (omega arith) in omega arith
 

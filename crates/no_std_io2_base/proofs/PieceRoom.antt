@@ -1,5 +1,7 @@
 -- Memory is refused a piece only where the vector lacks the room for it.
-use Rattle.std.proofs.Common.{◌≡◌, ℕ, ◌+◌, ◌<◌, ◌≤◌, ◌⊎◌, true, false, Bool, if◌then◌else◌, Some, List, [], ◌∷◌, ◌++◌, length, take, drop, refl, sym, ap, ◌∙◌, arith, append_assoc, take-append-drop, length-append, length-take-le, eq-eqb, ne_eqb, inl, inr}
+use Rattle.std.proofs.Common.{◌≡◌, ℕ, ◌+◌, ◌<◌, ◌≤◌, ◌⊎◌, true, false, Bool, if◌then◌else◌, Some, List, [], ◌∷◌, ◌++◌}
+use Rattle.std.proofs.Common.{length, take, drop, refl, sym, ap, ◌∙◌, arith, append_assoc, take-append-drop}
+use Rattle.std.proofs.Common.{length-append, length-take-le, eq-eqb, ne_eqb, inl, inr}
 use Rattle.no_std_io2_base.specs.declared.error.Error.{Error}
 use Rattle.no_std_io2_base.specs.Errors.{IsFault}
 use Rattle.no_std_io2_base.specs.Events.{Event, fails, events_of, bytes}
@@ -12,7 +14,8 @@ use Rattle.no_std_io2_base.proofs.PieceLemmas.{PieceSoFar}
 -- bytes without a d belong to the piece
 up_to-lacks : (d : ℕ) (bs cs : List ℕ) → Lacks d bs → up_to d (bs ++ cs) ≡ bs ++ up_to d cs
 up_to-lacks d [] cs h = refl
-up_to-lacks d (b ∷ bs) cs h = ap (λ t. if t then b ∷ [] else b ∷ up_to d (bs ++ cs)) (ne_eqb b d h.0) ∙ ap (λ l. b ∷ l) (up_to-lacks d bs cs h.1)
+up_to-lacks d (b ∷ bs) cs h =
+    ap (λ t. if t then b ∷ [] else b ∷ up_to d (bs ++ cs)) (ne_eqb b d h.0) ∙ ap (λ l. b ∷ l) (up_to-lacks d bs cs h.1)
 
 -- and so does the d that ends them
 up_to-ends : (d : ℕ) (bs cs : List ℕ) → Lacks d bs → up_to d (bs ++ d ∷ cs) ≡ bs ++ d ∷ []
@@ -37,12 +40,16 @@ found_part d bs cs n false found =
     omega (arith, ap length part, length-append (take n bs) (up_to d (drop n bs ++ cs)), length-take-le n bs found.within)
 
 -- what is lent of a piece fits where the piece does
-pub part_has_room : (d : ℕ) (E : List Event) (old mid : List ℕ) (after : List Event) (lent : List ℕ) (n : ℕ) (is_whole : Bool) (len len' capacity capacity' : ℕ)
-    → PieceSoFar d E old mid after → BeginsWith after lent → FindsPiece d lent n is_whole → HasPieceRoom d E len capacity → capacity ≤ capacity'
+pub part_has_room : (d : ℕ) (E : List Event) (old mid : List ℕ) (after : List Event) (lent : List ℕ) (n : ℕ)
+    (is_whole : Bool) (len len' capacity capacity' : ℕ)
+    → PieceSoFar d E old mid after → BeginsWith after lent → FindsPiece d lent n is_whole
+    → HasPieceRoom d E len capacity → capacity ≤ capacity'
     → len ≡ length old → len' ≡ length mid → capacity' < len' + length (take n lent) → ⊥
 part_has_room d E old mid after lent n is_whole len len' capacity capacity' t begins found room grown long long' full =
     let rest = begins.rest in
-    let lends = ap bytes_to_fault begins.is ∙ bytes_to_fault-append (events_of lent) rest (HasNoFault-events_of lent) ∙ ap (λ l. l ++ bytes_to_fault rest) (bytes-events_of lent) in
+    let lends =
+    ap bytes_to_fault begins.is ∙ bytes_to_fault-append (events_of lent) rest (HasNoFault-events_of lent)
+    ∙ ap (λ l. l ++ bytes_to_fault rest) (bytes-events_of lent) in
     let given = ap bytes_to_fault t.split ∙ bytes_to_fault-append t.front after t.no_fault ∙ ap (λ l. bytes t.front ++ l) lends in
     let piece = ap (up_to d) given ∙ up_to-lacks d (bytes t.front) (lent ++ bytes_to_fault rest) t.no_end in
     let part = found_part d lent (bytes_to_fault rest) n is_whole found in
@@ -65,4 +72,5 @@ part_has_room d E old mid after lent n is_whole len len' capacity capacity' t be
 pub fault_is_first : (d : ℕ) (E : List Event) (old new : List ℕ) (after : List Event) (e : Error) (rest : List Event)
     → PieceSoFar d E old new after → after ≡ fails e ∷ rest → IsFault e → first_fault E ≡ Some e
 fault_is_first d E old new after e rest t read fault =
-    ap first_fault t.split ∙ first_fault-append t.front after t.no_fault ∙ ap first_fault read ∙ ap (λ s. if s then first_fault rest else Some e) fault
+    ap first_fault t.split ∙ first_fault-append t.front after t.no_fault ∙ ap first_fault read
+    ∙ ap (λ s. if s then first_fault rest else Some e) fault

@@ -1,5 +1,6 @@
 -- What each exit of a loop of reads into a vector says of the vector and of the reader's store.
-use Rattle.std.proofs.Common.{◌≡◌, ℕ, ◌+◌, ◌-◌, ◌<◌, ◌≤◌, List, ◌++◌, Result, Ok, Err, append_assoc, length, take, drop, sym, ap, subst, ◌∙◌, arith, take_all, length-take, length-take-le, length-drop}
+use Rattle.std.proofs.Common.{◌≡◌, ℕ, ◌+◌, ◌-◌, ◌<◌, ◌≤◌, List, ◌++◌, Result, Ok, Err, append_assoc, length, take, drop}
+use Rattle.std.proofs.Common.{sym, ap, subst, ◌∙◌, arith, take_all, length-take, length-take-le, length-drop}
 use lib.Seq.{take-take}
 use Rattle.no_std_io2_base.specs.declared.error.Error.{Error}
 use Rattle.no_std_io2_base.specs.Events.{Event, given, Reads, ReadsToEnd}

@@ -15,9 +15,13 @@ pub record Passed (E after : List Event) : Type 0 where
 pub passed_none : (E : List Event) → Passed E E
 passed_none E = record { front = []; split = refl; alone = (tt, refl) }
 
-pub passed_interruption : (E after rest : List Event) (e : Error) → Passed E after → after ≡ fails e ∷ rest → IsInterruption e → Passed E rest
+pub passed_interruption : (E after rest : List Event) (e : Error) → Passed E after → after ≡ fails e ∷ rest
+    → IsInterruption e → Passed E rest
 passed_interruption E after rest e p read again = record {
   front = p.front ++ fails e ∷ [];
   split = p.split ∙ ap (λ l. p.front ++ l) read ∙ sym (append_assoc p.front (fails e ∷ []) rest);
-  alone = (HasNoFault-append p.front (fails e ∷ []) p.alone.0 (again, tt), bytes-append p.front (fails e ∷ []) ∙ append-nil (bytes p.front) ∙ p.alone.1);
+  alone = (
+    HasNoFault-append p.front (fails e ∷ []) p.alone.0 (again, tt),
+    bytes-append p.front (fails e ∷ []) ∙ append-nil (bytes p.front) ∙ p.alone.1,
+  );
 }

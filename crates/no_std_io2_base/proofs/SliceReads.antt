@@ -1,5 +1,6 @@
 -- Bytes that are taken off a slice and appended, as a reader tells it.
-use Rattle.std.proofs.Common.{◌≡◌, ℕ, ◌+◌, ◌-◌, ◌<◌, ◌≤◌, ◌^◌, min, List, [], ◌++◌, Err, length, take, drop, refl, sym, ap, ◌∙◌, arith, inr, append-nil, append_assoc, take-append-drop, length-drop, length-take}
+use Rattle.std.proofs.Common.{◌≡◌, ℕ, ◌+◌, ◌-◌, ◌<◌, ◌≤◌, ◌^◌, min, List, [], ◌++◌, Err, length, take, drop, refl, sym}
+use Rattle.std.proofs.Common.{ap, ◌∙◌, arith, inr, append-nil, append_assoc, take-append-drop, length-drop, length-take}
 use Rattle.std.proofs.Math.Seq.{drop-append_seam}
 use Rattle.std.proofs.lemmas.List.{length-append, take_at}
 use Rattle.no_std_io2_base.specs.declared.error.Error.{Error}
@@ -11,7 +12,8 @@ use Rattle.no_std_io2_base.proofs.Events.{HasNoFault-events_of, bytes-events_of,
 
 -- all of it was appended
 pub moved_whole : (all rest old new : List ℕ) → HasMoved all rest old new → rest ≡ []
-    → HasNoFault (events_of all) × (new ≡ old ++ bytes (events_of all)) × (length all ≡ length (bytes (events_of all))) × (events_of rest ≡ [])
+    → HasNoFault (events_of all) × (new ≡ old ++ bytes (events_of all)) × (length all ≡ length (bytes (events_of all)))
+    × (events_of rest ≡ [])
 moved_whole all rest old new moved none =
     let whole : all ≡ moved.0 = moved.1 ∙ ap (λ l. moved.0 ++ l) none ∙ append-nil moved.0 in (
       HasNoFault-events_of all,

@@ -1,5 +1,6 @@
 -- Bytes in memory, as events.
-use Rattle.std.proofs.Common.{◌≡◌, ℕ, ◌-◌, ◌<◌, min, List, ◌++◌, length, take, drop, sym, ap, ◌∙◌, subst, arith, Ok, append-nil, take-append-drop, drop_of_length-le}
+use Rattle.std.proofs.Common.{◌≡◌, ℕ, ◌-◌, ◌<◌, min, List, ◌++◌, length, take, drop, sym, ap, ◌∙◌, subst, arith, Ok}
+use Rattle.std.proofs.Common.{append-nil, take-append-drop, drop_of_length-le}
 use Rattle.std.proofs.lemmas.List.{take_rest, drop_min}
 use Rattle.no_std_io2_base.specs.Laws.{bytes-events_of}
 use Rattle.no_std_io2_base.specs.Events.{events_of, bytes, HasNoFault, cut, Reads, Fills}
@@ -12,16 +13,22 @@ events_of-split all n = ap events_of (sym (take-append-drop n all)) ∙ events_o
 pub read_bytes : (all buf rest : List ℕ) (n : ℕ) → take n buf ≡ take n all → rest ≡ drop n all → (n ≡ 0 → 0 < length buf → length all ≡ 0)
     → Reads (events_of all) (Ok n) buf (events_of rest)
 read_bytes all buf rest n front is none = (
-  events_of-split all n ∙ ap (λ l. events_of l ++ events_of (drop n all)) (sym front) ∙ ap (λ l. events_of (take n buf) ++ events_of l) (sym is),
+  events_of-split all n ∙ ap (λ l. events_of l ++ events_of (drop n all)) (sym front)
+      ∙ ap (λ l. events_of (take n buf) ++ events_of l) (sym is),
   λ zero room. ap events_of (drop_of_length-le all {i = 0} (omega (arith, none zero room))),
 )
 
 -- all of buf was filled from all
-pub fill_bytes : (all buf rest : List ℕ) (n : ℕ) → buf ≡ take n all → n ≡ length buf → rest ≡ drop n all → Fills (events_of all) buf (events_of rest)
+pub fill_bytes : (all buf rest : List ℕ) (n : ℕ) → buf ≡ take n all → n ≡ length buf → rest ≡ drop n all
+    → Fills (events_of all) buf (events_of rest)
 fill_bytes all buf rest n front long is =
     let none : length buf - length buf ≡ 0 = omega arith in
-    let split : events_of all ≡ events_of buf ++ events_of rest = events_of-split all n ∙ ap (λ l. events_of l ++ events_of (drop n all)) (sym front) ∙ ap (λ l. events_of buf ++ events_of l) (sym is) in
-    let stop : cut (length buf) (events_of all) ≡ events_of buf = ap (cut (length buf)) split ∙ cut-bytes buf (events_of rest) (length buf) (omega arith) ∙ ap (λ k. events_of buf ++ cut k (events_of rest)) none ∙ append-nil (events_of buf) in
+    let split : events_of all ≡ events_of buf ++ events_of rest =
+    events_of-split all n ∙ ap (λ l. events_of l ++ events_of (drop n all)) (sym front)
+    ∙ ap (λ l. events_of buf ++ events_of l) (sym is) in
+    let stop : cut (length buf) (events_of all) ≡ events_of buf =
+    ap (cut (length buf)) split ∙ cut-bytes buf (events_of rest) (length buf) (omega arith)
+    ∙ ap (λ k. events_of buf ++ cut k (events_of rest)) none ∙ append-nil (events_of buf) in
     record {
       split = split ∙ ap (λ l. l ++ events_of rest) (sym stop);
       no_fault = subst HasNoFault (sym stop) (HasNoFault-events_of buf);
@@ -29,7 +36,8 @@ fill_bytes all buf rest n front long is =
     }
 
 -- what a cursor's read copies from: the part from its position on, cut at the end
-pub part_from : (shown all : List ℕ) (start position : ℕ) → shown ≡ all → start ≡ min (length shown) position → take (length shown - start) (drop start shown) ≡ drop position all
+pub part_from : (shown all : List ℕ) (start position : ℕ) → shown ≡ all → start ≡ min (length shown) position
+    → take (length shown - start) (drop start shown) ≡ drop position all
 part_from shown all start position is at =
     let least : start ≡ min position (length shown) = omega arith in
     take_rest shown start ∙ ap (λ k. drop k shown) least ∙ drop_min position shown ∙ ap (drop position) is

@@ -1,9 +1,11 @@
 -- What a loop of reads has taken so far.
-use Rattle.std.proofs.Common.{◌≡◌, ℕ, ◌+◌, ◌-◌, ◌<◌, ◌≤◌, List, [], ◌∷◌, ◌++◌, length, take, refl, sym, ap, ◌∙◌, subst, arith, Ok, length-take-le, append_assoc, append-nil, inl, length-append}
+use Rattle.std.proofs.Common.{◌≡◌, ℕ, ◌+◌, ◌-◌, ◌<◌, ◌≤◌, List, [], ◌∷◌, ◌++◌, length, take, refl, sym, ap, ◌∙◌, subst}
+use Rattle.std.proofs.Common.{arith, Ok, length-take-le, append_assoc, append-nil, inl, length-append}
 use Rattle.no_std_io2_base.specs.declared.error.Error.{Error}
 use Rattle.no_std_io2_base.specs.Errors.{IsInterruption, IsFault, IsUnexpectedEnd}
 use Rattle.no_std_io2_base.specs.Events.{Event, fails, events_of, bytes, HasNoFault, cut, Reads, Fills, FallsShort, StopsAtFault}
-use Rattle.no_std_io2_base.proofs.Events.{bytes-append, bytes-events_of, length-events_of, HasNoFault-append, HasNoFault-events_of, cut-append, cut-bytes}
+use Rattle.no_std_io2_base.proofs.Events.{bytes-append, bytes-events_of, length-events_of, HasNoFault-append}
+use Rattle.no_std_io2_base.proofs.Events.{HasNoFault-events_of, cut-append, cut-bytes}
 
 -- `front`, which has no fault, is gone from E and gave these bytes; at `room` bytes it ends with the last of them
 pub record Taken (E : List Event) (room : ℕ) (got : List ℕ) (after : List Event) : Type 0 where
@@ -30,11 +32,13 @@ taken_bytes E room got after more rest t read some = record {
   no_fault = HasNoFault-append t.front (events_of more) t.no_fault (HasNoFault-events_of more);
   gave = bytes-append t.front (events_of more) ∙ ap (λ l. bytes t.front ++ l) (bytes-events_of more) ∙ ap (λ l. l ++ more) t.gave;
   full = λ h.
-      let long : room ≡ length (bytes t.front) + length more = sym h ∙ length-append got more ∙ ap (λ l. length l + length more) (sym t.gave) in
+      let long : room ≡ length (bytes t.front) + length more =
+      sym h ∙ length-append got more ∙ ap (λ l. length l + length more) (sym t.gave) in
       let stop : cut (length more) (events_of more ++ rest) ≡ events_of more =
       (let none : length more - length more ≡ 0 = omega arith in
       cut-bytes more rest (length more) (omega arith) ∙ ap (λ n. events_of more ++ cut n rest) none ∙ append-nil (events_of more)) in
-      ap (cut room) (t.split ∙ ap (λ l. t.front ++ l) read) ∙ cut-append t.front (events_of more ++ rest) room (length more) some long ∙ ap (λ l. t.front ++ l) stop;
+      ap (cut room) (t.split ∙ ap (λ l. t.front ++ l) read)
+      ∙ cut-append t.front (events_of more ++ rest) room (length more) some long ∙ ap (λ l. t.front ++ l) stop;
 }
 
 pub taken_interruption : (E : List Event) (room : ℕ) (got shown : List ℕ) (after : List Event) (e : Error) (rest : List Event)
@@ -51,7 +55,12 @@ pub taken_fills : (E : List Event) (room : ℕ) (got : List ℕ) (after : List E
     → Taken E room got after → length got ≡ room → Fills E got after
 taken_fills E room got after t h =
     let is : cut (length got) E ≡ t.front = ap (λ n. cut n E) h ∙ t.full h in
-    record { split = t.split ∙ ap (λ l. l ++ after) (sym is); no_fault = subst HasNoFault (sym is) t.no_fault; filled = ap bytes is ∙ t.gave }
+    record {
+      split = t.split ∙ ap (λ l. l ++ after) (sym is);
+      no_fault = subst HasNoFault (sym is) t.no_fault;
+      filled =
+          ap bytes is ∙ t.gave;
+    }
 
 pub taken_fault : (E : List Event) (room most : ℕ) (got : List ℕ) (after : List Event) (e : Error) (rest : List Event)
     → Taken E room got after → after ≡ fails e ∷ rest → IsFault e → length got < most → StopsAtFault E most e rest
@@ -79,13 +88,16 @@ taken_short may_take_none E room got after e rest t end same kind short =
 pub taken_read : (E : List Event) (room : ℕ) (got shown : List ℕ) (after rest : List Event) (n : ℕ) (buf : List ℕ)
     → Taken E room got after → Reads after (Ok n) buf rest → n ≤ length buf → 0 < n → shown ≡ got ++ take n buf → Taken E room shown rest
 taken_read E room got shown after rest n buf t read fits some is =
-    subst (λ l. Taken E room l rest) (sym is) (taken_bytes E room got after (take n buf) rest t read.0 (omega (arith, length-take-le n buf fits)))
+    subst (λ l. Taken E room l rest) (sym is)
+    (taken_bytes E room got after (take n buf) rest t read.0 (omega (arith, length-take-le n buf fits)))
 
 -- as many bytes as a read gives, the position moves and the events are fewer
 pub moved_read : (E E' : List Event) (n : ℕ) (buf : List ℕ) (p p' : ℕ) (all : ℕ)
     → n ≤ length buf → E ≡ events_of (take n buf) ++ E' → p' ≡ p + n → p + length E ≡ all → p' + length E' ≡ all
 moved_read E E' n buf p p' all fits read move is =
-    let long : length E ≡ n + length E' = ap length read ∙ length-append (events_of (take n buf)) E' ∙ ap (λ m. m + length E') (length-events_of (take n buf) ∙ length-take-le n buf fits) in
+    let long : length E ≡ n + length E' =
+    ap length read ∙ length-append (events_of (take n buf)) E'
+    ∙ ap (λ m. m + length E') (length-events_of (take n buf) ∙ length-take-le n buf fits) in
     omega arith
 
 -- bytes alone hold no error

@@ -1,5 +1,7 @@
 -- A piece without what ended it.
-use Rattle.std.proofs.Common.{◌≡◌, ℕ, zero, suc, ◌-◌, ◌<◌, ◌==◌, true, false, if◌then◌else◌, List, [], ◌∷◌, length, take, get_or, sym, ap, ◌∙◌, subst, arith, eq-eqb, ne_eqb, Result, Ok, Err, Some, IfOk, IfErr, IsUtf8, inr}
+use Rattle.std.proofs.Common.{◌≡◌, ℕ, zero, suc, ◌-◌, ◌<◌, ◌==◌, true, false, if◌then◌else◌, List, [], ◌∷◌, length}
+use Rattle.std.proofs.Common.{take, get_or, sym, ap, ◌∙◌, subst, arith, eq-eqb, ne_eqb, Result, Ok, Err, Some, IfOk}
+use Rattle.std.proofs.Common.{IfErr, IsUtf8, inr}
 use Rattle.no_std_io2_base.specs.declared.error.Error.{Error}
 use Rattle.no_std_io2_base.specs.Events.{Event}
 use Rattle.no_std_io2_base.specs.Pieces.{ends_in, but_last, without, line_text, GivesPiece}
@@ -20,7 +22,8 @@ but_last-at (b ∷ c ∷ bs) (suc k) h = ap (λ l. b ∷ l) (but_last-at (c ∷ 
 
 -- another byte is last
 pub other_last : (d b n : ℕ) (bs : List ℕ) → n ≡ length bs → (n ≡ 0 → ⊥) → b ≡ get_or bs (n - 1) b → (b ≡ d → ⊥) → ends_in d bs ≡ false
-other_last d b n bs long some is differ = ends_in-at d b bs (n - 1) (omega (arith, long, some)) ∙ ap (λ x. x == d) (sym is) ∙ ne_eqb b d differ
+other_last d b n bs long some is differ =
+    ends_in-at d b bs (n - 1) (omega (arith, long, some)) ∙ ap (λ x. x == d) (sym is) ∙ ne_eqb b d differ
 
 -- this byte is last
 pub is_last : (d b n : ℕ) (bs : List ℕ) → n ≡ length bs → (n ≡ 0 → ⊥) → b ≡ get_or bs (n - 1) b → b ≡ d → ends_in d bs ≡ true
@@ -29,16 +32,22 @@ is_last d b n bs long some is same = ends_in-at d b bs (n - 1) (omega (arith, lo
 pub kept_last : (d : ℕ) (bs : List ℕ) → ends_in d bs ≡ false → bs ≡ without d bs
 kept_last d bs other = sym (ap (λ t. if t then but_last bs else bs) other)
 
-pub dropped_last : (d n : ℕ) (bs new : List ℕ) → n ≡ length bs → (n ≡ 0 → ⊥) → ends_in d bs ≡ true → new ≡ take (n - 1) bs → new ≡ without d bs
-dropped_last d n bs new long some last is = is ∙ sym (but_last-at bs (n - 1) (omega (arith, long, some))) ∙ sym (ap (λ t. if t then but_last bs else bs) last)
+pub dropped_last : (d n : ℕ) (bs new : List ℕ) → n ≡ length bs → (n ≡ 0 → ⊥) → ends_in d bs ≡ true
+    → new ≡ take (n - 1) bs → new ≡ without d bs
+dropped_last d n bs new long some last is =
+    is ∙ sym (but_last-at bs (n - 1) (omega (arith, long, some))) ∙ sym (ap (λ t. if t then but_last bs else bs) last)
 
 -- a line is its text, or refused
-pub line_yields : {T : Type 0} (view : T → List ℕ) (E : List Event) (n : ℕ) (old piece trimmed : List ℕ) (after : List Event) (r : Result T Error)
+pub line_yields : {T : Type 0} (view : T → List ℕ) (E : List Event) (n : ℕ) (old piece trimmed : List ℕ)
+    (after : List Event) (r : Result T Error)
     → GivesPiece 10 E n old piece after → old ≡ [] → 0 < n → trimmed ≡ line_text piece → IfOk r (λ text. view text ≡ trimmed)
     → IfErr r (λ e. (IsUtf8 trimmed → ⊥) × IsInvalidText e) → YieldsPiece view line_text RefusesLine 10 E (Some r) after
 line_yields view E n old piece trimmed after (Ok text) gives none some is ok err =
     (piece, record { count = n; some = some; gives = subst (λ l. GivesPiece 10 E n l piece after) none gives }, ok ∙ is)
 line_yields view E n old piece trimmed after (Err e) gives none some is ok err = (
   piece,
-  inr (record { count = n; some = some; gives = subst (λ l. GivesPiece 10 E n l piece after) none gives }, (λ (u : IsUtf8 (line_text piece)). err.0 (subst IsUtf8 (sym is) u), err.1)),
+  inr (
+    record { count = n; some = some; gives = subst (λ l. GivesPiece 10 E n l piece after) none gives },
+    (λ (u : IsUtf8 (line_text piece)). err.0 (subst IsUtf8 (sym is) u), err.1),
+  ),
 )

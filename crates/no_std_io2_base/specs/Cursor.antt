@@ -1,5 +1,6 @@
 -- What a clause reads of a `Cursor`.
-use Rattle.std.specs.Prelude.{◌≡◌, ℕ, ◌+◌, ◌-◌, ◌^◌, ◌<◌, ◌≤◌, ◌⊎◌, List, ◌++◌, length, take, drop, replicate, codes, None, Some, Ok, Err, Result}
+use Rattle.std.specs.Prelude.{◌≡◌, ℕ, ◌+◌, ◌-◌, ◌^◌, ◌<◌, ◌≤◌, ◌⊎◌, List, ◌++◌, length, take, drop, replicate, codes}
+use Rattle.std.specs.Prelude.{None, Some, Ok, Err, Result}
 use Rattle.no_std_io2_base.specs.declared.cursor.Cursor.{Cursor}
 use Rattle.no_std_io2_base.specs.declared.error.Error.{Error}
 use Rattle.no_std_io2_base.specs.declared.error.ErrorKind.TheVariants.{InvalidInput, OutOfMemory}
@@ -46,7 +47,9 @@ put_over place x bs = take place bs ++ x ++ drop (place + length x) bs
 -- why x was refused at a place: it would end past the greatest `usize`, or there is no memory
 abbrev pub IsRefusal : ℕ → List ℕ → Error → Type 0
 IsRefusal place x e =
-    ((2 ^ 64 ≤ place + length x) × (error_kind e ≡ InvalidInput) × (error_text e ≡ Some (codes "vector position past the greatest usize"))) ⊎ ((place + length x < 2 ^ 64) × (error_kind e ≡ OutOfMemory) × (error_text e ≡ None))
+    ((2 ^ 64 ≤ place + length x) × (error_kind e ≡ InvalidInput)
+      × (error_text e ≡ Some (codes "vector position past the greatest usize")))
+      ⊎ ((place + length x < 2 ^ 64) × (error_kind e ≡ OutOfMemory) × (error_text e ≡ None))
 
 -- `write` of x: a vector took all of it at a place, which moved behind it; or it would have had to grow, was refused, and nothing changed
 abbrev pub PutsWhole : List ℕ → ℕ → List ℕ → Result ℕ Error → List ℕ → ℕ → Type 0

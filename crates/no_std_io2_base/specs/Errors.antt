@@ -3,7 +3,13 @@ use Rattle.std.specs.Prelude.{◌≡◌, ℕ, Bool, true, false, List, codes, Op
 use Rattle.std.specs.Option.{option_map}
 use Rattle.no_std_io2_base.specs.declared.error.Error.{Error}
 use Rattle.no_std_io2_base.specs.declared.error.ErrorKind.{ErrorKind}
-use Rattle.no_std_io2_base.specs.declared.error.ErrorKind.TheVariants.{NotFound, PermissionDenied, ConnectionRefused, ConnectionReset, ConnectionAborted, NotConnected, AddrInUse, AddrNotAvailable, BrokenPipe, AlreadyExists, WouldBlock, InvalidInput, InvalidData, TimedOut, WriteZero, Interrupted, Other, UnexpectedEof, Unsupported, OutOfMemory, Uncategorized}
+use Rattle.no_std_io2_base.specs.declared.error.ErrorKind.TheVariants.{NotFound, PermissionDenied, ConnectionRefused}
+use Rattle.no_std_io2_base.specs.declared.error.ErrorKind.TheVariants.{ConnectionReset, ConnectionAborted, NotConnected}
+use Rattle.no_std_io2_base.specs.declared.error.ErrorKind.TheVariants.{AddrInUse, AddrNotAvailable, BrokenPipe}
+use Rattle.no_std_io2_base.specs.declared.error.ErrorKind.TheVariants.{AlreadyExists, WouldBlock, InvalidInput}
+use Rattle.no_std_io2_base.specs.declared.error.ErrorKind.TheVariants.{InvalidData, TimedOut, WriteZero, Interrupted}
+use Rattle.no_std_io2_base.specs.declared.error.ErrorKind.TheVariants.{Other, UnexpectedEof, Unsupported, OutOfMemory}
+use Rattle.no_std_io2_base.specs.declared.error.ErrorKind.TheVariants.{Uncategorized}
 
 -- `e.kind()`
 abbrev pub error_kind : Error → ErrorKind

@@ -32,7 +32,8 @@ cut (suc k) [] = []
 cut (suc k) (byte b ∷ E) = byte b ∷ cut k E
 cut (suc k) (fails e ∷ E) = fails e ∷ cut (suc k) E
 
--- one read into buf turned E into after: n bytes now stand at its front, or the error that stood first is gone; no byte comes only at the end or with no room
+-- one read into buf turned E into after: n bytes now stand at its front, or the error that stood first is gone; no byte
+-- comes only at the end or with no room
 abbrev pub Reads : List Event → Result ℕ Error → List ℕ → List Event → Type 0
 Reads E (Ok n) buf after = (E ≡ events_of (take n buf) ++ after) × (n ≡ 0 → 0 < length buf → E ≡ [])
 Reads E (Err e) buf after = E ≡ fails e ∷ after
@@ -87,7 +88,8 @@ FillsRoom E (Err e) old new after = (P : List Event) × (E ≡ P ++ after) × (n
 abbrev pub HasRoom : List Event → ℕ → ℕ → Type 0
 HasRoom E len capacity = HasNoFault E × (len + length (bytes E) + 32 ≤ capacity)
 
--- `read_to_end` turned E into after and appended the bytes that it took: all of them, or those up to the first fault or to where memory was refused
+-- `read_to_end` turned E into after and appended the bytes that it took: all of them, or those up to the first fault or
+-- to where memory was refused
 abbrev pub ReadsToEnd : List Event → Result ℕ Error → List ℕ → List ℕ → List Event → Type 0
 ReadsToEnd E (Ok n) old new after = HasNoFault E × (new ≡ old ++ bytes E) × (n ≡ length (bytes E)) × (after ≡ [])
 ReadsToEnd E (Err e) old new after =

@@ -1,5 +1,6 @@
 -- What `split`, `lines` and `read_line` do, by the pieces that they read.
-use Rattle.std.specs.Prelude.{◌≡◌, ℕ, suc, ◌<◌, ◌⊎◌, true, false, Bool, if◌then◌else◌, List, [], ◌++◌, Option, None, Some, Result, Ok, Err, codes, IsUtf8}
+use Rattle.std.specs.Prelude.{◌≡◌, ℕ, suc, ◌<◌, ◌⊎◌, true, false, Bool, if◌then◌else◌, List, [], ◌++◌, Option, None}
+use Rattle.std.specs.Prelude.{Some, Result, Ok, Err, codes, IsUtf8}
 use Rattle.no_std_io2_base.specs.declared.error.Error.{Error}
 use Rattle.no_std_io2_base.specs.declared.error.ErrorKind.TheVariants.{InvalidData, OutOfMemory}
 use Rattle.no_std_io2_base.specs.declared.traits.split.Split.{Split}
@@ -42,8 +43,10 @@ pub record TakesSome (d : ℕ) (E : List Event) (piece : List ℕ) (after : List
   pub some : 0 < count
   pub gives : GivesPiece d E count [] piece after
 
--- What one `next` yields: nothing at the end; a piece, trimmed; an error that stopped it, or with which the piece is refused. `view` is what an item shows.
-abbrev pub YieldsPiece : {T : Type 0} → (T → List ℕ) → (List ℕ → List ℕ) → (List ℕ → Error → Type 0) → ℕ → List Event → Option (Result T Error) → List Event → Type 0
+-- What one `next` yields: nothing at the end; a piece, trimmed; an error that stopped it, or with which the piece is
+-- refused. `view` is what an item shows.
+abbrev pub YieldsPiece : {T : Type 0} → (T → List ℕ) → (List ℕ → List ℕ) → (List ℕ → Error → Type 0) → ℕ → List Event
+    → Option (Result T Error) → List Event → Type 0
 YieldsPiece view trim refuses d E None after = (piece : List ℕ) × GivesPiece d E 0 [] piece after
 YieldsPiece view trim refuses d E (Some (Ok item)) after = (piece : List ℕ) × TakesSome d E piece after × (view item ≡ trim piece)
 YieldsPiece view trim refuses d E (Some (Err e)) after =
@@ -63,14 +66,17 @@ items_left is_ended turns = if is_ended then 0 else suc turns
 abbrev pub Follows : List ℕ → List ℕ → List ℕ → Type 0
 Follows line old new = IsUtf8 line × (new ≡ old ++ line)
 
--- `read_line` took a line with this answer, and gave its own. A text stays as it is where the line isn't UTF-8, where memory is wanted, and where the reader's own error is want of memory; any other fault is the answer, behind what stood before it.
+-- `read_line` took a line with this answer, and gave its own. A text stays as it is where the line isn't UTF-8, where
+-- memory is wanted, and where the reader's own error is want of memory; any other fault is the answer, behind what
+-- stood before it.
 abbrev pub AnswersLine : List ℕ → Result ℕ Error → Result ℕ Error → List ℕ → List ℕ → Type 0
 AnswersLine line (Ok n) (Ok m) old new = Follows line old new × (m ≡ n)
 AnswersLine line (Ok n) (Err e) old new = (new ≡ old) × (((IsUtf8 line → ⊥) × IsInvalidText e) ⊎ (IsUtf8 line × IsOutOfMemory e))
 AnswersLine line (Err f) (Ok m) old new = ⊥
 AnswersLine line (Err f) (Err e) old new =
     ((error_kind f ≡ OutOfMemory) × (e ≡ f) × (new ≡ old))
-    ⊎ (((error_kind f ≡ OutOfMemory) → ⊥) × ((Follows line old new × (e ≡ f)) ⊎ (((IsUtf8 line → ⊥) × (e ≡ f) × (new ≡ old)) ⊎ (IsUtf8 line × IsOutOfMemory e × (new ≡ old)))))
+    ⊎ (((error_kind f ≡ OutOfMemory) → ⊥) × ((Follows line old new × (e ≡ f)) ⊎ (((IsUtf8 line
+      → ⊥) × (e ≡ f) × (new ≡ old)) ⊎ (IsUtf8 line × IsOutOfMemory e × (new ≡ old)))))
 
 -- `read_line` turned E into after and the text old into new: by a line that `read_until` takes at a newline
 pub record TakesLine (E : List Event) (result : Result ℕ Error) (old new : List ℕ) (after : List Event) : Type 0 where

@@ -1,5 +1,6 @@
 -- Pieces of bytes, each ended by a delimiter, and what a call that reads one piece does.
-use Rattle.std.specs.Prelude.{◌≡◌, ◌≢◌, ℕ, ◌+◌, ◌<◌, ◌≤◌, ◌==◌, true, false, Bool, List, [], ◌∷◌, ◌++◌, length, take, filter, if◌then◌else◌, ◌⊎◌, Option, None, Some, Result, Ok, Err}
+use Rattle.std.specs.Prelude.{◌≡◌, ◌≢◌, ℕ, ◌+◌, ◌<◌, ◌≤◌, ◌==◌, true, false, Bool, List, [], ◌∷◌, ◌++◌, length, take}
+use Rattle.std.specs.Prelude.{filter, if◌then◌else◌, ◌⊎◌, Option, None, Some, Result, Ok, Err}
 use Rattle.std.specs.List.{AllByRecursion, concat}
 use Rattle.no_std_io2_base.specs.declared.error.Error.{Error}
 use Rattle.no_std_io2_base.specs.Errors.{error_kind, is_interruption, IsOutOfMemory}
@@ -79,7 +80,8 @@ pub record StopsInPiece (d : ℕ) (E : List Event) (e : Error) (old new : List �
   -- at the first fault, which is taken too, or where memory was refused
   pub stops : EndsInFault taken e ⊎ (HasNoFault taken × IsOutOfMemory e)
 
--- `read_until(d)` turned E into after and appended the bytes that it took: up to and with the first d, or else all that is left; a fault stops it, and so does refused memory
+-- `read_until(d)` turned E into after and appended the bytes that it took: up to and with the first d, or else all that
+-- is left; a fault stops it, and so does refused memory
 abbrev pub TakesPiece : ℕ → List Event → Result ℕ Error → List ℕ → List ℕ → List Event → Type 0
 TakesPiece d E (Ok n) old new after = GivesPiece d E n old new after
 TakesPiece d E (Err e) old new after = StopsInPiece d E e old new after

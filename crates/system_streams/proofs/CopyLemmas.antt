@@ -1,5 +1,7 @@
 -- A copy, piece by piece.
-use Rattle.std.proofs.Common.{◌≡◌, ℕ, List, [], ◌∷◌, ◌++◌, sym, ap, ◌∙◌, subst, arith, rules, Ok, Err, Result, Some, IsOk, IfErr, append-nil, append_assoc, inl, inr, ◌⊎◌, ◌+◌, ◌<◌, ◌==◌, None, Option, count_by, eq-eqb, if◌then◌else◌, refl}
+use Rattle.std.proofs.Common.{◌≡◌, ℕ, List, [], ◌∷◌, ◌++◌, sym, ap, ◌∙◌, subst, arith, rules, Ok, Err, Result, Some}
+use Rattle.std.proofs.Common.{IsOk, IfErr, append-nil, append_assoc, inl, inr, ◌⊎◌, ◌+◌, ◌==◌, None, Option}
+use Rattle.std.proofs.Common.{count_by, eq-eqb, if◌then◌else◌, refl}
 use Rattle.no_std_io2.specs.declared.io.ErrorKind.{ErrorKind}
 use Rattle.no_std_io2.specs.declared.io.Error.{Error}
 use Rattle.no_std_io2.specs.Errors.{error_kind, kind_number, is_interruption, IsInterruption, IsFault}
@@ -12,7 +14,8 @@ use Rattle.no_std_io2.specs.Copy.{Copies, CopyEnds, CopyMoves}
 use Rattle.system_streams.specs.Copies.{Passes, PassesSome, HasFirstFault, HasFailed, MayFail, TellsMishap}
 
 -- a copy to the end took all, and had no fault
-pub copies_all : {E after : List Event} {old new : Told} {n : ℕ} → Copies 64 E (Ok n) after old new → HasNoFault E × Passes old (bytes E) n new
+pub copies_all : {E after : List Event} {old new : Told} {n : ℕ} → Copies 64 E (Ok n) after old new
+    → HasNoFault E × Passes old (bytes E) n new
 copies_all {E} {after} {old} {new} {n} c =
     let whole : E ≡ c.0 = c.1 ∙ ap (λ l. c.0 ++ l) (c.3.1 (omega arith)) ∙ append-nil c.0 in
     subst (λ l. HasNoFault l × Passes old (bytes l) n new) (sym whole) (c.3.0, record { moves = c.3.3; count = c.3.2 })
@@ -22,7 +25,8 @@ pub copies_some : {old new : Told} {n : ℕ} → CopyMoves (Ok n) old new → Pa
 copies_some c = record { accepted = c.0; passes = record { moves = c.2; count = c.1 } }
 
 -- a copy that failed met the reader's first fault, or a mishap of the writer's
-pub copies_err : {E after : List Event} {old new : Told} {e : Error} → Copies 64 E (Err e) after old new → HasFirstFault E e ⊎ HasFailed old e
+pub copies_err : {E after : List Event} {old new : Told} {e : Error} → Copies 64 E (Err e) after old new
+    → HasFirstFault E e ⊎ HasFailed old e
 copies_err {E} {after} {old} {new} {e} c = ends c.3
   where
     ends : CopyEnds 64 (Err e) c.0 after old new → HasFirstFault E e ⊎ HasFailed old e
@@ -34,7 +38,8 @@ pub passes_then : {a b c : Told} {x : List ℕ} {n : ℕ} → Passes a x n b →
 passes_then p f = record { moves = Moves-ends p.moves f; count = p.count }
 
 -- behind an empty buffer
-pub passes_bare : {a inner c : Told} {x : List ℕ} {n : ℕ} (buffer : List ℕ) → inner ≡ a → buffer ≡ [] → Passes (with_buffer inner buffer) x n c → Passes a x n c
+pub passes_bare : {a inner c : Told} {x : List ℕ} {n : ℕ} (buffer : List ℕ) → inner ≡ a → buffer ≡ []
+    → Passes (with_buffer inner buffer) x n c → Passes a x n c
 passes_bare {c = c} {x} {n} buffer same empty p =
     subst (λ t. Passes t x n c) same (record { moves = Moves-bare buffer empty p.moves; count = p.count })
 
@@ -42,7 +47,8 @@ passes_bare {c = c} {x} {n} buffer same empty p =
 pub has_failed : {a b c : Told} {x y : List ℕ} {e : Error} → Moves a x [] b → Moves b y (error_kind e ∷ []) c → HasFailed a e
 has_failed {c} {x} {y} f g = record { accepted = x ++ y; new = c; moves = Moves-then f g }
 
-pub failed_bare : {a inner : Told} {e : Error} (buffer : List ℕ) → inner ≡ a → buffer ≡ [] → HasFailed (with_buffer inner buffer) e → HasFailed a e
+pub failed_bare : {a inner : Told} {e : Error} (buffer : List ℕ) → inner ≡ a → buffer ≡ []
+    → HasFailed (with_buffer inner buffer) e → HasFailed a e
 failed_bare {e = e} buffer same empty f =
     subst (λ t. HasFailed t e) same (record { accepted = f.accepted; new = f.new; moves = Moves-bare buffer empty f.moves })
 
@@ -66,7 +72,8 @@ ok_unless (Ok x) P h never = search rules
 ok_unless (Err e) P h never = absurd (never e h)
 
 -- a reader without a fault and a writer without a mishap leave no failure
-pub no_failure : (E : List Event) (old : Told) → HasNoFault E → old.mishaps ≡ Some [] → (e : Error) → HasFirstFault E e ⊎ HasFailed old e → ⊥
+pub no_failure : (E : List Event) (old : Told) → HasNoFault E → old.mishaps ≡ Some [] → (e : Error)
+    → HasFirstFault E e ⊎ HasFailed old e → ⊥
 no_failure E old none steady e (inl f) = no_first_fault E e none f
 no_failure E old none steady e (inr f) = Moves-steady steady f.moves
 

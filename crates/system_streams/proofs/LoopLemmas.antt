@@ -1,15 +1,18 @@
 -- What loops of a patient's calls have moved.
-use Rattle.std.proofs.Common.{◌≡◌, ℕ, zero, suc, ◌+◌, ◌-◌, ◌<◌, ◌≤◌, List, [], ◌∷◌, ◌++◌, Option, None, Some, Result, Ok, Err, length, take, drop, refl, sym, ap, subst, ◌∙◌, arith, append_assoc, append-nil, take-append-drop, take_all, length-drop, length-take, count_by, if◌then◌else◌, ◌==◌, Bool, true, false, true≢false, eqb-true, drop_of_length-le, inl, inr, ◌⊎◌, length-take-le}
+use Rattle.std.proofs.Common.{◌≡◌, ℕ, zero, suc, ◌+◌, ◌-◌, ◌<◌, ◌≤◌, List, [], ◌∷◌, ◌++◌, Option, None, Some, Result}
+use Rattle.std.proofs.Common.{Ok, Err, length, take, drop, refl, sym, ap, subst, ◌∙◌, arith, append_assoc, append-nil}
+use Rattle.std.proofs.Common.{take-append-drop, take_all, length-drop, length-take, count_by, if◌then◌else◌, ◌==◌, Bool}
+use Rattle.std.proofs.Common.{true, false, true≢false, eqb-true, drop_of_length-le, inl, inr, ◌⊎◌, length-take-le}
 use Rattle.std.specs.Result.{IsErrAnd}
 use borrow.Rule.Slice.PartMut.{put_mid, post_of, same_len_mid}
 use lib.Seq.{take-append-le, take-append-add}
 use Rattle.std.proofs.lemmas.Slice.{take-put_mid_below}
 use Rattle.std.specs.Io.KnownBytes.{Appends, Consumes, Keeps, WriteAppends, ReadConsumes}
 use Rattle.no_std_io2.specs.declared.io.Error.{Error}
-use Rattle.no_std_io2.specs.declared.io.ErrorKind.{ErrorKind}
 use Rattle.no_std_io2.specs.Errors.{error_kind, is_interruption, IsInterruption, IsFault, IsUnwritten}
-use Rattle.no_std_io2.specs.Writes.{Told, Sends, call_mishap, taken}
-use Rattle.system_streams.specs.Turns.{Gives, AnswersRead, AnswersWrite, EndsReads, EndsWrites, IsOutOfTurns, IsPlainInterruption, IsDeviceFault}
+use Rattle.no_std_io2.specs.Writes.{Sends, call_mishap, taken}
+use Rattle.system_streams.specs.Turns.{Gives, AnswersRead, AnswersWrite, EndsReads, EndsWrites, IsOutOfTurns}
+use Rattle.system_streams.specs.Turns.{IsPlainInterruption, IsDeviceFault}
 
 appends_nil : (a : Option (List ℕ)) → Appends a a []
 appends_nil None = tt

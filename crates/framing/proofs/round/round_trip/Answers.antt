@@ -22,10 +22,13 @@ returns-in_err-read_all-clause-enough g c = λ few short.
     let before = c.shown-before.result.now in
     let after = c.shown.result.now in
     let none = ap (map (λ v. v.items)) said.done.2 in
-    let out = shown_frames (writer_tells told c.args.w.now) (writer_tells told c.deliver.new.self) (still_to_go c.args.w.now) (still_to_go c.deliver.new.self) payloads left before after said.sends
+    let out =
+    shown_frames (writer_tells told c.args.w.now) (writer_tells told c.deliver.new.self) (still_to_go c.args.w.now)
+    (still_to_go c.deliver.new.self) payloads left before after said.sends
     (drop_none _ _ c.requires.idle) said.done.1 none c.requires.flushed said.done.3
     (c.shown-before.ensures ∙ ap (λ w. (told w).out) c.get_ref.ensures) (c.shown.ensures ∙ ap (λ w. (told w).out) c.get_ref-2.ensures) in
-    let within : All (λ p. length p ≤ most c.new-reader.result) payloads = all_short (most c.new-reader.result) payloads left said.rest none c.new-reader.ensures.limit in
+    let within : All (λ p. length p ≤ most c.new-reader.result) payloads =
+    all_short (most c.new-reader.result) payloads left said.rest none c.new-reader.ensures.limit in
     let events = c.new-reader.ensures.events ∙ ap events_of (slice_from (length before) after) in
     let back = c.in_err-read_all.ensures.back payloads tt (come_frames _ (drop (length before) after) payloads events out) within in
     rw (p.1, p.2) (memory_alone payloads (drop (length before) after) _ c.in_err-read_all.field-0.0 _ _ events back)
@@ -39,10 +42,14 @@ returns-clause-came g c =
     let before = c.shown-before.result.now in
     let after = c.shown.result.now in
     let none = ap (map (λ v. v.items)) said.done.2 in
-    let out = shown_frames (writer_tells told c.args.w.now) (writer_tells told c.deliver.new.self) (still_to_go c.args.w.now) (still_to_go c.deliver.new.self) payloads left before after said.sends
+    let out =
+    shown_frames (writer_tells told c.args.w.now) (writer_tells told c.deliver.new.self) (still_to_go c.args.w.now)
+    (still_to_go c.deliver.new.self) payloads left before after said.sends
     (drop_none _ _ c.requires.idle) said.done.1 none c.requires.flushed said.done.3
     (c.shown-before.ensures ∙ ap (λ w. (told w).out) c.get_ref.ensures) (c.shown.ensures ∙ ap (λ w. (told w).out) c.get_ref-2.ensures) in
-    let within : All (λ p. length p ≤ most c.new-reader.result) payloads = all_short (most c.new-reader.result) payloads left said.rest none c.new-reader.ensures.limit in
+    let within : All (λ p. length p ≤ most c.new-reader.result) payloads =
+    all_short (most c.new-reader.result) payloads left said.rest none c.new-reader.ensures.limit in
     let events = c.new-reader.ensures.events ∙ ap events_of (slice_from (length before) after) in
     let back = c.in_ok-read_all.ensures.back payloads tt (come_frames _ (drop (length before) after) payloads events out) within in
-    all_given (λ v. v.items) payloads _ _ c.new-given.result.items c.read_all.new.payloads.items back c.in_ok-read_all.ensures.appends c.new-given.ensures.items
+    all_given (λ v. v.items) payloads _ _ c.new-given.result.items c.read_all.new.payloads.items back
+    c.in_ok-read_all.ensures.appends c.new-given.ensures.items

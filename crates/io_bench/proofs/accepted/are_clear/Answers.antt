@@ -1,4 +1,4 @@
-use Rattle.std.proofs.Common.{arith, refl, length}
+use Rattle.std.proofs.Common.{arith, refl}
 use Rattle.io_bench.specs.Joined.{AreClear}
 use Rattle.io_bench.proofs.JoinedLemmas.{clear_next, all_through, clear_at, clear_length}
 use Rattle.io_bench.proofs.accepted.are_clear.Goals as goal

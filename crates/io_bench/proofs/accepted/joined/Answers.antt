@@ -1,5 +1,5 @@
-use Rattle.std.proofs.Common.{arith, rules, ◌<◌, ◌≡◌, ◌+◌, [], take, length, refl, subst, sym}
-use Rattle.io_bench.specs.Joined.{IsJoined, IsClear}
+use Rattle.std.proofs.Common.{arith, rules, ◌<◌, ◌+◌, [], take, length, refl, subst, sym}
+use Rattle.io_bench.specs.Joined.{IsJoined}
 use Rattle.io_bench.proofs.JoinedLemmas.{joined_none, joined_next, all_through, clear_at, clear_length, unclear, some_accepted, refused_so}
 use Rattle.no_std_io2_base.specs.Errors.{IsOutOfMemory}
 use Rattle.io_bench.proofs.accepted.joined.Goals as goal

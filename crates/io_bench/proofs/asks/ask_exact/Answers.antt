@@ -11,8 +11,12 @@ returns-in-Ok-clause-asked g c = λ m f.
     let filled = done.told (g.met.R.Read.filling_tells _ f).0 in
     let counted = done.asks m f in
     let left = done.left f in
-    let within = filled-le _ _ _ filled.1 in
-    (counted.0, left.0, exact_asked g.row.S (length c.args.buf.now) _ _ _ _ _ _ _ (cut _ _, filled.1.split) left.2 (grind (arith, nat_tests, within)) counted.1 left.1)
+    let within = filled-le _ _ _ filled.1 in (
+      counted.0,
+      left.0,
+      exact_asked g.row.S (length c.args.buf.now) _ _ _ _ _ _ _ (cut _ _, filled.1.split) left.2
+          (grind (arith, nat_tests, within)) counted.1 left.1,
+    )
 
 pub returns-in-UnexpectedEof-clause-told : goal.returns-in-UnexpectedEof-clause-told
 returns-in-UnexpectedEof-clause-told g c = λ t. let failed = c.in-Err.ensures.told t in (failed.0, failed_front _ c.in-Err.e _ _ failed.1)
@@ -25,8 +29,12 @@ returns-in-UnexpectedEof-clause-asked g c = λ m f.
     let fell = done.told tells.0 in
     let short = falls_short _ _ c.in-Err.e _ _ (bytes_behind (reader_held r) _ _ tells.1) fell.1 in
     let counted = done.asks m f in
-    let left = done.left f in
-    (counted.0, left.0, exact_asked g.row.S (length c.args.buf.now) _ _ _ _ _ _ _ short.2 left.2 (grind (arith, nat_tests, short.1)) counted.1 left.1)
+    let left = done.left f in (
+      counted.0,
+      left.0,
+      exact_asked g.row.S (length c.args.buf.now) _ _ _ _ _ _ _ short.2 left.2 (grind (arith, nat_tests, short.1))
+          counted.1 left.1,
+    )
 
 pub returns-in_default : goal.returns-in_default
 returns-in_default g c =

@@ -16,8 +16,11 @@ byte_is false = refl
 
 pub make_ask-requires : goal.make_ask-requires
 make_ask-requires g c =
-    let ask = get_or c.args.asks.now c.asks.ask-index (Read 0) in
-    (search rules, subst (λ room. Fits room ask) (sym c.asks.invariant.long) (fits_at _ c.args.asks.now c.asks.ask-index (Read 0) (omega arith) c.requires))
+    let ask = get_or c.args.asks.now c.asks.ask-index (Read 0) in (
+      search rules,
+      subst (λ room. Fits room ask) (sym c.asks.invariant.long)
+          (fits_at _ c.args.asks.now c.asks.ask-index (Read 0) (omega arith) c.requires),
+    )
 
 pub asks-init : goal.asks-init
 asks-init g c = record {
@@ -56,8 +59,12 @@ asks-preserved g c =
           let asked = call.asked tt so_far.0 in
           let front = (before.told (g.met.R.Read.filling_tells _ f).0).1 in
           let paid = before.paid f none in
-          let reads = asked_reads (get_or asks i (Read 0)) (length held) _ in
-          (paid.0 + reads, omega (arith, paid.1, asked.2.reads), paid_asked g.row.S (get_or asks i (Read 0)) paid.0 _ _ _ _ _ _ _ _ _ c.from.result room fits front paid.2 asked.2 ends);
+          let reads = asked_reads (get_or asks i (Read 0)) (length held) _ in (
+            paid.0 + reads,
+            omega (arith, paid.1, asked.2.reads),
+            paid_asked g.row.S (get_or asks i (Read 0)) paid.0 _ _ _ _ _ _ _ _ _ c.from.result room fits front paid.2
+                asked.2 ends,
+          );
     }
 
 pub asks-preserved-in_default : goal.asks-preserved-in_default

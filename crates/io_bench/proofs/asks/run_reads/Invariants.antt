@@ -16,8 +16,12 @@ invariant-asks g l =
       long : length l.buf ≡ length l.initial.buf;
       at_end : l.totals.at_end ≤ l.ask-index;
       failed : l.totals.failed ≤ l.ask-index;
-      told : g.R.Read.tells (tally_inner (reader_inner l.initial.r)) → g.R.Read.tells (tally_inner (reader_inner l.r)) × TakesFront old left;
-      steps : filling → g.R.Read.is_filling (tally_inner (reader_inner l.r)) × (l.totals.failed ≡ 0) × Steps (take l.ask-index l.asks) old left l.totals.at_end;
-      paid : filling → reader_held l.initial.r ≡ [] → (reads : ℕ) × (tally_reads (reader_inner l.r) ≡ tally_reads (reader_inner l.initial.r) + reads)
+      told : g.R.Read.tells (tally_inner (reader_inner l.initial.r))
+          → g.R.Read.tells (tally_inner (reader_inner l.r)) × TakesFront old left;
+      steps : filling
+          → g.R.Read.is_filling (tally_inner (reader_inner l.r)) × (l.totals.failed ≡ 0)
+          × Steps (take l.ask-index l.asks) old left l.totals.at_end;
+      paid : filling → reader_held l.initial.r ≡ []
+          → (reads : ℕ) × (tally_reads (reader_inner l.r) ≡ tally_reads (reader_inner l.initial.r) + reads)
           × ReadsPaid g.row.S reads (length old - length left) l.totals.at_end (length (reader_held l.r)) (length left);
     }

@@ -1,5 +1,4 @@
 -- The base takes all, so no call fails, and each answers whole.
-use Rattle.std.proofs.Common.{refl}
 use Rattle.no_std_io2_base.proofs.MovesLemmas.{Moves-steady}
 use Rattle.no_std_io2.proofs.BufferLemmas.{ok_same}
 use Rattle.io_bench.proofs.RunLemmas.{Answers-write, Answers-write_all}

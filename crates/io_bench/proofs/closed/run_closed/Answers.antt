@@ -23,12 +23,15 @@ calls-preserved g c =
     record {
       ran = (
         replies ++ c.make_counted_call-reply.result ∷ [],
-        c.push_reserved.ensures.items ∙ ap (λ l. l ++ c.make_counted_call-reply.result ∷ []) before.ran.1 ∙ append_assoc c.args.replies.now.items replies (c.make_counted_call-reply.result ∷ []),
+        c.push_reserved.ensures.items ∙ ap (λ l. l ++ c.make_counted_call-reply.result ∷ []) before.ran.1
+            ∙ append_assoc c.args.replies.now.items replies (c.make_counted_call-reply.result ∷ []),
         Ran-next ops i _ replies within before.ran.2 call.answers,
         AreWhole-next _ ops i _ replies within before.ran.3 call.all.1,
       );
       all = call.all.0;
-      paid = Paid-on g.row.S _ _ _ ops i _ (writer_buffer w) (writer_buffer c.make_counted_call-reply.new.w) c.requires.some (buffer-le w) within before.paid call.calls call.buffer;
+      paid =
+          Paid-on g.row.S _ _ _ ops i _ (writer_buffer w) (writer_buffer c.make_counted_call-reply.new.w) c.requires.some
+          (buffer-le w) within before.paid call.calls call.buffer;
       room = omega (arith, c.push_reserved.ensures.len, c.push_reserved.ensures.capacity, before.room);
     }
 

@@ -14,7 +14,8 @@ invariant-calls g l =
     let told = writer_told (λ t. g.W.Write.told (tally_inner t)) in
     let made = take l.op-index l.ops in
     record {
-      ran : (more : List Reply) × (l.replies.items ≡ l.fn.replies.items ++ more) × Ran (told l.initial.buffered) made more (told l.buffered) × AreWhole made more;
+      ran : (more : List Reply) × (l.replies.items ≡ l.fn.replies.items ++ more)
+          × Ran (told l.initial.buffered) made more (told l.buffered) × AreWhole made more;
       all : g.W.Write.takes_all (tally_inner (writer_inner l.buffered));
       paid : (calls : ℕ) × (tally_writes (writer_inner l.buffered) ≡ tally_writes (writer_inner l.initial.buffered) + calls)
           × Paid g.row.S calls (flushes made) (length (given_bytes made)) (length (writer_buffer l.buffered));

@@ -21,8 +21,13 @@ items-preserved g c =
           let told = step.1 so_far.1 in (
             step.0 ∙ ap ends_at is,
             told.0,
-            one_gathered (string_bytes {Z = Global}) line_text RefusesLine 10 (events (lines_reader c.args.lines)) (map (string_bytes {Z = Global}) (appended c.args.items.now.items c.items.items.items)) (map (string_bytes {Z = Global}) (appended c.args.items.now.items c.push_reserved.new.self.items)) (events (lines_reader c.items.lines)) item (events (lines_reader c.next.new.self))
-                (shown-one (string_bytes {Z = Global}) _ _ _ _ before.appends pushed) so_far.2 (yields_at (string_bytes {Z = Global}) (λ _. line_text) RefusesLine 10 10 (events (lines_reader c.items.lines)) _ _ (events (lines_reader c.next.new.self)) refl is told.1),
+            one_gathered (string_bytes {Z = Global}) line_text RefusesLine 10 (events (lines_reader c.args.lines))
+                (map (string_bytes {Z = Global}) (appended c.args.items.now.items c.items.items.items))
+                (map (string_bytes {Z = Global}) (appended c.args.items.now.items c.push_reserved.new.self.items))
+                (events (lines_reader c.items.lines)) item (events (lines_reader c.next.new.self))
+                (shown-one (string_bytes {Z = Global}) _ _ _ _ before.appends pushed) so_far.2
+                (yields_at (string_bytes {Z = Global}) (λ _. line_text) RefusesLine 10 10
+                (events (lines_reader c.items.lines)) _ _ (events (lines_reader c.next.new.self)) refl is told.1),
           );
     }
 
@@ -31,8 +36,13 @@ returns-in-None-clause-told g c = λ fresh t.
     let events = g.R.Read.events in
     let so_far = c.items.invariant.told fresh t in
     let told = (c.next.ensures.steps.1 so_far.0).1 so_far.1 in
-    all_gathered (string_bytes {Z = Global}) line_text RefusesLine 10 (events (lines_reader c.args.lines)) (map (string_bytes {Z = Global}) (appended c.args.items.now.items c.items.items.items)) (map (string_bytes {Z = Global}) (appended c.args.items.now.items c.make_room.new.items.items)) (events (lines_reader c.items.lines)) (events (lines_reader c.next.new.self)) (ap (λ l. map (string_bytes {Z = Global}) (appended c.args.items.now.items l)) c.make_room.ensures.items) so_far.2
-    (yields_at (string_bytes {Z = Global}) (λ _. line_text) RefusesLine 10 10 (events (lines_reader c.items.lines)) _ _ (events (lines_reader c.next.new.self)) refl c.in-None.is told.1)
+    all_gathered (string_bytes {Z = Global}) line_text RefusesLine 10 (events (lines_reader c.args.lines))
+    (map (string_bytes {Z = Global}) (appended c.args.items.now.items c.items.items.items))
+    (map (string_bytes {Z = Global}) (appended c.args.items.now.items c.make_room.new.items.items))
+    (events (lines_reader c.items.lines)) (events (lines_reader c.next.new.self))
+    (ap (λ l. map (string_bytes {Z = Global}) (appended c.args.items.now.items l)) c.make_room.ensures.items) so_far.2
+    (yields_at (string_bytes {Z = Global}) (λ _. line_text) RefusesLine 10 10 (events (lines_reader c.items.lines)) _ _
+    (events (lines_reader c.next.new.self)) refl c.in-None.is told.1)
 
 pub returns-in-Some-Err-clause-told : goal.returns-in-Some-Err-clause-told
 returns-in-Some-Err-clause-told g c = λ fresh t.
@@ -40,5 +50,10 @@ returns-in-Some-Err-clause-told g c = λ fresh t.
     let so_far = c.items.invariant.told fresh t in
     let told = (c.next.ensures.steps.1 so_far.0).1 so_far.1 in
     let e = c.in-Some-Err.e in
-    gathered_to (Unit {0}) (string_bytes {Z = Global}) line_text RefusesLine 10 (events (lines_reader c.args.lines)) (map (string_bytes {Z = Global}) (appended c.args.items.now.items c.items.items.items)) (map (string_bytes {Z = Global}) (appended c.args.items.now.items c.make_room.new.items.items)) (events (lines_reader c.items.lines)) e (events (lines_reader c.next.new.self)) (ap (λ l. map (string_bytes {Z = Global}) (appended c.args.items.now.items l)) c.make_room.ensures.items) so_far.2
-    (yields_at (string_bytes {Z = Global}) (λ _. line_text) RefusesLine 10 10 (events (lines_reader c.items.lines)) _ _ (events (lines_reader c.next.new.self)) refl (c.in-Some-Err.is ∙ ap Some c.in-Some-Err.field-0-is) told.1)
+    gathered_to (Unit {0}) (string_bytes {Z = Global}) line_text RefusesLine 10 (events (lines_reader c.args.lines))
+    (map (string_bytes {Z = Global}) (appended c.args.items.now.items c.items.items.items))
+    (map (string_bytes {Z = Global}) (appended c.args.items.now.items c.make_room.new.items.items))
+    (events (lines_reader c.items.lines)) e (events (lines_reader c.next.new.self))
+    (ap (λ l. map (string_bytes {Z = Global}) (appended c.args.items.now.items l)) c.make_room.ensures.items) so_far.2
+    (yields_at (string_bytes {Z = Global}) (λ _. line_text) RefusesLine 10 10 (events (lines_reader c.items.lines)) _ _
+    (events (lines_reader c.next.new.self)) refl (c.in-Some-Err.is ∙ ap Some c.in-Some-Err.field-0-is) told.1)

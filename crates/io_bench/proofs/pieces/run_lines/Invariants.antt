@@ -12,7 +12,8 @@ invariant-items g l =
     let got = appended l.fn.items.items l.items.items in
     record {
       appends : l.items.items ≡ l.fn.items.items ++ got;
-      told : lines_is_ended l.fn.lines ≡ false → R.tells (lines_reader l.fn.lines) → (lines_is_ended l.lines ≡ false) × R.tells (lines_reader l.lines)
+      told : lines_is_ended l.fn.lines ≡ false → R.tells (lines_reader l.fn.lines)
+          → (lines_is_ended l.lines ≡ false) × R.tells (lines_reader l.lines)
           × GatheredSoFar line_text 10 (R.events (lines_reader l.fn.lines)) (map string_bytes got) (R.events (lines_reader l.lines));
     }
 

@@ -23,8 +23,14 @@ items-preserved g c =
             step.0 ∙ ap ends_at is,
             next.2 ∙ so_far.1,
             told.0,
-            one_gathered (vec_items {X = ℕ} {Z = Global}) (without d) (λ _ _. ⊥) d (events (split_reader c.args.split)) (map (vec_items {X = ℕ} {Z = Global}) (appended c.args.items.now.items c.items.items.items)) (map (vec_items {X = ℕ} {Z = Global}) (appended c.args.items.now.items c.push_reserved.new.self.items)) (events (split_reader c.items.split)) item (events (split_reader c.next.new.self))
-                (shown-one (vec_items {X = ℕ} {Z = Global}) _ _ _ _ before.appends pushed) so_far.3 (yields_at (vec_items {X = ℕ} {Z = Global}) without (λ _ _. ⊥) (split_delim c.items.split) d (events (split_reader c.items.split)) _ _ (events (split_reader c.next.new.self)) so_far.1 is told.1),
+            one_gathered (vec_items {X = ℕ} {Z = Global}) (without d) (λ _ _. ⊥) d (events (split_reader c.args.split))
+                (map (vec_items {X = ℕ} {Z = Global}) (appended c.args.items.now.items c.items.items.items))
+                (map (vec_items {X = ℕ} {Z = Global}) (appended c.args.items.now.items c.push_reserved.new.self.items))
+                (events (split_reader c.items.split)) item (events (split_reader c.next.new.self))
+                (shown-one (vec_items {X = ℕ} {Z = Global}) _ _ _ _ before.appends pushed) so_far.3
+                (yields_at (vec_items {X = ℕ} {Z = Global}) without (λ _ _. ⊥) (split_delim c.items.split) d
+                (events (split_reader c.items.split)) _ _ (events (split_reader c.next.new.self)) so_far.1 is
+                told.1),
           );
     }
 
@@ -34,8 +40,14 @@ returns-in-None-clause-told g c = λ fresh t.
     let events = g.R.Read.events in
     let so_far = c.items.invariant.told fresh t in
     let told = (c.next.ensures.steps.1 so_far.0).1 so_far.2 in
-    all_gathered (vec_items {X = ℕ} {Z = Global}) (without d) (λ _ _. ⊥) d (events (split_reader c.args.split)) (map (vec_items {X = ℕ} {Z = Global}) (appended c.args.items.now.items c.items.items.items)) (map (vec_items {X = ℕ} {Z = Global}) (appended c.args.items.now.items c.make_room.new.items.items)) (events (split_reader c.items.split)) (events (split_reader c.next.new.self)) (ap (λ l. map (vec_items {X = ℕ} {Z = Global}) (appended c.args.items.now.items l)) c.make_room.ensures.items) so_far.3
-    (yields_at (vec_items {X = ℕ} {Z = Global}) without (λ _ _. ⊥) (split_delim c.items.split) d (events (split_reader c.items.split)) _ _ (events (split_reader c.next.new.self)) so_far.1 c.in-None.is told.1)
+    all_gathered (vec_items {X = ℕ} {Z = Global}) (without d) (λ _ _. ⊥) d (events (split_reader c.args.split))
+    (map (vec_items {X = ℕ} {Z = Global}) (appended c.args.items.now.items c.items.items.items))
+    (map (vec_items {X = ℕ} {Z = Global}) (appended c.args.items.now.items c.make_room.new.items.items))
+    (events (split_reader c.items.split)) (events (split_reader c.next.new.self))
+    (ap (λ l. map (vec_items {X = ℕ} {Z = Global}) (appended c.args.items.now.items l)) c.make_room.ensures.items)
+    so_far.3
+    (yields_at (vec_items {X = ℕ} {Z = Global}) without (λ _ _. ⊥) (split_delim c.items.split) d
+    (events (split_reader c.items.split)) _ _ (events (split_reader c.next.new.self)) so_far.1 c.in-None.is told.1)
 
 pub returns-in-Some-Err-clause-told : goal.returns-in-Some-Err-clause-told
 returns-in-Some-Err-clause-told g c = λ fresh t.
@@ -44,5 +56,13 @@ returns-in-Some-Err-clause-told g c = λ fresh t.
     let so_far = c.items.invariant.told fresh t in
     let told = (c.next.ensures.steps.1 so_far.0).1 so_far.2 in
     let e = c.in-Some-Err.e in
-    gathered_to (Unit {0}) (vec_items {X = ℕ} {Z = Global}) (without d) (λ _ _. ⊥) d (events (split_reader c.args.split)) (map (vec_items {X = ℕ} {Z = Global}) (appended c.args.items.now.items c.items.items.items)) (map (vec_items {X = ℕ} {Z = Global}) (appended c.args.items.now.items c.make_room.new.items.items)) (events (split_reader c.items.split)) e (events (split_reader c.next.new.self)) (ap (λ l. map (vec_items {X = ℕ} {Z = Global}) (appended c.args.items.now.items l)) c.make_room.ensures.items) so_far.3
-    (yields_at (vec_items {X = ℕ} {Z = Global}) without (λ _ _. ⊥) (split_delim c.items.split) d (events (split_reader c.items.split)) _ _ (events (split_reader c.next.new.self)) so_far.1 (c.in-Some-Err.is ∙ ap Some c.in-Some-Err.field-0-is) told.1)
+    gathered_to (Unit {0}) (vec_items {X = ℕ} {Z = Global}) (without d) (λ _ _. ⊥) d
+    (events (split_reader c.args.split))
+    (map (vec_items {X = ℕ} {Z = Global}) (appended c.args.items.now.items c.items.items.items))
+    (map (vec_items {X = ℕ} {Z = Global}) (appended c.args.items.now.items c.make_room.new.items.items))
+    (events (split_reader c.items.split)) e (events (split_reader c.next.new.self))
+    (ap (λ l. map (vec_items {X = ℕ} {Z = Global}) (appended c.args.items.now.items l)) c.make_room.ensures.items)
+    so_far.3
+    (yields_at (vec_items {X = ℕ} {Z = Global}) without (λ _ _. ⊥) (split_delim c.items.split) d
+    (events (split_reader c.items.split)) _ _ (events (split_reader c.next.new.self)) so_far.1
+    (c.in-Some-Err.is ∙ ap Some c.in-Some-Err.field-0-is) told.1)

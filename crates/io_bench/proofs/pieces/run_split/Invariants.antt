@@ -12,8 +12,11 @@ invariant-items g l =
     let got = appended l.fn.items.items l.items.items in
     record {
       appends : l.items.items ≡ l.fn.items.items ++ got;
-      told : split_is_ended l.fn.split ≡ false → R.tells (split_reader l.fn.split) → (split_is_ended l.split ≡ false) × (split_delim l.split ≡ split_delim l.fn.split) × R.tells (split_reader l.split)
-          × GatheredSoFar (without (split_delim l.fn.split)) (split_delim l.fn.split) (R.events (split_reader l.fn.split)) (map vec_items got) (R.events (split_reader l.split));
+      told : split_is_ended l.fn.split ≡ false → R.tells (split_reader l.fn.split)
+          → (split_is_ended l.split ≡ false) × (split_delim l.split ≡ split_delim l.fn.split)
+          × R.tells (split_reader l.split)
+          × GatheredSoFar (without (split_delim l.fn.split)) (split_delim l.fn.split)
+          (R.events (split_reader l.fn.split)) (map vec_items got) (R.events (split_reader l.split));
     }
 
 abbrev pub decreases-items : goal.decreases-items

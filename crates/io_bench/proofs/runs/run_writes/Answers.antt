@@ -22,7 +22,8 @@ calls-preserved g c =
     record {
       ran = (
         replies ++ c.make_call-reply.result ∷ [],
-        c.push_reserved.ensures.items ∙ ap (λ l. l ++ c.make_call-reply.result ∷ []) before.ran.1 ∙ append_assoc c.args.replies.now.items replies (c.make_call-reply.result ∷ []),
+        c.push_reserved.ensures.items ∙ ap (λ l. l ++ c.make_call-reply.result ∷ []) before.ran.1
+            ∙ append_assoc c.args.replies.now.items replies (c.make_call-reply.result ∷ []),
         Ran-next ops i _ replies within before.ran.2 call.answers,
         EndsFlushed-next ops i _ replies within before.ran.2 call.answers,
         λ t. let b = before.ran.4 t in let a = call.all b.0 in (a.0, AreWhole-next _ ops i _ replies within b.1 a.1),
@@ -52,7 +53,8 @@ pub returns-clause-failures : goal.returns-clause-failures
 returns-clause-failures g c =
     let ran = c.calls.invariant.ran in
     let told = g.W.Write.told in
-    all_made (λ o r. IsShorterBy (failures o r) (told c.args.w.now).mishaps (told c.calls.w).mishaps) _ c.calls.op-index _ _ ran.0 (omega arith) ran.1
+    all_made (λ o r. IsShorterBy (failures o r) (told c.args.w.now).mishaps (told c.calls.w).mishaps) _ c.calls.op-index
+    _ _ ran.0 (omega arith) ran.1
     (failures_told _ ran.0 _ _ ran.2.moves.mishaps)
 
 pub returns-clause-kinds : goal.returns-clause-kinds

@@ -1,5 +1,4 @@
-use Rattle.std.proofs.Common.{◌≡◌, refl}
-use Rattle.iotower.specs.Report.{reply_line}
+use Rattle.std.proofs.Common.{refl}
 use Rattle.iotower.proofs.report.push_reply.Goals as goal
 
 pub returns-in-Took-clause-ok : goal.returns-in-Took-clause-ok

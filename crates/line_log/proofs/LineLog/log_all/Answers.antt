@@ -2,7 +2,8 @@ use Rattle.std.proofs.Common.{◌≡◌, ◌++◌, ◌∷◌, length, map, strin
 use Rattle.std.proofs.lemmas.Result.{err_from_is_err_and}
 use Rattle.no_std_io2.specs.LineState.{HasNoNewline}
 use Rattle.line_log.specs.Lines.{lines_of}
-use Rattle.line_log.proofs.LogLemmas.{goes_none, goes_on, goes_stopped, goes_refused, goes_all, goes_shown, off_none, off_more, none_left, staged}
+use Rattle.line_log.proofs.LogLemmas.{goes_none, goes_on, goes_stopped, goes_refused, goes_all, goes_shown, off_none}
+use Rattle.line_log.proofs.LogLemmas.{off_more, none_left, staged}
 use Rattle.line_log.proofs.LineLog.log_all.Goals as goal
 
 pub lines-init : goal.lines-init
@@ -12,7 +13,9 @@ pub returns-in_err-retry-clause-sends : goal.returns-in_err-retry-clause-sends
 returns-in_err-retry-clause-sends g c =
     let p = err_from_is_err_and c.from_residual.result c.from_residual.ensures.1 in
     let said = c.in_err-retry.ensures in
-    rw (p.1, p.2) (goes_stopped (lines_of (map string_bytes c.lines.rest.now)) c.in_err-retry.field-0.0 _ c.lines.invariant.goes said.sends said.some)
+    rw (p.1, p.2)
+    (goes_stopped (lines_of (map string_bytes c.lines.rest.now)) c.in_err-retry.field-0.0 _ c.lines.invariant.goes
+    said.sends said.some)
 
 pub returns-in_default-clause-sends : goal.returns-in_default-clause-sends
 returns-in_default-clause-sends g c =
@@ -28,7 +31,9 @@ returns-in_err-stage-clause-sends g c =
     let p = err_from_is_err_and c.from_residual-in_err-stage.result c.from_residual-in_err-stage.ensures.1 in
     let said = c.in_err-stage.ensures in
     let more = lines_of (map string_bytes c.lines.rest.now) in
-    rw (p.1, p.2) (goes_refused _ _ c.in_err-stage.field-0.0 (goes_on more c.lines.invariant.goes c.in_ok-retry.ensures.sends) (ap (λ l. l ++ more) (c.in_ok-retry.ensures.none ∙ sym said.none)) said.err)
+    rw (p.1, p.2)
+    (goes_refused _ _ c.in_err-stage.field-0.0 (goes_on more c.lines.invariant.goes c.in_ok-retry.ensures.sends)
+    (ap (λ l. l ++ more) (c.in_ok-retry.ensures.none ∙ sym said.none)) said.err)
 
 pub lines-preserved : goal.lines-preserved
 lines-preserved g c =

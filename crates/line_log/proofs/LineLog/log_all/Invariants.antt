@@ -10,7 +10,9 @@ abbrev pub invariant-lines : goal.invariant-lines
 invariant-lines g l =
     let told = g.W.Write.told in
     record {
-      goes : Goes (log_told told l.initial.self) (still_to_go l.initial.self ++ lines_of (map string_bytes l.initial.rest.now)) (log_told told l.self) (still_to_go l.self ++ lines_of (map string_bytes l.rest.now));
+      goes : Goes (log_told told l.initial.self)
+          (still_to_go l.initial.self ++ lines_of (map string_bytes l.initial.rest.now)) (log_told told l.self)
+          (still_to_go l.self ++ lines_of (map string_bytes l.rest.now));
       off : TakesOff (map string_bytes l.initial.rest.now) (map string_bytes l.rest.now);
     }
 

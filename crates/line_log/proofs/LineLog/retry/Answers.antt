@@ -26,11 +26,14 @@ pub returns-clause-sends : goal.returns-clause-sends
 returns-clause-sends g c =
     let s = c.in_ok-reply.ensures.sends in
     let same = kept (Ok tt) _ _ _ s c.rest-rest.ensures c.keep_last.ensures.rest in
-    let none = c.keep_last.ensures.rest ∙ left_is _ s.sent _ (sym c.rest-rest.ensures ∙ s.split) ∙ c.in_ok-reply.ensures.done ∙ sym c.clear.ensures.rest in
+    let none =
+    c.keep_last.ensures.rest ∙ left_is _ s.sent _ (sym c.rest-rest.ensures ∙ s.split) ∙ c.in_ok-reply.ensures.done
+    ∙ sym c.clear.ensures.rest in
     sends_nothing (Ok tt) _ _ same refl c.in_ok-write_all.ensures.moves none
 
 pub returns-clause-passed : goal.returns-clause-passed
 returns-clause-passed g c = λ lines some e.
     let told = g.W.Write.told in
     let new = c.write_all.new.self in
-    none_waits (log_told told c.args.self.now) (told (line_inner new)) _ (still_to_go c.args.self.now) _ lines (returns-clause-sends g c) c.clear.ensures.rest e c.in_ok-write_all.ensures.open
+    none_waits (log_told told c.args.self.now) (told (line_inner new)) _ (still_to_go c.args.self.now) _ lines
+    (returns-clause-sends g c) c.clear.ensures.rest e c.in_ok-write_all.ensures.open

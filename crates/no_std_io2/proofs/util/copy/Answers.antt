@@ -2,7 +2,8 @@ use Rattle.std.proofs.Common.{rules, ◌∙◌, le_trans, inl}
 use Rattle.std.proofs.lemmas.Result.{err_from_is_err_and}
 use Rattle.no_std_io2_base.proofs.Taken.{moved_read, no_error}
 use Rattle.no_std_io2.proofs.CopyReads.{read_length, one_read, last_read}
-use Rattle.no_std_io2.proofs.Copied.{written_more, copied_more, copied_interruption, copied_end, copied_fault, copied_refused, written_refused}
+use Rattle.no_std_io2.proofs.Copied.{written_more, copied_more, copied_interruption, copied_end, copied_fault}
+use Rattle.no_std_io2.proofs.Copied.{copied_refused, written_refused}
 use Rattle.no_std_io2.proofs.util.copy.Goals as goal
 
 pub reads-preserved : goal.reads-preserved
@@ -137,15 +138,21 @@ returns-in_err-write_all-in-Ok-clause-store g c = λ s.
 pub returns-in_err-write_all-in-Ok-clause-moves : goal.returns-in_err-write_all-in-Ok-clause-moves
 returns-in_err-write_all-in-Ok-clause-moves g c =
     let p = err_from_is_err_and c.from_residual.result c.from_residual.ensures.1 in
-    rw (p.1, p.2) (written_refused _ _ _ _ _ c.in_err-write_all-in-Ok.field-0.0 c.reads.invariant.written c.in_err-write_all-in-Ok.ensures.moves)
+    rw (p.1, p.2)
+    (written_refused _ _ _ _ _ c.in_err-write_all-in-Ok.field-0.0 c.reads.invariant.written
+    c.in_err-write_all-in-Ok.ensures.moves)
 
 pub returns-in_err-write_all-in-Ok-clause-told : goal.returns-in_err-write_all-in-Ok-clause-told
 returns-in_err-write_all-in-Ok-clause-told g c = λ t.
     let so_far = c.reads.invariant.told t in
     let now = c.in-Ok.ensures.told so_far.0 in
     let p = err_from_is_err_and c.from_residual.result c.from_residual.ensures.1 in
-    let e = c.in_err-write_all-in-Ok.field-0.0 in
-    (now.0, rw (p.1, p.2) (copied_refused g.row.S _ _ _ _ _ c.in-Ok.n c.read.new.buf _ _ e so_far.1 now.1 (search rules) c.in-Ok.ensures.bound (search rules) c.in_err-write_all-in-Ok.ensures.moves))
+    let e = c.in_err-write_all-in-Ok.field-0.0 in (
+      now.0,
+      rw (p.1, p.2)
+          (copied_refused g.row.S _ _ _ _ _ c.in-Ok.n c.read.new.buf _ _ e so_far.1 now.1 (search rules)
+          c.in-Ok.ensures.bound (search rules) c.in_err-write_all-in-Ok.ensures.moves),
+    )
 
 -- the reader's fault
 pub returns-in-Err-2-clause-moves : goal.returns-in-Err-2-clause-moves

@@ -9,7 +9,10 @@ invariant-reads g l =
     record {
       long : length l.buf ≡ g.row.S;
       written : Written (g.W.Write.told l.initial.writer) (g.W.Write.told l.writer) l.copied;
-      told : g.R.Read.tells l.initial.reader → g.R.Read.tells l.reader × Copied (g.R.Read.events l.initial.reader) (g.W.Write.told l.initial.writer) (g.W.Write.told l.writer) l.copied (g.R.Read.events l.reader);
+      told : g.R.Read.tells l.initial.reader
+          → g.R.Read.tells l.reader
+          × Copied (g.R.Read.events l.initial.reader) (g.W.Write.told l.initial.writer) (g.W.Write.told l.writer)
+          l.copied (g.R.Read.events l.reader);
       same : g.row.S ≡ 0 → (l.writer ≡ l.initial.writer) × (l.copied ≡ 0);
       all : g.W.Write.takes_all l.initial.writer → g.W.Write.takes_all l.writer;
       turns : g.R.Read.turns l.reader ≤ g.R.Read.turns l.initial.reader;
@@ -20,7 +23,8 @@ invariant-reads g l =
       filling : g.R.Read.is_filling l.initial.reader → g.R.Read.is_filling l.reader;
       store : g.R.Stored.has_store l.initial.reader → g.R.Stored.has_store l.reader
           × (g.R.Stored.content l.reader ≡ g.R.Stored.content l.initial.reader)
-          × (g.R.Stored.position l.reader + length (g.R.Read.events l.reader) ≡ g.R.Stored.position l.initial.reader + length (g.R.Read.events l.initial.reader));
+          × (g.R.Stored.position l.reader + length (g.R.Read.events l.reader)
+          ≡ g.R.Stored.position l.initial.reader + length (g.R.Read.events l.initial.reader));
     }
 
 abbrev pub decreases-reads : goal.decreases-reads

@@ -31,4 +31,6 @@ pub returns-in_err-count-clause-err : goal.returns-in_err-count-clause-err
 returns-in_err-count-clause-err g c = λ t.
     let p = err_from_is_err_and c.from_residual.result c.from_residual.ensures.1 in
     let same = ap g.W.Write.told c.new-tower.ensures.inner in
-    rw (p.1, p.2) (⊎_elim (λ f. inl f) (λ f. inr (failed_bare _ same c.new-tower.ensures.empty f)) (copies_err (c.in_err-count.ensures.told t).1))
+    rw (p.1, p.2)
+    (⊎_elim (λ f. inl f) (λ f. inr (failed_bare _ same c.new-tower.ensures.empty f))
+    (copies_err (c.in_err-count.ensures.told t).1))

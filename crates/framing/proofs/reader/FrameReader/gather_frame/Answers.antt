@@ -4,14 +4,19 @@ use Rattle.std.specs.Int.{w32, from_le_bytes}
 use Rattle.framing.specs.Part.{part_bytes, part_header, part_payload, most}
 use Rattle.framing.proofs.TakingLemmas.{gathered_none, gathered_then, gathered_passes}
 use Rattle.framing.proofs.EventLemmas.{some_lent, none_of}
-use Rattle.framing.proofs.FrameLemmas.{told_behind, stopped, ended, no_frame, whole_part, too_long, frame_whole, passes_as, part_short, turn_spent}
+use Rattle.framing.proofs.FrameLemmas.{told_behind, stopped, ended, no_frame, whole_part, too_long, frame_whole}
+use Rattle.framing.proofs.FrameLemmas.{passes_as, part_short, turn_spent}
 use Rattle.framing.proofs.reader.FrameReader.gather_frame.Goals as goal
 
 pub returns-in_err-fill_header-clause-told : goal.returns-in_err-fill_header-clause-told
 returns-in_err-fill_header-clause-told g c = λ t.
     let p = err_from_is_err_and c.from_residual.result c.from_residual.ensures.1 in
-    let said = c.in_err-fill_header.ensures.told t in
-    (said.0, rw (p.1, p.2) (stopped (most c.args.self.now) 4 _ _ _ _ _ _ c.in_err-fill_header.field-0.0 (gathered_none _ _) said.1 (λ h. inl h)))
+    let said = c.in_err-fill_header.ensures.told t in (
+      said.0,
+      rw (p.1, p.2)
+          (stopped (most c.args.self.now) 4 _ _ _ _ _ _ c.in_err-fill_header.field-0.0 (gathered_none _ _) said.1
+          (λ h. inl h)),
+    )
 
 pub returns-then-is_empty-clause-told : goal.returns-then-is_empty-clause-told
 returns-then-is_empty-clause-told g c = λ t.
@@ -22,8 +27,11 @@ returns-then-is_empty-clause-told g c = λ t.
 pub returns-then-not-branch-clause-told : goal.returns-then-not-branch-clause-told
 returns-then-not-branch-clause-told g c = λ t.
     let said = c.in_ok-fill_header.ensures.told t in
-    let some : 0 < length (part_bytes c.fill_header.new.self) = some_lent _ _ c.is_empty.ensures c.if-is_empty.false in
-    (said.0, ended (most c.args.self.now) 4 _ _ _ _ _ _ c.in_ok-fill_header.field-0 c.ended_inside.result c.if-not-branch.true (gathered_none _ _) said.1 (λ h. inl h) some c.ended_inside.ensures)
+    let some : 0 < length (part_bytes c.fill_header.new.self) = some_lent _ _ c.is_empty.ensures c.if-is_empty.false in (
+      said.0,
+      ended (most c.args.self.now) 4 _ _ _ _ _ _ c.in_ok-fill_header.field-0 c.ended_inside.result c.if-not-branch.true
+          (gathered_none _ _) said.1 (λ h. inl h) some c.ended_inside.ensures,
+    )
 
 pub told_len-len-requires : goal.told_len-len-requires
 told_len-len-requires g c = c.in_ok-fill_header.ensures.whole c.if-not-branch.false
@@ -34,8 +42,11 @@ returns-then-len-self-clause-told g c = λ t.
     let b = c.if-not-branch.false in
     let whole = whole_part 4 _ _ _ _ c.in_ok-fill_header.field-0 b said.1 in
     let part = c.fill_header.new.self in
-    let told = told_behind (part_header part) (part_payload part) (c.in_ok-fill_header.ensures.whole b) in
-    (said.0, too_long (most c.args.self.now) _ _ _ _ c.new.result whole.0 whole.1 (omega (arith, told, c.told_len-len.ensures.value, c.if-len-self.true)) c.new.ensures.kind)
+    let told = told_behind (part_header part) (part_payload part) (c.in_ok-fill_header.ensures.whole b) in (
+      said.0,
+      too_long (most c.args.self.now) _ _ _ _ c.new.result whole.0 whole.1
+          (omega (arith, told, c.told_len-len.ensures.value, c.if-len-self.true)) c.new.ensures.kind,
+    )
 
 pub returns-in_err-fill_payload-clause-told : goal.returns-in_err-fill_payload-clause-told
 returns-in_err-fill_payload-clause-told g c = λ t.
@@ -48,8 +59,12 @@ returns-in_err-fill_payload-clause-told g c = λ t.
     let part = c.fill_payload.new.self in
     let same = c.in_err-fill_payload.ensures.header in
     let four : length (part_header part) ≡ 4 = ap length same ∙ c.in_ok-fill_header.ensures.whole b in
-    let told = c.told_len-len.ensures.value ∙ ap (from_le_bytes w32) (sym same) in
-    (said.0, rw (p.1, p.2) (stopped (most c.args.self.now) (4 + len) _ _ _ _ _ _ c.in_err-fill_payload.field-0.0 whole.0 said.1 (part_short (part_header part) (part_payload part) len four told)))
+    let told = c.told_len-len.ensures.value ∙ ap (from_le_bytes w32) (sym same) in (
+      said.0,
+      rw (p.1, p.2)
+          (stopped (most c.args.self.now) (4 + len) _ _ _ _ _ _ c.in_err-fill_payload.field-0.0 whole.0 said.1
+          (part_short (part_header part) (part_payload part) len four told)),
+    )
 
 pub returns-then-not-branch-2-clause-told : goal.returns-then-not-branch-2-clause-told
 returns-then-not-branch-2-clause-told g c = λ t.
@@ -64,7 +79,8 @@ returns-then-not-branch-2-clause-told g c = λ t.
     let told = c.told_len-len.ensures.value ∙ ap (from_le_bytes w32) (sym same) in
     let some : 0 < length (part_bytes part) = omega (arith, four, length-append (part_header part) (part_payload part)) in (
       said.0,
-      ended (most c.args.self.now) (4 + len) _ _ _ _ _ _ c.in_ok-fill_payload.field-0 c.ended_inside-then-not-branch-2.result c.if-not-branch-2.true whole.0 said.1
+      ended (most c.args.self.now) (4 + len) _ _ _ _ _ _ c.in_ok-fill_payload.field-0
+          c.ended_inside-then-not-branch-2.result c.if-not-branch-2.true whole.0 said.1
           (part_short (part_header part) (part_payload part) len four told) some c.ended_inside-then-not-branch-2.ensures,
     )
 
@@ -78,10 +94,13 @@ returns-clause-told g c = λ t.
     let whole = whole_part (4 + c.told_len-len.result) _ _ _ _ c.in_ok-fill_payload.field-0 b2 said.1 in
     let part = c.fill_payload.new.self in
     let long = c.in_ok-fill_payload.ensures.whole b2 in
-    let is = frame_whole c.told_len-len.result (part_header part) (part_payload part) (c.told_len-len.ensures.back ∙ sym c.in_ok-fill_payload.ensures.header) long in
+    let is =
+    frame_whole c.told_len-len.result (part_header part) (part_payload part)
+    (c.told_len-len.ensures.back ∙ sym c.in_ok-fill_payload.ensures.header) long in
     (said.0, (passes_as (gathered_passes (gathered_then first.0 whole.0)) is, omega (arith, long, c.if-len-self.false)))
 
 pub returns-clause-turn : goal.returns-clause-turn
 returns-clause-turn g c = λ h.
     let said = c.in_ok-fill_header.ensures in
-    turn_spent (length (part_bytes c.args.self.now.part)) (length (part_bytes c.fill_header.new.self)) _ _ _ (said.some c.if-not-branch.false) said.turn said.turns c.in_ok-fill_payload.ensures.turns
+    turn_spent (length (part_bytes c.args.self.now.part)) (length (part_bytes c.fill_header.new.self)) _ _ _
+    (said.some c.if-not-branch.false) said.turn said.turns c.in_ok-fill_payload.ensures.turns

@@ -23,8 +23,11 @@ returns-then-not-branch-clause-told g c = λ t.
 
 pub returns-clause-told : goal.returns-clause-told
 returns-clause-told g c = λ t.
-    let said = (rw c.if-not-branch.false at c.in_ok-gather_frame.ensures.told) t in
-    (said.0, frame_taken (most c.args.self.now) _ _ (part_payload c.gather_frame.new.self.part) c.take_payload.result.items (part_bytes c.take_payload.new.self) said.1 c.take_payload.ensures.payload c.take_payload.ensures.empty)
+    let said = (rw c.if-not-branch.false at c.in_ok-gather_frame.ensures.told) t in (
+      said.0,
+      frame_taken (most c.args.self.now) _ _ (part_payload c.gather_frame.new.self.part) c.take_payload.result.items
+          (part_bytes c.take_payload.new.self) said.1 c.take_payload.ensures.payload c.take_payload.ensures.empty,
+    )
 
 pub returns-clause-turn : goal.returns-clause-turn
 returns-clause-turn g c =

@@ -23,8 +23,12 @@ returns-in_err-next-clause-told g c = λ t.
     let p = err_from_is_err_and c.from_residual-in_err-next.result c.from_residual-in_err-next.ensures.1 in
     let run = c.frames.invariant.told t in
     let same = run_same (λ v. v.items) _ _ _ c.args.payloads.now.items _ c.reserve.new.self.items run.1 c.reserve.ensures.items in
-    let said = c.in_err-next.ensures.told run.0 in
-    (said.0, rw (p.1, p.2) (run_stops (most c.args.self.now) (most c.frames.self) _ _ _ _ c.in_err-next.field-0.0 same c.frames.invariant.limit said.1))
+    let said = c.in_err-next.ensures.told run.0 in (
+      said.0,
+      rw (p.1, p.2)
+          (run_stops (most c.args.self.now) (most c.frames.self) _ _ _ _ c.in_err-next.field-0.0 same
+          c.frames.invariant.limit said.1),
+    )
 
 pub returns-in_err-next-clause-back : goal.returns-in_err-next-clause-back
 returns-in_err-next-clause-back g c = λ sent t is within.
@@ -57,7 +61,10 @@ frames-preserved g c =
       appends = appends_push old had new payload before.appends pushed;
       told = λ t.
           let run = before.told t in
-          let said = (rw c.in-Some.is at c.in_ok-next.ensures.told) run.0 in
-          (said.0, run_more (λ v. v.items) (most c.args.self.now) _ _ _ old had new payload before.appends pushed run.1 (frame_within _ (most c.frames.self) _ _ payload.items before.limit said.1));
+          let said = (rw c.in-Some.is at c.in_ok-next.ensures.told) run.0 in (
+            said.0,
+            run_more (λ v. v.items) (most c.args.self.now) _ _ _ old had new payload before.appends pushed run.1
+                (frame_within _ (most c.frames.self) _ _ payload.items before.limit said.1),
+          );
       limit = c.next.ensures.limit ∙ before.limit;
     }

@@ -10,7 +10,8 @@ invariant-frames g l =
     record {
       appends : l.payloads.items ≡ l.initial.payloads.items ++ appended l.initial.payloads.items l.payloads.items;
       told : R.tells (reads_from l.initial.self) → R.tells (reads_from l.self)
-          × PassesFrames (most l.initial.self) (frame_events R.events l.initial.self) (map (λ v. v.items) (appended l.initial.payloads.items l.payloads.items)) (frame_events R.events l.self);
+          × PassesFrames (most l.initial.self) (frame_events R.events l.initial.self)
+          (map (λ v. v.items) (appended l.initial.payloads.items l.payloads.items)) (frame_events R.events l.self);
       limit : most l.self ≡ most l.initial.self;
     }
 

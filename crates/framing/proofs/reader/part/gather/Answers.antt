@@ -20,12 +20,17 @@ pieces-preserved-in-Ok g c =
           let so_far = before.told t in
           let loan = filled.told so_far.0 in
           let rest = dropped.told loan.0 in
-          let part = part_taken _ c.in-Ok.lent _ _ _ (events c.consume.new.self) len c.in-Ok.is filled.lends loan.1 rest.1 in
-          (rest.0, gathered_bytes (take len lent) c.extend_from_slice.new.self.items (events c.consume.new.self) so_far.1 part appended.items);
+          let part = part_taken _ c.in-Ok.lent _ _ _ (events c.consume.new.self) len c.in-Ok.is filled.lends loan.1 rest.1 in (
+            rest.0,
+            gathered_bytes (take len lent) c.extend_from_slice.new.self.items (events c.consume.new.self) so_far.1 part
+                appended.items,
+          );
       grows = omega (arith, before.grows, appended.len);
       len = omega (arith, appended.len, is, c.min-len.ensures, c.len.ensures, c.pieces-test.true);
       turns = omega (arith, dropped.turns, filled.turns, before.turns);
-      turn = λ _. let one : 0 < len = omega (arith, c.min-len.ensures, c.len-in-Ok.ensures, c.len.ensures, c.pieces-test.true) in omega (arith, dropped.turn one, filled.turns, before.turns);
+      turn = λ _. let one : 0 < len =
+          omega (arith, c.min-len.ensures, c.len-in-Ok.ensures, c.len.ensures, c.pieces-test.true) in
+          omega (arith, dropped.turn one, filled.turns, before.turns);
     }
 
 pub pieces-preserved : goal.pieces-preserved
@@ -35,8 +40,11 @@ pieces-preserved g c =
     record {
       told = λ t.
           let so_far = before.told t in
-          let loan = filled.told so_far.0 in
-          (loan.0, gathered_interruption c.in-Err.e _ so_far.1 (error_taken _ _ _ _ c.in-Err.is loan.1) (sym c.is_interrupted.ensures ∙ c.if-is_interrupted.true));
+          let loan = filled.told so_far.0 in (
+            loan.0,
+            gathered_interruption c.in-Err.e _ so_far.1 (error_taken _ _ _ _ c.in-Err.is loan.1)
+                (sym c.is_interrupted.ensures ∙ c.if-is_interrupted.true),
+          );
       grows = before.grows;
       len = before.len;
       turns = le_trans filled.turns before.turns;

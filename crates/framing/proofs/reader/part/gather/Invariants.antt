@@ -7,7 +7,8 @@ abbrev pub invariant-pieces : goal.invariant-pieces
 invariant-pieces g l =
     let R = g.B.Read in
     record {
-      told : R.tells l.initial.from → R.tells l.from × Gathered (R.events l.initial.from) l.initial.part.items l.part.items (R.events l.from);
+      told : R.tells l.initial.from
+          → R.tells l.from × Gathered (R.events l.initial.from) l.initial.part.items l.part.items (R.events l.from);
       grows : vec_len l.initial.part ≤ vec_len l.part;
       len : vec_len l.part ≤ l.want;
       turns : R.turns l.from ≤ R.turns l.initial.from;

@@ -9,7 +9,9 @@ abbrev pub invariant-tries : goal.invariant-tries
 invariant-tries g l =
     let told = g.W.Write.told in
     record {
-      goes : Delivers (writer_tells told l.initial.self) (still_to_go l.initial.self ++ frames (map (λ v. v.items) l.initial.rest.now)) (writer_tells told l.self) (still_to_go l.self ++ frames (map (λ v. v.items) l.rest.now));
+      goes : Delivers (writer_tells told l.initial.self)
+          (still_to_go l.initial.self ++ frames (map (λ v. v.items) l.initial.rest.now)) (writer_tells told l.self)
+          (still_to_go l.self ++ frames (map (λ v. v.items) l.rest.now));
       off : TakesOff (map (λ v. v.items) l.initial.rest.now) (map (λ v. v.items) l.rest.now);
       spent : HasSpentTries l.fn.tries l.left (writer_tells told l.initial.self).mishaps (writer_tells told l.self).mishaps;
     }

@@ -1,7 +1,8 @@
 use Rattle.std.proofs.Common.{◌≡◌, ◌<◌, ◌^◌, ◌++◌, ◌∷◌, length, map, refl, sym, ap, ◌∙◌, subst}
 use Rattle.std.proofs.lemmas.Result.{err_from_is_err_and}
 use Rattle.framing.specs.Frames.{frames}
-use Rattle.framing.proofs.SendingLemmas.{goes_none, goes_on, goes_stopped, goes_refused, goes_all, goes_shown, off_none, off_more, none_left, staged}
+use Rattle.framing.proofs.SendingLemmas.{goes_none, goes_on, goes_stopped, goes_refused, goes_all, goes_shown, off_none}
+use Rattle.framing.proofs.SendingLemmas.{off_more, none_left, staged}
 use Rattle.framing.proofs.writer.FrameWriter.send_all.Goals as goal
 
 pub frames-init : goal.frames-init
@@ -11,7 +12,9 @@ pub returns-in_err-retry-clause-sends : goal.returns-in_err-retry-clause-sends
 returns-in_err-retry-clause-sends g c =
     let p = err_from_is_err_and c.from_residual.result c.from_residual.ensures.1 in
     let said = c.in_err-retry.ensures in
-    rw (p.1, p.2) (goes_stopped (frames (map (λ v. v.items) c.frames.rest.now)) c.in_err-retry.field-0.0 _ c.frames.invariant.goes said.sends said.some)
+    rw (p.1, p.2)
+    (goes_stopped (frames (map (λ v. v.items) c.frames.rest.now)) c.in_err-retry.field-0.0 _ c.frames.invariant.goes
+    said.sends said.some)
 
 pub returns-in_default-clause-sends : goal.returns-in_default-clause-sends
 returns-in_default-clause-sends g c =
@@ -27,7 +30,9 @@ returns-in_err-stage-clause-sends g c =
     let p = err_from_is_err_and c.from_residual-in_err-stage.result c.from_residual-in_err-stage.ensures.1 in
     let said = c.in_err-stage.ensures in
     let more = frames (map (λ v. v.items) c.frames.rest.now) in
-    rw (p.1, p.2) (goes_refused _ _ c.in_err-stage.field-0.0 (goes_on more c.frames.invariant.goes c.in_ok-retry.ensures.sends) (ap (λ l. l ++ more) (c.in_ok-retry.ensures.none ∙ sym said.none)) said.err)
+    rw (p.1, p.2)
+    (goes_refused _ _ c.in_err-stage.field-0.0 (goes_on more c.frames.invariant.goes c.in_ok-retry.ensures.sends)
+    (ap (λ l. l ++ more) (c.in_ok-retry.ensures.none ∙ sym said.none)) said.err)
 
 pub frames-preserved : goal.frames-preserved
 frames-preserved g c =

@@ -1,5 +1,7 @@
 use Rattle.std.proofs.Common.{length, rules, refl, arith, ap}
-use Rattle.no_std_io2_base.proofs.WriteExits.{not_empty, is_empty, sent_none, sends_zero, sends_fault, sends_done, sent_interruption, sent_more, fewer_left, fewer_turns, takes_some, no_error_there}
+use Rattle.no_std_io2_base.proofs.WriteExits.{not_empty, is_empty, sent_none, sends_zero, sends_fault, sends_done}
+use Rattle.no_std_io2_base.proofs.WriteExits.{sent_interruption, sent_more, fewer_left, fewer_turns, takes_some}
+use Rattle.no_std_io2_base.proofs.WriteExits.{no_error_there}
 use Rattle.no_std_io2_base.specs.Errors.{IsInterruption}
 use Rattle.io_bench.specs.Faulty.{acts_left}
 use Rattle.io_bench.proofs.SpentActs.{spent_none, spent_more, spent_stop, spent_done, went_on_by, interrupted_by, left_of}

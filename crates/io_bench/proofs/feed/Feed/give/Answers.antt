@@ -6,7 +6,9 @@ use Rattle.io_bench.proofs.feed.Feed.give.Goals as goal
 pub bytes-preserved : goal.bytes-preserved
 bytes-preserved c =
     let before = c.bytes.invariant in
-    let step = given_next c.bytes.n c.in-Some.byte (feed_left c.args.self.now) (feed_left c.take_byte.new.self) c.bytes.buf (omega arith) before.enough before.given (sym before.left ∙ c.in-Some.ensures.byte) in
+    let step =
+    given_next c.bytes.n c.in-Some.byte (feed_left c.args.self.now) (feed_left c.take_byte.new.self) c.bytes.buf
+    (omega arith) before.enough before.given (sym before.left ∙ c.in-Some.ensures.byte) in
     record {
       fits = omega arith;
       enough = step.0;

@@ -1,7 +1,8 @@
 use Rattle.std.proofs.Common.{◌-◌, length, rules, arith, refl, sym, ◌∙◌, le_refl, le_trans, inl, inr}
 use Rattle.std.proofs.lemmas.Slice.{take-put_mid_below}
 use Rattle.no_std_io2_base.proofs.Parts.{take-put_mid}
-use Rattle.no_std_io2_base.proofs.ReadExactExits.{length_stays, short_before, some_part, some_bytes, within_part, le_same, exact_short, exact_done}
+use Rattle.no_std_io2_base.proofs.ReadExactExits.{length_stays, short_before, some_part, some_bytes, within_part}
+use Rattle.no_std_io2_base.proofs.ReadExactExits.{le_same, exact_short, exact_done}
 use Rattle.no_std_io2_base.proofs.ReadsToEndExits.{stays_at_end}
 use Rattle.no_std_io2_base.proofs.Taken.{taken_none, taken_read, taken_interruption, taken_fault, moved_read, no_error}
 use Rattle.io_bench.proofs.CountLemmas.{counted_none, counted_stop, counted_done, counted_more, handed_once, one_read, part_room}

@@ -1,11 +1,14 @@
 use Rattle.std.proofs.Common.{◌+◌, ◌≤◌, ◌++◌, length, take, arith, ap, refl, sym, ◌∙◌, le_refl, le_trans}
 use Rattle.std.proofs.lemmas.Result.{err_from_is_err_and}
-use Rattle.no_std_io2_base.proofs.Gathered.{gathered_none, gathered_same, gathered_read, gathered_interruption, gathered_fault, gathered_memory, gathered_fits, gathered_no_fault}
+use Rattle.no_std_io2_base.proofs.Gathered.{gathered_none, gathered_same, gathered_read, gathered_interruption}
+use Rattle.no_std_io2_base.proofs.Gathered.{gathered_fault, gathered_memory, gathered_fits, gathered_no_fault}
 use Rattle.no_std_io2_base.proofs.Parts.{take-written, take-written_below, take-stays}
 use Rattle.no_std_io2_base.proofs.PieceLemmas.{memory_fault}
-use Rattle.no_std_io2_base.proofs.ReadsToEndExits.{front_whole, filled_bytes, front_cut, none_opened, count_cut, len_cut, some_room, gathered_stops, stays_at_end}
+use Rattle.no_std_io2_base.proofs.ReadsToEndExits.{front_whole, filled_bytes, front_cut, none_opened, count_cut}
+use Rattle.no_std_io2_base.proofs.ReadsToEndExits.{len_cut, some_room, gathered_stops, stays_at_end}
 use Rattle.no_std_io2_base.proofs.Taken.{moved_read, no_error}
-use Rattle.io_bench.proofs.CountLemmas.{counted_none, counted_more, counted_end, counted_fault, counted_refused, handed_once, one_read, part_room}
+use Rattle.io_bench.proofs.CountLemmas.{counted_none, counted_more, counted_end, counted_fault, counted_refused}
+use Rattle.io_bench.proofs.CountLemmas.{handed_once, one_read, part_room}
 use Rattle.io_bench.proofs.tally.TallyRead.read_to_end.Goals as goal
 
 pub returns-in_err-reserve_room : goal.returns-in_err-reserve_room
@@ -101,7 +104,13 @@ returns-in-Ok-eq0 g c =
       room = λ t enough. refl;
       fault = tt;
       turns = le_trans read.turns before.turns;
-      counts = counted_end _ _ _ _ _ _ _ before.counts (one_read _ _ _ (part_room filled c.deref_mut.result.now (omega (arith, c.in_ok-open_room.ensures.room, c.deref_mut.ensures.len))) read.reads) read.turns;
+      counts =
+          counted_end _ _ _ _ _ _ _ before.counts
+          (one_read _ _ _
+          (part_room filled c.deref_mut.result.now
+          (omega (arith, c.in_ok-open_room.ensures.room, c.deref_mut.ensures.len)))
+          read.reads)
+          read.turns;
       handed = λ m. handed_once _ _ _ _ _ _ _ (before.handed m) (read.handed.counted (before.handed m).0) read.reads;
       writes = read.writes ∙ before.writes;
       filling = λ f. (read.fills (before.is_filling f)).0;
@@ -142,7 +151,13 @@ returns-in-Err-2 g c =
           absurd (gathered_no_fault _ _ _ _ _ _ so_far.1 (read.told so_far.0).1 fault enough.0);
       fault = fault;
       turns = le_trans read.turns before.turns;
-      counts = counted_fault _ _ _ _ _ _ _ before.counts (one_read _ _ _ (part_room filled c.deref_mut.result.now (omega (arith, c.in_ok-open_room.ensures.room, c.deref_mut.ensures.len))) read.reads) c.in-Err.ensures.turn;
+      counts =
+          counted_fault _ _ _ _ _ _ _ before.counts
+          (one_read _ _ _
+          (part_room filled c.deref_mut.result.now
+          (omega (arith, c.in_ok-open_room.ensures.room, c.deref_mut.ensures.len)))
+          read.reads)
+          c.in-Err.ensures.turn;
       handed = λ m. handed_once _ _ _ _ _ _ _ (before.handed m) (read.handed.counted (before.handed m).0) read.reads;
       writes = read.writes ∙ before.writes;
       filling = λ f. (read.fills (before.is_filling f)).0;
@@ -176,7 +191,13 @@ reads-preserved-in-Ok g c =
           let so_far = before.told t in
           let now = read.told so_far.0 in
           (now.0, gathered_read _ _ _ _ _ _ _ _ so_far.1 now.1 (shown ∙ ap (λ l. l ++ take n c.read.new.buf) c.open_room.ensures.front));
-      counts = counted_more _ _ _ _ _ _ _ _ _ before.counts (one_read _ _ _ (part_room filled c.deref_mut.result.now (omega (arith, c.in_ok-open_room.ensures.room, c.deref_mut.ensures.len))) read.reads) (c.in-Ok.ensures.turn (omega arith));
+      counts =
+          counted_more _ _ _ _ _ _ _ _ _ before.counts
+          (one_read _ _ _
+          (part_room filled c.deref_mut.result.now
+          (omega (arith, c.in_ok-open_room.ensures.room, c.deref_mut.ensures.len)))
+          read.reads)
+          (c.in-Ok.ensures.turn (omega arith));
       handed = λ m. handed_once _ _ _ _ _ _ _ (before.handed m) (read.handed.counted (before.handed m).0) read.reads;
       writes = read.writes ∙ before.writes;
       is_filling = λ f. (read.fills (before.is_filling f)).0;
@@ -212,7 +233,13 @@ reads-preserved g c =
             gathered_interruption _ _ _ _ _ _ (gathered_same _ _ _ _ _ so_far.1 (kept ∙ c.open_room.ensures.front)) now.1
                 (sym c.is_interrupted.ensures ∙ c.if-is_interrupted.true),
           );
-      counts = counted_more _ _ _ _ _ _ _ _ _ before.counts (one_read _ _ _ (part_room filled c.deref_mut.result.now (omega (arith, c.in_ok-open_room.ensures.room, c.deref_mut.ensures.len))) read.reads) c.in-Err.ensures.turn;
+      counts =
+          counted_more _ _ _ _ _ _ _ _ _ before.counts
+          (one_read _ _ _
+          (part_room filled c.deref_mut.result.now
+          (omega (arith, c.in_ok-open_room.ensures.room, c.deref_mut.ensures.len)))
+          read.reads)
+          c.in-Err.ensures.turn;
       handed = λ m. handed_once _ _ _ _ _ _ _ (before.handed m) (read.handed.counted (before.handed m).0) read.reads;
       writes = read.writes ∙ before.writes;
       is_filling = λ f. (read.fills (before.is_filling f)).0;

@@ -10,7 +10,10 @@ pub returns : goal.returns
 returns g c = λ some t whole steady.
     let done = (c.in_ok-n.ensures.told t).1 in
     let all : g.R.Read.events c.args.reader.now ≡ done.0 = done.1 ∙ ap (λ l. done.0 ++ l) (done.3.1 some) ∙ append-nil done.0 in
-    let moved : Moves (g.W.Write.told c.args.writer.now) (bytes (g.R.Read.events c.args.reader.now)) [] (g.W.Write.told c.copy.new.writer) = subst (λ E. Moves (g.W.Write.told c.args.writer.now) (bytes E) [] (g.W.Write.told c.copy.new.writer)) (sym all) done.3.3 in
+    let moved : Moves (g.W.Write.told c.args.writer.now) (bytes (g.R.Read.events c.args.reader.now)) []
+    (g.W.Write.told c.copy.new.writer) =
+    subst (λ E. Moves (g.W.Write.told c.args.writer.now) (bytes E) [] (g.W.Write.told c.copy.new.writer)) (sym all)
+    done.3.3 in
     let flush = c.in_ok-flush.ensures in (
       done.3.2 ∙ ap (λ E. counted (bytes E)) (sym all),
       done.3.1 some,

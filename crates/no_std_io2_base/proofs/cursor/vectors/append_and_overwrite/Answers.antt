@@ -1,4 +1,5 @@
-use Rattle.std.proofs.Common.{◌≡◌, ◌+◌, ◌-◌, ◌++◌, ℕ, Bool, true, false, cond, List, arith, take, drop, sym, ap, ◌∙◌, length-take, length-drop, length-take-le, true≢false}
+use Rattle.std.proofs.Common.{◌≡◌, ◌+◌, ◌-◌, ◌++◌, ℕ, Bool, true, false, cond, List, arith, take, drop, sym, ap, ◌∙◌}
+use Rattle.std.proofs.Common.{length-take, length-drop, length-take-le, true≢false}
 use Rattle.std.proofs.lemmas.Bool.{cond-true, cond-false}
 use Rattle.std.proofs.lemmas.List.{with_items_is, take_rest}
 use Rattle.no_std_io2_base.specs.Cursor.{put_at}
@@ -35,7 +36,10 @@ returns g c =
     let added = changed _ _ _ _ append.items c.if-is_err.ensures.negation in
     let grown : new.items ≡ bs ++ drop k x = added ∙ ap (λ l. bs ++ l) (take_rest x k) in
     let part = length-take-le k x (omega arith) in
-    let over : c.overwrite.new.content ≡ put_at start x bs = c.overwrite.ensures ∙ ap (λ n. take start shown ++ take k x ++ drop (start + n) shown) part ∙ ap (λ l. take start l ++ take k x ++ drop (start + k) l) (c.deref_mut.ensures.value ∙ grown) ∙ put_across start k x bs (omega arith) (omega arith) in
+    let over : c.overwrite.new.content ≡ put_at start x bs =
+    c.overwrite.ensures ∙ ap (λ n. take start shown ++ take k x ++ drop (start + n) shown) part
+    ∙ ap (λ l. take start l ++ take k x ++ drop (start + k) l) (c.deref_mut.ensures.value ∙ grown)
+    ∙ put_across start k x bs (omega arith) (omega arith) in
     record {
       puts = with_items_is new c.overwrite.new.content (omega arith) ∙ over;
       full = λ none. absurd (true≢false none);

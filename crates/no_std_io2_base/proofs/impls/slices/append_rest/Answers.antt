@@ -2,7 +2,8 @@
 use Rattle.std.proofs.Common.{◌-◌, length, take, drop, refl, ◌∙◌, le_trans, le_refl}
 use Rattle.std.proofs.lemmas.List.{take_rest, drop_all}
 use Rattle.std.proofs.lemmas.Result.{err_from_is_err_and}
-use Rattle.no_std_io2_base.proofs.SliceReads.{moved_none, moved_on, moved_first, moved_second, no_room, wants_least, wants_part, wants_rest, wants_bounded, least_first}
+use Rattle.no_std_io2_base.proofs.SliceReads.{moved_none, moved_on, moved_first, moved_second, no_room, wants_least}
+use Rattle.no_std_io2_base.proofs.SliceReads.{wants_part, wants_rest, wants_bounded, least_first}
 use Rattle.no_std_io2_base.proofs.impls.slices.append_rest.Goals as goal
 
 pub returns-in_err-reserve_room : goal.returns-in_err-reserve_room
@@ -63,7 +64,9 @@ returns-in_err-reserve_room-2 g c =
       done = tt;
       grows = le_trans room.grows (le_trans first.capacity more.grows);
       refused = more.refused;
-      full = no_room _ _ _ _ _ _ _ _ _ moved c.args.buf.now.ok.0 is (le_trans room.grows first.capacity) more.full (wants_bounded _ _ _ c.saturating_add.ensures);
+      full =
+          no_room _ _ _ _ _ _ _ _ _ moved c.args.buf.now.ok.0 is (le_trans room.grows first.capacity) more.full
+          (wants_bounded _ _ _ c.saturating_add.ensures);
     })
 
 pub returns-in_err-extend_from_slice-2 : goal.returns-in_err-extend_from_slice-2

@@ -4,7 +4,9 @@ use Rattle.no_std_io2_base.proofs.traits.pieces.drop_last.Goals as goal
 
 pub returns-then-index-last : goal.returns-then-index-last
 returns-then-index-last c =
-    let other = other_last c.args.last _ c.len-len.result _ (c.len-len.ensures ∙ c.args.bytes.now.ok.0) c.if-len-eq0.false c.index.ensures c.if-index-last.true in
+    let other =
+    other_last c.args.last _ c.len-len.result _ (c.len-len.ensures ∙ c.args.bytes.now.ok.0) c.if-len-eq0.false
+    c.index.ensures c.if-index-last.true in
     record { dropped = sym other; items = kept_last _ _ other }
 
 pub returns : goal.returns

@@ -1,6 +1,7 @@
 -- As the trait's `read_to_end`, but for the room, which is what there is.
-use Rattle.std.proofs.Common.{◌≡◌, ◌+◌, ◌≤◌, ◌++◌, true, false, true≢false, length, take, arith, ap, refl, sym, ◌∙◌, le_refl, le_trans}
-use Rattle.no_std_io2_base.proofs.Gathered.{gathered_none, gathered_same, gathered_read, gathered_interruption, gathered_room, gathered_failed, gathered_over}
+use Rattle.std.proofs.Common.{◌+◌, ◌≤◌, ◌++◌, true, false, true≢false, length, take, arith, ap, refl, sym, ◌∙◌, le_refl, le_trans}
+use Rattle.no_std_io2_base.proofs.Gathered.{gathered_none, gathered_same, gathered_read, gathered_interruption}
+use Rattle.no_std_io2_base.proofs.Gathered.{gathered_room, gathered_failed, gathered_over}
 use Rattle.no_std_io2_base.proofs.Parts.{take-written, take-written_below, take-stays}
 use Rattle.no_std_io2_base.proofs.ReadsToEndExits.{front_whole, front_cut, filled_length, some_room, whole_room, stays_at_end}
 use Rattle.no_std_io2_base.proofs.Taken.{moved_read, no_error}
@@ -162,7 +163,9 @@ reads-preserved g c =
 pub returns : goal.returns
 returns g c =
     let before = c.reads.invariant in
-    let whole = whole_room c.reads.filled _ _ before.within c.reads.buf.ok.0 (omega (arith, c.reads-test.false, c.capacity.ensures, c.reads.buf.ok.1)) in
+    let whole =
+    whole_room c.reads.filled _ _ before.within c.reads.buf.ok.0
+    (omega (arith, c.reads-test.false, c.capacity.ensures, c.reads.buf.ok.1)) in
     record {
       told = λ t.
           let so_far = before.told t in

@@ -1,7 +1,8 @@
-use Rattle.std.proofs.Common.{◌≡◌, ◌-◌, length, rules, arith, ap, refl, ◌∙◌, le_refl, inr}
+use Rattle.std.proofs.Common.{◌-◌, length, rules, arith, ap, refl, ◌∙◌, le_refl, inr}
 use Rattle.no_std_io2.specs.Errors.{IsFault}
 use Rattle.system_streams.specs.Patient.{patient_device}
-use Rattle.system_streams.proofs.LoopLemmas.{consumes_nil, consumed_some, consumed_none, consumed_end, ends_reads, length_stays, part_room, within_part, got_same, got_none, got_more}
+use Rattle.system_streams.proofs.LoopLemmas.{consumes_nil, consumed_some, consumed_none, consumed_end, ends_reads}
+use Rattle.system_streams.proofs.LoopLemmas.{length_stays, part_room, within_part, got_same, got_none, got_more}
 use Rattle.system_streams.proofs.patient.PatientRead.read_exact.Goals as goal
 
 pub reads-init : goal.reads-init

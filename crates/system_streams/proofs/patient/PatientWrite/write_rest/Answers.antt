@@ -1,6 +1,7 @@
-use Rattle.std.proofs.Common.{◌≡◌, length, rules, arith, le_refl, le_trans, Err}
+use Rattle.std.proofs.Common.{rules, arith, le_refl, Err}
 use Rattle.no_std_io2.specs.Errors.{IsFault, IsInterruption}
-use Rattle.system_streams.proofs.LoopLemmas.{gives_none, gives_more, gives_same, gives_zero, gives_sends, no_turn, turn_spent, ends_zero, ends_writes, not_empty, is_empty, fewer_left}
+use Rattle.system_streams.proofs.LoopLemmas.{gives_none, gives_more, gives_same, gives_zero, gives_sends, no_turn}
+use Rattle.system_streams.proofs.LoopLemmas.{turn_spent, ends_zero, ends_writes, is_empty, fewer_left}
 use Rattle.system_streams.proofs.patient.PatientWrite.write_rest.Goals as goal
 
 pub writes-init : goal.writes-init

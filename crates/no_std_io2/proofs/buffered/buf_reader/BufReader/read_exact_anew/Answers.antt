@@ -5,7 +5,9 @@ use Rattle.no_std_io2_base.proofs.Parts.{take-put_mid}
 use Rattle.no_std_io2_base.proofs.Taken.{taken_read, taken_interruption, taken_fault, moved_read}
 use Rattle.no_std_io2_base.specs.Errors.{is_interruption}
 use Rattle.no_std_io2.specs.Reading.{reader_held, reader_inner, reader_events}
-use Rattle.no_std_io2.proofs.Exact.{exact_begins, exact_first, exact_read, exact_end, exact_short, exact_left-end, exact_left-full, taken_first, taken_end, taken_whole, nothing_read, length-events, moved_length, no_error_behind}
+use Rattle.no_std_io2.proofs.Exact.{exact_begins, exact_first, exact_read, exact_end, exact_short, exact_left-end}
+use Rattle.no_std_io2.proofs.Exact.{exact_left-full, taken_first, taken_end, taken_whole, nothing_read, length-events}
+use Rattle.no_std_io2.proofs.Exact.{moved_length, no_error_behind}
 use Rattle.no_std_io2.proofs.buffered.buf_reader.BufReader.read_exact_anew.Goals as goal
 
 pub reads-init : goal.reads-init

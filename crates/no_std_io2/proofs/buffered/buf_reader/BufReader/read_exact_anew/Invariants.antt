@@ -1,7 +1,8 @@
 -- An exact read ends with its reader's turns, and what it filled is what it took.
 use Rattle.std.proofs.Common.{◌≡◌, ◌≤◌, ◌<◌, ◌+◌, ◌-◌, length, take, min}
 use Rattle.no_std_io2_base.proofs.Taken.{Taken}
-use Rattle.no_std_io2.specs.Reading.{reader_held, reader_inner, reader_events, reader_turns, reader_has_store, reader_is_sound, reader_position}
+use Rattle.no_std_io2.specs.Reading.{reader_held, reader_inner, reader_events, reader_turns, reader_has_store}
+use Rattle.no_std_io2.specs.Reading.{reader_is_sound, reader_position}
 use Rattle.no_std_io2.proofs.Exact.{Exact}
 use Rattle.no_std_io2.proofs.buffered.buf_reader.BufReader.read_exact_anew.Given as goal
 
@@ -12,14 +13,23 @@ invariant-reads g l =
       within : l.at ≤ length l.buf;
       none : l.at < length l.buf → length (reader_held l.self) ≡ 0;
       turns : reader_turns g.R.Read.turns l.self ≤ reader_turns g.R.Read.turns l.fn.self;
-      told : g.R.Read.tells (reader_inner l.fn.self) → g.R.Read.tells (reader_inner l.self) × Taken (reader_events g.R.Read.events l.fn.self) (length l.fn.buf) (take l.at l.buf) (reader_events g.R.Read.events l.self);
-      store : reader_has_store g.R.Stored.has_store g.R.Stored.position g.R.Stored.content l.fn.self → reader_has_store g.R.Stored.has_store g.R.Stored.position g.R.Stored.content l.self
+      told : g.R.Read.tells (reader_inner l.fn.self)
+          → g.R.Read.tells (reader_inner l.self)
+          × Taken (reader_events g.R.Read.events l.fn.self) (length l.fn.buf) (take l.at l.buf)
+          (reader_events g.R.Read.events l.self);
+      store : reader_has_store g.R.Stored.has_store g.R.Stored.position g.R.Stored.content l.fn.self
+          → reader_has_store g.R.Stored.has_store g.R.Stored.position g.R.Stored.content l.self
           × (g.R.Stored.content (reader_inner l.self) ≡ g.R.Stored.content (reader_inner l.fn.self))
-          × (reader_position g.R.Stored.position l.self + length (reader_events g.R.Read.events l.self) ≡ reader_position g.R.Stored.position l.fn.self + length (reader_events g.R.Read.events l.fn.self));
-      sound : reader_is_sound g.R.Stored.has_store g.R.Stored.position g.R.Stored.content l.fn.self → reader_is_sound g.R.Stored.has_store g.R.Stored.position g.R.Stored.content l.self;
+          × (reader_position g.R.Stored.position l.self + length (reader_events g.R.Read.events l.self)
+          ≡ reader_position g.R.Stored.position l.fn.self + length (reader_events g.R.Read.events l.fn.self));
+      sound : reader_is_sound g.R.Stored.has_store g.R.Stored.position g.R.Stored.content l.fn.self
+          → reader_is_sound g.R.Stored.has_store g.R.Stored.position g.R.Stored.content l.self;
       filling : g.R.Read.is_filling (reader_inner l.fn.self) → g.R.Read.is_filling (reader_inner l.self)
-          × Exact g.row.S (length l.fn.buf) (length (reader_held l.fn.self)) (length (reader_events g.R.Read.events l.fn.self)) l.at (length (reader_held l.self)) (length (g.R.Read.events (reader_inner l.self)));
-      cost : g.R.Read.is_metered (reader_inner l.fn.self) → g.R.Read.is_filling (reader_inner l.fn.self) → g.R.Read.is_metered (reader_inner l.self)
+          × Exact g.row.S (length l.fn.buf) (length (reader_held l.fn.self))
+          (length (reader_events g.R.Read.events l.fn.self)) l.at (length (reader_held l.self))
+          (length (g.R.Read.events (reader_inner l.self)));
+      cost : g.R.Read.is_metered (reader_inner l.fn.self) → g.R.Read.is_filling (reader_inner l.fn.self)
+          → g.R.Read.is_metered (reader_inner l.self)
           × (g.R.Read.cost (reader_inner l.self) ≡ g.R.Read.cost (reader_inner l.fn.self) + min 1 (l.at - length (reader_held l.fn.self)));
     }
 

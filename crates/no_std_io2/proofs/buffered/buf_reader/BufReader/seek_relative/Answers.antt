@@ -15,17 +15,29 @@ returns-then-shift g c =
     let new = c.shift.new.self in
     let same = to_z-of_z w64 c.args.offset c.ranges.offset in
     let shifted = c.if-shift.ensures.within in
-    let within : IsInBuffer c.args.offset (length (reader_behind old)) (length (reader_held old)) = subst (λ (o : ℤ). IsInBuffer o (length (reader_behind old)) (length (reader_held old))) same shifted.0 in
+    let within : IsInBuffer c.args.offset (length (reader_behind old)) (length (reader_held old)) =
+    subst (λ (o : ℤ). IsInBuffer o (length (reader_behind old)) (length (reader_held old))) same shifted.0 in
     let cut : IsCutOn c.args.offset (reader_behind old) (reader_held old) (ahead_behind new) (ahead_held new) =
     subst (λ (o : ℤ). IsCutOn o (reader_behind old) (reader_held old) (ahead_behind new) (ahead_held new)) same shifted.1 in
     record {
       within = λ _. (refl, refl, cut);
-      events = λ _ events. cut_moves c.args.offset (reader_behind old) (reader_held old) (ahead_behind new) (ahead_held new) (events inner) cut;
+      events =
+          λ _ events. cut_moves c.args.offset (reader_behind old) (reader_held old) (ahead_behind new) (ahead_held new)
+          (events inner) cut;
       outside = λ not. absurd (not within);
       sought = λ not _. absurd (not within);
       store = λ s.
-          let small = (g.met.R.Seek.seek_fits inner s.0).1 in
-          ((s.0, sound_stayed (reader_behind old ++ reader_held old) (ahead_behind new ++ ahead_held new) (g.R.Stored.position inner) (g.R.Stored.position inner) (g.R.Stored.content inner) (g.R.Stored.content inner) cut.0 refl refl s.1), refl, cut_seeks c.args.offset (length (g.R.Stored.content inner)) (g.R.Stored.position inner) (reader_behind old) (reader_held old) (ahead_behind new) (ahead_held new) (g.R.Stored.content inner) s.1 small cut);
+          let small = (g.met.R.Seek.seek_fits inner s.0).1 in (
+            (
+              s.0,
+              sound_stayed (reader_behind old ++ reader_held old) (ahead_behind new ++ ahead_held new)
+                  (g.R.Stored.position inner) (g.R.Stored.position inner) (g.R.Stored.content inner)
+                  (g.R.Stored.content inner) cut.0 refl refl s.1,
+            ),
+            refl,
+            cut_seeks c.args.offset (length (g.R.Stored.content inner)) (g.R.Stored.position inner) (reader_behind old)
+                (reader_held old) (ahead_behind new) (ahead_held new) (g.R.Stored.content inner) s.1 small cut,
+          );
     }
 
 pub returns-in-Ok : goal.returns-in-Ok
@@ -33,10 +45,13 @@ returns-in-Ok g c =
     let old = c.args.self.now in
     let same = to_z-of_z w64 c.args.offset c.ranges.offset in
     let kept = c.if-shift.ensures.outside in
-    let not : IsInBuffer c.args.offset (length (reader_behind old)) (length (reader_held old)) → ⊥ = subst (λ (o : ℤ). IsInBuffer o (length (reader_behind old)) (length (reader_held old)) → ⊥) same kept.1 in
+    let not : IsInBuffer c.args.offset (length (reader_behind old)) (length (reader_held old)) → ⊥ =
+    subst (λ (o : ℤ). IsInBuffer o (length (reader_behind old)) (length (reader_held old)) → ⊥) same kept.1 in
     let store = rw (kept.0, same) at c.in-Ok.ensures.store in
     let sound = rw kept.0 at c.in-Ok.ensures.sound in
-    let led = numberless (length (g.R.Stored.content (reader_inner old))) (reader_position g.R.Stored.position old) (reader_position g.R.Stored.position c.seek_current.new.self) c.in-Ok.field-0 (Current c.args.offset) in
+    let led =
+    numberless (length (g.R.Stored.content (reader_inner old))) (reader_position g.R.Stored.position old)
+    (reader_position g.R.Stored.position c.seek_current.new.self) c.in-Ok.field-0 (Current c.args.offset) in
     record {
       within = λ h. absurd (not h);
       events = λ h events. absurd (not h);
@@ -54,7 +69,8 @@ returns-in-Err g c =
     let old = c.args.self.now in
     let same = to_z-of_z w64 c.args.offset c.ranges.offset in
     let kept = c.if-shift.ensures.outside in
-    let not : IsInBuffer c.args.offset (length (reader_behind old)) (length (reader_held old)) → ⊥ = subst (λ (o : ℤ). IsInBuffer o (length (reader_behind old)) (length (reader_held old)) → ⊥) same kept.1 in
+    let not : IsInBuffer c.args.offset (length (reader_behind old)) (length (reader_held old)) → ⊥ =
+    subst (λ (o : ℤ). IsInBuffer o (length (reader_behind old)) (length (reader_held old)) → ⊥) same kept.1 in
     let store = rw (kept.0, same) at c.in-Err.ensures.store in
     let sound = rw kept.0 at c.in-Err.ensures.sound in
     record {

@@ -7,7 +7,9 @@ use Rattle.no_std_io2.proofs.LineLemmas.{IsLineState-end, HasNoNewline-none, Has
 use Rattle.no_std_io2.proofs.buffered.line_writer.steps.send_line.Goals as goal
 
 -- the held bytes end in a newline
-ended : (g : _) (c : goal.After-send g) → (0 < length (sender_buffer c.args.w.now)) × (slice_index (sender_buffer c.args.w.now) (length (sender_buffer c.args.w.now) - 1) ≡ 10)
+ended : (g : _) (c : goal.After-send g)
+    → (0 < length (sender_buffer c.args.w.now))
+    × (slice_index (sender_buffer c.args.w.now) (length (sender_buffer c.args.w.now) - 1) ≡ 10)
 ended g c =
     subst (λ l. (0 < length l) × (slice_index l (length l - 1) ≡ 10)) c.buffer.ensures.value c.if-ends_in_newline.ensures.yes
 
@@ -33,7 +35,9 @@ returns-then-ends_in_newline-clause-idle g c = λ none.
 -- they do not, and so have none
 unended : (g : _) (c : goal.Else-ends_in_newline g) → HasNoNewline (sender_buffer c.args.w.now)
 unended g c =
-    HasNoNewline-unended _ c.requires.line (subst (λ l. 0 < length l → slice_index l (length l - 1) ≢ 10) c.buffer.ensures.value c.if-ends_in_newline.ensures.no)
+    HasNoNewline-unended _ c.requires.line
+    (subst (λ l. 0 < length l → slice_index l (length l - 1) ≢ 10) c.buffer.ensures.value
+    c.if-ends_in_newline.ensures.no)
 
 pub returns-clause-open : goal.returns-clause-open
 returns-clause-open g c = unended g c

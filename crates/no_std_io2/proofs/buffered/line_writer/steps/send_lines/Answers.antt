@@ -5,7 +5,8 @@ use Rattle.no_std_io2.proofs.CountLemmas.{writing_then_sending}
 use Rattle.std.proofs.lemmas.Result.{err_from_is_err_and}
 use Rattle.no_std_io2.proofs.SendingLemmas.{no_ok}
 use Rattle.no_std_io2.proofs.BufferLemmas.{Moves-sent_part, none_of_length, call_steady, IsEnd-sent}
-use Rattle.no_std_io2.proofs.LineLemmas.{IsLineState-end, IsLineState-after, IsLineState-ended, MovesFront-passed, MovesFront-ends, MovesFront-whole, onok}
+use Rattle.no_std_io2.proofs.LineLemmas.{IsLineState-end, IsLineState-after, IsLineState-ended, MovesFront-passed}
+use Rattle.no_std_io2.proofs.LineLemmas.{MovesFront-ends, MovesFront-whole, onok}
 use Rattle.no_std_io2.proofs.buffered.line_writer.steps.send_lines.Goals as goal
 
 pub returns-then-is_empty-clause-moves : goal.returns-then-is_empty-clause-moves
@@ -19,17 +20,23 @@ returns-then-is_empty-clause-all g c = λ t.
 
 pub returns-in_err-write_all-clause-line : goal.returns-in_err-write_all-clause-line
 returns-in_err-write_all-clause-line g c =
-    IsLineState-after _ c.args.x.now _ c.requires.line (IsLineState-ended _ c.args.x.now c.requires.some (c.requires.lines.ends c.requires.some)) c.in_err-write_all.ensures.rest
+    IsLineState-after _ c.args.x.now _ c.requires.line
+    (IsLineState-ended _ c.args.x.now c.requires.some (c.requires.lines.ends c.requires.some))
+    c.in_err-write_all.ensures.rest
 
 pub returns-clause-line : goal.returns-clause-line
 returns-clause-line g c =
-    let mid = IsLineState-after _ c.args.x.now _ c.requires.line (IsLineState-ended _ c.args.x.now c.requires.some (c.requires.lines.ends c.requires.some)) c.in_ok-write_all.ensures.rest in
+    let mid =
+    IsLineState-after _ c.args.x.now _ c.requires.line
+    (IsLineState-ended _ c.args.x.now c.requires.some (c.requires.lines.ends c.requires.some))
+    c.in_ok-write_all.ensures.rest in
     IsLineState-end _ _ (c.send.ensures.sends.sent, c.send.ensures.sends.split) mid
 
 pub returns-clause-moves : goal.returns-clause-moves
 returns-clause-moves g c =
     let sent = c.send.ensures.sends in
-    MovesFront-ends c.args.x.now c.send.result (MovesFront-whole c.args.x.now tt c.in_ok-write_all.ensures.moves) (Moves-sent_part sent.sent _ _ sent.split sent.moves)
+    MovesFront-ends c.args.x.now c.send.result (MovesFront-whole c.args.x.now tt c.in_ok-write_all.ensures.moves)
+    (Moves-sent_part sent.sent _ _ sent.split sent.moves)
 
 pub returns-clause-calls : goal.returns-clause-calls
 returns-clause-calls g c = λ m t.

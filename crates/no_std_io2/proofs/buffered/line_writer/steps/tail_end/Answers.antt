@@ -1,5 +1,6 @@
 use Rattle.std.proofs.Common.{sym, ◌∙◌, arith}
-use Rattle.no_std_io2.proofs.LastNewline.{lines_len-is, held_tail-all, held_tail-rest, window_all, tail_part, IsLineState-all, IsLineState-rest, IsLineState-part}
+use Rattle.no_std_io2.proofs.LastNewline.{lines_len-is, held_tail-all, held_tail-rest, window_all, tail_part}
+use Rattle.no_std_io2.proofs.LastNewline.{IsLineState-all, IsLineState-rest, IsLineState-part}
 use Rattle.no_std_io2.proofs.buffered.line_writer.steps.tail_end.Goals as goal
 
 pub returns-then-sent-len-clause-tail : goal.returns-then-sent-len-clause-tail
@@ -21,11 +22,15 @@ returns-then-len-sent-clause-line c =
 
 pub returns-then-part-eq0-clause-tail : goal.returns-then-part-eq0-clause-tail
 returns-then-part-eq0-clause-tail c =
-    (tail_part c.args.room c.args.x.now c.args.len c.args.sent _ c.requires.lines (omega arith) (omega arith) c.lines_len-part.ensures.lines).0 c.if-part-eq0.true
+    (tail_part c.args.room c.args.x.now c.args.len c.args.sent _ c.requires.lines (omega arith) (omega arith)
+    c.lines_len-part.ensures.lines).0
+    c.if-part-eq0.true
 
 pub returns-else-part-eq0-clause-tail : goal.returns-else-part-eq0-clause-tail
 returns-else-part-eq0-clause-tail c =
-    (tail_part c.args.room c.args.x.now c.args.len c.args.sent _ c.requires.lines (omega arith) (omega arith) c.lines_len-part.ensures.lines).1 (omega arith)
+    (tail_part c.args.room c.args.x.now c.args.len c.args.sent _ c.requires.lines (omega arith) (omega arith)
+    c.lines_len-part.ensures.lines).1
+    (omega arith)
 
 pub returns-else-part-eq0-clause-line : goal.returns-else-part-eq0-clause-line
 returns-else-part-eq0-clause-line c =

@@ -3,7 +3,8 @@ use Rattle.std.proofs.lemmas.List.{take_rest}
 use Rattle.std.proofs.lemmas.Result.{err_from_is_err_and}
 use Rattle.no_std_io2.specs.LineState.{HasNoNewline}
 use Rattle.no_std_io2.specs.Buffered.{sender_buffer, buffer_after}
-use Rattle.no_std_io2.proofs.LineLemmas.{MovesFront-part, MovesFront-whole, MovesFront-rest, HasNoNewline-none, HasNoNewline-take, HasNoNewline-after, IsLineState-plain, onok, onok_map}
+use Rattle.no_std_io2.proofs.LineLemmas.{MovesFront-part, MovesFront-whole, MovesFront-rest, HasNoNewline-none}
+use Rattle.no_std_io2.proofs.LineLemmas.{HasNoNewline-take, HasNoNewline-after, IsLineState-plain, onok, onok_map}
 use Rattle.no_std_io2.proofs.BufferLemmas.{HoldsEnd-front, HoldsEnd-rest}
 use Rattle.no_std_io2.proofs.CountLemmas.{buffer_after-none}
 use Rattle.no_std_io2.proofs.LastNewline.{unfinished_line-is}
@@ -13,13 +14,16 @@ pub returns-in_err-send_lines-clause-moves : goal.returns-in_err-send_lines-clau
 returns-in_err-send_lines-clause-moves g c =
     let p = err_from_is_err_and c.from_residual.result c.from_residual.ensures.1 in
     let n = c.args.len in
-    rw (p.1, p.2) (MovesFront-part (take n c.args.x.now) c.args.x.now c.in_err-send_lines.field-0.0 (drop n c.args.x.now, sym (take-append-drop n c.args.x.now)) c.in_err-send_lines.ensures.moves)
+    rw (p.1, p.2)
+    (MovesFront-part (take n c.args.x.now) c.args.x.now c.in_err-send_lines.field-0.0
+    (drop n c.args.x.now, sym (take-append-drop n c.args.x.now)) c.in_err-send_lines.ensures.moves)
 
 -- what follows the lines is a line without a newline
 tail_plain : (g : _) (c : goal.After-write_all g) → HasNoNewline (sender_buffer c.write_all.new.self)
 tail_plain g c =
     let x = c.args.x.now in
-    HasNoNewline-after _ _ _ (HasNoNewline-none _ c.in_ok-send_lines.ensures.sent) (HasNoNewline-take (length x - c.args.len) _ c.requires.lines.none_after) c.write_all.ensures.rest
+    HasNoNewline-after _ _ _ (HasNoNewline-none _ c.in_ok-send_lines.ensures.sent)
+    (HasNoNewline-take (length x - c.args.len) _ c.requires.lines.none_after) c.write_all.ensures.rest
 
 pub returns-clause-line : goal.returns-clause-line
 returns-clause-line g c = IsLineState-plain _ (tail_plain g c)
@@ -30,7 +34,8 @@ returns-clause-open g c = onok c.write_all.result _ (tail_plain g c)
 pub returns-clause-moves : goal.returns-clause-moves
 returns-clause-moves g c =
     let n = c.args.len in
-    MovesFront-rest n c.args.x.now _ c.write_all.result (take_rest c.args.x.now n) (MovesFront-whole _ tt c.in_ok-send_lines.ensures.moves) c.write_all.ensures.moves
+    MovesFront-rest n c.args.x.now _ c.write_all.result (take_rest c.args.x.now n)
+    (MovesFront-whole _ tt c.in_ok-send_lines.ensures.moves) c.write_all.ensures.moves
 
 pub returns-clause-all : goal.returns-clause-all
 returns-clause-all g c = λ t. c.write_all.ensures.all (c.in_ok-send_lines.ensures.all t).0

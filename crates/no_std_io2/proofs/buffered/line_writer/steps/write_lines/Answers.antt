@@ -7,7 +7,8 @@ use Rattle.no_std_io2.specs.Buffered.{sender_told, sender_inner, sender_buffer, 
 use Rattle.no_std_io2.specs.Lines.{WritesLines, unfinished_line}
 use Rattle.no_std_io2.proofs.LastNewline.{writes_lines, writes_none, lines_taken}
 use Rattle.no_std_io2.specs.LineState.{IsLineState}
-use Rattle.no_std_io2.proofs.LineLemmas.{IsLineState-end, IsLineState-plain, HasNoNewline-none, took_some, held_after, taken_then_held, zero_write-lines, zero_write-some}
+use Rattle.no_std_io2.proofs.LineLemmas.{IsLineState-end, IsLineState-plain, HasNoNewline-none, took_some, held_after}
+use Rattle.no_std_io2.proofs.LineLemmas.{taken_then_held, zero_write-lines, zero_write-some}
 use Rattle.no_std_io2.proofs.SendLemmas.{takes_not_all}
 use Rattle.no_std_io2.proofs.SendingLemmas.{no_ok}
 use Rattle.no_std_io2.proofs.BufferLemmas.{Moves-sent_part, Moves-buffered, ok_same, IsEnd-none, IsEnd-split}
@@ -15,7 +16,8 @@ use Rattle.no_std_io2.proofs.CountLemmas.{calls_for-le}
 use Rattle.no_std_io2.proofs.buffered.line_writer.steps.write_lines.Goals as goal
 
 pub returns-in_err-send-clause-line : goal.returns-in_err-send-clause-line
-returns-in_err-send-clause-line g c = IsLineState-end _ _ (c.in_err-send.ensures.sends.sent, c.in_err-send.ensures.sends.split) c.requires.line
+returns-in_err-send-clause-line g c =
+    IsLineState-end _ _ (c.in_err-send.ensures.sends.sent, c.in_err-send.ensures.sends.split) c.requires.line
 
 pub returns-in_err-send-clause-moves : goal.returns-in_err-send-clause-moves
 returns-in_err-send-clause-moves g c =
@@ -28,13 +30,18 @@ returns-in_err-n-clause-moves g c =
     let p = err_from_is_err_and c.from_residual-in_err-n.result c.from_residual-in_err-n.ensures.1 in
     let sent = c.in_ok-send.ensures.sends in
     let first = Moves-sent_part sent.sent _ (sender_buffer c.send.new.self) sent.split sent.moves in
-    rw (p.1, p.2) (Moves-then first (Moves-buffered (sender_buffer c.send.new.self) (sender_buffer c.send.new.self) [] c.in_err-n.ensures.moves (append-nil _)))
+    rw (p.1, p.2)
+    (Moves-then first
+    (Moves-buffered (sender_buffer c.send.new.self) (sender_buffer c.send.new.self) [] c.in_err-n.ensures.moves
+    (append-nil _)))
 
 pub returns-then-n-eq0-clause-moves : goal.returns-then-n-eq0-clause-moves
 returns-then-n-eq0-clause-moves g c =
     let sent = c.in_ok-send.ensures.sends in
     let first = Moves-sent_part sent.sent _ (sender_buffer c.send.new.self) sent.split sent.moves in
-    let direct = rw (c.if-n-eq0.true, zero_write-lines c.args.x.now c.args.len c.requires.some c.requires.lines.within) at c.in_ok-n.ensures.moves in
+    let direct =
+    rw (c.if-n-eq0.true, zero_write-lines c.args.x.now c.args.len c.requires.some c.requires.lines.within) at
+    c.in_ok-n.ensures.moves in
     Moves-then first (Moves-buffered (sender_buffer c.send.new.self) (sender_buffer c.send.new.self) [] direct (append-nil _))
 
 pub returns-clause-moves : goal.returns-clause-moves
@@ -48,31 +55,51 @@ returns-clause-moves g c =
     let some : 0 < end = omega (arith, c.tail_end-end.ensures.after, c.if-n-eq0.false) in
     let held : sender_buffer c.send.new.self ++ take end x ≡ take n (take c.args.len x) ++ sender_buffer c.hold.new.self =
     held_after _ (sender_buffer c.send.new.self) _ (slice_range x n end) _ _ c.in_ok-send.ensures.empty refl c.hold.ensures.buffer whole in
-    let then = Moves-then first (Moves-quiet (Moves-buffered (sender_buffer c.send.new.self) (sender_buffer c.hold.new.self) (take end x) c.in_ok-n.ensures.moves held)) in
+    let then =
+    Moves-then first
+    (Moves-quiet
+    (Moves-buffered (sender_buffer c.send.new.self) (sender_buffer c.hold.new.self) (take end x)
+    c.in_ok-n.ensures.moves held))
+    in
     rw (zero_write-some x end some)
-    (subst (λ i. Moves (sender_told g.W.Write.told c.args.w.now) (take end x) [] (with_buffer (g.W.Write.told i) (sender_buffer c.hold.new.self))) (sym c.hold.ensures.same) then)
+    (subst
+    (λ i. Moves (sender_told g.W.Write.told c.args.w.now) (take end x) []
+    (with_buffer (g.W.Write.told i) (sender_buffer c.hold.new.self)))
+    (sym c.hold.ensures.same) then)
 
 -- what is told of the tail
-written : (g : _) (c : goal.After-hold g) → WritesLines g.row.S (g.W.Write.told (sender_inner c.args.w.now)) (sender_buffer c.args.w.now) c.args.x.now c.tail_end-end.result (g.W.Write.told (sender_inner c.hold.new.self)) (sender_buffer c.hold.new.self)
+written : (g : _) (c : goal.After-hold g)
+    → WritesLines g.row.S (g.W.Write.told (sender_inner c.args.w.now)) (sender_buffer c.args.w.now) c.args.x.now
+    c.tail_end-end.result (g.W.Write.told (sender_inner c.hold.new.self)) (sender_buffer c.hold.new.self)
 written g c =
     let sent = c.in_ok-send.ensures.sends in
     let told = g.W.Write.told in
-    subst (λ i. WritesLines g.row.S (told (sender_inner c.args.w.now)) (sender_buffer c.args.w.now) c.args.x.now c.tail_end-end.result (told i) (sender_buffer c.hold.new.self)) (sym c.hold.ensures.same)
-    (writes_lines g.row.S (sender_buffer c.args.w.now) c.args.x.now c.args.len c.in_ok-n.n c.tail_end-end.result sent.sent (sender_buffer c.send.new.self) (sender_buffer c.send.new.self) (sender_buffer c.hold.new.self)
-    c.requires.lines (omega (arith, c.if-n-eq0.false)) sent.moves sent.split c.in_ok-send.ensures.empty c.in_ok-n.ensures.bound c.in_ok-n.ensures.moves refl c.hold.ensures.buffer c.tail_end-end.ensures.tail c.tail_end-end.ensures.after c.tail_end-end.ensures.within)
+    subst
+    (λ i. WritesLines g.row.S (told (sender_inner c.args.w.now)) (sender_buffer c.args.w.now) c.args.x.now
+    c.tail_end-end.result (told i) (sender_buffer c.hold.new.self))
+    (sym c.hold.ensures.same)
+    (writes_lines g.row.S (sender_buffer c.args.w.now) c.args.x.now c.args.len c.in_ok-n.n c.tail_end-end.result
+    sent.sent (sender_buffer c.send.new.self) (sender_buffer c.send.new.self) (sender_buffer c.hold.new.self)
+    c.requires.lines (omega (arith, c.if-n-eq0.false)) sent.moves sent.split c.in_ok-send.ensures.empty
+    c.in_ok-n.ensures.bound c.in_ok-n.ensures.moves refl c.hold.ensures.buffer c.tail_end-end.ensures.tail
+    c.tail_end-end.ensures.after c.tail_end-end.ensures.within)
 
 pub returns-clause-tail : goal.returns-clause-tail
 returns-clause-tail g c = written g c
 
 -- what is told of the tail where the inner writer takes all
-taken_whole : (g : _) (c : goal.After-hold g) → g.W.Write.takes_all (sender_inner c.args.w.now) → (sender_buffer c.hold.new.self ≡ take g.row.S (unfinished_line c.args.x.now)) × (c.tail_end-end.result + (length (unfinished_line c.args.x.now) - g.row.S) ≡ length c.args.x.now)
+taken_whole : (g : _) (c : goal.After-hold g) → g.W.Write.takes_all (sender_inner c.args.w.now)
+    → (sender_buffer c.hold.new.self ≡ take g.row.S (unfinished_line c.args.x.now))
+    × (c.tail_end-end.result + (length (unfinished_line c.args.x.now) - g.row.S) ≡ length c.args.x.now)
 taken_whole g c t =
     let mid = (c.in_ok-send.ensures.all t).0 in
     let x = c.args.x.now in
     let n = c.in_ok-n.n in
     let end = c.tail_end-end.result in
     let held = c.hold.ensures.buffer ∙ ap (λ l. l ++ slice_range x n end) c.in_ok-send.ensures.empty in
-    lines_taken g.row.S x c.args.len n end (sender_buffer c.hold.new.self) c.requires.lines (ok_same (c.in_ok-n.ensures.all mid).1) held c.tail_end-end.ensures.tail c.tail_end-end.ensures.after c.tail_end-end.ensures.within
+    lines_taken g.row.S x c.args.len n end (sender_buffer c.hold.new.self) c.requires.lines
+    (ok_same (c.in_ok-n.ensures.all mid).1) held c.tail_end-end.ensures.tail c.tail_end-end.ensures.after
+    c.tail_end-end.ensures.within
 
 pub returns-clause-all : goal.returns-clause-all
 returns-clause-all g c = λ t.
@@ -93,11 +120,15 @@ returns-clause-calls g c = λ m t.
 pub returns-then-n-eq0-clause-tail : goal.returns-then-n-eq0-clause-tail
 returns-then-n-eq0-clause-tail g c =
     let sent = c.in_ok-send.ensures.sends in
-    writes_none g.row.S (sender_buffer c.args.w.now) c.args.x.now (take c.args.len c.args.x.now) c.in_ok-n.n sent.sent (sender_buffer c.send.new.self) (sender_buffer c.send.new.self) c.if-n-eq0.true sent.moves sent.split c.in_ok-send.ensures.empty c.in_ok-n.ensures.moves refl
+    writes_none g.row.S (sender_buffer c.args.w.now) c.args.x.now (take c.args.len c.args.x.now) c.in_ok-n.n sent.sent
+    (sender_buffer c.send.new.self) (sender_buffer c.send.new.self) c.if-n-eq0.true sent.moves sent.split
+    c.in_ok-send.ensures.empty c.in_ok-n.ensures.moves refl
 
 pub returns-clause-line : goal.returns-clause-line
 returns-clause-line g c =
-    let held = c.hold.ensures.buffer ∙ ap (λ l. l ++ slice_range c.args.x.now c.in_ok-n.n c.tail_end-end.result) c.in_ok-send.ensures.empty in
+    let held =
+    c.hold.ensures.buffer
+    ∙ ap (λ l. l ++ slice_range c.args.x.now c.in_ok-n.n c.tail_end-end.result) c.in_ok-send.ensures.empty in
     subst IsLineState (sym held) c.tail_end-end.ensures.line
 
 -- sending failed, so the inner writer does not take all

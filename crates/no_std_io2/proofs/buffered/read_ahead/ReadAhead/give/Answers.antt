@@ -12,7 +12,8 @@ given g c =
     let part = length-take (self.end - self.start) (drop self.start self.bytes) in
     let some : self.start < self.end = omega (arith, part) in
     let room : 0 < length c.args.buf.now = omega arith in
-    take-suc-set c.args.buf.now 0 (slice_index_or self.bytes self.start 0) room ∙ sym (held_first self.bytes self.start self.end some (omega arith))
+    take-suc-set c.args.buf.now 0 (slice_index_or self.bytes self.start 0) room
+    ∙ sym (held_first self.bytes self.start self.end some (omega arith))
 
 pub returns-then-n-lt2-clause-gave : goal.returns-then-n-lt2-clause-gave
 returns-then-n-lt2-clause-gave g c = given g c

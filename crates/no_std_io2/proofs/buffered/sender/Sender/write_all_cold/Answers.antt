@@ -12,8 +12,11 @@ returns-in_err-make_way g c =
 pub returns-then-buf : goal.returns-then-buf
 returns-then-buf g c =
     let inner = c.write_all.ensures in
-    passed_all c.args.self.now c.make_way.new.self c.args.buf.now c.write_all.result c.write_all.new.self (λ w h. g.met.W.Write.steady w h) c.in_ok-make_way.ensures c.if-buf.true inner.fault inner.moves inner.all inner.cost
+    passed_all c.args.self.now c.make_way.new.self c.args.buf.now c.write_all.result c.write_all.new.self
+    (λ w h. g.met.W.Write.steady w h) c.in_ok-make_way.ensures c.if-buf.true inner.fault inner.moves inner.all
+    inner.cost
 
 pub returns : goal.returns
 returns g c =
-    held_all c.args.self.now c.make_way.new.self _ c.args.buf.now c.in_ok-make_way.ensures (omega (arith, c.if-buf.false)) refl c.push.ensures.held
+    held_all c.args.self.now c.make_way.new.self _ c.args.buf.now c.in_ok-make_way.ensures
+    (omega (arith, c.if-buf.false)) refl c.push.ensures.held

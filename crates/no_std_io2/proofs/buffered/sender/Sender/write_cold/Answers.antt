@@ -12,8 +12,10 @@ returns-in_err-make_way g c =
 pub returns-then-buf : goal.returns-then-buf
 returns-then-buf g c =
     let inner = c.write.ensures in
-    passed c.args.self.now c.make_way.new.self c.args.buf.now c.write.result c.write.new.self c.in_ok-make_way.ensures c.if-buf.true inner.bound inner.moves inner.all inner.cost
+    passed c.args.self.now c.make_way.new.self c.args.buf.now c.write.result c.write.new.self c.in_ok-make_way.ensures
+    c.if-buf.true inner.bound inner.moves inner.all inner.cost
 
 pub returns : goal.returns
 returns g c =
-    held c.args.self.now c.make_way.new.self _ c.args.buf.now c.in_ok-make_way.ensures (omega (arith, c.if-buf.false)) refl c.push.ensures.held
+    held c.args.self.now c.make_way.new.self _ c.args.buf.now c.in_ok-make_way.ensures (omega (arith, c.if-buf.false))
+    refl c.push.ensures.held

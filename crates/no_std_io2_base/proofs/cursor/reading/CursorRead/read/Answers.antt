@@ -11,9 +11,16 @@ returns-clause-told g c =
     let here = c.args.self.now in
     let left = c.left.result.now in
     let all = g.T.AsSlice.slice here.inner in
-    let front : take n c.copy_prefix-n.new.to ≡ take n left = ap (take n) c.copy_prefix-n.ensures.copied ∙ take_at _ _ n (length-take-le n left (omega arith)) in
-    read_bytes (cursor_left g.T.AsSlice.slice here) _ _ n (front ∙ ap (take n) c.left.ensures.left) (left_after all here.pos n) (λ zero room. omega (arith, ap length c.left.ensures.left))
+    let front : take n c.copy_prefix-n.new.to ≡ take n left =
+    ap (take n) c.copy_prefix-n.ensures.copied ∙ take_at _ _ n (length-take-le n left (omega arith)) in
+    read_bytes (cursor_left g.T.AsSlice.slice here) _ _ n (front ∙ ap (take n) c.left.ensures.left)
+    (left_after all here.pos n) (λ zero room. omega (arith, ap length c.left.ensures.left))
 
 pub returns-clause-fills : goal.returns-clause-fills
 returns-clause-fills g c =
-    omega (arith, c.copy_prefix-n.ensures.count, ap length c.left.ensures.left, length-events_of (cursor_left g.T.AsSlice.slice c.args.self.now))
+    omega (
+      arith,
+      c.copy_prefix-n.ensures.count,
+      ap length c.left.ensures.left,
+      length-events_of (cursor_left g.T.AsSlice.slice c.args.self.now),
+    )

@@ -22,13 +22,27 @@ returns-clause-told g c =
     let here = c.args.self.now in
     let left = c.left-left.result.now in
     let all = g.T.AsSlice.slice here.inner in
-    let whole = c.copy_prefix-n.ensures.copied ∙ ap (λ l. take n left ++ l) (drop_of_length-le c.args.buf.now {i = n} (omega arith)) ∙ append-nil (take n left) in
-    fill_bytes (cursor_left g.T.AsSlice.slice here) _ _ n (whole ∙ ap (take n) c.left-left.ensures.left) (omega arith) (left_after all here.pos n)
+    let whole =
+    c.copy_prefix-n.ensures.copied
+    ∙ ap (λ l. take n left ++ l) (drop_of_length-le c.args.buf.now {i = n} (omega arith))
+    ∙ append-nil (take n left) in
+    fill_bytes (cursor_left g.T.AsSlice.slice here) _ _ n (whole ∙ ap (take n) c.left-left.ensures.left) (omega arith)
+    (left_after all here.pos n)
 
 pub returns-clause-store : goal.returns-clause-store
 returns-clause-store g c = λ fits.
     let n = c.copy_prefix-n.result in
     let here = c.args.self.now in
     let all = g.T.AsSlice.slice here.inner in
-    let stays = ap length c.left-left.ensures.left in
-    ((omega (arith, fits.0), omega (arith, c.left-left.ensures.fits, stays, length-drop here.pos all)), refl, omega (arith, stays, length-drop here.pos all, length-drop (here.pos + n) all, length-events_of (drop here.pos all), length-events_of (drop (here.pos + n) all)))
+    let stays = ap length c.left-left.ensures.left in (
+      (omega (arith, fits.0), omega (arith, c.left-left.ensures.fits, stays, length-drop here.pos all)),
+      refl,
+      omega (
+        arith,
+        stays,
+        length-drop here.pos all,
+        length-drop (here.pos + n) all,
+        length-events_of (drop here.pos all),
+        length-events_of (drop (here.pos + n) all),
+      ),
+    )

@@ -2,7 +2,8 @@
 use Rattle.std.proofs.Common.{◌+◌, ◌<◌, length, vec_len, vec_capacity, refl, sym, subst}
 use Rattle.std.proofs.lemmas.Result.{err_from_is_err_and}
 use Rattle.no_std_io2_base.proofs.PieceLemmas.{memory_fault}
-use Rattle.no_std_io2_base.proofs.SliceReads.{moved_whole, moved_part, never_refused, left_behind, place_behind, front_stays, longer_by, fewer_behind}
+use Rattle.no_std_io2_base.proofs.SliceReads.{moved_whole, moved_part, never_refused, left_behind, place_behind}
+use Rattle.no_std_io2_base.proofs.SliceReads.{front_stays, longer_by, fewer_behind}
 use Rattle.no_std_io2_base.proofs.cursor.reading.CursorRead.read_to_end.Goals as goal
 
 pub returns-in_err-answer : goal.returns-in_err-answer

@@ -1,6 +1,8 @@
 use Rattle.std.proofs.Common.{◌∙◌, refl, sym, arith, append-nil, [], le_refl, le_trans, lt_of_lt_of_le, lt_of_le_of_lt}
 use Rattle.std.proofs.lemmas.Result.{err_from_is_err_and}
-use Rattle.no_std_io2_base.proofs.PieceLemmas.{piece_none, piece_more, piece_interruption, piece_ended, piece_fault, piece_memory, part_taken, none_taken, error_taken, error_turn, whole_part, front_more, front_same, spent_more, part_fits, memory_fault}
+use Rattle.no_std_io2_base.proofs.PieceLemmas.{piece_none, piece_more, piece_interruption, piece_ended, piece_fault}
+use Rattle.no_std_io2_base.proofs.PieceLemmas.{piece_memory, part_taken, none_taken, error_taken, error_turn}
+use Rattle.no_std_io2_base.proofs.PieceLemmas.{whole_part, front_more, front_same, spent_more, part_fits, memory_fault}
 use Rattle.no_std_io2_base.proofs.PieceRoom.{part_has_room, fault_is_first}
 use Rattle.no_std_io2_base.proofs.impls.lending_objects.BoxDynBufReadDropBufRead.read_until.Goals as goal
 
@@ -29,9 +31,14 @@ returns-then-is_whole g c =
           let so_far = before.told t in
           let lent = filled.told so_far.0 in
           let rest = dropped.told lent.0 in
-          let part = part_taken _ c.in-Ok.lent _ _ _ ((goal.BufRead-dyn g (c.consume.new.self.vtable, c.consume.new.self.value)).Read.events c.consume.new.self.value) c.find_piece-len.result.0 c.in-Ok.is filled.lends lent.1 rest.1 in (
+          let part =
+          part_taken _ c.in-Ok.lent _ _ _
+          ((goal.BufRead-dyn g (c.consume.new.self.vtable, c.consume.new.self.value)).Read.events
+          c.consume.new.self.value)
+          c.find_piece-len.result.0 c.in-Ok.is filled.lends lent.1 rest.1 in (
             rest.0,
-            piece_ended _ _ _ _ _ _ _ _ _ so_far.1 part (whole_part _ _ _ _ _ found c.if-is_whole.true (c.in-Ok.ensures.end so_far.0)) appended
+            piece_ended _ _ _ _ _ _ _ _ _ so_far.1 part
+                (whole_part _ _ _ _ _ found c.if-is_whole.true (c.in-Ok.ensures.end so_far.0)) appended
                 (omega (arith, c.append.new.buf.ok.0, c.args.buf.now.ok.0, c.len.ensures, before.start)),
           );
       appends = front_more _ _ _ _ before.front appended;
@@ -40,7 +47,9 @@ returns-then-is_whole g c =
       room = λ t enough. tt;
       fault = tt;
       turns = omega (arith, dropped.turns, filled.turns, before.turns);
-      turn = λ some. spent_more _ _ _ _ _ _ _ _ before.spent before.turns filled.turns dropped.turns dropped.turn grown (omega (arith, some, c.len.ensures, before.start));
+      turn =
+          λ some. spent_more _ _ _ _ _ _ _ _ before.spent before.turns filled.turns dropped.turns dropped.turn grown
+          (omega (arith, some, c.len.ensures, before.start));
       metered = λ h. absurd h;
       filling = λ h. absurd h;
       store = λ h. absurd h;
@@ -59,12 +68,18 @@ pieces-preserved-else-is_whole g c =
       capacity = le_trans before.capacity c.append.ensures.grows;
       front = front_more _ _ _ _ before.front appended;
       turns = omega (arith, dropped.turns, filled.turns, before.turns);
-      spent = spent_more _ _ _ _ _ _ _ _ before.spent before.turns filled.turns dropped.turns dropped.turn (part_fits _ _ _ _ c.in_ok-append-in-Ok.ensures.len found.within);
+      spent =
+          spent_more _ _ _ _ _ _ _ _ before.spent before.turns filled.turns dropped.turns dropped.turn
+          (part_fits _ _ _ _ c.in_ok-append-in-Ok.ensures.len found.within);
       told = λ t.
           let so_far = before.told t in
           let lent = filled.told so_far.0 in
           let rest = dropped.told lent.0 in
-          let part = part_taken _ c.in-Ok.lent _ _ _ ((goal.BufRead-dyn g (c.consume.new.self.vtable, c.consume.new.self.value)).Read.events c.consume.new.self.value) c.find_piece-len.result.0 c.in-Ok.is filled.lends lent.1 rest.1 in
+          let part =
+          part_taken _ c.in-Ok.lent _ _ _
+          ((goal.BufRead-dyn g (c.consume.new.self.vtable, c.consume.new.self.value)).Read.events
+          c.consume.new.self.value)
+          c.find_piece-len.result.0 c.in-Ok.is filled.lends lent.1 rest.1 in
           (rest.0, piece_more _ _ _ _ _ _ _ _ so_far.1 part (found.open_ended c.if-is_whole.false).1 appended);
     }
 
@@ -86,8 +101,11 @@ pieces-preserved g c =
       spent = λ more. lt_of_le_of_lt filled.turns (before.spent more);
       told = λ t.
           let so_far = before.told t in
-          let lent = filled.told so_far.0 in
-          (lent.0, piece_interruption _ _ _ _ _ _ _ so_far.1 (error_taken _ _ _ _ c.in-Err.is lent.1) (sym c.is_interrupted.ensures ∙ c.if-is_interrupted.true));
+          let lent = filled.told so_far.0 in (
+            lent.0,
+            piece_interruption _ _ _ _ _ _ _ so_far.1 (error_taken _ _ _ _ c.in-Err.is lent.1)
+                (sym c.is_interrupted.ensures ∙ c.if-is_interrupted.true),
+          );
     }
 
 pub pieces-smaller : goal.pieces-smaller
@@ -134,7 +152,9 @@ returns-in_err-append-in-Ok g c =
       room = λ t enough.
           let so_far = before.told t in
           let found = c.find_piece-len.ensures in
-          absurd (part_has_room _ _ _ _ _ _ _ _ _ _ _ _ so_far.1 (c.in-Ok.ensures.front so_far.0) found enough before.capacity c.args.buf.now.ok.0 c.pieces.buf.ok.0 refused.full);
+          absurd
+          (part_has_room _ _ _ _ _ _ _ _ _ _ _ _ so_far.1 (c.in-Ok.ensures.front so_far.0) found enough
+          before.capacity c.args.buf.now.ok.0 c.pieces.buf.ok.0 refused.full);
       fault = memory_fault _ refused.refused;
       turns = le_trans filled.turns before.turns;
       turn = tt;

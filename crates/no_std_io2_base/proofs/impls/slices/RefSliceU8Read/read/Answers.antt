@@ -8,7 +8,8 @@ pub returns-clause-told : goal.returns-clause-told
 returns-clause-told c = λ _.
     let all = c.args.self.now.now in
     let n = c.copy_prefix-n.result in
-    let front : take n c.copy_prefix-n.new.to ≡ take n all = ap (take n) c.copy_prefix-n.ensures.copied ∙ take_at _ _ n (length-take-le n all (omega arith)) in
+    let front : take n c.copy_prefix-n.new.to ≡ take n all =
+    ap (take n) c.copy_prefix-n.ensures.copied ∙ take_at _ _ n (length-take-le n all (omega arith)) in
     (tt, read_bytes _ _ _ _ front (take_rest all n) (λ zero room. omega arith))
 
 pub returns-clause-fills : goal.returns-clause-fills

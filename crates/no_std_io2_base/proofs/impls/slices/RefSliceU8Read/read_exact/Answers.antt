@@ -19,5 +19,8 @@ pub returns-clause-told : goal.returns-clause-told
 returns-clause-told c =
     let all = c.args.self.now.now in
     let n = c.copy_prefix-n.result in
-    let whole = c.copy_prefix-n.ensures.copied ∙ ap (λ l. take n all ++ l) (drop_of_length-le c.args.buf.now {i = n} (omega arith)) ∙ append-nil (take n all) in
+    let whole =
+    c.copy_prefix-n.ensures.copied
+    ∙ ap (λ l. take n all ++ l) (drop_of_length-le c.args.buf.now {i = n} (omega arith))
+    ∙ append-nil (take n all) in
     fill_bytes _ _ _ n whole (omega arith) (take_rest all n)

@@ -10,7 +10,9 @@ invariant-reads g l =
     record {
       long : length l.one ≡ 1;
       turns : R.turns (bytes_reader l.self) ≤ R.turns (bytes_reader l.initial.self);
-      told : R.tells (bytes_reader l.initial.self) → R.tells (bytes_reader l.self) × Passed (R.events (bytes_reader l.initial.self)) (R.events (bytes_reader l.self));
+      told : R.tells (bytes_reader l.initial.self)
+          → R.tells (bytes_reader l.self)
+          × Passed (R.events (bytes_reader l.initial.self)) (R.events (bytes_reader l.self));
     }
 
 abbrev pub decreases-reads : goal.decreases-reads

@@ -1,6 +1,7 @@
 use Rattle.std.proofs.Common.{◌≡◌, ◌-◌, false, length, refl, arith, le_trans}
 use Rattle.std.proofs.lemmas.Result.{err_from_is_err_and}
-use Rattle.no_std_io2_base.proofs.ChainReads.{room_of_first, room_of_second, room_left, room_when_done, room_while_going, after_ok, turn_of_first, turn_of_second, turn_of_both}
+use Rattle.no_std_io2_base.proofs.ChainReads.{room_of_first, room_of_second, room_left, room_when_done}
+use Rattle.no_std_io2_base.proofs.ChainReads.{room_while_going, after_ok, turn_of_first, turn_of_second, turn_of_both}
 use Rattle.no_std_io2_base.proofs.Gathered.{gathered_first, gathered_all, gathered_stop, gathered_then, gathered_then_failed, stopped_clean}
 use Rattle.no_std_io2_base.proofs.Events.{HasNoFault-behind}
 use Rattle.no_std_io2_base.proofs.TakenToEnd.{gathered_done}
@@ -119,7 +120,9 @@ returns-in_err-read_to_end-2 g c =
           let both = room_while_going _ one two _ _ going enough in
           let behind = room_of_second one two _ _ _ _ _ both (first.told (t.0 going)).1.2 first.count first.capacity in
           let then = second.told t.1 in
-          last.room then.0 (room_left _ _ _ _ _ _ _ _ _ then.1 behind c.read_to_end-2.new.buf.ok.0 c.fill_room.new.buf.ok.0 second.capacity);
+          last.room then.0
+          (room_left _ _ _ _ _ _ _ _ _ then.1 behind c.read_to_end-2.new.buf.ok.0 c.fill_room.new.buf.ok.0
+          second.capacity);
       fault = last.fault;
       turns = omega (arith, first.turns, second.turns, last.turns);
       in_turn = turn_of_both _ _ going refl;

@@ -1,9 +1,11 @@
 use Rattle.std.proofs.Common.{◌+◌, ◌≤◌, ◌++◌, length, take, arith, ap, refl, sym, ◌∙◌, le_refl, le_trans}
 use Rattle.std.proofs.lemmas.Result.{err_from_is_err_and}
-use Rattle.no_std_io2_base.proofs.Gathered.{gathered_none, gathered_same, gathered_read, gathered_interruption, gathered_fault, gathered_memory, gathered_fits, gathered_no_fault}
+use Rattle.no_std_io2_base.proofs.Gathered.{gathered_none, gathered_same, gathered_read, gathered_interruption}
+use Rattle.no_std_io2_base.proofs.Gathered.{gathered_fault, gathered_memory, gathered_fits, gathered_no_fault}
 use Rattle.no_std_io2_base.proofs.Parts.{take-written, take-written_below, take-stays}
 use Rattle.no_std_io2_base.proofs.PieceLemmas.{memory_fault}
-use Rattle.no_std_io2_base.proofs.ReadsToEndExits.{front_whole, filled_bytes, front_cut, none_opened, count_cut, len_cut, some_room, gathered_stops, stays_at_end}
+use Rattle.no_std_io2_base.proofs.ReadsToEndExits.{front_whole, filled_bytes, front_cut, none_opened, count_cut}
+use Rattle.no_std_io2_base.proofs.ReadsToEndExits.{len_cut, some_room, gathered_stops, stays_at_end}
 use Rattle.no_std_io2_base.proofs.Taken.{moved_read, no_error}
 use Rattle.no_std_io2_base.proofs.traits.read.Read.read_to_end.Goals as goal
 

@@ -17,7 +17,8 @@ invariant-reads g l =
       is_filling : g.Self.Read.is_filling l.initial.self → g.Self.Read.is_filling l.self;
       store : g.Self.Stored.has_store l.initial.self → g.Self.Stored.has_store l.self
           × (g.Self.Stored.content l.self ≡ g.Self.Stored.content l.initial.self)
-          × (g.Self.Stored.position l.self + length (g.Self.Read.events l.self) ≡ g.Self.Stored.position l.initial.self + length (g.Self.Read.events l.initial.self));
+          × (g.Self.Stored.position l.self + length (g.Self.Read.events l.self)
+          ≡ g.Self.Stored.position l.initial.self + length (g.Self.Read.events l.initial.self));
     }
 
 abbrev pub decreases-reads : goal.decreases-reads

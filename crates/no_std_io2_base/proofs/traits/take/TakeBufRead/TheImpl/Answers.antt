@@ -16,8 +16,35 @@ pub fill_buf-meets : goal.fill_buf-meets
 fill_buf-meets g c =
     let w = g.world in
     let T = g.T in
-    let more = (given g.row.T T.BufRead T.BufRead-dict T.Read T.Read-dict T.Stored T.Stored-dict w.𝓛 w.𝓜.mem w.𝓡.returns (c.lifetimes.0, (c.lifetimes.1.0, tt)) (c.args.self, tt)).ensures tt in
-    let less = (asked (the_row (param 0 g.row.T)) (BufReads.ghosts g.row.T T.BufRead T.BufRead-dict T.Read T.Read-dict T.Stored T.Stored-dict) (BufReads.dict g.row.T T.BufRead T.BufRead-dict T.Read T.Read-dict T.Stored T.Stored-dict)
-    (Reads.ghosts g.row.T T.Read T.Read-dict T.Stored T.Stored-dict) (Reads.dict g.row.T T.Read T.Read-dict T.Stored T.Stored-dict) (Stores.ghosts g.row.T T.Read T.Read-dict T.Stored T.Stored-dict) (Stores.dict g.row.T T.Read T.Read-dict T.Stored T.Stored-dict)
+    let more =
+    (given g.row.T T.BufRead T.BufRead-dict T.Read T.Read-dict T.Stored T.Stored-dict w.𝓛 w.𝓜.mem w.𝓡.returns
+    (c.lifetimes.0, (c.lifetimes.1.0, tt)) (c.args.self, tt)).ensures
+    tt in
+    let less =
+    (asked (the_row (param 0 g.row.T))
+    (BufReads.ghosts g.row.T T.BufRead T.BufRead-dict T.Read T.Read-dict T.Stored T.Stored-dict)
+    (BufReads.dict g.row.T T.BufRead T.BufRead-dict T.Read T.Read-dict T.Stored T.Stored-dict)
+    (Reads.ghosts g.row.T T.Read T.Read-dict T.Stored T.Stored-dict)
+    (Reads.dict g.row.T T.Read T.Read-dict T.Stored T.Stored-dict)
+    (Stores.ghosts g.row.T T.Read T.Read-dict T.Stored T.Stored-dict)
+    (Stores.dict g.row.T T.Read T.Read-dict T.Stored T.Stored-dict)
     w.𝓛 w.𝓜.mem w.𝓡.returns c.lifetimes (c.args.self, tt)).ensures c.ghost in
-    by_parts w.𝓤 [] [] (emp w.𝓤) (emp w.𝓤) _ _ (λ r e. []) (λ r e. []) more (λ r e. less r (e.0, tt)) (fact_i w.𝓤 _ _ tt) (λ _. id⊢ w.𝓤 (emp w.𝓤)) (λ r e. fact_i w.𝓤 _ _ tt) (λ r e _. lends_more w.𝓛 _ _ _ _ _ _ _ _ _ _ _ _ _ _ (λ _ h. absurd h) (λ new h. record { lends = h.lends; told = h.told; turns = h.turns; turn = h.turn; quiet = h.quiet; counts = λ n. absurd n; stays_sure = λ n. absurd n; metered = λ n. absurd n; filling = h.filling; store = λ n. absurd n })) (λ _. tt) (λ _ r e _. tt)
+    by_parts w.𝓤 [] [] (emp w.𝓤) (emp w.𝓤) _ _ (λ r e. []) (λ r e. []) more (λ r e. less r (e.0, tt))
+    (fact_i w.𝓤 _ _ tt) (λ _. id⊢ w.𝓤 (emp w.𝓤)) (λ r e. fact_i w.𝓤 _ _ tt)
+    (λ r e _. lends_more w.𝓛 _ _ _ _ _ _ _ _ _ _ _ _ _ _ (λ _ h. absurd h)
+    (λ new h.
+    record {
+      lends = h.lends;
+      told = h.told;
+      turns = h.turns;
+      turn = h.turn;
+      quiet = h.quiet;
+      counts =
+          λ n. absurd n;
+      stays_sure = λ n. absurd n;
+      metered = λ n. absurd n;
+      filling = h.filling;
+      store =
+          λ n. absurd n;
+    }))
+    (λ _. tt) (λ _ r e _. tt)

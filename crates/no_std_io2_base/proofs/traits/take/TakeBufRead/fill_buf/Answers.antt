@@ -6,5 +6,13 @@ use Rattle.no_std_io2_base.proofs.traits.take.TakeBufRead.fill_buf.Goals as goal
 pub returns : goal.returns
 returns g c = (
   grind (arith, common_steps),
-  record { held = grind (arith, common_steps); front = λ t. begins_cut _ _ (omega arith) (c.in_ok-available.ensures.front t); end = grind (arith, common_steps); at_limit = grind (arith, common_steps); after_borrow = tt },
+  record {
+    held = grind (arith, common_steps);
+    front =
+        λ t. begins_cut _ _ (omega arith) (c.in_ok-available.ensures.front t);
+    end = grind (arith, common_steps);
+    at_limit =
+        grind (arith, common_steps);
+    after_borrow = tt;
+  },
 )

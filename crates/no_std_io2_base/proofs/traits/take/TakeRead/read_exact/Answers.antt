@@ -2,7 +2,8 @@ use Rattle.std.proofs.Common.{◌-◌, length, rules, arith, refl, sym, ◌∙�
 use Rattle.std.proofs.lemmas.Slice.{take-put_mid_below}
 use Rattle.no_std_io2_base.proofs.Along.{along_none, along_then}
 use Rattle.no_std_io2_base.proofs.Parts.{take-put_mid}
-use Rattle.no_std_io2_base.proofs.ReadExactExits.{length_stays, short_before, some_part, some_bytes, within_part, le_same, exact_short, exact_done}
+use Rattle.no_std_io2_base.proofs.ReadExactExits.{length_stays, short_before, some_part, some_bytes, within_part}
+use Rattle.no_std_io2_base.proofs.ReadExactExits.{le_same, exact_short, exact_done}
 use Rattle.no_std_io2_base.proofs.Taken.{taken_none, taken_read, taken_interruption, taken_fault}
 use Rattle.no_std_io2_base.proofs.traits.take.TakeRead.read_exact.Goals as goal
 

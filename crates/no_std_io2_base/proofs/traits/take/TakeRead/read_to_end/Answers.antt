@@ -1,11 +1,14 @@
 use Rattle.std.proofs.Common.{◌≡◌, ◌+◌, ◌≤◌, ◌++◌, length, take, vec_capacity, arith, ap, refl, sym, subst, ◌∙◌, le_refl, le_trans}
 use Rattle.std.proofs.lemmas.Result.{err_from_is_err_and}
 use Rattle.no_std_io2_base.proofs.Along.{along_none, along_then}
-use Rattle.no_std_io2_base.proofs.Gathered.{gathered_none, gathered_same, gathered_read, gathered_interruption, gathered_fault, gathered_memory, gathered_fits, gathered_no_fault}
+use Rattle.no_std_io2_base.proofs.Gathered.{gathered_none, gathered_same, gathered_read, gathered_interruption}
+use Rattle.no_std_io2_base.proofs.Gathered.{gathered_fault, gathered_memory, gathered_fits, gathered_no_fault}
 use Rattle.no_std_io2_base.proofs.Parts.{take-written, take-written_below, take-stays}
 use Rattle.no_std_io2_base.proofs.PieceLemmas.{memory_fault}
-use Rattle.no_std_io2_base.proofs.ReadsToEndExits.{front_whole, filled_bytes, front_cut, none_opened, count_cut, len_cut, filled_length, some_room}
-use Rattle.no_std_io2_base.proofs.TakenToEnd.{Ended, ended_at_limit, nothing_read, given_none, gathered_done, limit_same, limit_cut, no_turn, none_filled}
+use Rattle.no_std_io2_base.proofs.ReadsToEndExits.{front_whole, filled_bytes, front_cut, none_opened, count_cut}
+use Rattle.no_std_io2_base.proofs.ReadsToEndExits.{len_cut, filled_length, some_room}
+use Rattle.no_std_io2_base.proofs.TakenToEnd.{Ended, ended_at_limit, nothing_read, given_none, gathered_done}
+use Rattle.no_std_io2_base.proofs.TakenToEnd.{limit_same, limit_cut, no_turn, none_filled}
 use Rattle.no_std_io2_base.proofs.traits.take.TakeRead.read_to_end.Goals as goal
 use Rattle.no_std_io2_base.proofs.traits.take.TakeRead.read_to_end.Goals.{else-reads-test, then-reads-test+in_ok-open_room+in-Ok-eq0}
 

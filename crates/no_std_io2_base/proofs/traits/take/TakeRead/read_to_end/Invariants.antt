@@ -18,7 +18,9 @@ invariant-reads g l =
       is_filling : T.is_filling (take_inner l.initial.self) → T.is_filling (take_inner l.self);
       limit : take_limit l.self + l.filled ≡ take_limit l.initial.self + vec_len l.fn.buf;
       at_limit : take_limit l.initial.self ≡ 0 → take_inner l.self ≡ take_inner l.initial.self;
-      along : T.tells (take_inner l.initial.self) → TakesAlong (take_limit l.initial.self) (T.events (take_inner l.initial.self)) (take_limit l.self) (T.events (take_inner l.self));
+      along : T.tells (take_inner l.initial.self)
+          → TakesAlong (take_limit l.initial.self) (T.events (take_inner l.initial.self)) (take_limit l.self)
+          (T.events (take_inner l.self));
     }
 
 abbrev pub decreases-reads : goal.decreases-reads

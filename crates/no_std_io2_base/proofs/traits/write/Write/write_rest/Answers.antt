@@ -1,5 +1,7 @@
 use Rattle.std.proofs.Common.{length, rules, refl}
-use Rattle.no_std_io2_base.proofs.WriteExits.{not_empty, is_empty, sent_none, sends_zero, sends_fault, sends_done, sent_interruption, sent_more, fewer_left, fewer_turns, takes_some, one_call, no_call, no_error_there, same_count}
+use Rattle.no_std_io2_base.proofs.WriteExits.{not_empty, is_empty, sent_none, sends_zero, sends_fault, sends_done}
+use Rattle.no_std_io2_base.proofs.WriteExits.{sent_interruption, sent_more, fewer_left, fewer_turns, takes_some}
+use Rattle.no_std_io2_base.proofs.WriteExits.{one_call, no_call, no_error_there, same_count}
 use Rattle.no_std_io2_base.proofs.traits.write.Write.write_rest.Goals as goal
 
 pub writes-init : goal.writes-init

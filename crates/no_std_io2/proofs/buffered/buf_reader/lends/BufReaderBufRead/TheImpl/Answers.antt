@@ -20,9 +20,33 @@ fill_buf-meets g c =
     let R = g.R in
     let room = number g.row.S in
     let old = c.args.self.now in
-    let more = (given g.row.R room R.Read R.Read-dict R.Stored R.Stored-dict w.𝓛 w.𝓜.mem w.𝓡.returns (c.lifetimes.0, (c.lifetimes.1.0, (c.lifetimes.1.0, tt))) (c.args.self, tt)).ensures tt in
-    let less = (asked (the_row (param 0 g.row.R) (param 1 room)) (BufReads.ghosts g.row.R room R.Read R.Read-dict R.Stored R.Stored-dict) (BufReads.dict g.row.R room R.Read R.Read-dict R.Stored R.Stored-dict)
-    (Reads.ghosts g.row.R room R.Read R.Read-dict R.Stored R.Stored-dict) (Reads.dict g.row.R room R.Read R.Read-dict R.Stored R.Stored-dict) (Stores.ghosts g.row.R room R.Stored R.Stored-dict) (Stores.dict g.row.R room R.Stored R.Stored-dict)
+    let more =
+    (given g.row.R room R.Read R.Read-dict R.Stored R.Stored-dict w.𝓛 w.𝓜.mem w.𝓡.returns
+    (c.lifetimes.0, (c.lifetimes.1.0, (c.lifetimes.1.0, tt))) (c.args.self, tt)).ensures
+    tt in
+    let less =
+    (asked (the_row (param 0 g.row.R) (param 1 room))
+    (BufReads.ghosts g.row.R room R.Read R.Read-dict R.Stored R.Stored-dict)
+    (BufReads.dict g.row.R room R.Read R.Read-dict R.Stored R.Stored-dict)
+    (Reads.ghosts g.row.R room R.Read R.Read-dict R.Stored R.Stored-dict)
+    (Reads.dict g.row.R room R.Read R.Read-dict R.Stored R.Stored-dict)
+    (Stores.ghosts g.row.R room R.Stored R.Stored-dict) (Stores.dict g.row.R room R.Stored R.Stored-dict)
     w.𝓛 w.𝓜.mem w.𝓡.returns c.lifetimes (c.args.self, tt)).ensures c.ghost in
-    by_parts w.𝓤 [] [] (emp w.𝓤) (emp w.𝓤) _ _ (λ r e. []) (λ r e. []) more (λ r e. less r (e.0, tt)) (fact_i w.𝓤 _ _ tt) (λ _. id⊢ w.𝓤 (emp w.𝓤)) (λ r e. fact_i w.𝓤 _ _ tt)
-    (λ r e _. lends_more w.𝓛 _ _ _ _ _ _ _ _ _ _ _ _ _ _ (λ h. h) (λ new h. record { lends = h.lends; told = h.told; turns = h.turns; turn = h.turn; quiet = λ some. (ap (reader_turns R.Read.turns) (h.kept some), ap (λ r. R.Read.cost (reader_inner r)) (h.kept some)); counts = h.counts; stays_sure = h.stays_sure; metered = λ n. n; filling = λ n. n; store = h.store })) (λ _. tt) (λ _ r e _. tt)
+    by_parts w.𝓤 [] [] (emp w.𝓤) (emp w.𝓤) _ _ (λ r e. []) (λ r e. []) more (λ r e. less r (e.0, tt))
+    (fact_i w.𝓤 _ _ tt) (λ _. id⊢ w.𝓤 (emp w.𝓤)) (λ r e. fact_i w.𝓤 _ _ tt)
+    (λ r e _. lends_more w.𝓛 _ _ _ _ _ _ _ _ _ _ _ _ _ _ (λ h. h)
+    (λ new h.
+    record {
+      lends = h.lends;
+      told = h.told;
+      turns = h.turns;
+      turn = h.turn;
+      quiet =
+          λ some. (ap (reader_turns R.Read.turns) (h.kept some), ap (λ r. R.Read.cost (reader_inner r)) (h.kept some));
+      counts = h.counts;
+      stays_sure = h.stays_sure;
+      metered = λ n. n;
+      filling = λ n. n;
+      store = h.store;
+    }))
+    (λ _. tt) (λ _ r e _. tt)

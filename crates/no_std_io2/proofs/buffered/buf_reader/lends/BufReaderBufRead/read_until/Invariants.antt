@@ -20,7 +20,9 @@ invariant-pieces g l =
       front : IsFront l.fn.buf.items l.buf.items;
       turns : left l.self ≤ left l.fn.self;
       spent : vec_len l.fn.buf < vec_len l.buf → left l.self < left l.fn.self;
-      told : R.tells (reader_inner l.fn.self) → R.tells (reader_inner l.self) × PieceSoFar l.delim (events l.fn.self) l.fn.buf.items l.buf.items (events l.self);
+      told : R.tells (reader_inner l.fn.self)
+          → R.tells (reader_inner l.self)
+          × PieceSoFar l.delim (events l.fn.self) l.fn.buf.items l.buf.items (events l.self);
       store : has_store l.fn.self → has_store l.self × (S.content (reader_inner l.self) ≡ S.content (reader_inner l.fn.self))
           × (place l.self + length (events l.self) ≡ place l.fn.self + length (events l.fn.self));
     }

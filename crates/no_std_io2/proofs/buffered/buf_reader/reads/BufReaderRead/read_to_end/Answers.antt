@@ -8,7 +8,10 @@ use Rattle.no_std_io2_base.proofs.PieceLemmas.{memory_fault}
 use Rattle.no_std_io2.specs.ReadAhead.{ahead_held, ahead_behind}
 use Rattle.no_std_io2.specs.Reading.{reader_held}
 use Rattle.no_std_io2.proofs.Behind.{sound_empty, sound_stayed}
-use Rattle.no_std_io2.proofs.Emptied.{moved_all, emptied_all, emptied_done, emptied_stop, emptied_failed, emptied_front, emptied_then, emptied_shown, emptied_on, emptied_moved, emptied_again, part_refused, part_front, part_moved, part_sound, part_turns, room_held, room_behind}
+use Rattle.no_std_io2.proofs.Emptied.{moved_all, emptied_all, emptied_done, emptied_stop, emptied_failed, emptied_front}
+use Rattle.no_std_io2.proofs.Emptied.{emptied_then, emptied_shown, emptied_on, emptied_moved, emptied_again}
+use Rattle.no_std_io2.proofs.Emptied.{part_refused, part_front, part_moved, part_sound, part_turns, room_held}
+use Rattle.no_std_io2.proofs.Emptied.{room_behind}
 use Rattle.no_std_io2.proofs.ReaderCallLemmas.{sound_none}
 use Rattle.no_std_io2.proofs.Turns.{turns_read}
 use Rattle.no_std_io2.proofs.buffered.buf_reader.reads.BufReaderRead.read_to_end.Goals as goal
@@ -51,7 +54,9 @@ returns-in_err-is_at_end g c =
       capacity = le_trans done.grows read.capacity;
       room = λ t enough. absurd (stopped_clean _ _ _ _ _ (read.told t).1 (room_behind held _ _ _ enough));
       fault = read.fault;
-      turns = turns_read g.row.S (length held) (length none) _ _ few read.turns (λ some. absurd (omega (arith, some, ap length done.done.0)));
+      turns =
+          turns_read g.row.S (length held) (length none) _ _ few read.turns
+          (λ some. absurd (omega (arith, some, ap length done.done.0)));
       metered = λ h. h;
       filling = λ h. h;
       store = λ s.
@@ -77,7 +82,9 @@ returns-then-is_at_end g c =
       capacity = le_trans done.grows read.capacity;
       room = λ t enough. refl;
       fault = tt;
-      turns = turns_read g.row.S (length held) (length none) _ _ few read.turns (λ some. absurd (omega (arith, some, ap length done.done.0)));
+      turns =
+          turns_read g.row.S (length held) (length none) _ _ few read.turns
+          (λ some. absurd (omega (arith, some, ap length done.done.0)));
       metered = λ h. h;
       filling = λ h. h;
       store = λ s.

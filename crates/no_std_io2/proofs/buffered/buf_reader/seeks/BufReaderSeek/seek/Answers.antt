@@ -14,7 +14,9 @@ returns-in-Current-clause-store g c = λ s.
     let fits : FitsSigned w64 c.in-Current.offset = search rules in
     let same = ap Current (to_z-of_z w64 c.in-Current.offset fits) ∙ sym c.in-Current.is in
     let place = reader_position g.R.Stored.position in
-    let sought_here = λ (target : SeekFrom). Seeks (length (g.R.Stored.content (reader_inner c.args.self.now))) (place c.args.self.now) target c.seek_current.result (place c.seek_current.new.self) in
+    let sought_here =
+    λ (target : SeekFrom). Seeks (length (g.R.Stored.content (reader_inner c.args.self.now))) (place c.args.self.now)
+    target c.seek_current.result (place c.seek_current.new.self) in
     (now.0, now.1, subst sought_here same now.2)
 
 pub returns-in-Start-clause-store : goal.returns-in-Start-clause-store
@@ -24,7 +26,9 @@ returns-in-Start-clause-store g c = λ s.
     let seek = c.seek_inner.ensures in
     let now = seek.store s.0 in
     let there = elsewhere c.args.pos c.in-Start.is in
-    let done = sought c.args.pos c.args.pos c.seek_inner.result held new _ _ _ _ (λ n. there _ _ _ n) (λ n. there _ _ _ n) s.1 now.1 now.2 seek.empty seek.kept in
+    let done =
+    sought c.args.pos c.args.pos c.seek_inner.result held new _ _ _ _ (λ n. there _ _ _ n) (λ n. there _ _ _ n) s.1
+    now.1 now.2 seek.empty seek.kept in
     ((now.0, done.0), now.1, done.1)
 
 pub returns-in-Start-clause-dropped : goal.returns-in-Start-clause-dropped
