@@ -119,8 +119,7 @@ fault_first (fails f ∷ E) e h = by_kind (is_interruption (error_kind f)) refl 
           before = fails f ∷ r.before;
           behind = r.behind;
           split = ap (λ l. fails f ∷ l) r.split;
-          no_fault =
-              (is, r.no_fault);
+          no_fault = (is, r.no_fault);
           fault = r.fault;
           shown = ap (λ t. if t then bytes_to_fault E else []) is ∙ r.shown;
         }
@@ -131,8 +130,7 @@ fault_first (fails f ∷ E) e h = by_kind (is_interruption (error_kind f)) refl 
           behind = E;
           split = ap (λ x. fails x ∷ E) same;
           no_fault = tt;
-          fault =
-              subst IsFault same is;
+          fault = subst IsFault same is;
           shown = ap (λ t. if t then bytes_to_fault E else []) is;
         }
 
@@ -163,8 +161,7 @@ gathered_to A view trim refuses d E items shown mid e after same t (piece, inr r
       before = t.before;
       piece = piece;
       behind = pieces_given d after;
-      given =
-          t.given ∙ ap (λ l. t.before ++ l) next.0;
+      given = t.given ∙ ap (λ l. t.before ++ l) next.0;
       refused = refused.1;
       are = same ∙ t.are;
     }))
@@ -183,8 +180,7 @@ gathered_to A view trim refuses d E items shown mid e after same t (piece, inl s
       split = r.split;
       no_fault = r.no_fault;
       fault = r.fault;
-      are =
-          same ∙ t.are ∙ ap (map trim) (sym given);
+      are = same ∙ t.are ∙ ap (map trim) (sym given);
     }))
     (λ memory. inr
     (inr

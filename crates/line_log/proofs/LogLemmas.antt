@@ -38,8 +38,7 @@ sends_nothing reply x shown s none f is =
     record {
       sent = s.sent;
       split = s.split ∙ ap (λ l. s.sent ++ l) is;
-      moves =
-          Moves-ends s.moves (wrote_nothing reply x none f);
+      moves = Moves-ends s.moves (wrote_nothing reply x none f);
     }
 
 -- what is left under another name

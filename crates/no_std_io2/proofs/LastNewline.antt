@@ -13,12 +13,15 @@ use Rattle.no_std_io2_base.specs.Writes.{Told, Moves}
 use Rattle.no_std_io2_base.proofs.MovesLemmas.{Moves-then, Moves-quiet}
 use Rattle.no_std_io2.proofs.LineLemmas.{IsLineState-plain, HasNoNewline-take}
 
+-- how a search from the end tests a byte: it passes over each that is no newline,
 is_not_ten : (b : ℕ) → b ≢ 10 → not (b == 10) ≡ true
 is_not_ten b h = grind (arith, nat_tests)
 
+-- and stops at a newline
 is_ten : (b : ℕ) → b ≡ 10 → not (b == 10) ≡ false
 is_ten b h = grind (arith, nat_tests)
 
+-- no byte from n on is a newline
 none_from : (xs : List ℕ) (n k : ℕ) → HasNoNewline (drop n xs) → n ≤ k → k < length xs → get_or xs k 0 ≢ 10
 none_from xs n k h le lt e =
     h (k - n) (omega (arith, length-drop n xs))
@@ -32,24 +35,31 @@ unfinished_line-is xs n h =
     (λ some. is_ten _ (h.ends some)) in
     ap (λ m. drop m xs) (omega (arith, h.within))
 
+-- the length of the lines
 pub lines_len-is : (xs : List ℕ) (n : ℕ) → IsLinesLen xs n → lines_len xs ≡ n
 lines_len-is xs n h = omega (arith, ap length (unfinished_line-is xs n h), length-drop n xs, h.within)
 
+-- where there is no newline, the lines have no byte
 pub IsLinesLen-none : (xs : List ℕ) → HasNoNewline xs → IsLinesLen xs 0
 IsLinesLen-none xs h = record { within = omega arith; ends = λ some. absurd (omega arith); none_after = h }
 
+-- bytes have a newline, or they have none
 pub none_or_some : (xs : List ℕ) → HasNoNewline xs → HasNewline xs → ⊥
 none_or_some xs h has = h has.0 has.1 (get_or_default xs has.0 0 10 has.1 ∙ has.2)
 
+-- lines of some bytes end in a newline
 pub none_or_lines : (xs : List ℕ) (n : ℕ) → IsLinesLen xs n → 0 < n → HasNoNewline xs → ⊥
 none_or_lines xs n h some none = none (n - 1) (omega (arith, h.within)) (h.ends some)
 
+-- bytes that end in a newline are all lines
 pub IsLinesLen-whole : (xs : List ℕ) → (0 < length xs → slice_index xs (length xs - 1) ≡ 10) → IsLinesLen xs (length xs)
 IsLinesLen-whole xs h = record { within = omega arith; ends = h; none_after = λ k lt. absurd (omega (arith, length-drop (length xs) xs)) }
 
+-- what follows the lines is all, where there is no newline,
 pub unfinished_line-none : (xs : List ℕ) → HasNoNewline xs → unfinished_line xs ≡ xs
 unfinished_line-none xs h = unfinished_line-is xs 0 (IsLinesLen-none xs h)
 
+-- and nothing, where the last byte is one
 pub unfinished_line-ended : (xs : List ℕ) → slice_index xs (length xs - 1) ≡ 10 → unfinished_line xs ≡ []
 unfinished_line-ended xs h =
     unfinished_line-is xs (length xs) (IsLinesLen-whole xs (λ _. h)) ∙ drop_all (length xs) xs (omega arith)
@@ -61,19 +71,23 @@ IsLineState-lines xs n within ends k lt e =
     let last : length (take n xs) - 1 ≡ n - 1 = omega arith in
     ap (λ m. get_or (take n xs) m 0) last ∙ get_or-take n xs (n - 1) 0 (omega arith) ∙ ends (omega arith)
 
+-- the lines, or all where there are none
 pub lines_or_all-none : (xs : List ℕ) → lines_len xs ≡ 0 → lines_or_all xs ≡ xs
 lines_or_all-none xs h = grind (arith, nat_tests)
 
 pub lines_or_all-some : (xs : List ℕ) (n : ℕ) → 0 < n → lines_len xs ≡ n → lines_or_all xs ≡ take n xs
 lines_or_all-some xs n some h = grind (arith, nat_tests)
 
+-- the tail that is held once n bytes went out: where all lines did, what follows them, up to a buffer;
 pub held_tail-all : (S : ℕ) (x : List ℕ) (len n : ℕ) → lines_len x ≡ len → len ≤ n → held_tail S x n ≡ take S (drop n x)
 held_tail-all S x len n e h = grind (arith, nat_tests)
 
+-- where some of the lines are left and fit, those;
 pub held_tail-rest : (S : ℕ) (x : List ℕ) (len n : ℕ) → lines_len x ≡ len → n < len → len - n ≤ S
     → held_tail S x n ≡ take (len - n) (drop n x)
 held_tail-rest S x len n e h g = grind (arith, nat_tests)
 
+-- and where they don't fit, as many whole lines as do, or a buffer of one
 pub held_tail-part : (S : ℕ) (x : List ℕ) (len n : ℕ) → lines_len x ≡ len → n < len → S < len - n
     → held_tail S x n ≡ lines_or_all (take S (drop n x))
 held_tail-part S x len n e h g = grind (arith, nat_tests)
@@ -87,10 +101,12 @@ window_all x n S m e =
 pub window_some : (x : List ℕ) (n m : ℕ) → slice_range x n (n + m) ≡ take m (drop n x)
 window_some x n m = ap (λ i. take i (drop n x)) (let same : (n + m) - n ≡ m = omega arith in same)
 
+-- what is held so has no newline, or ends in one: behind all lines,
 pub IsLineState-all : (x : List ℕ) (len n end : ℕ) → IsLinesLen x len → n ≡ len → IsLineState (slice_range x n end)
 IsLineState-all x len n end h e =
     IsLineState-plain _ (HasNoNewline-take (end - n) (drop n x) (subst (λ k. HasNoNewline (drop k x)) (sym e) h.none_after))
 
+-- of the lines that are left,
 pub IsLineState-rest : (x : List ℕ) (len n : ℕ) → IsLinesLen x len → n < len → IsLineState (slice_range x n len)
 IsLineState-rest x len n h lt =
     IsLineState-lines (drop n x) (len - n) (omega (arith, length-drop n x, h.within))
@@ -109,6 +125,7 @@ tail_part S x len n part h lt more p =
           ∙ sym (lines_or_all-some _ part some (lines_len-is _ part here)) ∙ sym whole,
     )
 
+-- and of as many of them as fit
 pub IsLineState-part : (S : ℕ) (x : List ℕ) (n part : ℕ) → IsLinesLen (slice_range x n (n + S)) part → 0 < part
     → IsLineState (slice_range x n (n + part))
 IsLineState-part S x n part p some =

@@ -26,7 +26,7 @@ pub record SeeksAfterSending {W : Type 0} (told : W → Told) (has_store : W →
   pub moves : Moves old [] [] (told sent)
   -- a store that it told then was sought
   pub seeks : has_store sent
-    → has_store new × (content new ≡ content sent)
+      → has_store new × (content new ≡ content sent)
       × Seeks (length (content sent)) (position sent) pos reply (position new)
 
 -- All was sent, which left the inner writer in some state; a store that it told then was measured, and stayed.
@@ -36,5 +36,5 @@ pub record MeasuredAfterSending {W : Type 0} (told : W → Told) (has_store : W 
   -- no byte is lost
   pub moves : Moves old [] [] (told sent)
   pub measured : has_store sent
-    → has_store new × (content new ≡ content sent) × (position new ≡ position sent)
+      → has_store new × (content new ≡ content sent) × (position new ≡ position sent)
       × IsOkAnd reply (λ n. n ≡ length (content sent))

@@ -18,9 +18,9 @@ sound_tells held position content E s is =
     let whole = drop (position - length held) content in
     let back : (position - length held) + length held ≡ position = omega (arith, s.0) in
     let rest : drop position content ≡ drop (length held) whole =
-      ap (λ n. drop n content) (sym back) ∙ sym (drop-drop (length held) (position - length held) content) in
+    ap (λ n. drop n content) (sym back) ∙ sym (drop-drop (length held) (position - length held) content) in
     ap (λ l. events_of held ++ l) (is ∙ ap events_of rest) ∙ sym (events_of-append held (drop (length held) whole))
-      ∙ ap (λ l. events_of (l ++ drop (length held) whole)) s.1 ∙ ap events_of (take-append-drop (length held) whole)
+    ∙ ap (λ l. events_of (l ++ drop (length held) whole)) s.1 ∙ ap events_of (take-append-drop (length held) whole)
 
 pub sound_drop : (held : List ℕ) (position : ℕ) (content : List ℕ) (k : ℕ) → IsSound held position content
     → k ≤ length held → IsSound (drop k held) position content
@@ -40,12 +40,11 @@ pub sound_fill : (got : List ℕ) (position : ℕ) (content : List ℕ) (E E' : 
 sound_fill got position content E E' is read =
     let at : position ≡ (position + length got) - length got = omega arith in
     let whole : drop position content ≡ got ++ bytes E' =
-      sym (bytes-events_of (drop position content)) ∙ ap bytes (sym is ∙ read) ∙ bytes-append (events_of got) E'
-        ∙ ap (λ l. l ++ bytes E') (bytes-events_of got) in
-      (
+    sym (bytes-events_of (drop position content)) ∙ ap bytes (sym is ∙ read) ∙ bytes-append (events_of got) E'
+    ∙ ap (λ l. l ++ bytes E') (bytes-events_of got) in (
       omega arith,
       sym
-        (ap (λ n. take (length got) (drop n content)) (sym at) ∙ ap (take (length got)) whole
+          (ap (λ n. take (length got) (drop n content)) (sym at) ∙ ap (take (length got)) whole
           ∙ take-append-le (length got) got (bytes E') (omega arith) ∙ take_whole got),
     )
   where

@@ -12,8 +12,7 @@ along_none k k' E E' same is =
       removed = [];
       below = sym is;
       here = ap (λ l. cut k l) (sym is) ∙ ap (λ n. cut n E') (sym same);
-      falls =
-          omega (arith, same);
+      falls = omega (arith, same);
     }
 
 -- some bytes that fit under the limit

@@ -129,8 +129,7 @@ puts_moves_all bs place x n bs' place' h =
       accepted = x;
       front = ([], sym (append-nil x));
       whole = refl;
-      moves =
-          appends_moves _ _ _ _ (put_goes_out bs place x bs' place' h.2 h.3) refl;
+      moves = appends_moves _ _ _ _ (put_goes_out bs place x bs' place' h.2 h.3) refl;
     }
 
 -- what fits in a slice goes out

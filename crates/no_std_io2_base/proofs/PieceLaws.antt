@@ -22,8 +22,7 @@ front_are d b bs ((c ∷ p) ∷ []) differ h =
       joined = ap (λ l. b ∷ l) h.joined;
       none_empty = (omega arith, tt);
       ended = tt;
-      nowhere_else =
-          ((differ, h.nowhere_else.0), tt);
+      nowhere_else = ((differ, h.nowhere_else.0), tt);
     }
 front_are d b bs ((c ∷ p) ∷ q ∷ ps) differ h =
     record {
@@ -40,8 +39,7 @@ end_are d b bs (p ∷ ps) is h =
     record {
       joined = ap (λ l. b ∷ l) h.joined;
       none_empty = (omega arith, h.none_empty);
-      ended =
-          (eq-eqb b d is, h.ended);
+      ended = (eq-eqb b d is, h.ended);
       nowhere_else = (tt, h.nowhere_else);
     }
 
@@ -103,8 +101,7 @@ pieces_only d (b ∷ bs) ((c ∷ e ∷ p) ∷ q ∷ ps) h =
       joined = is.1;
       none_empty = (omega arith, h.none_empty.1);
       ended = h.ended;
-      nowhere_else =
-          (h.nowhere_else.0.1, h.nowhere_else.1);
+      nowhere_else = (h.nowhere_else.0.1, h.nowhere_else.1);
     })
     in
     ap (in_front c) rest ∙ ap (λ n. in_front n (pieces d bs)) is.0 ∙ sym (pieces-other d b bs (λ same. differ (is.0 ∙ same)))

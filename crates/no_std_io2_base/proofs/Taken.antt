@@ -58,8 +58,7 @@ taken_fills E room got after t h =
     record {
       split = t.split ∙ ap (λ l. l ++ after) (sym is);
       no_fault = subst HasNoFault (sym is) t.no_fault;
-      filled =
-          ap bytes is ∙ t.gave;
+      filled = ap bytes is ∙ t.gave;
     }
 
 pub taken_fault : (E : List Event) (room most : ℕ) (got : List ℕ) (after : List Event) (e : Error) (rest : List Event)

@@ -48,8 +48,8 @@ put_over place x bs = take place bs ++ x ++ drop (place + length x) bs
 abbrev pub IsRefusal : ℕ → List ℕ → Error → Type 0
 IsRefusal place x e =
     ((2 ^ 64 ≤ place + length x) × (error_kind e ≡ InvalidInput)
-      × (error_text e ≡ Some (codes "vector position past the greatest usize")))
-      ⊎ ((place + length x < 2 ^ 64) × (error_kind e ≡ OutOfMemory) × (error_text e ≡ None))
+    × (error_text e ≡ Some (codes "vector position past the greatest usize")))
+    ⊎ ((place + length x < 2 ^ 64) × (error_kind e ≡ OutOfMemory) × (error_text e ≡ None))
 
 -- `write` of x: a vector took all of it at a place, which moved behind it; or it would have had to grow, was refused, and nothing changed
 abbrev pub PutsWhole : List ℕ → ℕ → List ℕ → Result ℕ Error → List ℕ → ℕ → Type 0

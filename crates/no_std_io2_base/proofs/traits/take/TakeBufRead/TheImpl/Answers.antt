@@ -12,14 +12,18 @@ use Rattle.no_std_io2_base.specs.contracts.traits.take.TakeStored.TheImpl as Sto
 use Rattle.no_std_io2_base.proofs.Strengthened.{lends_more}
 use Rattle.no_std_io2_base.proofs.traits.take.TakeBufRead.TheImpl.Goals as goal
 
+-- `Take` promises more of `fill_buf` than the trait asks, in a starred clause: so what it gives is turned into what is asked here,
+-- field by field. Nothing is owed under a member that is false of every `Take`: it counts no fills, and has no meter and no store.
 pub fill_buf-meets : goal.fill_buf-meets
 fill_buf-meets g c =
     let w = g.world in
     let T = g.T in
+    -- what `Take` gives
     let more =
     (given g.row.T T.BufRead T.BufRead-dict T.Read T.Read-dict T.Stored T.Stored-dict w.𝓛 w.𝓜.mem w.𝓡.returns
     (c.lifetimes.0, (c.lifetimes.1.0, tt)) (c.args.self, tt)).ensures
     tt in
+    -- what the trait asks
     let less =
     (asked (the_row (param 0 g.row.T))
     (BufReads.ghosts g.row.T T.BufRead T.BufRead-dict T.Read T.Read-dict T.Stored T.Stored-dict)
@@ -39,12 +43,10 @@ fill_buf-meets g c =
       turns = h.turns;
       turn = h.turn;
       quiet = h.quiet;
-      counts =
-          λ n. absurd n;
+      counts = λ n. absurd n;
       stays_sure = λ n. absurd n;
       metered = λ n. absurd n;
       filling = h.filling;
-      store =
-          λ n. absurd n;
+      store = λ n. absurd n;
     }))
     (λ _. tt) (λ _ r e _. tt)

@@ -8,11 +8,9 @@ returns g c = (
   grind (arith, common_steps),
   record {
     held = grind (arith, common_steps);
-    front =
-        λ t. begins_cut _ _ (omega arith) (c.in_ok-available.ensures.front t);
+    front = λ t. begins_cut _ _ (omega arith) (c.in_ok-available.ensures.front t);
     end = grind (arith, common_steps);
-    at_limit =
-        grind (arith, common_steps);
+    at_limit = grind (arith, common_steps);
     after_borrow = tt;
   },
 )
