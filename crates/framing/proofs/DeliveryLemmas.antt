@@ -34,6 +34,7 @@ tried_flush {a} {b} {c} to_go mid_go left end shown under_way reply fault f s is
 count_all : (xs : List ErrorKind) → length xs ≡ count_by (λ _. true) xs
 count_all = is_count_by length (λ _. true) refl (λ x xs. omega arith)
 
+-- before the first try nothing went
 pub delivers_none : (a : Told) (to_go : List ℕ) → Delivers a to_go a to_go
 delivers_none a to_go = record { sent = []; split = refl; moves = Moves-refl a }
 
@@ -46,6 +47,7 @@ delivers_more {left = left} reply f s = record {
   moves = Moves-quiet (Moves-then f.moves s.moves);
 }
 
+-- what was taken off in one step and then in another was taken off in both together
 pub off_then : {xs ys zs : List (List ℕ)} → TakesOff xs ys → TakesOff ys zs → TakesOff xs zs
 off_then {zs = zs} f g = record {
   front = f.front ++ g.front;
@@ -53,6 +55,7 @@ off_then {zs = zs} f g = record {
   short = All-append (λ p. length p < 2 ^ 32) f.front g.front f.short g.short;
 }
 
+-- no try was made, and no mishap spent
 pub spent_none : (n : ℕ) (old : Option (List ErrorKind)) → HasSpentTries n n old old
 spent_none n None = tt
 spent_none n (Some old) = omega arith

@@ -8,20 +8,24 @@ use Rattle.no_std_io2.specs.Events.{Event, byte, fails, events_of, bytes, HasNoF
 use Rattle.no_std_io2.specs.Laws.{bytes-events_of}
 use Rattle.no_std_io2.specs.Lending.{Lends, LendsFrom, LendingTurn}
 
+-- the bytes of two lists of events joined are those of the first and then those of the second
 pub bytes-append : (P Q : List Event) → bytes (P ++ Q) ≡ bytes P ++ bytes Q
 bytes-append [] Q = refl
 bytes-append (byte b ∷ P) Q = ap (λ l. b ∷ l) (bytes-append P Q)
 bytes-append (fails e ∷ P) Q = bytes-append P Q
 
+-- two lists of bytes joined are, as events, the first ones and then the second ones
 pub events_of-append : (bs cs : List ℕ) → events_of (bs ++ cs) ≡ events_of bs ++ events_of cs
 events_of-append [] cs = refl
 events_of-append (b ∷ bs) cs = ap (λ l. byte b ∷ l) (events_of-append bs cs)
 
+-- two lists of events that have no fault have none joined
 pub HasNoFault-append : (P Q : List Event) → HasNoFault P → HasNoFault Q → HasNoFault (P ++ Q)
 HasNoFault-append [] Q p q = q
 HasNoFault-append (byte b ∷ P) Q p q = HasNoFault-append P Q p q
 HasNoFault-append (fails e ∷ P) Q p q = (p.0, HasNoFault-append P Q p.1 q)
 
+-- bytes alone have no fault
 pub HasNoFault-events_of : (bs : List ℕ) → HasNoFault (events_of bs)
 HasNoFault-events_of [] = tt
 HasNoFault-events_of (b ∷ bs) = HasNoFault-events_of bs
@@ -46,6 +50,7 @@ pub error_taken : (reply : Result (Bor (List ℕ)) Error) (e : Error) (E E' : Li
     → LendsFrom E reply E' → E ≡ fails e ∷ E'
 error_taken reply e E E' is gone = subst (λ r. LendsFrom E r E') is gone
 
+-- an error that was answered has spent a turn
 pub error_turn : (reply : Result (Bor (List ℕ)) Error) (e : Error) (old new : ℕ) → reply ≡ Err e → LendingTurn reply old new → new < old
 error_turn reply e old new is turn = subst (λ r. LendingTurn r old new) is turn
 

@@ -20,9 +20,11 @@ front_of_frame : (p rest : List ℕ) → take 4 (frame p ++ rest) ≡ to_le_byte
 front_of_frame p rest =
     ap (take 4) (append_assoc (to_le_bytes w32 (length p)) p rest) ∙ take-append_seam (to_le_bytes w32 (length p)) (p ++ rest)
 
+-- the first bytes of a frame tell its payload's length, where that is below 2 ^ 32
 told_frame : (p rest : List ℕ) → length p < 2 ^ 32 → told_length (frame p ++ rest) ≡ length p
 told_frame p rest small = ap (from_le_bytes w32) (front_of_frame p rest) ∙ from_le_bytes-to_le_bytes_4 (length p) small
 
+-- a frame is four bytes longer than its payload, and what stands behind it adds its own length
 long_frame : (p rest : List ℕ) → length (frame p ++ rest) ≡ 4 + length p + length rest
 long_frame p rest =
     let a = length-append (frame p) rest in
@@ -65,6 +67,7 @@ front_frames (p ∷ ps) (s ∷ ss) left e small small' =
     (All-tail (λ q. length q < 2 ^ 32) p ps small') in
     (others.0, ap (λ l. l ∷ ss) (sym one.0) ∙ ap (λ l. p ∷ l) others.1, others.2)
 
+-- what holds of each item of two lists joined holds of each of the second
 pub All-right : {X : Type 0} (P : X → Type 0) (xs ys : List X) → All P (xs ++ ys) → All P ys
 All-right P [] ys h = h
 All-right P (x ∷ xs) ys h = All-right P xs ys (All-tail P x (xs ++ ys) h)

@@ -19,12 +19,14 @@ frames_push : (ps : List (List ℕ)) (p : List ℕ) → frames (ps ++ p ∷ []) 
 frames_push ps p =
     ap concat (map-append frame ps (p ∷ [])) ∙ concat-append (map frame ps) (frame p ∷ []) ∙ ap (λ l. frames ps ++ l) (append-nil (frame p))
 
+-- where x is pushed to a list that begins with the old items, it stands behind those appended before
 appended_push : {X : Type 0} (old mid new : List X) (x : X) → mid ≡ old ++ appended old mid → new ≡ mid ++ x ∷ []
     → appended old new ≡ appended old mid ++ x ∷ []
 appended_push old mid new x e is =
     ap (drop (length old)) (is ∙ ap (λ l. l ++ x ∷ []) e ∙ append_assoc old (appended old mid) (x ∷ []))
     ∙ drop-append_seam old (appended old mid ++ x ∷ [])
 
+-- where x is pushed to a list that begins with the old items, the list still begins with them
 pub appends_push : {X : Type 0} (old mid new : List X) (x : X) → mid ≡ old ++ appended old mid → new ≡ mid ++ x ∷ []
     → new ≡ old ++ appended old new
 appends_push old mid new x e is =

@@ -15,6 +15,7 @@ pub record Goes (old : Told) (to_go : List ℕ) (new : Told) (left : List ℕ) :
   pub split : to_go ≡ sent ++ left
   pub moves : Moves old sent [] new
 
+-- at the start nothing went, and all is still to go
 pub goes_none : (a : Told) (to_go : List ℕ) → Goes a to_go a to_go
 goes_none a to_go = record { sent = []; split = refl; moves = Moves-refl a }
 
@@ -29,6 +30,7 @@ goes_on {left = left} more f s = record {
   moves = Moves-then f.moves s.moves;
 }
 
+-- where a frame is under way, an error is a mishap of the device's as in any call, not a refusal
 mishap_some : (e : Error) (under_way : List ℕ) → 0 < length under_way → call_mishap (Err e) ≡ frame_mishap (Err e) under_way
 mishap_some e [] some = absurd (omega arith)
 mishap_some e (b ∷ bs) some = refl

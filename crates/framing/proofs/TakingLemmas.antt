@@ -8,6 +8,7 @@ use Rattle.no_std_io2.specs.Laws.{bytes-events_of}
 use Rattle.framing.specs.Taking.{Passes, Gathered, Gathers}
 use Rattle.framing.proofs.EventLemmas.{bytes-append, HasNoFault-append, HasNoFault-events_of}
 
+-- where nothing is gone, no byte was taken
 pub passes_none : (E : List Event) → Passes E [] E
 passes_none E = record { front = []; split = refl; no_fault = tt; gave = refl }
 
@@ -24,6 +25,7 @@ passes_then {E} {mid} {after} {x} {y} p q = record {
   gave = bytes-append p.front q.front ∙ ap (λ l. l ++ bytes q.front) p.gave ∙ ap (λ l. x ++ l) q.gave;
 }
 
+-- where nothing is gone and the part is what it was, nothing more of it was gathered
 pub gathered_none : (E : List Event) (part : List ℕ) → Gathered E part part E
 gathered_none E part = record { more = []; is = sym (append-nil part); passes = passes_none E }
 
@@ -61,6 +63,7 @@ pub gathered_passes : {E after : List Event} {old new : List ℕ} → Gathered E
 gathered_passes {E} {after} {old} {new} g =
     subst (λ l. Passes (events_of old ++ E) l after) (sym g.is) (passes_then (passes_bytes old E) g.passes)
 
+-- where more of a part was gathered, the same was gathered of that part with a header in front
 gathered_behind : {E after : List Event} {old new : List ℕ} (header : List ℕ) → Gathered E old new after
     → Gathered E (header ++ old) (header ++ new) after
 gathered_behind {old = old} header g =

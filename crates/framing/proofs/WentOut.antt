@@ -16,6 +16,7 @@ use Rattle.framing.specs.Delivering.{Delivers}
 use Rattle.framing.specs.Taking.{ComesBack, IsFirstFault, appended}
 use Rattle.framing.proofs.RoundTrip.{All-right}
 
+-- where no byte is, none is left behind the first n
 pub drop_none : (n : ℕ) (bs : List ℕ) → bs ≡ [] → drop n bs ≡ []
 drop_none n bs e = ap (drop n) e ∙ none n
   where

@@ -9,10 +9,11 @@ use Rattle.framing.specs.declared.reader.FrameReader.{FrameReader}
 abbrev pub part_bytes : Part → List ℕ
 part_bytes p = p.header.items ++ p.payload.items
 
--- the header's, and the payload's
+-- those of its header
 abbrev pub part_header : Part → List ℕ
 part_header p = p.header.items
 
+-- and those of its payload
 abbrev pub part_payload : Part → List ℕ
 part_payload p = p.payload.items
 

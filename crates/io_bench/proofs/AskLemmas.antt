@@ -26,6 +26,8 @@ use Rattle.io_bench.specs.Asks.{Drops, Step, Steps, TakesFront, Fits, AllFit, As
 abbrev pub ends_more : Ask → List Event → ℕ → ℕ
 ends_more ask E ends = ends + (if meets_end ask (length E) then 1 else 0)
 
+-- the steps of some asks, and then that of one more, are the steps of them all; the last one is counted
+-- where it meets the end
 Steps-more : (asks : List Ask) (ask : Ask) (E mid after : List Event) (ends : ℕ) → Steps asks E mid ends
     → Step ask mid after → Steps (asks ++ ask ∷ []) E after (ends_more ask mid ends)
 Steps-more [] ask E mid after ends s t =
@@ -34,9 +36,12 @@ Steps-more [] ask E mid after ends s t =
 Steps-more (o ∷ asks) ask E mid after ends s t =
     (s.0, ends_more ask mid s.1, s.2, Steps-more asks ask s.0 mid after s.1 s.3 t, ap (λ n. ends_more ask mid n) s.4 ∙ add_assoc _ _ _)
 
+-- before the first ask nothing is gone, and none has met the end
 pub Steps-none : (asks : List Ask) (E : List Event) → Steps (take 0 asks) E E 0
 Steps-none asks E = (refl, refl)
 
+-- the steps of the first i asks, and then that of the next one, are the steps of the first i + 1; the last
+-- one is counted where it meets the end
 pub Steps-next : (asks : List Ask) (i : ℕ) (d : Ask) (E mid after : List Event) (ends : ℕ) → i < length asks
     → Steps (take i asks) E mid ends → Step (get_or asks i d) mid after
     → Steps (take (i + 1) asks) E after (ends_more (get_or asks i d) mid ends)
@@ -44,18 +49,22 @@ Steps-next asks i d E mid after ends h s t =
     subst (λ made. Steps made E after (ends_more (get_or asks i d) mid ends)) (sym (take_more asks i d h))
     (Steps-more (take i asks) (get_or asks i d) E mid after ends s t)
 
+-- where there are no more than i asks, the steps of the first i are the steps of all
 pub Steps-all : (asks : List Ask) (i : ℕ) (E after : List Event) (ends : ℕ) → length asks ≤ i
     → Steps (take i asks) E after ends → Steps asks E after ends
 Steps-all asks i E after ends h s = subst (λ made. Steps made E after ends) (take_all i asks h) s
 
+-- where a buffer has room for each ask of a list, it has room for the one at i
 pub fits_at : (room : ℕ) (asks : List Ask) (i : ℕ) (d : Ask) → i < length asks → AllFit room asks → Fits room (get_or asks i d)
 fits_at room [] i d h f = absurd (omega arith)
 fits_at room (ask ∷ asks) zero d h f = f.0
 fits_at room (ask ∷ asks) (suc i) d h f = fits_at room asks i d (omega arith) f.1
 
+-- where nothing is gone, the empty front is gone
 pub front_none : (E : List Event) → TakesFront E E
 front_none E = ([], refl)
 
+-- where a front is gone, and then a front of what was left, both together are a front that is gone
 pub front_more : (E mid after : List Event) → TakesFront E mid → TakesFront mid after → TakesFront E after
 front_more E mid after s t = (s.0 ++ t.0, s.1 ∙ ap (λ l. s.0 ++ l) t.1 ∙ sym (append_assoc s.0 t.0 after))
 
@@ -120,6 +129,7 @@ pub exact_asked : (S len h r h' r' : ℕ) (E E' : List Event) (is_end : Bool) �
 exact_asked S len h r h' r' E E' is_end front long end reads left =
     asked_by S (Exact len) h r h' r' E E' is_end (min len (length E)) front (omega arith) refl end reads left
 
+-- there are no more bytes among some events than there are events
 bytes-le : (E : List Event) → length (bytes E) ≤ length E
 bytes-le [] = omega arith
 bytes-le (byte b ∷ E) = omega (arith, bytes-le E)
@@ -136,6 +146,7 @@ filled-le E buf E' f =
       length-append (cut (length buf) E) E',
     )
 
+-- where a read fell short that may not take nothing then, a front is gone: all there was
 taken_whole : (E E' : List Event) → (E' ≡ [] ⊎ (⊥ × (E' ≡ E))) → TakesFront E E'
 taken_whole E E' (inl none) = (E, sym (append-nil E) ∙ ap (λ l. E ++ l) (sym none))
 taken_whole E E' (inr n) = absurd n.0
@@ -165,6 +176,7 @@ lent_error reply e E E' is lends = (fails e ∷ [], subst (λ r. LendsFrom E r E
 pub lent_held : (reply : Result (Bor (List ℕ)) Error) (s : Bor (List ℕ)) (held : List ℕ) → reply ≡ Ok s → Lends reply held → held ≡ s.now
 lent_held reply s held is lends = subst (λ r. Lends r held) is lends
 
+-- where `fill_buf` answered `Ok`, nothing is gone of what was to come
 pub lent_to_come : (reply : Result (Bor (List ℕ)) Error) (s : Bor (List ℕ)) (E E' : List Event) → reply ≡ Ok s
     → LendsFrom E reply E' → E' ≡ E
 lent_to_come reply s E E' is lends = subst (λ r. LendsFrom E r E') is lends

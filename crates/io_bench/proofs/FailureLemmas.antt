@@ -11,6 +11,7 @@ use Rattle.io_bench.specs.declared.runs.Reply.{Reply}
 use Rattle.io_bench.specs.declared.runs.Reply.TheVariants.{Took, Done, Failed}
 use Rattle.io_bench.specs.Runs.{mishap_of, mishaps_of, is_failure, failures, failures_of, IsShorterBy, HasFewer}
 
+-- where every element is counted, the count is the length
 count_by-all : {X : Type 0} (xs : List X) → count_by (λ _. true) xs ≡ length xs
 count_by-all [] = refl
 count_by-all (x ∷ xs) = omega (arith, sum_by-cons (λ _. 1) x xs, count_by-all xs)
@@ -27,23 +28,27 @@ length-mishap_of (Write x) (Failed e) = refl
 length-mishap_of (WriteAll x) (Failed e) = refl
 length-mishap_of Flush (Failed e) = refl
 
+-- as many calls of a run failed as it had mishaps
 pub failures-length : (ops : List Op) (replies : List Reply) → failures ops replies ≡ length (mishaps_of ops replies)
 failures-length [] replies = refl
 failures-length (op ∷ ops) [] = refl
 failures-length (op ∷ ops) (reply ∷ replies) =
     omega (arith, failures-length ops replies, length-mishap_of op reply, length-append (mishap_of op reply) (mishaps_of ops replies))
 
+-- told mishaps stay told, and there are fewer of them by at least as many as happened
 shorter : (old : Option (List ErrorKind)) (happened : List ErrorKind) (new : Option (List ErrorKind))
     → HasSpent old happened new → IsShorterBy (length happened) old new
 shorter None happened new h = tt
 shorter (Some old) happened None h = absurd h
 shorter (Some old) happened (Some new) h = omega (arith, h (λ _. true), count_by-all old, count_by-all happened, count_by-all new)
 
+-- so there are fewer of them by at least as many as calls of a run failed
 pub failures_told : (ops : List Op) (replies : List Reply) (old new : Option (List ErrorKind))
     → HasSpent old (mishaps_of ops replies) new → IsShorterBy (failures ops replies) old new
 failures_told ops replies old new h =
     subst (λ n. IsShorterBy n old new) (sym (failures-length ops replies)) (shorter old (mishaps_of ops replies) new h)
 
+-- an empty list of mishaps can become shorter by 0 only
 none_left : (n : ℕ) (new : Option (List ErrorKind)) → IsShorterBy n (Some []) new → n ≡ 0
 none_left n None h = absurd h
 none_left n (Some new) h = omega (arith, h)

@@ -20,6 +20,7 @@ given_first (suc n) [] h = absurd (omega arith)
 given_first (suc n) (Byte b ∷ left) h = ap (λ E. byte b ∷ E) (given_first n left (omega arith))
 given_first (suc n) (Fail kind ∷ left) h = absurd (omega arith)
 
+-- where the first n leading bytes are gone, the others of them are the leading bytes now
 leading-drop : (n : ℕ) (left : List Event) → n ≤ length (leading_bytes left) → leading_bytes (drop n left) ≡ drop n (leading_bytes left)
 leading-drop zero left h = refl
 leading-drop (suc n) [] h = absurd (omega arith)
@@ -32,6 +33,7 @@ nothing_left [] h f = refl
 nothing_left (Byte b ∷ left) h f = absurd (omega arith)
 nothing_left (Fail kind ∷ left) h f = absurd (cc)
 
+-- where x stands first behind n elements, what follows x stands behind n + 1
 drop_next : {A : Type 0} (n : ℕ) (xs : List A) (x : A) (rest : List A) → drop n xs ≡ x ∷ rest → drop (suc n) xs ≡ rest
 drop_next zero xs x rest e = ap (drop 1) e
 drop_next (suc n) [] x rest e = absurd (cc)
@@ -61,6 +63,7 @@ given_all n left rest enough e none =
       length-drop n (leading_bytes left),
     )
 
+-- an option that is `None` after a map was `None` before it
 no_text : {A B : Type 0} (f : A → B) (text : Option A) → option_map f text ≡ None → text ≡ None
 no_text f None h = refl
 no_text f (Some x) h = absurd (cc)

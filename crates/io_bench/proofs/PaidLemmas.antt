@@ -13,6 +13,7 @@ pub data Paid (S c f n h : ℕ) : Type 0 where
   pairs : (p : ℕ) → c ≤ 2 * p + f → p * (S + 1) + h ≤ n → Paid S c f n h
   open_one : (p : ℕ) → c ≤ 2 * p + 1 + f → p * (S + 1) + S + min h 1 ≤ n → Paid S c f n h
 
+-- at the start no write was made and no byte given
 pub Paid-start : (S : ℕ) → Paid S 0 0 0 0
 Paid-start S = pairs 0 (omega arith) (omega arith)
 
@@ -36,10 +37,12 @@ pub Paid-both : (S c f n h x : ℕ) → 0 < S → 0 < h → S ≤ x → Paid S c
 Paid-both S c f n h x s t u (pairs p a b) = pairs (p + 1) (omega arith) (omega arith)
 Paid-both S c f n h x s t u (open_one p a b) = open_one (p + 1) (omega arith) (omega arith)
 
+-- a flush of some held bytes: one write more, and nothing is held
 pub Paid-flushed : (S c f n h : ℕ) → 0 < h → Paid S c f n h → Paid S (c + 1) (f + 1) n 0
 Paid-flushed S c f n h s (pairs p a b) = pairs p (omega arith) (omega arith)
 Paid-flushed S c f n h s (open_one p a b) = pairs (p + 1) (omega arith) (omega arith)
 
+-- a flush with nothing held: no write more
 pub Paid-idle : (S c f n : ℕ) → Paid S c f n 0 → Paid S c (f + 1) n 0
 Paid-idle S c f n (pairs p a b) = pairs p (omega arith) b
 Paid-idle S c f n (open_one p a b) = open_one p (omega arith) b
@@ -54,6 +57,7 @@ Paid-bound S c f n h (pairs p a b) = let q = le_quotient S n p (omega arith) in 
 Paid-bound S c f n zero (open_one p a b) = let q = le_quotient S n p (omega arith) in omega arith
 Paid-bound S c f n (suc h) (open_one p a b) = let q = le_quotient S n (p + 1) (omega arith) in omega arith
 
+-- the count holds for equal numbers of writes and of held bytes too
 Paid-same : {S c f n h d k : ℕ} → c ≡ d → h ≡ k → Paid S c f n h → Paid S d f n k
 Paid-same {S} {c} {f} {n} {h} {d} {k} e g paid = subst (λ m. Paid S m f n k) e (subst (λ m. Paid S c f n m) g paid)
 
@@ -78,14 +82,17 @@ Paid-write S c f n buffer x some fits paid = ⊎_elim short long (cases_lt (leng
         (Paid-both S c f n (length buffer) (length x) some held t paid))
         (cases_lt (length buffer) 1)
 
+-- the calls that a flush takes, whatever is held
 pub Paid-flush : (S c f n : ℕ) (buffer : List ℕ) → Paid S c f n (length buffer) → Paid S (c + calls_for buffer) (f + 1) n 0
 Paid-flush S c f n buffer paid = ⊎_elim
     (λ none. Paid-same (grind (arith, nat_tests)) refl (Paid-idle S c f n (Paid-same refl (omega arith) paid)))
     (λ held. Paid-same (grind (arith, nat_tests)) refl (Paid-flushed S c f n (length buffer) held paid))
     (cases_lt (length buffer) 1)
 
+-- the count holds at the start over an empty buffer
 pub Paid-empty : (S : ℕ) (buffer : List ℕ) → buffer ≡ [] → Paid S 0 0 0 (length buffer)
 Paid-empty S buffer e = subst (λ l. Paid S 0 0 0 (length l)) (sym e) (Paid-start S)
 
+-- to send what is held takes one call, or none where nothing is held
 pub calls_for-min : (buffer : List ℕ) → calls_for buffer ≡ min (length buffer) 1
 calls_for-min buffer = grind (arith, nat_tests)

@@ -18,9 +18,11 @@ pub record GatheredSoFar (trim : List ℕ → List ℕ) (d : ℕ) (E : List Even
   pub fault : first_fault E ≡ first_fault after
   pub are : items ≡ map trim before
 
+-- at the start no piece is gathered, and all are to come
 pub none_gathered : (trim : List ℕ → List ℕ) (d : ℕ) (E : List Event) → GatheredSoFar trim d E [] E
 none_gathered trim d E = record { before = []; given = refl; fault = refl; are = refl }
 
+-- mapping a list with p at its end gives the mapped list with the mapped p at its end
 map-end : {T : Type 0} (trim : T → List ℕ) (ps : List T) (p : T) → map trim (ps ++ p ∷ []) ≡ map trim ps ++ trim p ∷ []
 map-end trim [] p = refl
 map-end trim (q ∷ ps) p = ap (λ l. trim q ∷ l) (map-end trim ps p)
@@ -30,9 +32,11 @@ appended-are : {T : Type 0} (old got : List T) → appended old (old ++ got) ≡
 appended-are [] got = refl
 appended-are (x ∷ old) got = appended-are old got
 
+-- a list to which nothing was appended is the old one, and then what was appended
 pub appended-none : {T : Type 0} (old : List T) → old ≡ old ++ appended old old
 appended-none old = sym (append-nil old) ∙ ap (λ l. old ++ l) (sym (ap (appended old) (sym (append-nil old)) ∙ appended-are old []))
 
+-- where mid is the old list and then what was appended, so is a list that is equal to mid
 pub appended-same : {T : Type 0} (old mid new : List T) → new ≡ mid → mid ≡ old ++ appended old mid → new ≡ old ++ appended old new
 appended-same old mid new same h = subst (λ l. l ≡ old ++ appended old l) (sym same) h
 
@@ -43,6 +47,7 @@ appended-one old mid new x h is =
     let whole : new ≡ old ++ (appended old mid ++ x ∷ []) = is ∙ ap (λ l. l ++ x ∷ []) h ∙ append_assoc old (appended old mid) (x ∷ []) in
     ap (appended old) whole ∙ appended-are old (appended old mid ++ x ∷ [])
 
+-- where mid is the old list and then what was appended, so is mid with one more behind it
 pub appended-more : {T : Type 0} (old mid new : List T) (x : T) → mid ≡ old ++ appended old mid → new ≡ mid ++ x ∷ []
     → new ≡ old ++ appended old new
 appended-more old mid new x h is =
@@ -97,6 +102,8 @@ pub record BeforeFault (E : List Event) (e : Error) : Type 0 where
   pub fault : IsFault e
   pub shown : bytes_to_fault E ≡ bytes before
 
+-- where e is the first fault, E is a front without a fault, then e, then the rest;
+-- and the bytes before the first fault are those of that front
 fault_first : (E : List Event) (e : Error) → first_fault E ≡ Some e → BeforeFault E e
 fault_first [] e h = cc
 fault_first (byte b ∷ E) e h =

@@ -14,6 +14,7 @@ pub data ReadsPaid (S c n z h all : ℕ) : Type 0 where
   full : (f : ℕ) → c ≤ f + z → f * S ≤ n + h → ReadsPaid S c n z h all
   last : (f : ℕ) → c ≤ f + 1 + z → f * S ≤ n → all ≡ h → ReadsPaid S c n z h all
 
+-- the count holds at the start: no read was made, no byte was given, and none is held
 pub paid_none : (S n h all : ℕ) → n ≡ 0 → h ≡ 0 → ReadsPaid S 0 n 0 h all
 paid_none S n h all gone none = full 0 (omega arith) (omega arith)
 
@@ -39,6 +40,7 @@ paid_end : (S c n z h all : ℕ) → ReadsPaid S c n z h all → ReadsPaid S (c 
 paid_end S c n z h all (full f a b) = full f (omega arith) b
 paid_end S c n z h all (last f a b e) = last f (omega arith) b e
 
+-- the count holds of equal numbers too
 pub paid_same : {S c n z h all c' n' z' h' all' : ℕ} → c ≡ c' → n ≡ n' → z ≡ z' → h ≡ h' → all ≡ all'
     → ReadsPaid S c n z h all → ReadsPaid S c' n' z' h' all'
 paid_same {S} {c} {n} {z} {h} {all} {c'} {n'} {z'} {h'} {all'} e f g i j (full k a b) = full k (omega arith) (omega arith)
@@ -89,6 +91,7 @@ paid_none_left : (S c n z : ℕ) (ask : Ask) → asked_reads ask 0 0 ≡ 1 → a
 paid_none_left S c n z ask reads is ends left paid =
     paid_same (omega (arith, reads)) (omega (arith, is)) (grind (arith, ends)) (sym left) (omega (arith, is)) (paid_end S c n z 0 0 paid)
 
+-- where the count holds, over a buffer with some room, it holds after one more `Read`
 paid_read : (S c n z len h all : ℕ) → 0 < S → h ≤ all → ReadsPaid S c n z h all → After S c n z (Read len) h all
 paid_read S c n z len zero zero room fits paid =
     paid_none_left S c n z (Read len) (omega arith) (grind (arith, nat_tests)) (grind (arith, nat_tests)) (grind (arith, nat_tests)) paid
@@ -100,6 +103,7 @@ paid_read S c n z len (suc h) all room fits paid =
     paid_held S c n z (Read len) (suc h) all (min len (suc h)) (omega arith) (grind (arith, nat_tests))
     (grind (arith, nat_tests)) (grind (arith, nat_tests)) fits paid
 
+-- where the count holds, over a buffer with some room, it holds after one more `Fill`
 paid_fill : (S c n z most h all : ℕ) → 0 < S → h ≤ all → ReadsPaid S c n z h all → After S c n z (Fill most) h all
 paid_fill S c n z most zero zero room fits paid =
     paid_none_left S c n z (Fill most) (omega arith) (grind (arith, nat_tests)) (grind (arith, nat_tests)) (grind (arith, nat_tests)) paid
@@ -140,6 +144,7 @@ paid_exact S c n z len h all room fits paid = ⊎_elim
         (omega arith) first)))
         (cases_lt (all - h) 1)
 
+-- where the count holds, over a buffer with some room, it holds after one more ask of any kind
 pub paid_ask : (S c n z : ℕ) (ask : Ask) (h all : ℕ) → 0 < S → h ≤ all → ReadsPaid S c n z h all → After S c n z ask h all
 paid_ask S c n z (Read len) h all room fits paid = paid_read S c n z len h all room fits paid
 paid_ask S c n z (Fill most) h all room fits paid = paid_fill S c n z most h all room fits paid

@@ -21,6 +21,7 @@ Run-more (o ∷ ops) (q ∷ replies) xs op reply ys r a =
 Run-more [] (q ∷ replies) xs op reply ys r a = absurd r
 Run-more (o ∷ ops) [] xs op reply ys r a = absurd r
 
+-- the mishap of one call more, if it has one, stands behind those of the run
 mishaps_of-more : (ops : List Op) (replies : List Reply) (xs : List ℕ) (op : Op) (reply : Reply) → Run ops replies xs
     → mishaps_of (ops ++ op ∷ []) (replies ++ reply ∷ []) ≡ mishaps_of ops replies ++ mishap_of op reply
 mishaps_of-more [] [] xs op reply r = append-nil (mishap_of op reply)
@@ -30,6 +31,7 @@ mishaps_of-more (o ∷ ops) (q ∷ replies) xs op reply r =
 mishaps_of-more [] (q ∷ replies) xs op reply r = absurd r
 mishaps_of-more (o ∷ ops) [] xs op reply r = absurd r
 
+-- where a run with one call more ends in a flush that succeeded, that call is this flush
 EndsFlushed-more : (ops : List Op) (replies : List Reply) (xs : List ℕ) (op : Op) (reply : Reply) → Run ops replies xs
     → EndsFlushed (ops ++ op ∷ []) (replies ++ reply ∷ []) → IsFlushed op reply
 EndsFlushed-more [] [] xs op reply r e = e
@@ -40,6 +42,7 @@ EndsFlushed-more (o ∷ p ∷ ops) (q ∷ []) xs op reply r e = absurd r.3
 EndsFlushed-more [] (q ∷ replies) xs op reply r e = absurd r
 EndsFlushed-more (o ∷ ops) [] xs op reply r e = absurd r
 
+-- where each call of a run is whole, and one call more is, each is whole with it
 pub AreWhole-more : (ops : List Op) (replies : List Reply) (op : Op) (reply : Reply) → AreWhole ops replies
     → IsWhole op reply → AreWhole (ops ++ op ∷ []) (replies ++ reply ∷ [])
 AreWhole-more [] [] op reply r a = (a, tt)
@@ -47,9 +50,11 @@ AreWhole-more (o ∷ ops) (q ∷ replies) op reply r a = (r.0, AreWhole-more ops
 AreWhole-more [] (q ∷ replies) op reply r a = absurd r
 AreWhole-more (o ∷ ops) [] op reply r a = absurd r
 
+-- no call at all is a run, and leaves what a writer tells as it is
 pub Ran-none : (a : Told) → Ran a [] [] a
 Ran-none a = record { accepted = []; run = refl; moves = Moves-refl a }
 
+-- a run, and one call more from where it left the writer, are a run together
 pub Ran-more : {a b c : Told} {op : Op} {reply : Reply} (ops : List Op) (replies : List Reply) → Ran a ops replies b
     → Answers b op reply c → Ran a (ops ++ op ∷ []) (replies ++ reply ∷ []) c
 Ran-more {a} {b} {c} {op} {reply} ops replies r s = record {
@@ -67,6 +72,7 @@ pub Ran-next : {a b c : Told} {reply : Reply} (ops : List Op) (i : ℕ) (d : Op)
 Ran-next {a} {b} {c} {reply} ops i d replies h r s =
     subst (λ made. Ran a made (replies ++ reply ∷ []) c) (sym (take_more ops i d h)) (Ran-more (take i ops) replies r s)
 
+-- where the first i calls of a list are whole, and the next one is, the first i + 1 are
 pub AreWhole-next : (reply : Reply) (ops : List Op) (i : ℕ) (d : Op) (replies : List Reply) → i < length ops
     → AreWhole (take i ops) replies → IsWhole (get_or ops i d) reply
     → AreWhole (take (i + 1) ops) (replies ++ reply ∷ [])
@@ -117,6 +123,7 @@ AllPassOver-more (o ∷ ops) (q ∷ replies) op reply xs r a p = (a.0, AllPassOv
 AllPassOver-more [] (q ∷ replies) op reply xs r a p = absurd r
 AllPassOver-more (o ∷ ops) [] op reply xs r a p = absurd r
 
+-- where the first i calls of a list passed over interruptions, and the next one did, the first i + 1 did
 pub AllPassOver-next : {a b : Told} (reply : Reply) (ops : List Op) (i : ℕ) (d : Op) (replies : List Reply) → i < length ops
     → Ran a (take i ops) replies b → AllPassOver (take i ops) replies → PassesOver (get_or ops i d) reply
     → AllPassOver (take (i + 1) ops) (replies ++ reply ∷ [])

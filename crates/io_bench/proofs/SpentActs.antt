@@ -31,10 +31,12 @@ spent_none acts wanted turns = record {
   on = tt;
 }
 
+-- two lists of acts, joined, let through as many bytes as both together
 acts_bytes-append : (xs ys : List Act) → acts_bytes (xs ++ ys) ≡ acts_bytes xs + acts_bytes ys
 acts_bytes-append [] ys = omega arith
 acts_bytes-append (x ∷ xs) ys = omega (arith, acts_bytes-append xs ys)
 
+-- where a loop of writes goes on behind all acts of two lists, it does so behind those of both joined
 all-append : (xs ys : List Act) → AllGoOn xs → AllGoOn ys → AllGoOn (xs ++ ys)
 all-append [] ys f g = g
 all-append (x ∷ xs) ys f g = (f.0, all-append xs ys f.1 g)

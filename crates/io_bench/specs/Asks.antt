@@ -38,6 +38,7 @@ Fits room (Read len) = len ≤ room
 Fits room (Exact len) = len ≤ room
 Fits room (Fill most) = ⊤
 
+-- each ask of a list fits a buffer of `room` bytes
 abbrev pub AllFit : ℕ → List Ask → Type 0
 AllFit room [] = ⊤
 AllFit room (ask ∷ asks) = Fits room ask × AllFit room asks

@@ -20,6 +20,7 @@ abbrev pub given_bytes : List Op → List ℕ
 given_bytes [] = []
 given_bytes (op ∷ ops) = op_bytes op ++ given_bytes ops
 
+-- 1 for a flush, and 0 for any other call
 abbrev pub op_flushes : Op → ℕ
 op_flushes (Write x) = 0
 op_flushes (WriteAll x) = 0
@@ -36,6 +37,7 @@ op_calls S buffer (Write x) = writing_calls S buffer x.now
 op_calls S buffer (WriteAll x) = writing_calls S buffer x.now
 op_calls S buffer Flush = calls_for buffer
 
+-- what a call leaves in the buffer
 abbrev pub op_buffer : ℕ → List ℕ → Op → List ℕ
 op_buffer S buffer (Write x) = buffer_after S buffer x.now
 op_buffer S buffer (WriteAll x) = buffer_after S buffer x.now

@@ -72,6 +72,7 @@ none_waits old below buffer to_go left lines s none e plain =
 pub ends_line : (before text to_go : List ℕ) → to_go ≡ line_of text → before ++ to_go ≡ (before ++ text) ++ 10 ∷ []
 ends_line before text to_go is = ap (λ l. before ++ l) is ∙ sym (append_assoc before text (10 ∷ []))
 
+-- a line as it goes out is not empty
 pub some_line : (text line : List ℕ) → line ≡ line_of text → 0 < length line
 some_line text line is = omega (arith, ap length is, length-append text (10 ∷ []))
 
@@ -95,6 +96,7 @@ pub record Goes (old : Told) (to_go : List ℕ) (new : Told) (left : List ℕ) :
   pub split : to_go ≡ sent ++ left
   pub moves : Moves old sent [] new
 
+-- at the start nothing went, and all is still to go
 pub goes_none : (a : Told) (to_go : List ℕ) → Goes a to_go a to_go
 goes_none a to_go = record { sent = []; split = refl; moves = Moves-refl a }
 
@@ -109,6 +111,7 @@ goes_on {left = left} more f s = record {
   moves = Moves-then f.moves s.moves;
 }
 
+-- where a line is under way, an error is a mishap of the device's as in any call, not a refusal
 mishap_some : (e : Error) (under_way : List ℕ) → 0 < length under_way → call_mishap (Err e) ≡ line_mishap (Err e) under_way
 mishap_some e [] some = absurd (omega arith)
 mishap_some e (b ∷ bs) some = refl
@@ -177,5 +180,6 @@ kept {left = left} reply shown rest to_go s same is =
     let split : rest ≡ s.sent ++ left = sym same ∙ s.split in
     record { sent = s.sent; split = split ∙ ap (λ l. s.sent ++ l) (sym (left_is rest s.sent left split) ∙ sym is); moves = s.moves }
 
+-- where the test says that n is above 0, it is
 pub some_of : (b : Bool) (n : ℕ) → b ≡ nat_lt 0 n → b ≡ true → 0 < n
 some_of b n e t = grind (arith, nat_tests)

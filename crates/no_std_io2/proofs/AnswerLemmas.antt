@@ -2,10 +2,12 @@
 use Rattle.std.proofs.Common.{◌≡◌, ℕ, Result, Ok, Err, refl}
 use Rattle.std.specs.Result.{IsOk, IsOkAnd, IfOk, IfErr}
 
+-- an answer that equals `Ok` of some value is `Ok`
 pub IsOk-from_value : {A E : Type 0} (r : Result A E) (x : A) → r ≡ Ok x → IsOk r
 IsOk-from_value (Ok y) x e = refl
 IsOk-from_value (Err err) x e = absurd (let no : ⊥ = cc in no)
 
+-- an answer that is `Ok`, with a value of which P holds, is `Ok`
 pub IsOk-from_and : {A E : Type 0} (r : Result A E) (P : A → Type 0) → IsOkAnd r P → IsOk r
 IsOk-from_and (Ok y) P h = refl
 IsOk-from_and (Err err) P h = absurd h

@@ -56,6 +56,7 @@ moved_whole behind held behind' held' got n after front rest =
     ap (λ l. l ++ held') (after ∙ ap (λ l. behind ++ l) front) ∙ append_assoc behind (take n held) held'
     ∙ ap (λ l. behind ++ (take n held ++ l)) rest ∙ ap (λ l. behind ++ l) (take-append-drop n held)
 
+-- so it is as sound as it was
 pub sound_moved : (behind held behind' held' got : List ℕ) (position : ℕ) (content : List ℕ) (n : ℕ)
     → behind' ≡ behind ++ got → got ≡ take n held → held' ≡ drop n held
     → IsSound (behind ++ held) position content → IsSound (behind' ++ held') position content
@@ -92,6 +93,7 @@ sound_held behind held position content s =
 held_on : (behind held behind' held' : List ℕ) → behind' ++ held' ≡ behind ++ held → held' ≡ drop (length behind') (behind ++ held)
 held_on behind held behind' held' same = sym (drop-append_seam behind' held') ∙ ap (drop (length behind')) same
 
+-- where the border between what lies behind and what is held moves by an offset, what comes next moves by it
 pub cut_moves : (o : ℤ) (behind held behind' held' : List ℕ) (E : List Event) → IsCutOn o behind held behind' held'
     → MovesEvents o behind held (events_of held ++ E) (events_of held' ++ E)
 cut_moves (pos k) behind held behind' held' E cut =
@@ -114,6 +116,7 @@ pub cut_place : (o : ℤ) (at behind held behind' held' : ℕ) → behind + held
 cut_place (pos k) at behind held behind' held' fits same on = omega arith
 cut_place (negsuc k) at behind held behind' held' fits same on = omega arith
 
+-- over sound bytes that is a seek by this offset from where the reader stands, and moves nothing below
 pub cut_seeks : (o : ℤ) (len at : ℕ) (behind held behind' held' content : List ℕ) → IsSound (behind ++ held) at content
     → at < 2 ^ 64 → IsCutOn o behind held behind' held'
     → Seeks len (at - length held) (Current o) (Ok (at - length held')) (at - length held')

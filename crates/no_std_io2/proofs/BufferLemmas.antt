@@ -32,15 +32,19 @@ Moves-buffered {a} {b} {x} old new y f e = record {
   turns = f.turns;
 }
 
+-- to send no byte takes no inner call
 pub sending_none : (xs : List ℕ) → length xs ≡ 0 → calls_for xs ≡ 0
 sending_none xs h = grind (arith, nat_tests)
 
+-- to send some bytes takes one
 pub sending_some : (xs : List ℕ) → 0 < length xs → calls_for xs ≡ 1
 sending_some xs h = grind (arith, nat_tests)
 
+-- where all bytes are dropped, none are left
 pub drop_whole : (xs next : List ℕ) (n : ℕ) → n ≡ length xs → next ≡ drop n xs → length next ≡ 0
 drop_whole xs next n e h = omega (arith, ap length h, length-drop n xs)
 
+-- two equal answers `Ok` have equal values
 pub ok_same : {A E : Type 0} {x y : A} → ◌≡◌ {A = Result A E} (Ok x) (Ok y) → x ≡ y
 ok_same e = cc
 
@@ -63,6 +67,7 @@ pub Moves-passed : {a b : Told} {x : List ℕ} {k : List ErrorKind} (held : List
     → Moves (with_buffer a held) x k (with_buffer b held)
 Moves-passed {a} {b} {x} held e f = Moves-buffered held held x f (ap (λ l. l ++ x) e ∙ sym (append-nil x) ∙ ap (λ l. x ++ l) (sym e))
 
+-- a list of length 0 is empty
 pub none_of_length : (xs : List ℕ) → length xs ≡ 0 → xs ≡ []
 none_of_length [] h = refl
 none_of_length (x ∷ xs) h = absurd (omega arith)
@@ -81,12 +86,15 @@ Moves-bare {a} {b} {x} buffer e f = record {
   turns = f.turns;
 }
 
+-- the empty list is an end of any list
 pub IsEnd-none : (whole end : List ℕ) → end ≡ [] → IsEnd whole end
 IsEnd-none whole end e = (whole, sym (append-nil whole) ∙ ap (λ l. whole ++ l) (sym e))
 
+-- where mid is an end of old, mid ++ x is one of old ++ x
 pub IsEnd-held : (old mid new x : List ℕ) → IsEnd old mid → new ≡ mid ++ x → IsEnd (old ++ x) new
 IsEnd-held old mid new x f e = (f.0, ap (λ l. l ++ x) f.1 ∙ append_assoc f.0 mid x ∙ ap (λ l. f.0 ++ l) (sym e))
 
+-- what follows a front of x is an end of what was held and x together
 pub IsEnd-split : (held x front end : List ℕ) → x ≡ front ++ end → IsEnd (held ++ x) end
 IsEnd-split held x front end e = (held ++ front, ap (λ l. held ++ l) e ∙ sym (append_assoc held front end))
 
@@ -94,6 +102,7 @@ IsEnd-split held x front end e = (held ++ front, ap (λ l. held ++ l) e ∙ sym 
 pub IsEnd-trans : (old mid new : List ℕ) → IsEnd old mid → IsEnd mid new → IsEnd old new
 IsEnd-trans old mid new f g = (f.0 ++ g.0, f.1 ∙ ap (λ l. f.0 ++ l) g.1 ∙ sym (append_assoc f.0 g.0 new))
 
+-- where mid is an end of old, each end of mid ++ x is one of old ++ x
 pub IsEnd-through : (old mid x new : List ℕ) → IsEnd old mid → IsEnd (mid ++ x) new → IsEnd (old ++ x) new
 IsEnd-through old mid x new f g = IsEnd-trans (old ++ x) (mid ++ x) new (IsEnd-held old mid (mid ++ x) x f refl) g
 
@@ -105,6 +114,7 @@ IsEnd-either old mid x new f r = ⊎_elim (λ g. inl (IsEnd-through old mid x ne
 pub IsEnd-sent : (old x mid new : List ℕ) → IsEnd (old ++ x) mid ⊎ IsEnd old mid → IsEnd mid new → IsEnd (old ++ x) new ⊎ IsEnd old new
 IsEnd-sent old x mid new r g = ⊎_elim (λ f. inl (IsEnd-trans (old ++ x) mid new f g)) (λ f. inr (IsEnd-trans old mid new f g)) r
 
+-- an end of what was held is one of that and some front of x: the empty one
 pub HoldsEnd-none : (held x end : List ℕ) → IsEnd held end → HoldsEnd held x end
 HoldsEnd-none held x end f = ([], (x, refl), rw (append-nil held) f)
 
@@ -112,6 +122,7 @@ HoldsEnd-none held x end f = ([], (x, refl), rw (append-nil held) f)
 pub HoldsEnd-front : (held x end : List ℕ) (n : ℕ) → IsEnd (held ++ take n x) end ⊎ IsEnd held end → HoldsEnd held x end
 HoldsEnd-front held x end n r = ⊎_elim (λ f. (take n x, (drop n x, sym (take-append-drop n x)), f)) (HoldsEnd-none held x end) r
 
+-- an end of what was held, with x behind it or without, is one of that and some front of x
 pub HoldsEnd-whole : (held x end : List ℕ) → IsEnd (held ++ x) end ⊎ IsEnd held end → HoldsEnd held x end
 HoldsEnd-whole held x end r = ⊎_elim (λ f. (x, IsFront-refl x, f)) (HoldsEnd-none held x end) r
 

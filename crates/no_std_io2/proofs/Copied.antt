@@ -26,12 +26,15 @@ pub record Copied (E : List Event) (old new : Told) (copied : ℕ) (after : List
   pub moves : Moves old (bytes front) [] new
   pub count : copied ≡ counted (bytes front)
 
+-- at the start the writer has accepted nothing, and the count is 0
 pub written_none : (old : Told) → Written old old 0
 written_none old = record { accepted = []; moves = Moves-refl old; count = refl }
 
+-- at the start nothing is gone of E, the writer has accepted nothing, and the count is 0
 pub copied_none : (E : List Event) (old : Told) → Copied E old old 0 E
 copied_none E old = record { front = []; split = refl; no_fault = tt; moves = Moves-refl old; count = refl }
 
+-- the count of b, and n more for the n bytes of got, up to the greatest `u64`, is the count of b ++ got
 count_more : (n m k : ℕ) (b got : List ℕ) → m ≡ counted b → length got ≡ n → k ≡ min (m + n) (2 ^ 64 - 1) → k ≡ counted (b ++ got)
 count_more n m k b got count long is = omega (arith, length-append b got)
 
@@ -39,6 +42,7 @@ count_more n m k b got count long is = omega (arith, length-append b got)
 whole_piece : (mid new : Told) (piece : List ℕ) → MovesFront mid piece (Ok tt) new → Moves mid piece [] new
 whole_piece mid new piece w = subst (λ l. Moves mid l [] new) w.whole w.moves
 
+-- where n bytes more were written whole, the count grows by n, up to the greatest `u64`
 pub written_more : (old mid new : Told) (n m k : ℕ) (buf : List ℕ) → Written old mid m
     → MovesFront mid (take n buf) (Ok tt) new → n ≤ length buf → k ≡ min (m + n) (2 ^ 64 - 1) → Written old new k
 written_more old mid new n m k buf t w fits is = record {
@@ -47,6 +51,7 @@ written_more old mid new n m k buf t w fits is = record {
   count = count_more n m k t.accepted (take n buf) t.count (length-take-le n buf fits) is;
 }
 
+-- where a read gave n bytes more, and all were written, the count grows by n, up to the greatest `u64`
 pub copied_more : (E : List Event) (old mid new : Told) (n m k : ℕ) (buf : List ℕ) (after rest : List Event)
     → Copied E old mid m after → Reads after (Ok n) buf rest
     → MovesFront mid (take n buf) (Ok tt) new → n ≤ length buf → k ≡ min (m + n) (2 ^ 64 - 1) → Copied E old new k rest
@@ -66,6 +71,7 @@ copied_more E old mid new n m k buf after rest t read w fits is =
 bytes-fails : (P : List Event) (e : Error) → bytes (P ++ fails e ∷ []) ≡ bytes P
 bytes-fails P e = bytes-append P (fails e ∷ []) ∙ append-nil (bytes P)
 
+-- an interruption of the reader is passed over: it is gone, and the count stays
 pub copied_interruption : (E : List Event) (old mid : Told) (m : ℕ) (after : List Event) (e : Error) (rest : List Event)
     → Copied E old mid m after → after ≡ fails e ∷ rest → IsInterruption e → Copied E old mid m rest
 copied_interruption E old mid m after e rest t read again = record {
@@ -140,6 +146,8 @@ copied_refused room E old mid new m n buf after rest e t read some fits long w =
       ),
     )
 
+-- where some pieces were written whole, and then a `write_all` failed with e, a copy that answers e had no
+-- mishap but that one
 pub written_refused : (old mid new : Told) (m : ℕ) (x : List ℕ) (e : Error) → Written old mid m
     → MovesFront mid x (Err e) new → CopyMoves (Err e) old new
 written_refused old mid new m x e t w = (t.accepted ++ w.accepted, inr (Moves-then t.moves w.moves))
@@ -150,6 +158,7 @@ HasNoFault-front [] Q h = tt
 HasNoFault-front (byte b ∷ P) Q h = HasNoFault-front P Q h
 HasNoFault-front (fails e ∷ P) Q h = (h.0, HasNoFault-front P Q h.1)
 
+-- events without a fault do not end in one
 pub no_fault_at_end : (Q : List Event) (e : Error) → HasNoFault (Q ++ fails e ∷ []) → IsFault e → ⊥
 no_fault_at_end [] e h fault = cc (h.0, fault)
 no_fault_at_end (byte b ∷ Q) e h fault = no_fault_at_end Q e h fault

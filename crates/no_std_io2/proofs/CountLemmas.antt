@@ -6,18 +6,23 @@ use Rattle.no_std_io2.specs.Buffered.{writing_calls, buffer_after}
 use Rattle.no_std_io2_base.specs.Writes.{calls_for}
 use Rattle.no_std_io2.specs.Lines.{whole_if_short}
 
+-- to hand on some bytes takes one call at most
 pub calls_for-le : (xs : List ℕ) → calls_for xs ≤ 1
 calls_for-le xs = grind (arith, nat_tests)
 
+-- to hand on no bytes takes no call
 pub calls_for-none : (xs : List ℕ) → length xs ≡ 0 → calls_for xs ≡ 0
 calls_for-none xs h = grind (arith, nat_tests)
 
+-- a write takes two inner calls at most
 pub writing_calls-le : (S : ℕ) (held x : List ℕ) → writing_calls S held x ≤ 2
 writing_calls-le S held x = grind (arith, nat_tests)
 
+-- after a write of S bytes or more nothing is held
 after_long : (S : ℕ) (held x : List ℕ) → S ≤ length x → length (buffer_after S held x) ≡ 0
 after_long S held x h = grind (arith, nat_tests)
 
+-- a write of fewer than S bytes takes one inner call at most
 calls_short : (S : ℕ) (held x : List ℕ) → length x < S → writing_calls S held x ≤ 1
 calls_short S held x h = grind (arith, nat_tests)
 

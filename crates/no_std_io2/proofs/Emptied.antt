@@ -41,6 +41,7 @@ kept_in_all n behind held behind' left b cut =
     ap (λ l. l ++ left) b ∙ append_assoc behind (take n held) left ∙ ap (λ l. behind ++ (take n held ++ l)) cut
     ∙ ap (λ l. behind ++ l) (take-append-drop n held)
 
+-- once what was held is appended, it is gone from the events, and those behind it are left
 emptied : (held old mid : List ℕ) (E : List Event) → mid ≡ old ++ held → Gathered (events_of held ++ E) old mid E
 emptied held old mid E is = record {
   front = events_of held;
@@ -120,6 +121,7 @@ room_held held E len capacity enough full =
 pub room_behind : (held : List ℕ) (E : List Event) (len capacity : ℕ) → HasRoom (events_of held ++ E) len capacity → HasNoFault E
 room_behind held E len capacity enough = HasNoFault-behind (events_of held) E enough.0
 
+-- and once what was held is appended, with no less capacity, there is room for all that comes behind it
 pub emptied_on : (held old mid : List ℕ) (E : List Event) (len capacity n capacity' : ℕ) → HasRoom (events_of held ++ E) len capacity
     → len ≡ length old → n ≡ length mid → mid ≡ old ++ held → capacity ≤ capacity' → HasRoom E n capacity'
 emptied_on held old mid E len capacity n capacity' enough long more is grows =
@@ -132,20 +134,24 @@ pub part_refused : (held held' old new : List ℕ) (E : List Event) (e : Error) 
 part_refused held held' old new E e moved refused =
     stopped_first (events_of held) E old new (events_of held') e (moved_part held held' old new e moved refused)
 
+-- what the vector had stays at its front, where a front of what is held was appended
 pub part_front : (held held' old new : List ℕ) (len : ℕ) → len ≡ length old → HasMoved held held' old new → take len new ≡ old
 part_front held held' old new len long moved =
     ap (take len) moved.2 ∙ take-append-le len old moved.0 (omega (arith, long)) ∙ take_all len old (omega (arith, long))
 
+-- where held bytes go to a vector and the inner reader's turns stay, the reader has no more turns than before
 pub part_turns : (held held' old new : List ℕ) (room turns : ℕ) → HasMoved held held' old new
     → length held' + (room + 1) * turns ≤ length held + (room + 1) * turns
 part_turns held held' old new room turns moved = omega (arith, ap length moved.1, length-append moved.0 held')
 
+-- where the held bytes are the content's that end at the position, so are those that are left of them
 pub part_sound : (held held' old new : List ℕ) (position : ℕ) (content : List ℕ) → HasMoved held held' old new
     → IsSound held position content
     → IsSound held' position content
 part_sound held held' old new position content moved sound =
     sound_held moved.0 held' position content (subst (λ l. IsSound l position content) moved.1 sound)
 
+-- the position moves by the held bytes that are gone of the events
 pub part_moved : (held held' old new : List ℕ) (E : List Event) (p : ℕ) → length held ≤ p → HasMoved held held' old new
     → (p - length held') + length (events_of held' ++ E) ≡ (p - length held) + length (events_of held ++ E)
 part_moved held held' old new E p within moved =

@@ -70,6 +70,7 @@ exact_end room len held all at now_held now_inner t done short =
     let whole : at ≡ min len all = t.read (omega arith) in
     grind (arith, nat_tests)
 
+-- where the end came before the buffer was full, it took one inner read more, which met the end
 pub exact_short : (room len held all at now_held now_inner : ℕ) → Exact room len held all at now_held now_inner
     → at < len → now_inner ≡ 0 → held < len → exact_reads len held all ≡ min 1 (at - held) + 1
 exact_short room len held all at now_held now_inner t more end short =
@@ -93,6 +94,7 @@ taken_first E room more rest is short = record {
   full = λ h. absurd (omega arith);
 }
 
+-- held bytes, and the events behind them, are together as many events as both have
 pub length-events : (held : List ℕ) (E : List Event) → length (events_of held ++ E) ≡ length held + length E
 length-events held E = length-append (events_of held) E ∙ ap (λ n. n + length E) (length-events_of held)
 
@@ -106,6 +108,7 @@ moved_length held held' got E E' n is long =
     ∙ ap (λ k. length got + k) (length-events held' E') in
     omega arith
 
+-- a list of length 0 is empty
 pub no_bytes : (xs : List ℕ) → length xs ≡ 0 → xs ≡ []
 no_bytes xs h = drop_of_length-le xs {i = 0} (omega arith)
 

@@ -75,6 +75,7 @@ IsLineState-lines xs n within ends k lt e =
 pub lines_or_all-none : (xs : List ℕ) → lines_len xs ≡ 0 → lines_or_all xs ≡ xs
 lines_or_all-none xs h = grind (arith, nat_tests)
 
+-- and where there are lines, of n bytes in all, the first n bytes
 pub lines_or_all-some : (xs : List ℕ) (n : ℕ) → 0 < n → lines_len xs ≡ n → lines_or_all xs ≡ take n xs
 lines_or_all-some xs n some h = grind (arith, nat_tests)
 
@@ -98,6 +99,7 @@ window_all x n S m e =
     let len = length-drop n x in
     ap (λ i. take i (drop n x)) (let same : (n + m) - n ≡ min S (length (drop n x)) = omega arith in same) ∙ take_min S (drop n x)
 
+-- the window of m bytes from n on is the first m bytes behind the first n
 pub window_some : (x : List ℕ) (n m : ℕ) → slice_range x n (n + m) ≡ take m (drop n x)
 window_some x n m = ap (λ i. take i (drop n x)) (let same : (n + m) - n ≡ m = omega arith in same)
 

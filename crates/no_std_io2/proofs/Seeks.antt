@@ -16,6 +16,7 @@ pub sum_at_offset : (base : ℕ) (o : ℤ) (n : ℕ) → IsAtOffset base o n →
 sum_at_offset base (pos k) n h = ap pos h
 sum_at_offset base (negsuc k) n h = omega (arith, ints)
 
+-- and the other way round
 pub at_offset_sum : (base : ℕ) (o : ℤ) (n : ℕ) → pos n ≡ pos base +ℤ o → IsAtOffset base o n
 at_offset_sum base (pos k) n h = omega (arith, ints)
 at_offset_sum base (negsuc k) n h = omega (arith, ints)
@@ -26,6 +27,7 @@ at_offset_ahead at held n o rest fits is h =
     let sum = sum_at_offset at rest n h in
     at_offset_sum (at - held) o n (omega (arith, ints))
 
+-- and the other way round
 pub at_offset_behind : (at held n : ℕ) (o rest : ℤ) → held ≤ at → rest ≡ o -ℤ pos held → IsAtOffset (at - held) o n → IsAtOffset at rest n
 at_offset_behind at held n o rest fits is h =
     let sum = sum_at_offset (at - held) o n h in
@@ -37,6 +39,7 @@ pub far_unless_fits : (o : ℤ) (held : ℕ) → FitsSigned w64 o → held < 2 ^
 far_unless_fits (pos k) held fits small not_fits = absurd (not_fits (search rules))
 far_unless_fits (negsuc k) held fits small not_fits = grind (arith, ints, not_fits)
 
+-- and one that it can say is not too far back
 pub fits_not_far : (o : ℤ) (held : ℕ) → FitsSigned w64 (o -ℤ pos held) → IsTooFarBack (Current o) held → ⊥
 fits_not_far (pos k) held fits far = far
 fits_not_far (negsuc k) held fits far = omega (arith, ints)
@@ -119,6 +122,7 @@ elsewhere (Current o) (inr is) len at at' n h = absurd (current_not_end o is.0 i
     current_not_end : (o k : ℤ) → Current o ≡ End k → ⊥
     current_not_end o k e = cc
 
+-- a seek from the start or from the end is never too far back
 pub not_far : (target : SeekFrom) (held : ℕ) → ((k : ℕ) × (target ≡ Start k)) ⊎ ((o : ℤ) × (target ≡ End o)) → IsTooFarBack target held → ⊥
 not_far target held (inl is) far = subst (λ t. IsTooFarBack t held) is.1 far
 not_far target held (inr is) far = subst (λ t. IsTooFarBack t held) is.1 far

@@ -18,9 +18,11 @@ use Rattle.no_std_io2.proofs.LineLemmas.{MovesFront-then, MovesFront-passed, ono
 after_fits : (S : ℕ) (held x : List ℕ) → length x < S → length held + length x ≤ S → buffer_after S held x ≡ held ++ x
 after_fits S held x h g = grind (arith, nat_tests)
 
+-- a short text that doesn't fit beside what is held is held alone
 after_over : (S : ℕ) (held x : List ℕ) → length x < S → S < length held + length x → buffer_after S held x ≡ x
 after_over S held x h g = grind (arith, nat_tests)
 
+-- behind a text of S bytes and more nothing is held
 after_long : (S : ℕ) (held x : List ℕ) → S ≤ length x → buffer_after S held x ≡ []
 after_long S held x h = grind (arith, nat_tests)
 
@@ -28,24 +30,31 @@ after_long S held x h = grind (arith, nat_tests)
 calls_short : (S : ℕ) (held x : List ℕ) → length x < S → writing_calls S held x ≡ way_calls S held (length x)
 calls_short S held x h = grind (arith, nat_tests)
 
+-- a write of S bytes and more takes one inner call more than it takes to make way
 calls_long : (S : ℕ) (held x : List ℕ) → S ≤ length x → writing_calls S held x ≡ way_calls S held (length x) + 1
 calls_long S held x h = grind (arith, nat_tests)
 
+-- to make way takes at most one inner call, and none where nothing is held
 way_calls-le : (S n : ℕ) (held : List ℕ) → way_calls S held n ≤ calls_for held
 way_calls-le S n held = grind (arith, nat_tests)
 
+-- to make way takes no inner call where n more bytes fit beside what is held
 way_calls-none : (S n : ℕ) (held : List ℕ) → length held + n ≤ S → way_calls S held n ≡ 0
 way_calls-none S n held h = grind (arith, nat_tests)
 
+-- to make way takes no inner call where nothing is held
 way_calls-empty : (S n : ℕ) (held : List ℕ) → length held ≡ 0 → way_calls S held n ≡ 0
 way_calls-empty S n held h = grind (arith, nat_tests)
 
+-- to make way takes one inner call where n more bytes don't fit and some are held, and none where none are
 way_calls-over : (S n : ℕ) (held : List ℕ) → S < length held + n → way_calls S held n ≡ calls_for held
 way_calls-over S n held h = grind (arith, nat_tests)
 
+-- some bytes are handed on by one call
 calls_for-some : (x : List ℕ) → 0 < length x → calls_for x ≡ 1
 calls_for-some x h = grind (arith, nat_tests)
 
+-- bytes, some or none, are handed on by at most one call
 calls_for-le : (x : List ℕ) → calls_for x ≤ 1
 calls_for-le x = grind (arith, nat_tests)
 
@@ -53,10 +62,12 @@ calls_for-le x = grind (arith, nat_tests)
 pub no_ok : {T : Type 0} → false ≡ true → T
 no_ok h = absurd (let no : ⊥ = cc in no)
 
+-- what follows from something that holds at `Ok` holds at `Ok` too
 onok_both : (r : Result (Unit {0}) Error) (P Q : Type 0) → OnOk r P → (P → Q) → OnOk r Q
 onok_both (Ok u) P Q p f = f p
 onok_both (Err e) P Q p f = tt
 
+-- what holds of every number holds of the one that an `Ok` answers
 ifok : {P : ℕ → Type 0} (r : Result ℕ Error) → ((n : ℕ) → P n) → IfOk r P
 ifok (Ok n) f = f n
 ifok (Err e) f = tt

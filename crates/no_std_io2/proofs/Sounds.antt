@@ -12,6 +12,8 @@ use Rattle.no_std_io2_base.proofs.Taken.{no_error}
 use Rattle.no_std_io2.specs.ReadAhead.{ReadsAhead}
 use Rattle.no_std_io2.specs.Sound.{IsSound, sound_fill, sound_drop}
 
+-- what one read at a store's position gave is held as the store's own bytes, right before the new
+-- position, and begins at the old one
 pub sound_read : (held : List ℕ) (position position' : ℕ) (content content' : List ℕ) (E E' : List Event)
     → E ≡ events_of (drop position content)
     → E ≡ events_of held ++ E' → position' ≡ position + length held → content' ≡ content
@@ -62,6 +64,7 @@ give_events held rest got E n is front =
     ∙ append_assoc (events_of (take n held)) (events_of (drop n held)) E
     ∙ ap (λ l. events_of l ++ (events_of (drop n held) ++ E)) (sym front) ∙ ap (λ l. events_of got ++ (events_of l ++ E)) (sym is)
 
+-- where held bytes are the store's own, those left behind the first n are too, and begin n bytes further on
 pub give_sound : (held rest : List ℕ) (position : ℕ) (content : List ℕ) (n : ℕ) → rest ≡ drop n held → n ≤ length held
     → IsSound held position content
     → IsSound rest position content × (position - length rest ≡ (position - length held) + n)
@@ -70,5 +73,6 @@ give_sound held rest position content n is fits s = (
   omega (arith, s.0, ap length is, length-drop n held),
 )
 
+-- events that have the held bytes in front begin with them
 pub begins_held : (held : List ℕ) (E : List Event) → BeginsWith (events_of held ++ E) held
 begins_held held E = record { rest = E; is = refl }

@@ -7,6 +7,7 @@ use Rattle.no_std_io2_base.specs.Events.{Event, events_of, Reads}
 pub held_read : (n : ℕ) (buf : List ℕ) → take (n - 0) buf ≡ take n buf
 held_read n buf = let same : n - 0 ≡ n = omega arith in ap (λ k. take k buf) same
 
+-- n bytes read into the start of a buffer are n bytes held, where it is that long
 pub read_length : (n : ℕ) (buf : List ℕ) → n ≤ length buf → length (take (n - 0) buf) ≡ n
 read_length n buf fits = ap length (held_read n buf) ∙ length-take-le n buf fits
 

@@ -10,6 +10,7 @@ use Rattle.no_std_io2_base.specs.Writes.{Told, Moves}
 abbrev pub here : SeekFrom
 here = Current (pos 0)
 
+-- to the start
 abbrev pub at_start : SeekFrom
 at_start = Start 0
 

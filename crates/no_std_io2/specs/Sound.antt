@@ -11,6 +11,7 @@ use Rattle.no_std_io2_base.proofs.Events.{events_of-append, bytes-append}
 abbrev pub IsSound : List ℕ → ℕ → List ℕ → Type 0
 IsSound held position content = (length held ≤ position) × (held ≡ take (length held) (drop (position - length held) content))
 
+-- what comes of held bytes that are the content's, and then of the store, is the content from where they begin
 pub sound_tells : (held : List ℕ) (position : ℕ) (content : List ℕ) (E : List Event) → IsSound held position content
     → E ≡ events_of (drop position content)
     → events_of held ++ E ≡ events_of (drop (position - length held) content)
@@ -22,6 +23,7 @@ sound_tells held position content E s is =
     ap (λ l. events_of held ++ l) (is ∙ ap events_of rest) ∙ sym (events_of-append held (drop (length held) whole))
     ∙ ap (λ l. events_of (l ++ drop (length held) whole)) s.1 ∙ ap events_of (take-append-drop (length held) whole)
 
+-- where the first of them are gone, the others are the content's still
 pub sound_drop : (held : List ℕ) (position : ℕ) (content : List ℕ) (k : ℕ) → IsSound held position content
     → k ≤ length held → IsSound (drop k held) position content
 sound_drop held position content k s fits =
@@ -52,6 +54,7 @@ sound_fill got position content E E' is read =
     take_whole [] = refl
     take_whole (x ∷ l) = ap (λ m. x ∷ m) (take_whole l)
 
+-- where the store's length and position are numbers of 64 bits, so is the position less the held bytes
 pub sound_fits : (content held : List ℕ) (position : ℕ) → (length content < 2 ^ 64) × (position < 2 ^ 64)
     → (length content < 2 ^ 64) × (position - length held < 2 ^ 64)
 sound_fits content held position h = (h.0, omega (arith, h.1))

@@ -6,6 +6,7 @@ use Rattle.no_std_io2_base.specs.Events.{Event, fails, events_of, bytes, cut, Re
 use Rattle.no_std_io2_base.specs.Take.{TakesAlong}
 use Rattle.no_std_io2_base.proofs.Events.{bytes-append, bytes-events_of, cut-bytes}
 
+-- where the limit and what is to come of the inner reader are as they were, nothing was removed
 pub along_none : (k k' : ℕ) (E E' : List Event) → k' ≡ k → E' ≡ E → TakesAlong k E k' E'
 along_none k k' E E' same is =
     record {
@@ -26,6 +27,7 @@ along_bytes k k' E E' bs is falls =
       falls = ap (λ l. k' + length l) (bytes-events_of bs) ∙ falls;
     }
 
+-- a read of n bytes, which the limit falls by
 pub along_read : (k k' : ℕ) (E E' : List Event) (n : ℕ) (buf : List ℕ) → Reads E (Ok n) buf E' → n ≤ length buf
     → k' + n ≡ k → TakesAlong k E k' E'
 along_read k k' E E' n buf read fits falls =

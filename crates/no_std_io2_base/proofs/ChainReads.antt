@@ -112,6 +112,7 @@ pub room_when_done : (done : Bool) (E F : List Event) (len capacity : ℕ) → d
     → HasRoom ((if done then [] else E) ++ F) len capacity → HasRoom F len capacity
 room_when_done done E F len capacity is enough = subst (λ b. HasRoom ((if b then [] else E) ++ F) len capacity) is enough
 
+-- while the first is not done, room for what the chain has left is room for what both have
 pub room_while_going : (done : Bool) (E F : List Event) (len capacity : ℕ) → done ≡ false
     → HasRoom ((if done then [] else E) ++ F) len capacity → HasRoom (E ++ F) len capacity
 room_while_going done E F len capacity is enough = subst (λ b. HasRoom ((if b then [] else E) ++ F) len capacity) is enough

@@ -18,11 +18,13 @@ use Rattle.no_std_io2_base.specs.Cursor.{bytes_before, put_at, put_over, fitting
 pub left_after : (all : List ℕ) (place n : ℕ) → drop (place + n) all ≡ drop n (drop place all)
 left_after all place n = sym (drop-drop n place all)
 
+-- before a place that is not past the end no zeros are added
 pub bytes_before-within : (place : ℕ) (bs : List ℕ) → place ≤ length bs → bytes_before place bs ≡ take place bs
 bytes_before-within place bs within =
     let none : place - length bs ≡ 0 = omega arith in
     ap (λ n. take place bs ++ replicate n 0) none ∙ append-nil (take place bs)
 
+-- before the place n stand n bytes, the added zeros among them
 pub length-bytes_before : (place : ℕ) (bs : List ℕ) → length (bytes_before place bs) ≡ place
 length-bytes_before place bs =
     omega (
@@ -97,6 +99,7 @@ appends_moves old new x k is none = record {
   turns = omega (arith, none);
 }
 
+-- the mishap that a refusal is counts as no interruption
 refused_quietly : (place : ℕ) (x : List ℕ) (e : Error) → IsRefusal place x e → count_by is_interruption (error_kind e ∷ []) ≡ 0
 refused_quietly place x e (inl h) = ap (λ k. count_by is_interruption (k ∷ [])) h.1
 refused_quietly place x e (inr h) = ap (λ k. count_by is_interruption (k ∷ [])) h.1
@@ -107,6 +110,7 @@ put_goes_out : (bs : List ℕ) (place : ℕ) (x bs' : List ℕ) (place' : ℕ) �
 put_goes_out bs place x bs' place' is at =
     ap (λ l. bytes_before place' l) is ∙ ap (λ m. bytes_before m (put_at place x bs)) at ∙ before_put place x bs
 
+-- the mishap of a write that answered `Ok`, where it is one, is no interruption
 quiet_count : (n : ℕ) (x : List ℕ) → count_by is_interruption (zero_write n x) ≡ 0
 quiet_count n x = grind (arith, nat_tests)
 

@@ -22,11 +22,13 @@ cut_reads E E' k n part kept fits within room read =
     cut-none zero = refl
     cut-none (suc k) = refl
 
+-- bytes as events, cut at k, are k of them, or all where there are fewer
 cut-length_bytes : (k : ℕ) (bs : List ℕ) → length (cut k (events_of bs)) ≡ min k (length bs)
 cut-length_bytes zero bs = omega arith
 cut-length_bytes (suc k) [] = omega arith
 cut-length_bytes (suc k) (b ∷ bs) = omega (arith, cut-length_bytes k bs)
 
+-- events that are bytes alone, cut at k, are k of them, or all where there are fewer
 pub cut-length : (k : ℕ) (E : List Event) → E ≡ events_of (bytes E) → length (cut k E) ≡ min k (length E)
 cut-length k E h = ap (λ l. length (cut k l)) h ∙ cut-length_bytes k (bytes E)
     ∙ ap (min k) (sym (length-events_of (bytes E)) ∙ ap length (sym h))

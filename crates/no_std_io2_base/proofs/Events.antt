@@ -2,23 +2,28 @@
 use Rattle.std.proofs.Common.{◌≡◌, ℕ, zero, suc, ◌+◌, ◌-◌, ◌<◌, ◌≤◌, List, [], ◌∷◌, ◌++◌, length, take, drop, refl, sym, ap, ◌∙◌, arith}
 use Rattle.no_std_io2_base.specs.Events.{Event, byte, fails, events_of, bytes, HasNoFault, cut}
 
+-- the bytes of P and then Q are the bytes of P, and then those of Q
 pub bytes-append : (P Q : List Event) → bytes (P ++ Q) ≡ bytes P ++ bytes Q
 bytes-append [] Q = refl
 bytes-append (byte b ∷ P) Q = ap (λ l. b ∷ l) (bytes-append P Q)
 bytes-append (fails e ∷ P) Q = bytes-append P Q
 
+-- bytes turned into events and back are the same bytes
 pub bytes-events_of : (bs : List ℕ) → bytes (events_of bs) ≡ bs
 bytes-events_of [] = refl
 bytes-events_of (b ∷ bs) = ap (λ l. b ∷ l) (bytes-events_of bs)
 
+-- bytes turned into events are as many as before
 pub length-events_of : (bs : List ℕ) → length (events_of bs) ≡ length bs
 length-events_of [] = refl
 length-events_of (b ∷ bs) = ap suc (length-events_of bs)
 
+-- the events of bs and then cs are the events of bs, and then those of cs
 pub events_of-append : (bs cs : List ℕ) → events_of (bs ++ cs) ≡ events_of bs ++ events_of cs
 events_of-append [] cs = refl
 events_of-append (b ∷ bs) cs = ap (λ l. byte b ∷ l) (events_of-append bs cs)
 
+-- two lists with no fault, one behind the other, have none
 pub HasNoFault-append : (P Q : List Event) → HasNoFault P → HasNoFault Q → HasNoFault (P ++ Q)
 HasNoFault-append [] Q p q = q
 HasNoFault-append (byte b ∷ P) Q p q = HasNoFault-append P Q p q
@@ -36,6 +41,7 @@ HasNoFault-behind [] Q h = h
 HasNoFault-behind (byte b ∷ P) Q h = HasNoFault-behind P Q h
 HasNoFault-behind (fails e ∷ P) Q h = HasNoFault-behind P Q h.1
 
+-- events that are bytes alone have no fault
 pub HasNoFault-events_of : (bs : List ℕ) → HasNoFault (events_of bs)
 HasNoFault-events_of [] = tt
 HasNoFault-events_of (b ∷ bs) = HasNoFault-events_of bs
@@ -56,11 +62,13 @@ cut-bytes (b ∷ bs) R (suc k) fits =
     let same : suc k - suc (length bs) ≡ k - length bs = omega arith in
     ap (λ l. byte b ∷ l) (cut-bytes bs R k (omega arith)) ∙ ap (λ n. byte b ∷ (events_of bs ++ cut n R)) (sym same)
 
+-- to drop the first n of the events of some bytes is to drop the first n bytes
 pub drop-events_of : (n : ℕ) (bs : List ℕ) → drop n (events_of bs) ≡ events_of (drop n bs)
 drop-events_of zero bs = refl
 drop-events_of (suc n) [] = refl
 drop-events_of (suc n) (b ∷ bs) = drop-events_of n bs
 
+-- of the bytes of E, a cut at k keeps the first k
 pub bytes-cut : (k : ℕ) (E : List Event) → bytes (cut k E) ≡ take k (bytes E)
 bytes-cut zero E = refl
 bytes-cut (suc k) [] = refl

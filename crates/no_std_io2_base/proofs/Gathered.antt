@@ -15,13 +15,16 @@ pub record Gathered (E : List Event) (old new : List ℕ) (after : List Event) :
   pub no_fault : HasNoFault front
   pub gave : new ≡ old ++ bytes front
 
+-- before the first read nothing is gone, and nothing was appended
 pub gathered_none : (E : List Event) (old new : List ℕ) → new ≡ old → Gathered E old new E
 gathered_none E old new is = record { front = []; split = refl; no_fault = tt; gave = is ∙ sym (append-nil old) }
 
+-- the same is gathered in a list that is equal to the new one
 pub gathered_same : (E : List Event) (old new shown : List ℕ) (after : List Event) → Gathered E old new after
     → shown ≡ new → Gathered E old shown after
 gathered_same E old new shown after t is = subst (λ l. Gathered E old l after) (sym is) t
 
+-- a read gave n bytes more, and they were appended
 pub gathered_read : (E : List Event) (old new shown : List ℕ) (after rest : List Event) (n : ℕ) (buf : List ℕ)
     → Gathered E old new after → Reads after (Ok n) buf rest → shown ≡ new ++ take n buf → Gathered E old shown rest
 gathered_read E old new shown after rest n buf t read is = record {
@@ -35,6 +38,7 @@ gathered_read E old new shown after rest n buf t read is = record {
       ∙ ap (λ l. bytes t.front ++ l) (bytes-events_of (take n buf))));
 }
 
+-- an interruption is gone too, and nothing was appended for it
 pub gathered_interruption : (E : List Event) (old new : List ℕ) (after : List Event) (e : Error) (rest : List Event)
     → Gathered E old new after → after ≡ fails e ∷ rest → IsInterruption e → Gathered E old new rest
 gathered_interruption E old new after e rest t read again = record {
@@ -44,6 +48,7 @@ gathered_interruption E old new after e rest t read again = record {
   gave = t.gave ∙ ap (λ l. old ++ l) (sym (bytes-append t.front (fails e ∷ []) ∙ append-nil (bytes t.front)));
 }
 
+-- where a read met the end, all was appended, and the count is what came to the old list
 pub gathered_end : (E : List Event) (old new : List ℕ) (after rest : List Event) (n k : ℕ) (buf : List ℕ)
     → Gathered E old new after → Reads after (Ok n) buf rest → n ≡ 0 → 0 < length buf → k ≡ length new - length old
     → ReadsToEnd E (Ok k) old new rest
@@ -58,6 +63,7 @@ gathered_end E old new after rest n k buf t read zero some is =
       sym same ∙ none,
     )
 
+-- where a read met a fault, what stood before it was appended, and the fault is gone
 pub gathered_fault : (E : List Event) (old new : List ℕ) (after : List Event) (e : Error) (rest : List Event)
     → Gathered E old new after → after ≡ fails e ∷ rest → IsFault e → ReadsToEnd E (Err e) old new rest
 gathered_fault E old new after e rest t read fault = (
@@ -67,6 +73,7 @@ gathered_fault E old new after e rest t read fault = (
   inl (t.front, refl, t.no_fault, fault),
 )
 
+-- where memory was refused, what was gathered so far was appended
 pub gathered_memory : (E : List Event) (old new : List ℕ) (after : List Event) (e : Error)
     → Gathered E old new after → IsOutOfMemory e → ReadsToEnd E (Err e) old new after
 gathered_memory E old new after e t kind = (t.front, t.split, t.gave, inr (t.no_fault, kind))

@@ -15,6 +15,7 @@ first_fault-append [] Q h = refl
 first_fault-append (byte b ∷ P) Q h = first_fault-append P Q h
 first_fault-append (fails e ∷ P) Q h = ap (λ t. if t then first_fault (P ++ Q) else Some e) h.0 ∙ first_fault-append P Q h.1
 
+-- the bytes to the first fault are those of a front that has none, and then those to the fault in the rest
 pub bytes_to_fault-append : (P Q : List Event) → HasNoFault P → bytes_to_fault (P ++ Q) ≡ bytes P ++ bytes_to_fault Q
 bytes_to_fault-append [] Q h = refl
 bytes_to_fault-append (byte b ∷ P) Q h = ap (λ l. b ∷ l) (bytes_to_fault-append P Q h)
@@ -30,11 +31,13 @@ pub pieces-last : (d b : ℕ) (bs : List ℕ) → Lacks d (b ∷ bs) → pieces 
 pieces-last d b [] h = pieces-other d b [] h.0
 pieces-last d b (c ∷ bs) h = pieces-other d b (c ∷ bs) h.0 ∙ ap (in_front b) (pieces-last d c bs h.1)
 
+-- bytes with d behind them end in d
 pub ends_in-end : (d : ℕ) (bs : List ℕ) → ends_in d (bs ++ d ∷ []) ≡ true
 ends_in-end d [] = eq-eqb d d refl
 ends_in-end d (b ∷ []) = eq-eqb d d refl
 ends_in-end d (b ∷ c ∷ bs) = ends_in-end d (c ∷ bs)
 
+-- bytes without a d don't end in d
 pub ends_in-lacks : (d : ℕ) (bs : List ℕ) → Lacks d bs → ends_in d bs ≡ false
 ends_in-lacks d [] h = refl
 ends_in-lacks d (b ∷ []) h = ne_eqb b d h.0

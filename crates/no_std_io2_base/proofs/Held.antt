@@ -3,12 +3,15 @@ use Rattle.std.proofs.Common.{ℕ, zero, suc, ◌≤◌, List, [], ◌∷◌, �
 use Rattle.no_std_io2_base.specs.Events.{Event, byte, events_of, cut}
 use Rattle.no_std_io2_base.specs.Lending.{BeginsWith}
 
+-- the events that are these bytes begin with all of them
 pub begins_whole : (bs : List ℕ) → BeginsWith (events_of bs) bs
 begins_whole bs = record { rest = []; is = sym (append-nil (events_of bs)) }
 
+-- events that begin with these bytes still do with more events behind them
 pub begins_append : {E : List Event} {bs : List ℕ} (F : List Event) → BeginsWith E bs → BeginsWith (E ++ F) bs
 begins_append {E} {bs} F b = record { rest = b.rest ++ F; is = ap (λ l. l ++ F) b.is ∙ append_assoc (events_of bs) b.rest F }
 
+-- bs and then R, cut at k, begin with the first n of bs, where n is at most k
 begins_cut-bytes : (n k : ℕ) (bs : List ℕ) (R : List Event) → n ≤ k → BeginsWith (cut k (events_of bs ++ R)) (take n bs)
 begins_cut-bytes zero k bs R h = record { rest = cut k (events_of bs ++ R); is = refl }
 begins_cut-bytes (suc n) k [] R h = record { rest = cut k R; is = refl }
@@ -16,6 +19,7 @@ begins_cut-bytes (suc n) zero (b ∷ bs) R h = absurd (omega arith)
 begins_cut-bytes (suc n) (suc k) (b ∷ bs) R h =
     let t = begins_cut-bytes n k bs R (omega arith) in record { rest = t.rest; is = ap (λ l. byte b ∷ l) t.is }
 
+-- events that begin with bs, cut at k, begin with the first n of bs, where n is at most k
 pub begins_cut : {E : List Event} {bs : List ℕ} (n k : ℕ) → n ≤ k → BeginsWith E bs → BeginsWith (cut k E) (take n bs)
 begins_cut {E} {bs} n k h b =
     let t = begins_cut-bytes n k bs b.rest h in record { rest = t.rest; is = ap (cut k) b.is ∙ t.is }

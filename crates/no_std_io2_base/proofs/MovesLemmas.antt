@@ -10,19 +10,24 @@ use Rattle.no_std_io2_base.specs.declared.error.Error.{Error}
 use Rattle.no_std_io2_base.specs.Errors.{is_interruption}
 use Rattle.no_std_io2_base.specs.Writes.{Told, IsFront, HasSpent, Moves, MovesFront, MovesEach, Sends, zero_write}
 
+-- a list is a front of itself
 pub IsFront-refl : (xs : List ℕ) → IsFront xs xs
 IsFront-refl xs = ([], sym (append-nil xs))
 
+-- a front of a front is a front of the whole
 pub IsFront-trans : (xs ys zs : List ℕ) → IsFront xs ys → IsFront ys zs → IsFront xs zs
 IsFront-trans xs ys zs f g = (f.0 ++ g.0, g.1 ∙ ap (λ l. l ++ g.0) f.1 ∙ append_assoc xs f.0 g.0)
 
+-- in two lists joined as many are counted as in the first and in the second together
 pub count_by-append : {X : Type 0} (p : X → Bool) (xs ys : List X) → count_by p (xs ++ ys) ≡ count_by p xs + count_by p ys
 count_by-append p xs ys = sum_by-append _ xs ys
 
+-- where no mishap happened, those to come may be as they were
 pub HasSpent-refl : (old : Option (List ErrorKind)) → HasSpent old [] old
 HasSpent-refl None = tt
 HasSpent-refl (Some old) = λ p. omega arith
 
+-- the mishaps that one step spent, and those that the next one spent, are spent by both together
 pub HasSpent-trans : (a : Option (List ErrorKind)) (k : List ErrorKind) (b : Option (List ErrorKind))
     (l : List ErrorKind) (c : Option (List ErrorKind))
     → HasSpent a k b → HasSpent b l c → HasSpent a (k ++ l) c
@@ -38,6 +43,7 @@ HasSpent-forget None k l c f = tt
 HasSpent-forget (Some a) k l None f = absurd f
 HasSpent-forget (Some a) k l (Some c) f = λ p. omega (arith, f p, count_by-append p k l)
 
+-- a writer that does nothing has accepted no byte and had no mishap
 pub Moves-refl : (a : Told) → Moves a [] [] a
 Moves-refl a =
     record {
@@ -69,6 +75,7 @@ Moves-forget {a} {c} {x} k {l} f = record {
 pub Moves-then : {a b c : Told} {x y : List ℕ} {k l : List ErrorKind} → Moves a x k b → Moves b y l c → Moves a (x ++ y) l c
 Moves-then {k} f g = Moves-forget k (Moves-trans f g)
 
+-- of the mishaps that were spent none need be told
 HasSpent-quiet : (a : Option (List ErrorKind)) (k : List ErrorKind) (c : Option (List ErrorKind)) → HasSpent a k c → HasSpent a [] c
 HasSpent-quiet None k c f = tt
 HasSpent-quiet (Some a) k None f = absurd f

@@ -9,6 +9,7 @@ use Rattle.no_std_io2_base.specs.Pieces.{in_front, pieces, ArePieces}
 pub pieces-at : (d b : ℕ) (bs : List ℕ) → b ≡ d → pieces d (b ∷ bs) ≡ (b ∷ []) ∷ pieces d bs
 pieces-at d b bs is = ap (λ t. if t then (b ∷ []) ∷ pieces d bs else in_front b (pieces d bs)) (eq-eqb b d is)
 
+-- a first byte that isn't d joins the first piece of the rest, and is a piece alone where there is no rest
 pub pieces-other : (d b : ℕ) (bs : List ℕ) → b ≢ d → pieces d (b ∷ bs) ≡ in_front b (pieces d bs)
 pieces-other d b bs differ = ap (λ t. if t then (b ∷ []) ∷ pieces d bs else in_front b (pieces d bs)) (ne_eqb b d differ)
 
@@ -50,6 +51,7 @@ more_are d b bs false e h =
     let differ : b ≢ d = λ same. true≢false (sym (eq-eqb b d same) ∙ e) in
     subst (ArePieces d (b ∷ bs)) (sym (pieces-other d b bs differ)) (front_are d b bs _ differ h)
 
+-- what `pieces` gives keeps all the laws of the pieces
 pub pieces_are : (d : ℕ) (bs : List ℕ) → ArePieces d bs (pieces d bs)
 pieces_are d [] = record { joined = refl; none_empty = tt; ended = tt; nowhere_else = tt }
 pieces_are d (b ∷ bs) = more_are d b bs (b == d) refl (pieces_are d bs)
@@ -69,6 +71,7 @@ single : (d b : ℕ) (t : Bool) → (b == d) ≡ t → pieces d (b ∷ []) ≡ (
 single d b true e = pieces-at d b [] (eqb-true b d e)
 single d b false e = pieces-other d b [] (λ same. true≢false (sym (eq-eqb b d same) ∙ e))
 
+-- a list that keeps these laws is what `pieces` gives
 pub pieces_only : (d : ℕ) (bs : List ℕ) (ps : List (List ℕ)) → ArePieces d bs ps → ps ≡ pieces d bs
 pieces_only d [] ps h = none_only d ps h
 pieces_only d (b ∷ bs) [] h = absurd (suc-ne-zero _ (sym (ap length h.joined)))

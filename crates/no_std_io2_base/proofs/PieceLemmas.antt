@@ -21,10 +21,12 @@ pub record PieceSoFar (d : ℕ) (E : List Event) (old new : List ℕ) (after : L
   pub gave : new ≡ old ++ bytes front
   pub no_end : Lacks d (bytes front)
 
+-- where two lists of bytes have no d, both joined have none
 pub Lacks-append : (d : ℕ) (bs cs : List ℕ) → Lacks d bs → Lacks d cs → Lacks d (bs ++ cs)
 Lacks-append d [] cs h k = k
 Lacks-append d (b ∷ bs) cs h k = (h.0, Lacks-append d bs cs h.1 k)
 
+-- at the start nothing is gone of E, and nothing was appended
 pub piece_none : (d : ℕ) (E : List Event) (old new : List ℕ) → new ≡ old → PieceSoFar d E old new E
 piece_none d E old new is = record { front = []; split = refl; no_fault = tt; gave = is ∙ sym (append-nil old); no_end = tt }
 
@@ -47,6 +49,7 @@ piece_more d E old mid new after rest part t read none is = record {
       (Lacks-append d (bytes t.front) part t.no_end none);
 }
 
+-- an interruption that stands first is passed over: it is gone too, and nothing more was appended
 pub piece_interruption : (d : ℕ) (E : List Event) (old new : List ℕ) (after : List Event) (e : Error) (rest : List Event)
     → PieceSoFar d E old new after → after ≡ fails e ∷ rest → IsInterruption e → PieceSoFar d E old new rest
 piece_interruption d E old new after e rest t read again =
@@ -97,6 +100,7 @@ piece_ended d E old mid new after rest part k t read (inr end) is count =
       ends = inr (t.no_end, sym left ∙ end.1);
     }
 
+-- a fault that stands first stops the call: it is gone too, and is the answer
 pub piece_fault : (d : ℕ) (E : List Event) (old new : List ℕ) (after : List Event) (e : Error) (rest : List Event)
     → PieceSoFar d E old new after → after ≡ fails e ∷ rest → IsFault e → StopsInPiece d E e old new rest
 piece_fault d E old new after e rest t read fault =
@@ -109,6 +113,7 @@ piece_fault d E old new after e rest t read fault =
       stops = inl (t.front, refl, t.no_fault, fault);
     }
 
+-- refused memory stops the call: nothing more is gone, and nothing more was appended
 pub piece_memory : (d : ℕ) (E : List Event) (old mid new : List ℕ) (after rest : List Event) (e : Error)
     → PieceSoFar d E old mid after → rest ≡ after → new ≡ mid → IsOutOfMemory e → StopsInPiece d E e old new rest
 piece_memory d E old mid new after rest e t same is refused = record {
@@ -160,6 +165,7 @@ pub error_taken : (reply : Result (Bor (List ℕ)) Error) (e : Error) (E E' : Li
     → LendsFrom E reply E' → E ≡ fails e ∷ E'
 error_taken reply e E E' is gone = subst (λ r. LendsFrom E r E') is gone
 
+-- an error that `fill_buf` answered has spent a turn
 pub error_turn : (reply : Result (Bor (List ℕ)) Error) (e : Error) (old new : ℕ) → reply ≡ Err e → LendingTurn reply old new → new < old
 error_turn reply e old new is turn = subst (λ r. LendingTurn r old new) is turn
 
@@ -178,6 +184,7 @@ whole_part d E lent n is_whole found whole end = ⊎_elim (λ e. inl e) (λ e. i
 pub front_more : (old mid new more : List ℕ) → IsFront old mid → new ≡ mid ++ more → IsFront old new
 front_more old mid new more front is = (front.0 ++ more, is ∙ ap (λ l. l ++ more) front.1 ∙ append_assoc old front.0 more)
 
+-- where nothing more is appended, the old bytes still stand in front
 pub front_same : (old mid new : List ℕ) → IsFront old mid → new ≡ mid → IsFront old new
 front_same old mid new front is = (front.0, is ∙ front.1)
 

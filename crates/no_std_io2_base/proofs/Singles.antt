@@ -12,9 +12,11 @@ pub record Passed (E after : List Event) : Type 0 where
   pub split : E ≡ front ++ after
   pub alone : IsInterruptionsAlone front
 
+-- at the start nothing is gone of E
 pub passed_none : (E : List Event) → Passed E E
 passed_none E = record { front = []; split = refl; alone = (tt, refl) }
 
+-- where interruptions alone are gone, and one more stands first, that one is passed over too
 pub passed_interruption : (E after rest : List Event) (e : Error) → Passed E after → after ≡ fails e ∷ rest
     → IsInterruption e → Passed E rest
 passed_interruption E after rest e p read again = record {

@@ -67,12 +67,15 @@ no_room all rest old first was is capacity capacity' wanted moved before now gro
 pub wants_least : (n : ℕ) → 32 ≤ n + 32
 wants_least n = omega arith
 
+-- a part of the rest needs no more room than the rest and 32 bytes
 pub wants_part : (n : ℕ) (rest : List ℕ) → length (take n rest) ≤ length rest + 32
 wants_part n rest = omega (arith, length-take n rest)
 
+-- and n bytes no more than n and 32
 pub wants_rest : (n : ℕ) → n ≤ n + 32
 wants_rest n = omega arith
 
+-- the lesser of n and a bound is at most n
 pub wants_bounded : (wanted n bound : ℕ) → wanted ≡ min n bound → wanted ≤ n
 wants_bounded wanted n bound is = omega (arith, is)
 

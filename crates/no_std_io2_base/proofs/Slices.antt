@@ -6,6 +6,7 @@ use Rattle.no_std_io2_base.specs.Laws.{bytes-events_of}
 use Rattle.no_std_io2_base.specs.Events.{events_of, bytes, HasNoFault, cut, Reads, Fills}
 use Rattle.no_std_io2_base.proofs.Events.{events_of-append, HasNoFault-events_of, cut-bytes}
 
+-- all bytes, as events, are the first n of them and then the others
 pub events_of-split : (all : List ℕ) (n : ℕ) → events_of all ≡ events_of (take n all) ++ events_of (drop n all)
 events_of-split all n = ap events_of (sym (take-append-drop n all)) ∙ events_of-append (take n all) (drop n all)
 

@@ -15,6 +15,7 @@ pub record Taken (E : List Event) (room : ℕ) (got : List ℕ) (after : List Ev
   pub gave : bytes front ≡ got
   pub full : length got ≡ room → cut room E ≡ front
 
+-- before the first read nothing is gone
 pub taken_none : (E : List Event) (room : ℕ) → Taken E room [] E
 taken_none E room = record {
   front = [];
@@ -24,6 +25,7 @@ taken_none E room = record {
   full = λ h. subst (λ k. cut k E ≡ []) h refl;
 }
 
+-- where at least one byte more was read, what was read is taken too, behind the bytes before
 pub taken_bytes : (E : List Event) (room : ℕ) (got : List ℕ) (after : List Event) (more : List ℕ) (rest : List Event)
     → Taken E room got after → after ≡ events_of more ++ rest → 0 < length more → Taken E room (got ++ more) rest
 taken_bytes E room got after more rest t read some = record {
@@ -41,6 +43,7 @@ taken_bytes E room got after more rest t read some = record {
       ∙ cut-append t.front (events_of more ++ rest) room (length more) some long ∙ ap (λ l. t.front ++ l) stop;
 }
 
+-- an interruption is gone too, while the buffer is not full
 pub taken_interruption : (E : List Event) (room : ℕ) (got shown : List ℕ) (after : List Event) (e : Error) (rest : List Event)
     → Taken E room got after → after ≡ fails e ∷ rest → IsInterruption e → length got < room → shown ≡ got → Taken E room shown rest
 taken_interruption E room got shown after e rest t read again short is = record {
@@ -51,6 +54,7 @@ taken_interruption E room got shown after e rest t read again short is = record 
   full = λ h. absurd (omega (arith, ap length is));
 }
 
+-- where the buffer is full, `read_exact` has filled it
 pub taken_fills : (E : List Event) (room : ℕ) (got : List ℕ) (after : List Event)
     → Taken E room got after → length got ≡ room → Fills E got after
 taken_fills E room got after t h =
@@ -61,6 +65,7 @@ taken_fills E room got after t h =
       filled = ap bytes is ∙ t.gave;
     }
 
+-- where a fault came before the buffer was full, `read_exact` stopped at it
 pub taken_fault : (E : List Event) (room most : ℕ) (got : List ℕ) (after : List Event) (e : Error) (rest : List Event)
     → Taken E room got after → after ≡ fails e ∷ rest → IsFault e → length got < most → StopsAtFault E most e rest
 taken_fault E room most got after e rest t read fault short =
@@ -72,6 +77,7 @@ taken_fault E room most got after e rest t read fault short =
       short = subst (λ l. length l < most) (sym gave) short;
     }
 
+-- where the end came before the buffer was full, `read_exact` fell short
 pub taken_short : (may_take_none : Type 0) (E : List Event) (room : ℕ) (got : List ℕ) (after : List Event) (e : Error) (rest : List Event)
     → Taken E room got after → after ≡ [] → after ≡ rest → IsUnexpectedEnd e → length got < room → FallsShort may_take_none E room e rest
 taken_short may_take_none E room got after e rest t end same kind short =

@@ -14,6 +14,7 @@ ends_in-at d d' (b ∷ []) k h = let first : k ≡ 0 = omega (arith, h) in ap (�
 ends_in-at d d' (b ∷ c ∷ bs) zero h = absurd (omega (arith, h))
 ends_in-at d d' (b ∷ c ∷ bs) (suc k) h = ends_in-at d d' (c ∷ bs) k (omega (arith, h))
 
+-- of k + 1 bytes all but the last are the first k
 but_last-at : (bs : List ℕ) (k : ℕ) → length bs ≡ suc k → but_last bs ≡ take k bs
 but_last-at [] k h = absurd (omega (arith, h))
 but_last-at (b ∷ []) k h = let first : k ≡ 0 = omega (arith, h) in ap (λ n. take n (b ∷ [])) (sym first)
@@ -29,9 +30,11 @@ other_last d b n bs long some is differ =
 pub is_last : (d b n : ℕ) (bs : List ℕ) → n ≡ length bs → (n ≡ 0 → ⊥) → b ≡ get_or bs (n - 1) b → b ≡ d → ends_in d bs ≡ true
 is_last d b n bs long some is same = ends_in-at d b bs (n - 1) (omega (arith, long, some)) ∙ ap (λ x. x == d) (sym is) ∙ eq-eqb b d same
 
+-- bytes that don't end in d stay as they are
 pub kept_last : (d : ℕ) (bs : List ℕ) → ends_in d bs ≡ false → bs ≡ without d bs
 kept_last d bs other = sym (ap (λ t. if t then but_last bs else bs) other)
 
+-- of n bytes that end in d the first n - 1 are what stays without it
 pub dropped_last : (d n : ℕ) (bs new : List ℕ) → n ≡ length bs → (n ≡ 0 → ⊥) → ends_in d bs ≡ true
     → new ≡ take (n - 1) bs → new ≡ without d bs
 dropped_last d n bs new long some last is =

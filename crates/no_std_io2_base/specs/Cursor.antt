@@ -6,9 +6,11 @@ use Rattle.no_std_io2_base.specs.declared.error.Error.{Error}
 use Rattle.no_std_io2_base.specs.declared.error.ErrorKind.TheVariants.{InvalidInput, OutOfMemory}
 use Rattle.no_std_io2_base.specs.Errors.{error_kind, error_text}
 
+-- where a cursor stands
 abbrev pub cursor_place : {T : Type 0} → Cursor T → ℕ
 cursor_place c = c.pos
 
+-- what it goes over
 abbrev pub cursor_inner : {T : Type 0} → Cursor T → T
 cursor_inner c = c.inner
 

@@ -9,6 +9,7 @@ use Rattle.no_std_io2_base.specs.Events.{Event, events_of, fails}
 abbrev pub Rests : (R : RattleType) → MutBor R.Denot → (R.Denot → Type 0) → Fml
 Rests R s P = follows_so R R s.ghost_name none (λ _ _. ⊤) P
 
+-- there are some bytes
 abbrev pub IsNotEmpty : List ℕ → Type 0
 IsNotEmpty bs = 0 < length bs
 

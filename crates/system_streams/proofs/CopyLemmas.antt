@@ -47,6 +47,7 @@ passes_bare {c = c} {x} {n} buffer same empty p =
 pub has_failed : {a b c : Told} {x y : List ℕ} {e : Error} → Moves a x [] b → Moves b y (error_kind e ∷ []) c → HasFailed a e
 has_failed {c} {x} {y} f g = record { accepted = x ++ y; new = c; moves = Moves-then f g }
 
+-- a writer that failed with an empty buffer in front of it failed so without the buffer too
 pub failed_bare : {a inner : Told} {e : Error} (buffer : List ℕ) → inner ≡ a → buffer ≡ []
     → HasFailed (with_buffer inner buffer) e → HasFailed a e
 failed_bare {e = e} buffer same empty f =
@@ -77,6 +78,7 @@ pub no_failure : (E : List Event) (old : Told) → HasNoFault E → old.mishaps 
 no_failure E old none steady e (inl f) = no_first_fault E e none f
 no_failure E old none steady e (inr f) = Moves-steady steady f.moves
 
+-- where the mishaps to come were told, one that happened was among them
 told_mishap : (old : Option (List ErrorKind)) (kind : ErrorKind) (new : Option (List ErrorKind)) → HasSpent old (kind ∷ []) new
     → TellsMishap old kind
 told_mishap None kind new h = tt

@@ -14,16 +14,19 @@ use Rattle.no_std_io2.specs.Writes.{Sends, call_mishap, taken}
 use Rattle.system_streams.specs.Turns.{Gives, AnswersRead, AnswersWrite, EndsReads, EndsWrites, IsOutOfTurns}
 use Rattle.system_streams.specs.Turns.{IsPlainInterruption, IsDeviceFault}
 
+-- known bytes that stay as they are have grown by nothing
 appends_nil : (a : Option (List ℕ)) → Appends a a []
 appends_nil None = tt
 appends_nil (Some x) = sym (append-nil x)
 
+-- known bytes that grew by bs and then by cs have grown by both, in that order
 appends_then : (a b c : Option (List ℕ)) (bs cs : List ℕ) → Appends a b bs → Appends b c cs → Appends a c (bs ++ cs)
 appends_then None b c bs cs p q = tt
 appends_then (Some x) None c bs cs p q = absurd p
 appends_then (Some x) (Some y) None bs cs p q = absurd q
 appends_then (Some x) (Some y) (Some z) bs cs p q = q ∙ ap (λ l. l ++ cs) p ∙ append_assoc x bs cs
 
+-- known bytes that grew by bs, and stayed so from then on, have grown by bs
 appends_kept : (a b c : Option (List ℕ)) (bs : List ℕ) → Appends a b bs → Keeps b c → Appends a c bs
 appends_kept None b c bs p q = tt
 appends_kept (Some x) None c bs p q = absurd p
@@ -99,6 +102,7 @@ gives_sends text left out out' known known' reply turns turns' so_far spent = re
   };
 }
 
+-- known bytes stay as they were where nothing happens to them
 keeps_refl : (a : Option (List ℕ)) → Keeps a a
 keeps_refl None = tt
 keeps_refl (Some x) = refl
@@ -107,16 +111,19 @@ keeps_refl (Some x) = refl
 abbrev pub GaveNone : Result ℕ Error → Type 0
 GaveNone reply = reply ≡ Ok 0
 
+-- known bytes that stay as they are have lost nothing
 pub consumes_nil : (a : Option (List ℕ)) → Consumes a a []
 consumes_nil None = tt
 consumes_nil (Some x) = refl
 
+-- known bytes that lost bs at their front, and then cs, have lost both, in that order
 pub consumes_then : (a b c : Option (List ℕ)) (bs cs : List ℕ) → Consumes a b bs → Consumes b c cs → Consumes a c (bs ++ cs)
 consumes_then None b c bs cs p q = tt
 consumes_then (Some x) None c bs cs p q = absurd p
 consumes_then (Some x) (Some y) None bs cs p q = absurd q
 consumes_then (Some x) (Some y) (Some z) bs cs p q = p ∙ ap (λ l. bs ++ l) q ∙ sym (append_assoc bs cs z)
 
+-- known bytes that lost bs at their front, and stayed so from then on, have lost bs
 pub consumes_kept : (a b c : Option (List ℕ)) (bs : List ℕ) → Consumes a b bs → Keeps b c → Consumes a c bs
 consumes_kept None b c bs p q = tt
 consumes_kept (Some x) None c bs p q = absurd p
@@ -147,6 +154,7 @@ pub not_empty : (b : Bool) (left : List ℕ) → b ≡ (length left == 0) → b 
 not_empty b [] is h = absurd (true≢false (sym is ∙ h))
 not_empty b (x ∷ left) is h = omega arith
 
+-- where the test of the loop says that nothing is left, nothing is
 pub is_empty : (b : Bool) (left : List ℕ) → b ≡ (length left == 0) → b ≡ true → left ≡ []
 is_empty b left is h = drop_of_length-le left {i = 0} (omega (arith, eqb-true (length left) 0 (sym is ∙ h)))
 
@@ -215,12 +223,14 @@ got_same a k xs ys known known' known'' within got kept =
     subst (λ l. Consumes known known'' l) (sym (take-put_mid_below a k xs ys a (omega arith) within))
     (consumes_kept known known' known'' (take a xs) got kept)
 
+-- where nothing more was consumed, the first a bytes are still all that was consumed
 pub got_none : (a k : ℕ) (xs ys : List ℕ) (known known' known'' : Option (List ℕ)) → a ≤ length xs → Consumes known known' (take a xs)
     → Consumes known' known'' [] → Consumes known known'' (take a (put_mid a k xs ys))
 got_none a k xs ys known known' known'' within got none =
     subst (λ l. Consumes known known'' l) (append-nil (take a xs) ∙ sym (take-put_mid_below a k xs ys a (omega arith) within))
     (consumes_then known known' known'' (take a xs) [] got none)
 
+-- where n bytes more were consumed into the part, the first a + n bytes are all that was consumed
 pub got_more : (a k n : ℕ) (xs ys : List ℕ) (known known' known'' : Option (List ℕ)) → a ≤ length xs → n ≤ length ys
     → Consumes known known' (take a xs)
     → Consumes known' known'' (take n ys) → Consumes known known'' (take (a + n) (put_mid a k xs ys))
