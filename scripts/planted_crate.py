@@ -1,0 +1,148 @@
+# A crate in a copy of the repository, into which wrong bodies are planted: its functions, their proofs and the edits.
+import os
+import re
+from collections import namedtuple
+
+from source_functions import blanked, items_of
+
+# A wrong body: its changes (file, old, new), what they stand in, the functions that must be refused,
+# whether it stands in their bodies alone, and the functions that must be whole when it is tried.
+Edit = namedtuple("Edit", "name changes places judged in_bodies needs")
+
+
+class Fault(Exception):
+    """Why an edit cannot be tried."""
+
+
+class Crate:
+    """A crate of the copy: its sources as the repository has them, its functions and its edits."""
+
+    def __init__(self, room, name):
+        self.name, self.folder = name, f"{room}/crates/{name}"
+        self.texts, self.types, self.items = {}, {}, {}
+        self.used = 0.0
+        for at, _, files in os.walk(f"{self.folder}/src"):
+            for file in sorted(it for it in files if it.endswith(".rt")):
+                with open(f"{at}/{file}", encoding="utf-8") as it:
+                    self.texts[os.path.relpath(f"{at}/{file}", self.folder)] = it.read()
+        for path, text in self.texts.items():
+            types = re.findall(r"\b(?:struct|enum)\s+(\w+)", blanked(text))
+            self.types.update(dict.fromkeys(types, self.module_of(path)))
+        for path, text in self.texts.items():
+            self.items[path] = self.items_in(path, text)
+        self.names = [it.name for functions, _ in self.items.values() for it in functions]
+        self.proofs = {name: self.proof_of(name) for name in self.names}
+        self.holes = set()
+
+    def module_of(self, path):
+        names = path[len("src/") : -len(".rt")].split("/")
+        return "::".join([self.name, *(it for it in names if it not in ("lib", "main"))])
+
+    def items_in(self, path, text):
+        return items_of(blanked(text), self.module_of(path), self.types)
+
+    def proof_of(self, name):
+        """Gives the files of a function's proof, by their names."""
+        texts, folder = {}, self.folder_of(name)
+        for file in os.listdir(folder) if os.path.isdir(folder) else []:
+            if file.endswith(".antt"):
+                with open(f"{folder}/{file}", encoding="utf-8") as it:
+                    texts[file] = it.read()
+        return texts
+
+    def answered(self, name, file, at):
+        """Gives the clause that an answer is for, by its place in a proof's file: the field or else the goal above it."""
+        for line in reversed(self.proofs.get(name, {}).get(file, "").split("\n")[:at]):
+            if found := re.match(r"\s+(\w+) = ", line) or re.match(r"(?:pub )?([^\s:]+) [^=]*[:=]", line):
+                return clause_of(found[1])
+        return "an answer"
+
+    def folder_of(self, name):
+        return "/".join([self.folder, "proofs", *name.split("::")[1:]])
+
+    def prove_alone(self, names, texts):
+        """Writes the proofs of these functions, and holes for the proofs of those that their texts name."""
+        words = set()
+        for path, text in texts.items():
+            for it in self.items_in(path, text)[0]:
+                words |= set(re.findall(r"\w+", text[it.body : it.end])) if it.name in names else set()
+        holes = {it for it in self.names if it.rpartition("::")[2] in words} - names
+        for name in holes ^ self.holes:
+            folder, proof = self.folder_of(name), {"Proof.antt": hole(name)} if name in holes else self.proofs[name]
+            os.makedirs(folder, exist_ok=True)
+            for file in (it for it in os.listdir(folder) if it.endswith(".antt")):
+                os.remove(f"{folder}/{file}")
+            for file, text in proof.items():
+                with open(f"{folder}/{file}", "w", encoding="utf-8") as it:
+                    it.write(text)
+        self.holes = holes
+
+    def place_of(self, path, old):
+        """Says in what a change stands, and whether that is a function's body or an import."""
+        at, (functions, items) = self.texts[path].find(old), self.items[path]
+        for it in functions:
+            if it.head <= at < it.end:
+                return it.name, it.body < at and at + len(old) < it.end
+        for first, end in items:
+            if first <= at < end:
+                return f"{path}, {first}", False
+        line = self.texts[path][self.texts[path].rfind("\n", 0, at) + 1 :]
+        return (None, True) if re.match(r"\s*(pub )?(ghost )?use ", line) else (path, False)
+
+    def named(self, given):
+        """Gives the whole name of the function that a line 'refused by:' names."""
+        fits = [it for it in self.names if it.endswith(f"::{given}")]
+        if len(fits) > 1:
+            raise Fault(f"'refused by: {given}' fits several functions")
+        return fits[0] if fits else f"{self.name}::{given}"
+
+    def edit(self, name):
+        """Reads an edit."""
+        changes, judged, path, old = [], set(), "", ""
+        with open(f"{self.folder}/wrong-bodies/{name}.edit", encoding="utf-8") as it:
+            lines = it.read().split("\n")
+        for line in lines:
+            word, rest = line.partition(":")[0], line.partition(":")[2][1:]
+            if word == "file":
+                path = rest.strip()
+            elif word == "old":
+                old = rest
+            elif word == "new":
+                changes.append((path, old, rest))
+            elif word == "refused by":
+                judged.add(self.named(rest.strip()))
+        planted(self.texts, changes)
+        found = [self.place_of(path, old) for path, old, _ in changes if old in self.texts[path]]
+        places = {it for it, _ in found if it}
+        if not judged and (len(places) != 1 or not places <= set(self.names)):
+            raise Fault("it changes no one function, so it needs a line 'refused by: FUNCTION'")
+        judged = judged or places
+        in_bodies = judged <= places and all(it for _, it in found)
+        return Edit(name, changes, frozenset(places | judged), judged, in_bodies, frozenset())
+
+
+def clause_of(goal):
+    """Gives the clause of a goal's name: `told` of returns-in_err-read-clause-told, and any other goal's name as it is."""
+    return goal.rpartition("clause-")[2]
+
+
+def hole(name):
+    """Gives the text of a proof that is still to write, so that who calls the function goes by its contract."""
+    crate, *path = name.split("::")
+    statement = ".".join(["Rattle", crate, "proofs", *path, "Statement"])
+    return f"use {statement}.{{statement}}\n\npub {path[-1]}_spec : {{M : Type 1}} → statement M\n{path[-1]}_spec = ?\n"
+
+
+def planted(texts, changes):
+    """Gives the sources with an edit's changes."""
+    texts = dict(texts)
+    for path, old, new in changes:
+        if path not in texts:
+            raise Fault(f"there is no source file {path}")
+        found = texts[path].count(old) if old else 0
+        if found != 1:
+            raise Fault(f"an 'old:' text stands in {path} {found} times, and not once")
+        texts[path] = texts[path].replace(old, new)
+    if not changes:
+        raise Fault("it has no 'old:' and 'new:' lines")
+    return texts
