@@ -1,5 +1,6 @@
 //! Records whose header is looked at first: a tag, a length, and so many bytes.
-ghost use Rattle.std.specs.Prelude.{◌≡◌, ◌≢◌, ◌≤◌, ◌+◌, ℕ, List, [], ◌∷◌, ◌++◌, None, length, take, drop, slice_index, IsOkAnd, IsSomeAnd, IfOk, IfErr, OnOk};
+ghost use Rattle.std.specs.Prelude.{◌≡◌, ◌≢◌, ◌≤◌, ◌+◌, ℕ, List, [], ◌∷◌, ◌++◌, None, length, take, drop, slice_index};
+ghost use Rattle.std.specs.Prelude.{IsOkAnd, IsSomeAnd, IfOk, IfErr, OnOk};
 ghost use Rattle.no_std_io2.specs.Errors.{IsOutOfMemory};
 ghost use Rattle.no_std_io2.specs.Reading.{reader_held, reader_inner, KeepsBuffer};
 

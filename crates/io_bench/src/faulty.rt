@@ -1,5 +1,6 @@
 // A writer that fails as it is told.
-ghost use Rattle.std.specs.Prelude.{◌≡◌, ℕ, ◌+◌, ◌<◌, ◌≤◌, [], ◌∷◌, Some, None, Ok, IfOk, OnOk, IsOk, IsErrAnd, MatchOption, length, take, drop, vec_len};
+ghost use Rattle.std.specs.Prelude.{◌≡◌, ℕ, ◌+◌, ◌<◌, ◌≤◌, [], ◌∷◌, Some, None, Ok, IfOk, OnOk, IsOk, IsErrAnd};
+ghost use Rattle.std.specs.Prelude.{MatchOption, length, take, drop, vec_len};
 ghost use Rattle.no_std_io2_base.specs.declared.error.ErrorKind.{ErrorKind};
 ghost use Rattle.no_std_io2_base.specs.Errors.{IsNoInterruption};
 ghost use Rattle.no_std_io2_base.specs.Writes.{Moves, MovesFront, Sends, taken, write_mishap, call_mishap};

@@ -1,5 +1,6 @@
 // A reader that gives what its script says.
-ghost use Rattle.std.specs.Prelude.{◌≡◌, ◌<◌, ◌≤◌, ◌+◌, ◌∷◌, [], Some, None, Ok, IfOk, IfErr, IsOkAnd, MatchOption, length, take, drop, min, vec_len};
+ghost use Rattle.std.specs.Prelude.{◌≡◌, ◌<◌, ◌≤◌, ◌+◌, ◌∷◌, [], Some, None, Ok, IfOk, IfErr, IsOkAnd, MatchOption};
+ghost use Rattle.std.specs.Prelude.{length, take, drop, min, vec_len};
 ghost use Rattle.no_std_io2_base.specs.declared.error.ErrorKind.{ErrorKind};
 ghost use Rattle.io_bench.specs.Calls.{FailsWith};
 ghost use Rattle.no_std_io2_base.specs.Events.{given, Reads, SpendsTurn};

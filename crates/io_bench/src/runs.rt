@@ -2,7 +2,8 @@
 ghost use Rattle.std.specs.Prelude.{◌≡◌, ◌+◌, ◌<◌, [], ◌++◌, Some, OnOk, OnErr, IfErr, length, vec_len, vec_capacity};
 ghost use Rattle.no_std_io2_base.specs.Errors.{IsOutOfMemory};
 ghost use Rattle.no_std_io2_base.specs.declared.error.ErrorKind.{ErrorKind};
-ghost use Rattle.io_bench.specs.Runs.{appended, Answers, Ran, EndsFlushed, failures, failures_of, IsShorterBy, HasFewer, AreWhole, IsWhole, AllPassOver, PassesOver};
+ghost use Rattle.io_bench.specs.Runs.{appended, Answers, Ran, EndsFlushed, failures, failures_of, IsShorterBy};
+ghost use Rattle.io_bench.specs.Runs.{HasFewer, AreWhole, IsWhole, AllPassOver, PassesOver};
 
 use no_std_io2::io::{Error, ErrorKind, Result, Write};
 use std::alloc::Allocator;

@@ -1,5 +1,6 @@
 // What `play` prints: a line for each reply, and then what is out and what is held.
-ghost use Rattle.std.specs.Prelude.{◌≡◌, ◌∷◌, [], ◌++◌, ℕ, codes, List, Some, ◌+◌, ◌<◌, length, vec_len, vec_capacity, IfSome, IfNone, OnOk, OnErr, IfOk, IfErr};
+ghost use Rattle.std.specs.Prelude.{◌≡◌, ◌∷◌, [], ◌++◌, ℕ, codes, List, Some, ◌+◌, ◌<◌, length, vec_len, vec_capacity};
+ghost use Rattle.std.specs.Prelude.{IfSome, IfNone, OnOk, OnErr, IfOk, IfErr};
 ghost use Rattle.no_std_io2_base.specs.Errors.{IsOutOfMemory};
 ghost use Rattle.iotower.specs.Script.{escaped, escaped_byte};
 ghost use Rattle.iotower.specs.Report.{reply_line, report};

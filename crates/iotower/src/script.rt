@@ -1,5 +1,6 @@
 // The script of `play`: acts of a faulty device, and then calls of a writer, a line each.
-ghost use Rattle.std.specs.Prelude.{◌≡◌, ℕ, ◌+◌, ◌≤◌, List, ◌∷◌, take, drop, IfSome, IfNone, ◌<◌, OnOk, OnErr, IfErr, length, vec_len, vec_capacity};
+ghost use Rattle.std.specs.Prelude.{◌≡◌, ℕ, ◌+◌, ◌≤◌, List, ◌∷◌, take, drop, IfSome, IfNone, ◌<◌, OnOk, OnErr, IfErr};
+ghost use Rattle.std.specs.Prelude.{length, vec_len, vec_capacity};
 ghost use Rattle.no_std_io2_base.specs.Errors.{IsOutOfMemory};
 ghost use Rattle.iotower.specs.Faults.{IsNumbered};
 ghost use Rattle.iotower.specs.Script.{kind_name, IsCount, IsTextArgument};

@@ -75,8 +75,9 @@ AnswersLine line (Ok n) (Err e) old new = (new ≡ old) × (((IsUtf8 line → �
 AnswersLine line (Err f) (Ok m) old new = ⊥
 AnswersLine line (Err f) (Err e) old new =
     ((error_kind f ≡ OutOfMemory) × (e ≡ f) × (new ≡ old))
-    ⊎ (((error_kind f ≡ OutOfMemory) → ⊥) × ((Follows line old new × (e ≡ f)) ⊎ (((IsUtf8 line
-    → ⊥) × (e ≡ f) × (new ≡ old)) ⊎ (IsUtf8 line × IsOutOfMemory e × (new ≡ old)))))
+    ⊎ (((error_kind f ≡ OutOfMemory) → ⊥)
+    × ((Follows line old new × (e ≡ f))
+    ⊎ (((IsUtf8 line → ⊥) × (e ≡ f) × (new ≡ old)) ⊎ (IsUtf8 line × IsOutOfMemory e × (new ≡ old)))))
 
 -- `read_line` turned E into after and the text old into new: by a line that `read_until` takes at a newline
 pub record TakesLine (E : List Event) (result : Result ℕ Error) (old new : List ℕ) (after : List Event) : Type 0 where

@@ -2,7 +2,8 @@
 //! [`ErrorKind`] and perhaps a static text.
 ghost use Rattle.std.specs.Prelude.{◌≡◌, Some, None};
 ghost use Rattle.std.specs.Option.{option_map};
-ghost use Rattle.no_std_io2_base.specs.Errors.{kind_text, error_kind, error_text, error_display, is_interruption, IsPlain, IsOutOfMemory, IsUnexpectedEnd, IsUnwritten};
+ghost use Rattle.no_std_io2_base.specs.Errors.{kind_text, error_kind, error_text, error_display, is_interruption};
+ghost use Rattle.no_std_io2_base.specs.Errors.{IsPlain, IsOutOfMemory, IsUnexpectedEnd, IsUnwritten};
 
 use std::alloc::AllocError;
 use std::fmt;

@@ -4,7 +4,8 @@ ghost use Rattle.std.specs.Io.KnownBytes.{ReadConsumes, WriteAppends, Keeps};
 ghost use Rattle.no_std_io2.specs.Events.{SpendsTurn};
 ghost use Rattle.no_std_io2.specs.Errors.{IsFault, IsNoInterruption, IsUnwritten, IsUnexpectedEnd};
 ghost use Rattle.no_std_io2.specs.Writes.{Moves, MovesFront, Sends, taken, write_mishap, call_mishap};
-ghost use Rattle.system_streams.specs.Turns.{IsOutOfTurns, IsPlainInterruption, IsDeviceFault, AnswersRead, AnswersWrite, EndsReads, EndsWrites, Gives, Got};
+ghost use Rattle.system_streams.specs.Turns.{IsOutOfTurns, IsPlainInterruption, IsDeviceFault, AnswersRead};
+ghost use Rattle.system_streams.specs.Turns.{AnswersWrite, EndsReads, EndsWrites, Gives, Got};
 
 use no_std_io2::io::{Error, ErrorKind, Read, Result, Stored, Write};
 use no_std_io2::trace::Trace;

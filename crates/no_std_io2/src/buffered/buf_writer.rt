@@ -1,10 +1,13 @@
 //! A buffer in front of a writer.
-ghost use Rattle.std.specs.Prelude.{Some, ◌≡◌, ◌+◌, ◌<◌, ◌≤◌, ◌⊎◌, [], ◌∷◌, ◌++◌, length, take, Ok, IsOk, IfOk, IfErr, IsOkAnd, OnOk, OnErr, false};
+ghost use Rattle.std.specs.Prelude.{Some, ◌≡◌, ◌+◌, ◌<◌, ◌≤◌, ◌⊎◌, [], ◌∷◌, ◌++◌, length, take, Ok, IsOk, IfOk, IfErr};
+ghost use Rattle.std.specs.Prelude.{IsOkAnd, OnOk, OnErr, false};
 ghost use Rattle.std.specs.Borrow.{Lends, sem};
 ghost use Rattle.no_std_io2.specs.contracts.buffered.buf_writer.BufWriter.{the_row as writer-row};
 ghost use Rattle.no_std_io2_base.specs.Errors.{error_kind, IsFault, IsNoInterruption};
 ghost use Rattle.no_std_io2_base.specs.Writes.{Moves, MovesFront, taken, write_mishap, call_mishap, Sends, calls_for};
-ghost use Rattle.no_std_io2.specs.Buffered.{writer_inner, writer_buffer, writer_told, into_inner_error_writer, into_inner_error_cause, writing_calls, buffer_after, IsEnd, writer_with_inner};
+ghost use Rattle.no_std_io2.specs.Buffered.{writer_inner, writer_buffer, writer_told, into_inner_error_writer};
+ghost use Rattle.no_std_io2.specs.Buffered.{into_inner_error_cause, writing_calls, buffer_after, IsEnd};
+ghost use Rattle.no_std_io2.specs.Buffered.{writer_with_inner};
 
 mod seeking;
 

@@ -1,4 +1,5 @@
-ghost use Rattle.std.specs.Prelude.{◌≡◌, ℕ, List, [], ◌++◌, take, drop, ◌+◌, ◌≤◌, ◌<◌, length, IfOk, IfErr, IsOkAnd, false, Some, vec_len, vec_capacity, string_bytes, string_len};
+ghost use Rattle.std.specs.Prelude.{◌≡◌, ℕ, List, [], ◌++◌, take, drop, ◌+◌, ◌≤◌, ◌<◌, length, IfOk, IfErr, IsOkAnd};
+ghost use Rattle.std.specs.Prelude.{false, Some, vec_len, vec_capacity, string_bytes, string_len};
 ghost use types.Logic.{sem};
 ghost use Rattle.no_std_io2_base.specs.Events.{events_of};
 ghost use Rattle.no_std_io2_base.specs.Errors.{IsFault};

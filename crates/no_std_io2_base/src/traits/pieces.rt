@@ -1,5 +1,7 @@
 // What the calls that read pieces are made of.
-ghost use Rattle.std.specs.Prelude.{◌≡◌, ◌≢◌, ◌<◌, ◌≤◌, ◌+◌, ◌++◌, false, All, length, take, slice_index, IfSome, IfNone, OnOk, OnErr, IfErr, IfOk, IsOk, IsUtf8, vec_len, vec_capacity, string_bytes, string_len};
+ghost use Rattle.std.specs.Prelude.{◌≡◌, ◌≢◌, ◌<◌, ◌≤◌, ◌+◌, ◌++◌, false, All, length, take, slice_index, IfSome};
+ghost use Rattle.std.specs.Prelude.{IfNone, OnOk, OnErr, IfErr, IfOk, IsOk, IsUtf8, vec_len, vec_capacity};
+ghost use Rattle.std.specs.Prelude.{string_bytes, string_len};
 ghost use Rattle.std.specs.List.{AllWithin};
 ghost use Rattle.no_std_io2_base.specs.Pieces.{FindsPiece, ends_in, without, line_text};
 ghost use Rattle.no_std_io2_base.specs.PieceItems.{IsInvalidText, AnswersLine};

@@ -1,4 +1,5 @@
-ghost use Rattle.std.specs.Prelude.{◌≡◌, ℕ, false, List, ◌++◌, take, drop, ◌+◌, ◌≤◌, ◌<◌, ◌^◌, min, length, IfOk, IfErr, OnOk, OnErr, IsOk, IsOkAnd, vec_len, vec_capacity};
+ghost use Rattle.std.specs.Prelude.{◌≡◌, ℕ, false, List, ◌++◌, take, drop, ◌+◌, ◌≤◌, ◌<◌, ◌^◌, min, length, IfOk};
+ghost use Rattle.std.specs.Prelude.{IfErr, OnOk, OnErr, IsOk, IsOkAnd, vec_len, vec_capacity};
 ghost use Rattle.no_std_io2_base.specs.Errors.{IsFault, IsOutOfMemory};
 ghost use Rattle.no_std_io2_base.specs.Events.{Event, cut, bytes, events_of, given, HasRoom, Reads, ReadsExact, ReadsToEnd, SpendsTurn};
 ghost use Rattle.no_std_io2_base.specs.Chain.{chain_first, chain_second, chain_is_done, chain_tells, chain_events};

@@ -4,7 +4,8 @@ ghost use Rattle.std.specs.Borrow.{sem};
 ghost use Rattle.no_std_io2_base.specs.Events.{events_of};
 ghost use Rattle.no_std_io2_base.specs.Lending.{Rests, IsNotEmpty, Lends, LendsFrom, LendingTurn, BeginsWith, reads_needed};
 ghost use Rattle.no_std_io2.specs.contracts.buffered.buf_reader.BufReader.{the_row as reader-row};
-ghost use Rattle.no_std_io2.specs.Reading.{reader_held, reader_behind, reader_inner, reader_events, reader_turns, reader_has_store, reader_is_sound, reader_position, reader_lent_length};
+ghost use Rattle.no_std_io2.specs.Reading.{reader_held, reader_behind, reader_inner, reader_events, reader_turns};
+ghost use Rattle.no_std_io2.specs.Reading.{reader_has_store, reader_is_sound, reader_position, reader_lent_length};
 
 use super::BufReader;
 use super::pieces::find_piece;

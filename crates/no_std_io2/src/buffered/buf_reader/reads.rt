@@ -1,9 +1,12 @@
 // A `BufReader` as a reader.
-ghost use Rattle.std.specs.Prelude.{◌≡◌, ◌+◌, ◌-◌, ◌<◌, ◌≤◌, [], ◌++◌, min, length, take, drop, IsOk, IsOkAnd, IfOk, IfErr, OnErr, vec_len, vec_capacity};
+ghost use Rattle.std.specs.Prelude.{◌≡◌, ◌+◌, ◌-◌, ◌<◌, ◌≤◌, [], ◌++◌, min, length, take, drop, IsOk, IsOkAnd, IfOk};
+ghost use Rattle.std.specs.Prelude.{IfErr, OnErr, vec_len, vec_capacity};
 ghost use Rattle.no_std_io2_base.specs.Errors.{IsFault};
 ghost use Rattle.no_std_io2_base.specs.Events.{events_of, given, HasRoom, Reads, ReadsExact, ReadsToEnd, SpendsTurn};
 ghost use Rattle.no_std_io2_base.specs.Lending.{IsNotEmpty, reads_needed};
-ghost use Rattle.no_std_io2.specs.Reading.{reader_held, reader_behind, reader_inner, reader_events, reader_turns, reader_has_store, reader_is_sound, reader_position, behind_anew, held_or_to_come, exact_reads, exact_left, EmptiesInto};
+ghost use Rattle.no_std_io2.specs.Reading.{reader_held, reader_behind, reader_inner, reader_events, reader_turns};
+ghost use Rattle.no_std_io2.specs.Reading.{reader_has_store, reader_is_sound, reader_position, behind_anew};
+ghost use Rattle.no_std_io2.specs.Reading.{held_or_to_come, exact_reads, exact_left, EmptiesInto};
 ghost use Rattle.no_std_io2.specs.ReaderCalls.{ReadsAnew, ReadsExactAnew};
 ghost use Rattle.no_std_io2.specs.Sound.{sound_tells, sound_fits};
 

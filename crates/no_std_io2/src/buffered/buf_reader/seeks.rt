@@ -4,7 +4,8 @@ ghost use Rattle.std.specs.Int.{w64};
 ghost use Rattle.no_std_io2_base.specs.Seek.{Seeks};
 ghost use Rattle.no_std_io2_base.specs.Events.{Event};
 ghost use Rattle.no_std_io2.specs.Behind.{IsInBuffer, IsCutOn, MovesEvents, led_to};
-ghost use Rattle.no_std_io2.specs.Reading.{reader_held, reader_behind, reader_inner, reader_events, reader_has_store, reader_is_sound, reader_position, KeepsBuffer, HasNoBuffer, IsTooFarBack};
+ghost use Rattle.no_std_io2.specs.Reading.{reader_held, reader_behind, reader_inner, reader_events, reader_has_store};
+ghost use Rattle.no_std_io2.specs.Reading.{reader_is_sound, reader_position, KeepsBuffer, HasNoBuffer, IsTooFarBack};
 ghost use Rattle.no_std_io2.specs.Sound.{sound_fits};
 
 use super::BufReader;

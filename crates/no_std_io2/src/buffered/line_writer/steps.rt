@@ -1,6 +1,7 @@
 // The steps of a line writer's calls.
 ghost use Rattle.std.specs.Bool.{OnTrue, OnFalse};
-ghost use Rattle.std.specs.Prelude.{◌≡◌, ◌≢◌, ◌+◌, ◌-◌, ◌<◌, ◌≤◌, ◌⊎◌, ◌++◌, [], length, Ok, IsOk, IfOk, IsOkAnd, OnOk, OnErr, drop, take, slice_index, slice_range};
+ghost use Rattle.std.specs.Prelude.{◌≡◌, ◌≢◌, ◌+◌, ◌-◌, ◌<◌, ◌≤◌, ◌⊎◌, ◌++◌, [], length, Ok, IsOk, IfOk, IsOkAnd, OnOk};
+ghost use Rattle.std.specs.Prelude.{OnErr, drop, take, slice_index, slice_range};
 ghost use Rattle.no_std_io2.specs.LineState.{IsLineState, HasNoNewline};
 ghost use Rattle.no_std_io2.specs.Lines.{IsLinesLen, WritesLines, unfinished_line, held_tail, whole_if_short};
 ghost use Rattle.no_std_io2.specs.Buffered.{sender_inner, sender_buffer, sender_told, buffer_after, IsEnd, HoldsEnd};
