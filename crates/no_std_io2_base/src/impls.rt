@@ -1,6 +1,7 @@
 //! The traits at streams in memory (slices, vectors), and at what stands for another stream
 //! (references, boxes, boxed objects). There is nothing here to be named.
 mod boxed;
+mod copying;
 mod lending_objects;
 mod lent;
 mod objects;
@@ -8,5 +9,6 @@ mod reading_objects;
 mod slices;
 mod vectors;
 
+pub use copying::copy_bytes;
+pub(crate) use copying::copy_prefix;
 pub use slices::append_rest;
-pub(crate) use slices::copy_prefix;

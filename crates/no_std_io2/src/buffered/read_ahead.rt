@@ -6,7 +6,7 @@ ghost use Rattle.no_std_io2_base.specs.Errors.{IsOutOfMemory};
 ghost use Rattle.no_std_io2_base.specs.Slices.{HasMoved};
 
 use no_std_io2_base::error::Result;
-use no_std_io2_base::impls::append_rest;
+use no_std_io2_base::impls::{append_rest, copy_bytes};
 use no_std_io2_base::traits::Read;
 use std::alloc::Allocator;
 
@@ -116,7 +116,7 @@ impl<const S: usize> ReadAhead<S> {
     {
         let end = self.start + buf.len();
         let all = &self.bytes[..];
-        buf.copy_from_slice(&all[self.start..end]);
+        copy_bytes(&all[self.start..end], buf);
         self.start = end;
     }
 
@@ -128,16 +128,13 @@ impl<const S: usize> ReadAhead<S> {
         ensures held { ahead_held self.new ≡ drop result (ahead_held self.old) }
         ensures behind { ahead_behind self.new ≡ ahead_behind self.old ++ take result buf.new }
     {
-        let n = self.len().min(buf.len());
-        // One byte or none needs no call of `memcpy`.
-        if n < 2 {
-            if n == 0 {
-                return 0;
-            }
+        // Who reads byte by byte asks for one.
+        if buf.len() == 1 && self.start < self.end {
             buf[0] = self.bytes[self.start];
             self.start += 1;
             return 1;
         }
+        let n = self.len().min(buf.len());
         self.give_whole(&mut buf[..n]);
         n
     }

@@ -2,6 +2,8 @@
 ghost use Rattle.std.specs.Prelude.{◌≡◌, ◌+◌, ◌-◌, ◌<◌, ◌≤◌, [], ◌++◌, length, drop};
 ghost use Rattle.std.specs.Bool.{OnTrue, OnFalse};
 
+use no_std_io2_base::impls::copy_bytes;
+
 /// Holds the bytes from `start` to `end`. Dropping some at the front moves no byte.
 #[derive(Drop)]
 pub(crate) struct Window<const S: usize> {
@@ -88,7 +90,7 @@ impl<const S: usize> Window<S> {
     {
         let end = self.end + more.len();
         let all = &mut self.bytes[..];
-        all[self.end..end].copy_from_slice(more);
+        copy_bytes(more, &mut all[self.end..end]);
         self.end = end;
     }
 
@@ -104,7 +106,7 @@ impl<const S: usize> Window<S> {
             return false;
         }
         let all = &mut self.bytes[..];
-        all[self.end..end].copy_from_slice(more);
+        copy_bytes(more, &mut all[self.end..end]);
         self.end = end;
         true
     }

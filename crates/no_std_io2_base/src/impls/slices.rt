@@ -1,27 +1,13 @@
-ghost use Rattle.std.specs.Prelude.{◌≡◌, ◌≤◌, ◌<◌, ◌+◌, min, ◌++◌, length, take, drop, [], IfErr, IsOk, OnOk, OnErr, vec_len, vec_capacity};
+ghost use Rattle.std.specs.Prelude.{◌≡◌, ◌≤◌, ◌<◌, ◌+◌, ◌++◌, length, [], IfErr, IsOk, OnOk, OnErr, vec_len, vec_capacity};
 ghost use Rattle.no_std_io2_base.specs.Errors.{IsFault, IsOutOfMemory};
 ghost use Rattle.no_std_io2_base.specs.Events.{events_of, ReadsExact};
 ghost use Rattle.no_std_io2_base.specs.Laws.{bytes_alone};
 ghost use Rattle.no_std_io2_base.specs.Slices.{HasMoved};
 
+use super::copying::copy_prefix;
 use crate::error::{Result, failed_to_fill};
 use crate::traits::{BufRead, LEAST_ROOM, Read, Stored, reserve_room};
 use std::alloc::Allocator;
-
-// Copies as many bytes as both have, and returns how many.
-pub(crate) fn copy_prefix(from: &[u8], to: &mut [u8]) -> usize
-    ensures count { result ≡ min (length from.now) (length to.old) }
-    ensures copied { to.new ≡ take result from.now ++ drop result to.old }
-{
-    let n = from.len().min(to.len());
-    if n == 1 {
-        // A single byte is written by one instruction, and any other number by a call.
-        to[0] = from[0];
-    } else {
-        to[..n].copy_from_slice(&from[..n]);
-    }
-    n
-}
 
 /// Takes bytes off the front of a slice and appends them: all of them, or as many as there was room
 /// for where memory is refused. Who knows its bytes asks for room as any reader does in

@@ -1,0 +1,70 @@
+ghost use Rattle.std.specs.Prelude.{◌≡◌, ◌≤◌, ◌+◌, ◌++◌, min, length, take, drop};
+
+// Copies a slice of N to 2 N bytes by two moves of N, its front and its back, which may overlap.
+#[inline(always)]
+fn copy_ends<const N: usize>(from: &[u8], to: &mut [u8])
+    requires same { length from.now ≡ length to.old }
+    requires least { N ≤ length from.now }
+    requires most { length from.now ≤ N + N }
+    ensures { to.new ≡ from.now }
+{
+    let (Some(front), Some(back)) = (from.first_chunk::<N>(), from.last_chunk::<N>()) else {
+        return;
+    };
+    if let Some(place) = to.first_chunk_mut::<N>() {
+        *place = *front;
+    }
+    if let Some(place) = to.last_chunk_mut::<N>() {
+        *place = *back;
+    }
+}
+
+// Copies a slice of fewer than eight bytes.
+#[inline(always)]
+fn copy_few(from: &[u8], to: &mut [u8])
+    requires same { length from.now ≡ length to.old }
+    requires few { length from.now ≤ 7 }
+    ensures { to.new ≡ from.now }
+{
+    if from.len() >= 4 {
+        copy_ends::<4>(from, to);
+    } else if from.len() >= 2 {
+        copy_ends::<2>(from, to);
+    } else if from.len() == 1 {
+        to[0] = from[0];
+    }
+}
+
+/// Copies bytes over as many others. Up to 32 bytes are moved in place, without a call of `memcpy`, since most pieces that
+/// go through a buffer are short. Follows `copy_from_slice` of std's slices.
+#[inline(always)]
+pub fn copy_bytes(from: &[u8], to: &mut [u8])
+    requires { length from.now ≡ length to.old }
+    ensures { to.new ≡ from.now }
+{
+    if from.len() > 32 {
+        to.copy_from_slice(from);
+    } else if from.len() >= 16 {
+        copy_ends::<16>(from, to);
+    } else if from.len() >= 8 {
+        copy_ends::<8>(from, to);
+    } else {
+        copy_few(from, to);
+    }
+}
+
+// Copies as many bytes as both have, and returns how many.
+#[inline(always)]
+pub(crate) fn copy_prefix(from: &[u8], to: &mut [u8]) -> usize
+    ensures count { result ≡ min (length from.now) (length to.old) }
+    ensures copied { to.new ≡ take result from.now ++ drop result to.old }
+{
+    // Who reads byte by byte asks for one.
+    if to.len() == 1 && !from.is_empty() {
+        to[0] = from[0];
+        return 1;
+    }
+    let n = from.len().min(to.len());
+    copy_bytes(&from[..n], &mut to[..n]);
+    n
+}
