@@ -53,7 +53,7 @@ class Crate:
     def answered(self, name, file, at):
         """Gives the clause that an answer is for, by its place in a proof's file: the field or else the goal above it."""
         for line in reversed(self.proofs.get(name, {}).get(file, "").split("\n")[:at]):
-            if found := re.match(r"\s+(\w+) = ", line) or re.match(r"(?:pub )?([^\s:]+) [^=]*[:=]", line):
+            if found := re.match(r"\s+(\w+) =( |$)", line) or re.match(r"(?:pub )?([^\s:]+) [^=]*[:=]", line):
                 return clause_of(found[1])
         return "an answer"
 
