@@ -18,11 +18,11 @@ given_behind n behind held header behind1 is enough after =
     ap length after ∙ length-append behind header ∙ ap (λ m. length behind + m) (ap length is ∙ length-take-le n held enough)
 
 -- n bytes were given of the held ones, and the border went back by as many
-pub stepped_back : (n : ℕ) (behind held header behind1 held1 behind2 held2 : List ℕ) → header ≡ take n held
+pub stepped_back : (n : ℕ) (behind held : List ℕ) {header behind1 held1 behind2 held2 : List ℕ} → header ≡ take n held
     → n ≤ length held → held1 ≡ drop n held
     → behind1 ≡ behind ++ header → behind2 ++ held2 ≡ behind1 ++ held1 → length behind2 + n ≡ length behind1
     → (held2 ≡ held) × (behind2 ≡ behind)
-stepped_back n behind held header behind1 held1 behind2 held2 is enough left after whole back =
+stepped_back n behind held {header} {behind1} {held1} {behind2} {held2} is enough left after whole back =
     let joined : behind2 ++ held2 ≡ behind ++ held =
     whole ∙ ap (λ l. l ++ held1) after ∙ ap (λ l. (behind ++ header) ++ l) left ∙ ap (λ l. (behind ++ l) ++ drop n held) is
     ∙ append_assoc behind (take n held) (drop n held) ∙ ap (λ l. behind ++ l) (take-append-drop n held) in

@@ -18,11 +18,11 @@ flushed_mishap (Ok u) fault is = ap (λ f. tried_mishap (Ok f)) (sym is)
 flushed_mishap (Err e) fault is = ap (λ f. tried_mishap (Ok f)) (sym is)
 
 -- all frames were sent, and then a flush
-pub tried_flush : {a b c : Told} (to_go mid_go left end shown under_way : List ℕ) (reply : Result (Unit {0}) Error)
+pub tried_flush : {a b c : Told} {to_go mid_go left end : List ℕ} (shown under_way : List ℕ) (reply : Result (Unit {0}) Error)
     (fault : Option Error)
     → SendsFrames a to_go (Ok tt) under_way b mid_go → Sends b left reply c end
     → mid_go ≡ left ++ shown → shown ≡ [] → fault ≡ result_err reply → TriesOnce a to_go (Ok fault) c (end ++ shown)
-tried_flush {a} {b} {c} to_go mid_go left end shown under_way reply fault f s is none same = record {
+tried_flush {a} {b} {c} {end} shown under_way reply fault f s is none same = record {
   sent = f.sent ++ s.sent;
   split =
       f.split ∙ ap (λ l. f.sent ++ l) (is ∙ ap (λ l. l ++ shown) s.split ∙ append_assoc s.sent end shown)

@@ -51,10 +51,11 @@ ended limit want I mid after was part new false e is g h short some kind = inl (
 }))
 
 -- no byte of a frame came, and none will
-pub no_frame : (want : ℕ) (I after : List Event) (was new : List ℕ) (b : Bool) → b ≡ false → Gathers want I (Ok b) was new after → new ≡ []
+pub no_frame : (want : ℕ) (I : List Event) {after : List Event} (was : List ℕ) {new : List ℕ} (b : Bool) → b ≡ false
+    → Gathers want I (Ok b) was new after → new ≡ []
     → Passes (events_of was ++ I) [] after × (after ≡ []) × (new ≡ [])
-no_frame want I after was new true is h none = let no : ⊥ = cc in absurd no
-no_frame want I after was new false is h none = (subst (λ l. Passes (events_of was ++ I) l after) none (gathered_passes h.0), h.2, none)
+no_frame want I was true is h none = let no : ⊥ = cc in absurd no
+no_frame want I {after} was false is h none = (subst (λ l. Passes (events_of was ++ I) l after) none (gathered_passes h.0), h.2, none)
 
 -- the part that was asked for is there
 pub whole_part : (want : ℕ) (I after : List Event) (was new : List ℕ) (b : Bool) → b ≡ true
@@ -63,10 +64,10 @@ whole_part want I after was new true is h = h
 whole_part want I after was new false is h = let no : ⊥ = cc in absurd no
 
 -- the frame is longer than the limit
-pub too_long : (limit : ℕ) (I after : List Event) (was new : List ℕ) (e : Error) → Gathered I was new after
+pub too_long : (limit : ℕ) {I after : List Event} {was new : List ℕ} (e : Error) → Gathered I was new after
     → 4 ≤ length new → limit < told_length new → error_kind e ≡ InvalidData
     → TakesNone limit (events_of was ++ I) e (events_of new ++ after)
-too_long limit I after was new e g four above kind =
+too_long limit {after} {new} e g four above kind =
     inr (inl (record { seen = new; rest = after; passes = gathered_passes g; kept = refl; header = four; above = above; kind = kind }))
 
 -- a header and the payload that it tells are a frame

@@ -47,10 +47,10 @@ run_more f limit E mid after old had new x e is run h =
     })
 
 -- the same payloads under another name
-pub run_same : {X : Type 0} (f : X → List ℕ) (limit : ℕ) (E after : List Event) (old had new : List X)
+pub run_same : {X : Type 0} (f : X → List ℕ) {limit : ℕ} {E after : List Event} (old : List X) {had : List X} (new : List X)
     → PassesFrames limit E (map f (appended old had)) after → new ≡ had
     → PassesFrames limit E (map f (appended old new)) after
-run_same f limit E after old had new run is = subst (λ l. PassesFrames limit E (map f (appended old l)) after) (sym is) run
+run_same f {limit} {E} {after} old new run is = subst (λ l. PassesFrames limit E (map f (appended old l)) after) (sym is) run
 
 -- the end after the frames
 pub run_ends : (limit : ℕ) (E mid after : List Event) (ps : List (List ℕ)) → PassesFrames limit E ps mid
@@ -68,9 +68,9 @@ run_refused limit E after ps e run memory = (
 )
 
 -- no frame after the frames
-pub run_stops : (limit most : ℕ) (E mid after : List Event) (ps : List (List ℕ)) (e : Error)
+pub run_stops : (limit most : ℕ) {E mid after : List Event} {ps : List (List ℕ)} (e : Error)
     → PassesFrames limit E ps mid → most ≡ limit → TakesNone most mid e after → TakesFrames limit E (Err e) ps after
-run_stops limit most E mid after ps e run same none = (mid, run, subst (λ n. TakesNone n mid e after) same none)
+run_stops limit most {mid} {after} e run same none = (mid, run, subst (λ n. TakesNone n mid e after) same none)
 
 -- a frame within the limit
 pub frame_within : (limit most : ℕ) (mid after : List Event) (p : List ℕ) → most ≡ limit

@@ -72,18 +72,19 @@ moves_spent a b k act acts acts' same made is left =
     (sym (acts_are acts act is)) front)
 
 -- `Ok(0)` is what an act of no byte makes of a `write`, and of one of nothing it is no mishap
-pub moves_zero : (a b : Told) (buf : List ℕ) (act : Act) (acts acts' : List Act) → b ≡ a → act_mishap act ≡ WriteZero ∷ []
+pub moves_zero : {a b : Told} (buf : List ℕ) {act : Act} (acts : List Act) {acts' : List Act} → b ≡ a → act_mishap act ≡ WriteZero ∷ []
     → first_act acts ≡ Some act → acts' ≡ drop 1 acts → Moves (with_acts a acts) [] (zero_write 0 buf) (with_acts b acts')
-moves_zero a b [] act acts acts' same made is left =
+moves_zero {a} {b} [] {act} acts {acts'} same made is left =
     Moves-forget (WriteZero ∷ []) (moves_spent a b (WriteZero ∷ []) act acts acts' same (sym made) is left)
-moves_zero a b (x ∷ buf) act acts acts' same made is left =
+moves_zero {a} {b} (x ∷ buf) {act} acts {acts'} same made is left =
     let some : zero_write 0 (x ∷ buf) ≡ WriteZero ∷ [] = grind (arith, nat_tests) in
     rw some (moves_spent a b (WriteZero ∷ []) act acts acts' same (sym made) is left)
 
 -- the next act lets some bytes through, and the inner writer took some of these
-pub moves_through : (a a' b : Told) (x : List ℕ) (k : List ErrorKind) (act : Act) (acts acts' : List Act) → a' ≡ a → Moves a' x k b
+pub moves_through : {a a' b : Told} {x : List ℕ} {k : List ErrorKind} {act : Act} (acts : List Act) {acts' : List Act} → a' ≡ a
+    → Moves a' x k b
     → act_mishap act ≡ [] → first_act acts ≡ Some act → acts' ≡ drop 1 acts → Moves (with_acts a acts) x k (with_acts b acts')
-moves_through a a' b x k act acts acts' same m none is left =
+moves_through {a} {b} {x} {k} {act} acts {acts'} same m none is left =
     let plain : k ++ act_mishap act ≡ k = ap (λ l. k ++ l) none ∙ append-nil k in
     subst (λ l. Moves (with_acts a l) x k (with_acts b acts')) (sym (acts_are acts act is))
     (subst (λ l. Moves (with_acts a (act ∷ drop 1 acts)) x k (with_acts b l)) (sym left)
@@ -91,21 +92,21 @@ moves_through a a' b x k act acts acts' same m none is left =
     (moves_act a b x k act (drop 1 acts) (moves_from same m))))
 
 -- no act is left, and the call was handed on
-pub moves_past : (a a' b : Told) (x : List ℕ) (k : List ErrorKind) (acts acts' : List Act) → a' ≡ a → Moves a' x k b
+pub moves_past : {a a' b : Told} {x : List ℕ} {k : List ErrorKind} (acts : List Act) {acts' : List Act} → a' ≡ a → Moves a' x k b
     → first_act acts ≡ None
     → acts' ≡ drop 1 acts → Moves (with_acts a acts) x k (with_acts b acts')
-moves_past a a' b x k acts acts' same m is left =
+moves_past {a} {b} {x} {k} acts {acts'} same m is left =
     let none : acts ≡ [] = acts_none acts is in
     let none' : acts' ≡ [] = left ∙ ap (drop 1) none in
     subst (λ l. Moves (with_acts a l) x k (with_acts b acts')) (sym none)
     (subst (λ l. Moves (with_acts a []) x k (with_acts b l)) (sym none') (moves_behind a b x k [] (moves_from same m)))
 
 -- a writer that was given a front of some bytes took a front of these
-pub taken_of_front : (a b : Told) (reply : Result ℕ Error) (n most : ℕ) (buf : List ℕ) → 0 < n → most ≡ min n (length buf)
+pub taken_of_front : {a b : Told} (reply : Result ℕ Error) (n : ℕ) {most : ℕ} (buf : List ℕ) → 0 < n → most ≡ min n (length buf)
     → IfOk reply (λ m. m ≤ length (take most buf)) → Moves a (taken reply (take most buf)) (write_mishap reply (take most buf)) b
     → Moves a (taken reply buf) (write_mishap reply buf) b
-taken_of_front a b (Err e) n most buf some is bound m = m
-taken_of_front a b (Ok m) n most buf some is bound moves =
+taken_of_front (Err e) n buf some is bound m = m
+taken_of_front {a} {b} (Ok m) n {most} buf some is bound moves =
     let long : length (take most buf) ≡ most = omega (arith, length-take most buf, is) in
     let same : take m (take most buf) ≡ take m buf = take-take m most buf (omega (arith, bound, long)) in
     let mishap : zero_write m (take most buf) ≡ zero_write m buf = grind (arith, nat_tests) in

@@ -94,13 +94,13 @@ asked_by S ask h r h' r' E E' is_end k front long count end reads left = record 
 }
 
 -- a read that gave n bytes
-pub read_asked : (S len r r' n : ℕ) (held held' buf : List ℕ) (inner E' : List Event) (is_end : Bool) → 0 < S
+pub read_asked : (S : ℕ) {len r r' : ℕ} (n : ℕ) (held held' buf : List ℕ) (inner : List Event) {E' : List Event} {is_end : Bool} → 0 < S
     → Reads (events_of held ++ inner) (Ok n) buf E' → n ≤ length buf
     → n ≡ min len (held_or_to_come (length held) (length inner)) → (0 < length held → held' ≡ drop n held)
     → (held ≡ [] → S ≤ len → held' ≡ []) → (held ≡ [] → len < S → length held' + n ≡ min S (length inner))
     → r' ≡ r + (1 - length held) → is_end ≡ (if nat_lt 0 n then false else nat_lt (length held') 1)
     → Asked S (Read len) (length held) r (events_of held ++ inner) is_end (length held') r' E'
-read_asked S len r r' n held held' buf inner E' is_end room read fits is gave straight filled reads end =
+read_asked S {len} {r} {r'} n held held' buf inner {E'} {is_end} room read fits is gave straight filled reads end =
     let all = length-events held inner in
     let long = ap length read.0 ∙ length-events (take n buf) E' in
     let within = length-take-le n buf fits in
@@ -112,21 +112,21 @@ read_asked S len r r' n held held' buf inner E' is_end room read fits is gave st
     (grind (arith, nat_tests, all)) (grind (arith, nat_tests, all)) reads (grind (arith, nat_tests, all))
 
 -- a fill that lent some bytes, of which so many were consumed
-pub fill_asked : (S most h e r h' r' lent : ℕ) (E E' : List Event) (is_end : Bool) → 0 < S → TakesFront E E'
+pub fill_asked : (S most h e r h' : ℕ) {r' : ℕ} (lent : ℕ) {E E' : List Event} {is_end : Bool} → 0 < S → TakesFront E E'
     → length E ≡ min most lent + length E' → length E ≡ h + e
     → lent ≡ filled_length S h e → h' ≡ lent - min most lent → r' ≡ r + (1 - h) → is_end ≡ nat_eq lent 0
     → Asked S (Fill most) h r E is_end h' r' E'
-fill_asked S most h e r h' r' lent E E' is_end room front long all is left reads end =
+fill_asked S most h e r h' {r'} lent {E} {E'} {is_end} room front long all is left reads end =
     let rest : length E - h ≡ e = omega arith in
     let same : filled_length S h (length E - h) ≡ lent = ap (filled_length S h) rest ∙ sym is in
     asked_by S (Fill most) h r h' r' E E' is_end (min most lent) front long (ap (min most) (sym same))
     (grind (arith, nat_tests)) reads (left ∙ (omega (arith, same)))
 
 -- an exact read that is filled, or falls short
-pub exact_asked : (S len h r h' r' : ℕ) (E E' : List Event) (is_end : Bool) → TakesFront E E'
+pub exact_asked : (S len : ℕ) {h r h' r' : ℕ} {E E' : List Event} {is_end : Bool} → TakesFront E E'
     → length E' ≡ length E - len → is_end ≡ nat_lt (length E) len
     → r' ≡ r + exact_reads len h (length E) → h' ≡ exact_left S len h (length E) → Asked S (Exact len) h r E is_end h' r' E'
-exact_asked S len h r h' r' E E' is_end front long end reads left =
+exact_asked S len {h} {r} {h'} {r'} {E} {E'} {is_end} front long end reads left =
     asked_by S (Exact len) h r h' r' E E' is_end (min len (length E)) front (omega arith) refl end reads left
 
 -- there are no more bytes among some events than there are events
@@ -136,8 +136,8 @@ bytes-le (byte b ∷ E) = omega (arith, bytes-le E)
 bytes-le (fails e ∷ E) = omega (arith, bytes-le E)
 
 -- a filled buffer is no longer than what was to come
-pub filled-le : (E : List Event) (buf : List ℕ) (E' : List Event) → Fills E buf E' → length buf ≤ length E
-filled-le E buf E' f =
+pub filled-le : {E : List Event} {buf : List ℕ} {E' : List Event} → Fills E buf E' → length buf ≤ length E
+filled-le {E} {buf} {E'} f =
     omega (
       arith,
       bytes-le (cut (length buf) E),
@@ -152,14 +152,14 @@ taken_whole E E' (inl none) = (E, sym (append-nil E) ∙ ap (λ l. E ++ l) (sym 
 taken_whole E E' (inr n) = absurd n.0
 
 -- an exact read of bytes alone fails at their end, where all are taken
-pub falls_short : (bs : List ℕ) (E : List Event) (e : Error) (buf : List ℕ) (E' : List Event) → E ≡ events_of bs
+pub falls_short : (bs : List ℕ) {E : List Event} (e : Error) (buf : List ℕ) {E' : List Event} → E ≡ events_of bs
     → ReadsExact {A = Unit {0}} ⊥ E (Err e) buf E'
     → (error_kind e ≡ UnexpectedEof) × (length E < length buf) × TakesFront E E'
-falls_short bs E e buf E' is (inl stops) =
+falls_short bs {E} e buf {E'} is (inl stops) =
     let none : HasNoFault E = subst HasNoFault (sym is) (HasNoFault-events_of bs) in
     let ends = stops.ends in
     absurd (no_fault_at_end ends.0 e (subst HasNoFault ends.1 (HasNoFault-front stops.taken E' (subst HasNoFault stops.split none))) ends.3)
-falls_short bs E e buf E' is (inr short) =
+falls_short bs {E} e buf {E'} is (inr short) =
     let long : length E ≡ length (bytes E) = ap length is ∙ length-events_of bs ∙ sym (ap length (ap bytes is ∙ bytes-events_of bs)) in
     (short.answer.0, omega (arith, short.short, long), taken_whole E E' short.left)
 
@@ -200,23 +200,23 @@ asked_step S (Exact len) h r h' r' E E' is_end room fits a = ⊎_elim
     (cases_lt (length E) len)
 
 -- one more ask of a list
-pub Steps-asked : (S : ℕ) (asks : List Ask) (i : ℕ) (d : Ask) (h r h' r' : ℕ) (E mid after : List Event) (ends : ℕ)
-    (is_end : Bool) (more : ℕ)
+pub Steps-asked : (S : ℕ) (asks : List Ask) (i : ℕ) (d : Ask) {h r h' r' : ℕ} (E : List Event) {mid after : List Event} (ends : ℕ)
+    {is_end : Bool} (more : ℕ)
     → 0 < S → h ≤ length mid → i < length asks
     → Steps (take i asks) E mid ends → Asked S (get_or asks i d) h r mid is_end h' r' after
     → more ≡ (if is_end then 1 else 0) → Steps (take (i + 1) asks) E after (ends + more)
-Steps-asked S asks i d h r h' r' E mid after ends is_end more room fits within s a is =
+Steps-asked S asks i d {h} {r} {h'} {r'} E {mid} {after} ends {is_end} more room fits within s a is =
     let ask = get_or asks i d in
     let counted : more ≡ (if meets_end ask (length mid) then 1 else 0) = is ∙ ap (λ b. if b then 1 else 0) a.end in
     subst (Steps (take (i + 1) asks) E after) (ap (λ n. ends + n) (sym counted))
     (Steps-next asks i d E mid after ends within s (asked_step S ask h r h' r' mid after is_end room fits a))
 
 -- what it costs is paid for
-pub paid_asked : (S : ℕ) (ask : Ask) (c h r h' r' : ℕ) (E mid after : List Event) (ends : ℕ) (is_end : Bool) (more : ℕ)
+pub paid_asked : (S : ℕ) (ask : Ask) (c : ℕ) {h r h' r' : ℕ} {E mid after : List Event} {ends : ℕ} {is_end : Bool} (more : ℕ)
     → 0 < S → h ≤ length mid → TakesFront E mid
     → ReadsPaid S c (length E - length mid) ends h (length mid) → Asked S ask h r mid is_end h' r' after → more ≡ (if is_end then 1 else 0)
     → ReadsPaid S (c + asked_reads ask h (length mid)) (length E - length after) (ends + more) h' (length after)
-paid_asked S ask c h r h' r' E mid after ends is_end more room fits front paid a is =
+paid_asked S ask c {h} {E} {mid} {after} {ends} more room fits front paid a is =
     let all = length mid in
     let counted : more ≡ (if meets_end ask all then 1 else 0) = is ∙ ap (λ b. if b then 1 else 0) a.end in
     let left : length after ≡ all - asked_bytes S ask h all = ap length a.events ∙ length-drop (asked_bytes S ask h all) mid in

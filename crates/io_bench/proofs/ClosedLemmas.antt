@@ -78,12 +78,13 @@ Paid-next S c d ops i o buffer next some fits h p e g =
     (Paid-call S c (flushes made) (length (given_bytes made)) buffer op some fits p))))
 
 -- the same beside a count that began at some number
-pub Paid-on : (S start old new : ℕ) (ops : List Op) (i : ℕ) (o : Op) (buffer next : List ℕ) → 0 < S → length buffer ≤ S → i < length ops
+pub Paid-on : (S start : ℕ) {old new : ℕ} (ops : List Op) (i : ℕ) (o : Op) (buffer next : List ℕ) → 0 < S → length buffer ≤ S
+    → i < length ops
     → (calls : ℕ) × (old ≡ start + calls) × Paid S calls (flushes (take i ops)) (length (given_bytes (take i ops))) (length buffer)
     → new ≡ old + op_calls S buffer (get_or ops i o) → next ≡ op_buffer S buffer (get_or ops i o)
     → (calls : ℕ) × (new ≡ start + calls)
     × Paid S calls (flushes (take (i + 1) ops)) (length (given_bytes (take (i + 1) ops))) (length next)
-Paid-on S start old new ops i o buffer next some fits h p e g =
+Paid-on S start ops i o buffer next some fits h p e g =
     let more = op_calls S buffer (get_or ops i o) in (
       p.0 + more,
       e ∙ ap (λ m. m + more) p.1 ∙ add_assoc start p.0 more,

@@ -10,27 +10,27 @@ pub record CountedSoFar (wanted budget was left budget' now : ℕ) : Type 0 wher
   pub most : now + budget' ≤ was + budget
 
 -- at the start nothing is counted
-pub counted_none : (wanted budget was left : ℕ) → left ≡ wanted → CountedSoFar wanted budget was left budget was
-counted_none wanted budget was left all = record { least = omega (arith, all); most = omega arith }
+pub counted_none : {wanted budget was left : ℕ} → left ≡ wanted → CountedSoFar wanted budget was left budget was
+counted_none all = record { least = omega (arith, all); most = omega arith }
 
 -- a call stopped it
-pub counted_stop : {A : Type 0} (wanted budget was left budget' now budget'' now' : ℕ) (e : Error)
+pub counted_stop : {A : Type 0} {wanted budget was left budget' now budget'' now' : ℕ} {e : Error}
     → CountedSoFar wanted budget was left budget' now → now' ≡ now + 1 → budget'' ≤ budget'
     → CountsLoop {A = A} wanted budget was (Err e) budget'' now'
-counted_stop wanted budget was left budget' now budget'' now' e so_far one fewer =
+counted_stop so_far one fewer =
     record { least = omega (arith, so_far.least, one); most = omega (arith, so_far.most, one, fewer) }
 
 -- nothing is left
-pub counted_done : {A : Type 0} (x : A) (wanted budget was left budget' now : ℕ) → CountedSoFar wanted budget was left budget' now
+pub counted_done : {A : Type 0} {x : A} {wanted budget was left budget' now : ℕ} → CountedSoFar wanted budget was left budget' now
     → left ≡ 0
     → CountsLoop wanted budget was (Ok x) budget' now
-counted_done x wanted budget was left budget' now so_far none =
+counted_done so_far none =
     record { least = omega (arith, so_far.least, none); most = omega (arith, so_far.most) }
 
 -- one call more has spent some of the budget
-pub counted_more : (wanted budget was left budget' now left' budget'' now' : ℕ) → CountedSoFar wanted budget was left budget' now
+pub counted_more : {wanted budget was left budget' now left' budget'' now' : ℕ} → CountedSoFar wanted budget was left budget' now
     → now' ≡ now + 1 → budget'' < budget' → CountedSoFar wanted budget was left' budget'' now'
-counted_more wanted budget was left budget' now left' budget'' now' so_far one fewer =
+counted_more so_far one fewer =
     record { least = omega (arith, so_far.least, one); most = omega (arith, so_far.most, one, fewer) }
 
 -- the part of a buffer that is not filled yet has room
@@ -42,27 +42,27 @@ pub one_read : (room was now : ℕ) → 0 < room → now ≡ was + min 1 room �
 one_read room was now some counts = omega (arith, some, counts)
 
 -- the inner reader counted what is counted
-pub handed_once : {P Q : Type 0} (cost0 was cost now cost' now' room : ℕ) → P × (cost + was ≡ cost0 + now)
+pub handed_once : {P Q : Type 0} (cost0 was cost now : ℕ) {cost' now' : ℕ} (room : ℕ) → P × (cost + was ≡ cost0 + now)
     → Q × (cost' ≡ cost + min 1 room)
     → now' ≡ now + min 1 room → Q × (cost' + was ≡ cost0 + now')
-handed_once cost0 was cost now cost' now' room so_far read counts = (read.0, omega (arith, so_far.1, read.1, counts))
+handed_once cost0 was cost now room so_far read counts = (read.0, omega (arith, so_far.1, read.1, counts))
 
 -- the end was met
-pub counted_end : {A : Type 0} (x : A) (budget was budget' now budget'' now' : ℕ)
+pub counted_end : {A : Type 0} {x : A} {budget was budget' now budget'' now' : ℕ}
     → CountedSoFar 0 budget was 0 budget' now → now' ≡ now + 1 → budget'' ≤ budget'
     → CountsToEnd was budget (Ok x) budget'' now'
-counted_end x budget was budget' now budget'' now' so_far one fewer =
+counted_end so_far one fewer =
     record { least = omega (arith, so_far.least, one); asked = tt; most = omega (arith, so_far.most, one, fewer) }
 
 -- a fault came
-pub counted_fault : {A : Type 0} (budget was budget' now budget'' now' : ℕ) (e : Error)
+pub counted_fault : {A : Type 0} {budget was budget' now budget'' now' : ℕ} {e : Error}
     → CountedSoFar 0 budget was 0 budget' now → now' ≡ now + 1 → budget'' < budget'
     → CountsToEnd {A = A} was budget (Err e) budget'' now'
-counted_fault budget was budget' now budget'' now' e so_far one fewer =
+counted_fault so_far one fewer =
     record { least = tt; asked = inr (omega (arith, so_far.least, one)); most = omega (arith, so_far.most, one, fewer) }
 
 -- memory was refused
-pub counted_refused : {A : Type 0} (budget was budget' now : ℕ) (e : Error) → CountedSoFar 0 budget was 0 budget' now → IsOutOfMemory e
+pub counted_refused : {A : Type 0} {budget was budget' now : ℕ} {e : Error} → CountedSoFar 0 budget was 0 budget' now → IsOutOfMemory e
     → CountsToEnd {A = A} was budget (Err e) budget' now
-counted_refused budget was budget' now e so_far refused =
+counted_refused so_far refused =
     record { least = tt; asked = inl refused; most = omega (arith, so_far.most) }

@@ -74,11 +74,11 @@ is_error_of kind e k t =
     ap (λ text. record { kind = e.kind; text = text }) (no_text _ e.text t) ∙ ap error_of k
 
 -- a read that gives bytes
-pub feed_reads : (n room piece : ℕ) (old left new : List Event) (buf : List ℕ) → 0 < piece → length buf ≡ room
+pub feed_reads : (n : ℕ) {room piece : ℕ} {old left new : List Event} (buf : List ℕ) → 0 < piece → length buf ≡ room
     → left ≡ old → first_failure old ≡ None
     → n ≡ min (min piece room) (length (leading_bytes left)) → take n buf ≡ take n (leading_bytes left)
     → new ≡ drop n left → Reads (all_to_come old) (Ok n) buf (all_to_come new)
-feed_reads n room piece old left new buf some fits e none count same rest =
+feed_reads n {old} {left} buf some fits e none count same rest =
     let len : length (leading_bytes left) ≡ length (leading_bytes old) = ap (λ l. length (leading_bytes l)) e in (
       ap all_to_come (sym e) ∙ given_first n left (omega arith)
           ∙ ap (λ l. events_of l ++ all_to_come (drop n left)) (sym same)

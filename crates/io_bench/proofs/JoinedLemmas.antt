@@ -55,12 +55,12 @@ joined_more ops replies xs op reply ys e j c a = (
 )
 
 -- the next of a list of calls
-pub joined_next : (ops : List Op) (replies : List Reply) (i : ℕ) (p : Op) (q : Reply) (xs ys : List ℕ)
+pub joined_next : (ops : List Op) (replies : List Reply) {i : ℕ} (p : Op) (q : Reply) {xs : List ℕ} (ys : List ℕ)
     → i < length ops → length ops ≡ length replies
     → IsJoined (take i ops) (take i replies) xs → IsClear (get_or ops i p) (get_or replies i q)
     → Accepts (get_or ops i p) (get_or replies i q) ys
     → IsJoined (take (i + 1) ops) (take (i + 1) replies) (xs ++ ys)
-joined_next ops replies i p q xs ys h e j c a =
+joined_next ops replies {i} p q {xs} ys h e j c a =
     subst (λ made. IsJoined made (take (i + 1) replies) (xs ++ ys)) (sym (take_more ops i p h))
     (subst (λ made. IsJoined (take i ops ++ get_or ops i p ∷ []) made (xs ++ ys)) (sym (take_more replies i q (subst (λ n. i < n) e h)))
     (joined_more (take i ops) (take i replies) xs (get_or ops i p) (get_or replies i q) ys

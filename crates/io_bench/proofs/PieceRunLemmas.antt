@@ -48,16 +48,16 @@ appended-one old mid new x h is =
     ap (appended old) whole ∙ appended-are old (appended old mid ++ x ∷ [])
 
 -- where mid is the old list and then what was appended, so is mid with one more behind it
-pub appended-more : {T : Type 0} (old mid new : List T) (x : T) → mid ≡ old ++ appended old mid → new ≡ mid ++ x ∷ []
+pub appended-more : {T : Type 0} (old : List T) {mid new : List T} (x : T) → mid ≡ old ++ appended old mid → new ≡ mid ++ x ∷ []
     → new ≡ old ++ appended old new
-appended-more old mid new x h is =
+appended-more old {mid} {new} x h is =
     is ∙ ap (λ l. l ++ x ∷ []) h ∙ append_assoc old (appended old mid) (x ∷ [])
     ∙ ap (λ l. old ++ l) (sym (appended-one old mid new x h is))
 
 -- what is shown of one item more
-pub shown-one : {T : Type 0} (view : T → List ℕ) (old mid new : List T) (x : T) → mid ≡ old ++ appended old mid
+pub shown-one : {T : Type 0} (view : T → List ℕ) (old : List T) {mid new : List T} (x : T) → mid ≡ old ++ appended old mid
     → new ≡ mid ++ x ∷ [] → map view (appended old new) ≡ map view (appended old mid) ++ view x ∷ []
-shown-one view old mid new x h is = ap (map view) (appended-one old mid new x h is) ∙ map-end view (appended old mid) x
+shown-one view old {mid} {new} x h is = ap (map view) (appended-one old mid new x h is) ∙ map-end view (appended old mid) x
 
 -- at the same delimiter, and of the same answer
 pub yields_at : {T : Type 0} (view : T → List ℕ) (trim : ℕ → List ℕ → List ℕ) (refuses : List ℕ → Error → Type 0)

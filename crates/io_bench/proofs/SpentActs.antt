@@ -74,10 +74,10 @@ spent_more acts wanted turns left turns' left' turns'' n now now' so_far went is
     }
 
 -- one call more stopped it
-pub spent_stop : (acts : List Act) (wanted turns left turns' turns'' : ℕ) (now now' : List Act) (e : Error)
+pub spent_stop : {acts : List Act} {wanted turns left turns' turns'' : ℕ} {now now' : List Act} {e : Error}
     → ActsSoFar acts wanted turns left turns' now
     → now' ≡ drop 1 now → 0 < left → turns'' ≤ turns' → SpendsActs acts wanted turns (Err e) left turns'' now'
-spent_stop acts wanted turns left turns' turns'' now now' e so_far is some fewer =
+spent_stop {acts} {now} {now'} so_far is some fewer =
     let one : length (take 1 now) ≤ 1 = omega (arith, length-take 1 now) in
     let gone : length now' ≡ length now - 1 = ap length is ∙ length-drop 1 now in
     let all : length acts ≡ length so_far.spent + length now = ap length so_far.split ∙ length-append so_far.spent now in
@@ -93,10 +93,10 @@ spent_stop acts wanted turns left turns' turns'' now now' e so_far is some fewer
     }
 
 -- nothing is left
-pub spent_done : (acts : List Act) (wanted turns left turns' : ℕ) (now : List Act) → ActsSoFar acts wanted turns left turns' now
+pub spent_done : {acts : List Act} {wanted turns left turns' : ℕ} {now : List Act} → ActsSoFar acts wanted turns left turns' now
     → left ≡ 0
     → SpendsActs acts wanted turns (Ok tt) left turns' now
-spent_done acts wanted turns left turns' now so_far none = record {
+spent_done so_far none = record {
   spent = so_far.spent;
   split = so_far.split;
   least = omega (arith, so_far.least, none);

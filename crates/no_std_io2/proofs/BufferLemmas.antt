@@ -127,9 +127,9 @@ pub HoldsEnd-whole : (held x end : List ℕ) → IsEnd (held ++ x) end ⊎ IsEnd
 HoldsEnd-whole held x end r = ⊎_elim (λ f. (x, IsFront-refl x, f)) (HoldsEnd-none held x end) r
 
 -- a whole write of what follows them, with nothing held before
-pub HoldsEnd-rest : (held x mid rest end : List ℕ) (n : ℕ) → mid ≡ [] → rest ≡ drop n x
+pub HoldsEnd-rest : (held x : List ℕ) {mid rest end : List ℕ} (n : ℕ) → mid ≡ [] → rest ≡ drop n x
     → IsEnd (mid ++ rest) end ⊎ IsEnd mid end → HoldsEnd held x end
-HoldsEnd-rest held x mid rest end n none is r =
+HoldsEnd-rest held x {mid} {rest} {end} n none is r =
     HoldsEnd-whole held x end (IsEnd-either held mid x end (IsEnd-none held mid none)
     (⊎_elim (λ f. inl (IsEnd-trans (mid ++ x) (mid ++ rest) end (IsEnd-none_front mid x rest n none is) f)) inr r))
   where

@@ -43,19 +43,19 @@ whole_piece : (mid new : Told) (piece : List ℕ) → MovesFront mid piece (Ok t
 whole_piece mid new piece w = subst (λ l. Moves mid l [] new) w.whole w.moves
 
 -- where n bytes more were written whole, the count grows by n, up to the greatest `u64`
-pub written_more : (old mid new : Told) (n m k : ℕ) (buf : List ℕ) → Written old mid m
+pub written_more : {old mid new : Told} (n m k : ℕ) (buf : List ℕ) → Written old mid m
     → MovesFront mid (take n buf) (Ok tt) new → n ≤ length buf → k ≡ min (m + n) (2 ^ 64 - 1) → Written old new k
-written_more old mid new n m k buf t w fits is = record {
+written_more {mid} {new} n m k buf t w fits is = record {
   accepted = t.accepted ++ take n buf;
   moves = Moves-then t.moves (whole_piece mid new (take n buf) w);
   count = count_more n m k t.accepted (take n buf) t.count (length-take-le n buf fits) is;
 }
 
 -- where a read gave n bytes more, and all were written, the count grows by n, up to the greatest `u64`
-pub copied_more : (E : List Event) (old mid new : Told) (n m k : ℕ) (buf : List ℕ) (after rest : List Event)
+pub copied_more : {E : List Event} {old mid new : Told} (n : ℕ) {m k : ℕ} (buf : List ℕ) {after rest : List Event}
     → Copied E old mid m after → Reads after (Ok n) buf rest
     → MovesFront mid (take n buf) (Ok tt) new → n ≤ length buf → k ≡ min (m + n) (2 ^ 64 - 1) → Copied E old new k rest
-copied_more E old mid new n m k buf after rest t read w fits is =
+copied_more {old} {mid} {new} n {m} {k} buf {rest} t read w fits is =
     let got = take n buf in
     let whole : bytes (t.front ++ events_of got) ≡ bytes t.front ++ got =
     bytes-append t.front (events_of got) ∙ ap (λ l. bytes t.front ++ l) (bytes-events_of got) in
@@ -72,9 +72,9 @@ bytes-fails : (P : List Event) (e : Error) → bytes (P ++ fails e ∷ []) ≡ b
 bytes-fails P e = bytes-append P (fails e ∷ []) ∙ append-nil (bytes P)
 
 -- an interruption of the reader is passed over: it is gone, and the count stays
-pub copied_interruption : (E : List Event) (old mid : Told) (m : ℕ) (after : List Event) (e : Error) (rest : List Event)
+pub copied_interruption : {E : List Event} {old mid : Told} {m : ℕ} {after : List Event} {e : Error} {rest : List Event}
     → Copied E old mid m after → after ≡ fails e ∷ rest → IsInterruption e → Copied E old mid m rest
-copied_interruption E old mid m after e rest t read again = record {
+copied_interruption {old} {mid} {e} {rest} t read again = record {
   front = t.front ++ fails e ∷ [];
   split = t.split ∙ ap (λ l. t.front ++ l) read ∙ sym (append_assoc t.front (fails e ∷ []) rest);
   no_fault = HasNoFault-append t.front (fails e ∷ []) t.no_fault (again, tt);
@@ -87,10 +87,10 @@ none_counted : (m : ℕ) (bs : List ℕ) → m ≡ counted bs → m ≡ 0 → bs
 none_counted m bs is zero = drop_of_length-le bs {i = 0} (omega arith)
 
 -- the reader's end ends the copy
-pub copied_end : (room : ℕ) (E : List Event) (old mid : Told) (m n : ℕ) (buf : List ℕ) (after rest : List Event)
+pub copied_end : (room : ℕ) {E : List Event} {old mid : Told} {m n : ℕ} (buf : List ℕ) {after rest : List Event}
     → Copied E old mid m after → Reads after (Ok n) buf rest → n ≡ 0 → length buf ≡ room → (room ≡ 0 → m ≡ 0)
     → Copies room E (Ok m) rest old mid
-copied_end room E old mid m n buf after rest t read zero long none =
+copied_end room {m} buf {after} {rest} t read zero long none =
     let same : after ≡ rest = read.0 ∙ ap (λ k. events_of (take k buf) ++ rest) zero in (
       t.front,
       t.split ∙ ap (λ l. t.front ++ l) same,
@@ -99,9 +99,9 @@ copied_end room E old mid m n buf after rest t read zero long none =
     )
 
 -- the reader's fault ends it
-pub copied_fault : (room : ℕ) (E : List Event) (old mid : Told) (m : ℕ) (after : List Event) (e : Error) (rest : List Event)
+pub copied_fault : (room : ℕ) {E : List Event} {old mid : Told} {m : ℕ} {after : List Event} (e : Error) {rest : List Event}
     → Copied E old mid m after → after ≡ fails e ∷ rest → IsFault e → (room ≡ 0 → m ≡ 0) → Copies room E (Err e) rest old mid
-copied_fault room E old mid m after e rest t read fault none =
+copied_fault room {old} {mid} {m} e {rest} t read fault none =
     let gave = bytes-fails t.front e in (
       t.front ++ fails e ∷ [],
       t.split ∙ ap (λ l. t.front ++ l) read ∙ sym (append_assoc t.front (fails e ∷ []) rest),
@@ -110,10 +110,10 @@ copied_fault room E old mid m after e rest t read fault none =
     )
 
 -- the writer's fault ends it, in the middle of a piece
-pub copied_refused : (room : ℕ) (E : List Event) (old mid new : Told) (m n : ℕ) (buf : List ℕ) (after rest : List Event) (e : Error)
+pub copied_refused : (room : ℕ) {E : List Event} {old mid new : Told} {m : ℕ} (n : ℕ) (buf : List ℕ) {after rest : List Event} (e : Error)
     → Copied E old mid m after → Reads after (Ok n) buf rest → 0 < n → n ≤ length buf → length buf ≡ room
     → MovesFront mid (take n buf) (Err e) new → Copies room E (Err e) rest old new
-copied_refused room E old mid new m n buf after rest e t read some fits long w =
+copied_refused room n buf {rest} e t read some fits long w =
     let got = take n buf in
     let accepted = w.accepted in
     let lost = w.front.0 in
@@ -148,9 +148,9 @@ copied_refused room E old mid new m n buf after rest e t read some fits long w =
 
 -- where some pieces were written whole, and then a `write_all` failed with e, a copy that answers e had no
 -- mishap but that one
-pub written_refused : (old mid new : Told) (m : ℕ) (x : List ℕ) (e : Error) → Written old mid m
+pub written_refused : {old mid new : Told} {m : ℕ} {x : List ℕ} (e : Error) → Written old mid m
     → MovesFront mid x (Err e) new → CopyMoves (Err e) old new
-written_refused old mid new m x e t w = (t.accepted ++ w.accepted, inr (Moves-then t.moves w.moves))
+written_refused e t w = (t.accepted ++ w.accepted, inr (Moves-then t.moves w.moves))
 
 -- all of a list without faults has none in front
 pub HasNoFault-front : (P Q : List Event) → HasNoFault (P ++ Q) → HasNoFault P
@@ -165,12 +165,12 @@ no_fault_at_end (byte b ∷ Q) e h fault = no_fault_at_end Q e h fault
 no_fault_at_end (fails f ∷ Q) e h fault = no_fault_at_end Q e h.1 fault
 
 -- a copy fails for a fault of the reader, or a mishap of the writer
-pub copies_steadily : (room : ℕ) (E : List Event) (e : Error) (after : List Event) (old new : Told)
+pub copies_steadily : (room : ℕ) {E : List Event} (e : Error) {after : List Event} {old new : Told}
     → Copies room E (Err e) after old new → HasNoFault E → old.mishaps ≡ Some [] → ⊥
-copies_steadily room E e after old new (P, split, none, inl at_fault) whole steady =
+copies_steadily room e {after} (P, split, none, inl at_fault) whole steady =
     let is : P ≡ at_fault.0.0 ++ fails e ∷ [] = at_fault.0.1 in
     no_fault_at_end at_fault.0.0 e (subst HasNoFault is (HasNoFault-front P after (subst HasNoFault split whole))) at_fault.0.3
-copies_steadily room E e after old new (P, split, none, inr refused) whole steady = Moves-steady steady refused.1.1.2
+copies_steadily room e (P, split, none, inr refused) whole steady = Moves-steady steady refused.1.1.2
 
 -- a steady writer is steady afterwards
 pub stays_steady : {a c : Told} {x : List ℕ} → a.mishaps ≡ Some [] → Moves a x [] c → c.mishaps ≡ Some []

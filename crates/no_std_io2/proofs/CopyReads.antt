@@ -63,9 +63,9 @@ one_read room size n left left' cost cost' all some whole gave more fewer paid b
     omega (arith, some, whole, paid, before, ap (λ k. div_ceil k room) fewer, piece)
 
 -- the read that gave none
-pub last_read : (room size n left cost cost' old pieces : ℕ) → 0 < room → size ≡ room
+pub last_read : (room : ℕ) {size n : ℕ} (left cost : ℕ) {cost' : ℕ} (old pieces : ℕ) → 0 < room → size ≡ room
     → n ≡ min size left → n ≡ 0 → cost' ≡ cost + min 1 size
     → cost + div_ceil left room ≡ old + pieces → cost' ≡ old + (pieces + 1)
-last_read room size n left cost cost' old pieces some whole gave zero paid before =
+last_read room left cost old pieces some whole gave zero paid before =
     let end : left ≡ 0 = omega (arith, some, whole, zero, gave) in
     omega (arith, some, whole, paid, before, ap (λ k. div_ceil k room) end, no_pieces room some)

@@ -18,9 +18,9 @@ pub record Exact (room len held all at now_held now_inner : ℕ) : Type 0 where
   pub left : held < at → now_held ≡ exact_left room len held all
 
 -- the held bytes were given first
-pub exact_begins : (room len held all at now_held now_inner : ℕ) → at ≡ held → now_held ≡ 0
+pub exact_begins : {room len held all at now_held now_inner : ℕ} → at ≡ held → now_held ≡ 0
     → now_held + now_inner + at ≡ all → Exact room len held all at now_held now_inner
-exact_begins room len held all at now_held now_inner begun none total = record {
+exact_begins begun none total = record {
   begun = omega arith;
   total = total;
   none = λ _. none;
@@ -48,11 +48,11 @@ exact_first room len held all at now_held now_inner n t more is some short =
     grind arith
 
 -- one read, straight into the buffer or over the own one
-pub exact_read : (room len held all at now_held now_inner n next_held next_inner : ℕ)
+pub exact_read : {room len held all at now_held now_inner : ℕ} (n next_held next_inner : ℕ)
     → Exact room len held all at now_held now_inner → at < len
     → n ≡ min (len - at) now_inner → (room ≤ len - at → next_held ≡ 0) → (len - at < room → next_held + n ≡ min room now_inner)
     → next_held + next_inner + n ≡ now_held + now_inner → 0 < n → held < len → Exact room len held all (at + n) next_held next_inner
-exact_read room len held all at now_held now_inner n next_held next_inner t more is direct filled moved some short =
+exact_read {room} {len} {held} {all} {at} {now_held} {now_inner} n next_held next_inner t more is direct filled moved some short =
     let zero : now_held ≡ 0 = exact_none room len held all at now_held now_inner t more in
     let first : at ≡ held = exact_first room len held all at now_held now_inner n t more is some short in
     let whole : at + n ≡ min len all = omega (arith, t.total) in record {
@@ -64,9 +64,9 @@ exact_read room len held all at now_held now_inner n next_held next_inner t more
     }
 
 -- how many inner reads it took
-pub exact_end : (room len held all at now_held now_inner : ℕ) → Exact room len held all at now_held now_inner → len ≤ at
+pub exact_end : {room len held all at now_held now_inner : ℕ} → Exact room len held all at now_held now_inner → len ≤ at
     → held < len → exact_reads len held all ≡ min 1 (at - held)
-exact_end room len held all at now_held now_inner t done short =
+exact_end {len} {all} {at} t done short =
     let whole : at ≡ min len all = t.read (omega arith) in
     grind (arith, nat_tests)
 
@@ -121,19 +121,20 @@ pub gives_held : (held to_come : ℕ) → 0 < held → held_or_to_come held to_c
 gives_held held to_come some = grind (arith, nat_tests)
 
 -- held bytes before the bytes of a store hold no error
-pub no_error_behind : (held bs : List ℕ) (E E' : List Event) (e : Error) → E ≡ events_of bs → events_of held ++ E ≡ fails e ∷ E' → ⊥
-no_error_behind held bs E E' e is read =
-    no_error (held ++ bs) (events_of held ++ E) E' e (ap (λ l. events_of held ++ l) is ∙ sym (events_of-append held bs)) read
+pub no_error_behind : (held bs : List ℕ) {E E' : List Event} {e : Error} → E ≡ events_of bs → events_of held ++ E ≡ fails e ∷ E' → ⊥
+no_error_behind held bs is read =
+    no_error (held ++ bs)
+    (ap (λ l. events_of held ++ l) is ∙ sym (events_of-append held bs)) read
 
 -- a read of no byte took nothing
 pub nothing_read : (E E' : List Event) (n : ℕ) (buf : List ℕ) → Reads E (Ok n) buf E' → n ≡ 0 → E ≡ E'
 nothing_read E E' n buf read zero = read.0 ∙ ap (λ m. events_of (take m buf) ++ E') zero
 
 -- the end came before the buffer was full
-pub taken_end : (E : List Event) (room most : ℕ) (got : List ℕ) (after : List Event) (e : Error) (rest : List Event) (n : ℕ) (buf : List ℕ)
+pub taken_end : {E : List Event} {room most : ℕ} {got : List ℕ} {after : List Event} (e : Error) (rest : List Event) (n : ℕ) (buf : List ℕ)
     → Taken E room got after → Reads after (Ok n) buf rest → n ≡ 0 → 0 < length buf → IsUnexpectedEnd e
     → length got < most → FallsShort ⊥ E most e rest
-taken_end E room most got after e rest n buf t read zero some kind short =
+taken_end {E} {most} {after} e rest n buf t read zero some kind short =
     let end : after ≡ [] = read.1 zero some in
     let whole : E ≡ t.front = t.split ∙ ap (λ l. t.front ++ l) end ∙ append-nil t.front in
     record {
@@ -151,11 +152,11 @@ taken_whole E room at buf after t full long =
     subst (λ l. Fills E l after) whole (taken_fills E room (take at buf) after t (ap length whole ∙ long))
 
 -- what is left after a read of no byte over a filling reader
-pub exact_left-end : (room len held all at now_held now_inner next_held rest : ℕ)
+pub exact_left-end : (room : ℕ) {len held all at now_held now_inner : ℕ} (next_held rest : ℕ)
     → Exact room len held all at now_held now_inner → at < len → now_inner ≡ 0
     → (room ≤ rest → next_held ≡ 0) → (rest < room → next_held + 0 ≡ min room now_inner) → held < len
     → (next_held ≡ exact_left room len held all) × (0 ≡ all - len)
-exact_left-end room len held all at now_held now_inner next_held rest t more end direct filled short =
+exact_left-end room {len} {held} {all} {at} {now_held} {now_inner} next_held rest t more end direct filled short =
     let zero : now_held ≡ 0 = exact_none room len held all at now_held now_inner t more in
     let begun = t.begun in
     let whole : at ≡ all = omega (arith, t.total) in
@@ -164,10 +165,10 @@ exact_left-end room len held all at now_held now_inner next_held rest t more end
     (none ∙ sym left, omega arith)
 
 -- what is left once the buffer is full
-pub exact_left-full : (room len held all at now_held now_inner next : ℕ) → Exact room len held all at now_held now_inner
+pub exact_left-full : {room len held all at now_held now_inner : ℕ} (next : ℕ) → Exact room len held all at now_held now_inner
     → len ≤ at → held < len → next ≡ now_held + now_inner
     → (now_held ≡ exact_left room len held all) × (next ≡ all - len)
-exact_left-full room len held all at now_held now_inner next t full short is =
+exact_left-full {len} {all} {at} next t full short is =
     let whole : at ≡ min len all = t.read (omega arith) in
     (t.left (omega arith), omega (arith, t.total))
 

@@ -59,11 +59,12 @@ sought from inner (Err e) held held' content content' at at' there back sound sa
 )
 
 -- one seek by `Current`, of an inner reader that is ahead
-pub sought_current : (o rest : ℤ) (r : Result ℕ Error) (held held' content content' : List ℕ) (at at' : ℕ) → rest ≡ o -ℤ pos (length held)
+pub sought_current : (o rest : ℤ) (r : Result ℕ Error) (held held' : List ℕ) {content content' : List ℕ} {at at' : ℕ}
+    → rest ≡ o -ℤ pos (length held)
     → IsSound held at content → content' ≡ content → Seeks (length content) at (Current rest) r at'
     → OnOk r (held' ≡ []) → OnErr r (held' ≡ held)
     → IsSound held' at' content' × Seeks (length content) (at - length held) (Current o) r (at' - length held')
-sought_current o rest r held held' content content' at at' is sound same seeks empty kept =
+sought_current o rest r held held' {content} {content'} {at} {at'} is sound same seeks empty kept =
     sought (Current o) (Current rest) r held held' content content' at at'
     (λ n t. (at_offset_ahead at (length held) n o rest sound.0 is t.0, t.1))
     (λ n t. (at_offset_behind at (length held) n o rest sound.0 is t.0, t.1))
@@ -95,11 +96,12 @@ dropped_far (Ok n) P X p = tt
 dropped_far (Err e) P X p = inr p
 
 -- the second, with nothing held any more
-pub sought_again : (o shown : ℤ) (r : Result ℕ Error) (held held' old content content' : List ℕ) (at at' place : ℕ)
+pub sought_again : (o : ℤ) {shown : ℤ} (r : Result ℕ Error) (held held' : List ℕ) {old content : List ℕ} (content' : List ℕ)
+    {at at' place : ℕ}
     → held ≡ [] → shown ≡ o → content ≡ old → at ≡ place
     → Seeks (length content) at (Current shown) r at' → OnOk r (held' ≡ []) → OnErr r (held' ≡ held)
     → IsSound held' at' content' × Seeks (length old) place (Current o) r (at' - length held')
-sought_again o shown r held held' old content content' at at' place none same kept_content here seeks empty kept =
+sought_again o r held held' {old} {content} content' {at} {at'} {place} none same kept_content here seeks empty kept =
     let still = still_none r held held' none empty kept in
     let ends : at' ≡ at' - length held' = omega (arith, ap length still) in
     let asked : Seeks (length content) at (Current o) r at' = subst (λ z. Seeks (length content) at (Current z) r at') same seeks in

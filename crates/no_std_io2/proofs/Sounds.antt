@@ -24,15 +24,15 @@ sound_read held position position' content content' E E' is read moved same =
     (subst (IsSound held position') (sym same) here, omega arith)
 
 -- what was read ahead at the position of a store, which has no error
-pub sound_ahead : {A : Type 0} (r : Result A Error) (held : List ℕ) (position position' : ℕ) (content content' : List ℕ)
-    (E E' : List Event)
+pub sound_ahead : {A : Type 0} (r : Result A Error) (held : List ℕ) {position position' : ℕ} {content content' : List ℕ}
+    {E : List Event} (E' : List Event)
     → E ≡ events_of (drop position content)
     → ReadsAhead E r held E' → position' ≡ position + length held → content' ≡ content
     → IsSound held position' content' × (position' - length held ≡ position)
-sound_ahead (Ok _) held position position' content content' E E' is read moved same =
+sound_ahead (Ok _) held {position} {position'} {content} {content'} {E} E' is read moved same =
     sound_read held position position' content content' E E' is read.0 moved same
-sound_ahead (Err e) held position position' content content' E E' is read moved same =
-    absurd (no_error (drop position content) E E' e is read)
+sound_ahead (Err e) held {position} {content} E' is read moved same =
+    absurd (no_error (drop position content) is read)
 
 -- with nothing held, the position is the inner's
 pub position_none : (position : ℕ) (held : List ℕ) → length held ≡ 0 → position - length held ≡ position

@@ -7,8 +7,8 @@ use Rattle.no_std_io2_base.specs.Take.{TakesAlong}
 use Rattle.no_std_io2_base.proofs.Events.{bytes-append, bytes-events_of, cut-bytes}
 
 -- where the limit and what is to come of the inner reader are as they were, nothing was removed
-pub along_none : (k k' : ℕ) (E E' : List Event) → k' ≡ k → E' ≡ E → TakesAlong k E k' E'
-along_none k k' E E' same is =
+pub along_none : {k k' : ℕ} {E E' : List Event} → k' ≡ k → E' ≡ E → TakesAlong k E k' E'
+along_none {k} {E'} same is =
     record {
       removed = [];
       below = sym is;
@@ -28,19 +28,19 @@ along_bytes k k' E E' bs is falls =
     }
 
 -- a read of n bytes, which the limit falls by
-pub along_read : (k k' : ℕ) (E E' : List Event) (n : ℕ) (buf : List ℕ) → Reads E (Ok n) buf E' → n ≤ length buf
+pub along_read : {k k' : ℕ} {E E' : List Event} {n : ℕ} (buf : List ℕ) → Reads E (Ok n) buf E' → n ≤ length buf
     → k' + n ≡ k → TakesAlong k E k' E'
-along_read k k' E E' n buf read fits falls =
+along_read {k} {k'} {E} {E'} {n} buf read fits falls =
     along_bytes k k' E E' (take n buf) read.0 (ap (λ m. k' + m) (length-take-le n buf fits) ∙ falls)
 
 -- an error, where the limit isn't 0
-pub along_error : (k : ℕ) (E E' : List Event) (e : Error) → E ≡ fails e ∷ E' → 0 < k → TakesAlong k E k E'
-along_error zero E E' e is some = absurd (omega arith)
-along_error (suc k) E E' e is some = record { removed = fails e ∷ []; below = is; here = ap (cut (suc k)) is; falls = omega arith }
+pub along_error : {k : ℕ} {E E' : List Event} {e : Error} → E ≡ fails e ∷ E' → 0 < k → TakesAlong k E k E'
+along_error {k = zero} is some = absurd (omega arith)
+along_error {k = suc k} {e} is some = record { removed = fails e ∷ []; below = is; here = ap (cut (suc k)) is; falls = omega arith }
 
 -- one call after another
-pub along_then : (k k' k'' : ℕ) (E E' E'' : List Event) → TakesAlong k E k' E' → TakesAlong k' E' k'' E'' → TakesAlong k E k'' E''
-along_then k k' k'' E E' E'' first next = record {
+pub along_then : {k k' k'' : ℕ} {E E' E'' : List Event} → TakesAlong k E k' E' → TakesAlong k' E' k'' E'' → TakesAlong k E k'' E''
+along_then {k''} {E''} first next = record {
   removed = first.removed ++ next.removed;
   below = first.below ∙ ap (λ l. first.removed ++ l) next.below ∙ sym (append_assoc first.removed next.removed E'');
   here = first.here ∙ ap (λ l. first.removed ++ l) next.here ∙ sym (append_assoc first.removed next.removed (cut k'' E''));

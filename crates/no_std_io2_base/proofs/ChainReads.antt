@@ -19,10 +19,10 @@ pub record PastFirst {T U : Type 0} (tells : T → Type 0) (tells_second : U →
   pub left : chain_tells tells tells_second was → chain_events events events_second was ≡ events_second was.second
 
 -- it was so before
-pub past_done : {T U : Type 0} (tells : T → Type 0) (tells_second : U → Type 0) (turns : T → ℕ) (events : T
-    → List Event) (events_second : U → List Event)
-    (was now : Chain T U) → now ≡ was → was.done_first ≡ true → PastFirst tells tells_second turns events events_second was now
-past_done tells tells_second turns events events_second was now same done =
+pub past_done : {T U : Type 0} {tells : T → Type 0} {tells_second : U → Type 0} {turns : T → ℕ} {events : T
+    → List Event} {events_second : U → List Event}
+    {was now : Chain T U} → now ≡ was → was.done_first ≡ true → PastFirst tells tells_second turns events events_second was now
+past_done {tells} {tells_second} {turns} {events} {events_second} {was} same done =
     subst (PastFirst tells tells_second turns events events_second was) (sym same) (record {
       done = done;
       second = refl;
@@ -32,12 +32,12 @@ past_done tells tells_second turns events events_second was now same done =
     })
 
 -- or this call's read has found it
-pub past_read : {T U : Type 0} (tells : T → Type 0) (tells_second : U → Type 0) (turns : T → ℕ) (events : T
-    → List Event) (events_second : U → List Event)
-    (was now : Chain T U) (first : T) → now ≡ record { first = first; second = was.second; done_first = true } → was.done_first ≡ false
+pub past_read : {T U : Type 0} {tells : T → Type 0} {tells_second : U → Type 0} {turns : T → ℕ} {events : T
+    → List Event} {events_second : U → List Event}
+    {was now : Chain T U} {first : T} → now ≡ record { first = first; second = was.second; done_first = true } → was.done_first ≡ false
     → turns first ≤ turns was.first → (tells was.first → events was.first ≡ [])
     → PastFirst tells tells_second turns events events_second was now
-past_read tells tells_second turns events events_second was now first is going spent none =
+past_read {tells} {tells_second} {turns} {events} {events_second} {was} {first} is going spent none =
     subst (PastFirst tells tells_second turns events events_second was) (sym is) (record {
       done = refl;
       second = refl;
@@ -48,38 +48,39 @@ past_read tells tells_second turns events events_second was now first is going s
     })
 
 -- no call raises the turns of both
-pub both_turns : (first first' second second' : ℕ) → first' ≤ first → second' ≤ second → first' + second' ≤ first + second
-both_turns first first' second second' a b = omega (arith, a, b)
+pub both_turns : {first first' second second' : ℕ} → first' ≤ first → second' ≤ second → first' + second' ≤ first + second
+both_turns a b = omega (arith, a, b)
 
 -- a turn of either is a turn of both
-pub second_turn : (reply : Result ℕ Error) (first first' second second' : ℕ) → first' ≤ first → SpendsTurn reply second second'
+pub second_turn : (reply : Result ℕ Error) {first first' : ℕ} (second second' : ℕ) → first' ≤ first → SpendsTurn reply second second'
     → SpendsTurn reply (first + second) (first' + second')
-second_turn (Ok n) first first' second second' stays spent = λ some. let now = spent some in omega (arith, stays, now)
-second_turn (Err e) first first' second second' stays spent = omega (arith, stays, spent)
+second_turn (Ok n) second second' stays spent = λ some. let now = spent some in omega (arith, stays, now)
+second_turn (Err e) second second' stays spent = omega (arith, stays, spent)
 
 -- and one of the first too
 pub first_turn : (n first first' second : ℕ) → (0 < n → first' < first) → 0 < n → first' + second < first + second
 first_turn n first first' second spent some = let now = spent some in omega arith
 
 -- so a call that went on with the second used one after the other
-pub turn_past : {T U : Type 0} (tells : T → Type 0) (tells_second : U → Type 0) (turns : T → ℕ) (events : T → List Event)
-    (events_second : U → List Event) (was mid now : Chain T U) → PastFirst tells tells_second turns events events_second was mid
+pub turn_past : {T U : Type 0} {tells : T → Type 0} {tells_second : U → Type 0} {turns : T → ℕ} {events : T → List Event}
+    {events_second : U → List Event} {was : Chain T U} (mid now : Chain T U)
+    → PastFirst tells tells_second turns events events_second was mid
     → now.done_first ≡ mid.done_first → now.first ≡ mid.first → InTurn was now
-turn_past tells tells_second turns events events_second was mid now past marked same = record {
+turn_past mid now past marked same = record {
   stays_done = λ _. marked ∙ past.done;
   first_alone = λ h. same ∙ past.same h;
   second_alone = λ h. absurd (true≢false (sym (marked ∙ past.done) ∙ h));
 }
 
 -- a reader with nothing left gives no byte
-pub gave_none : (E E' : List Event) (n : ℕ) (buf : List ℕ) → Reads E (Ok n) buf E' → n ≤ length buf → E ≡ [] → n ≡ 0
-gave_none E E' n buf read bound none =
+pub gave_none : {E : List Event} (E' : List Event) {n : ℕ} (buf : List ℕ) → Reads E (Ok n) buf E' → n ≤ length buf → E ≡ [] → n ≡ 0
+gave_none E' {n} buf read bound none =
     let gone = ap length (sym none ∙ read.0) ∙ length-append (events_of (take n buf)) E' in
     omega (arith, gone, length-events_of (take n buf), length-take-le n buf bound)
 
 -- and no error
-pub failed_none : (E E' : List Event) (e : Error) → E ≡ fails e ∷ E' → E ≡ [] → ⊥
-failed_none E E' e failed none = omega (arith, ap length (sym none ∙ failed))
+pub failed_none : {E E' : List Event} {e : Error} → E ≡ fails e ∷ E' → E ≡ [] → ⊥
+failed_none failed none = omega (arith, ap length (sym none ∙ failed))
 
 -- where there is room for both, there is room for the first
 pub room_of_first : (E F : List Event) (len capacity : ℕ) → HasRoom (E ++ F) len capacity → HasRoom E len capacity
@@ -97,10 +98,10 @@ room_of_second E F len capacity n len' capacity' enough all grown more = (
 )
 
 -- and for what a part of it has left
-pub room_left : (E after : List Event) (old new : List ℕ) (len capacity len' capacity' : ℕ) (at_end : Bool)
+pub room_left : {E after : List Event} (old : List ℕ) {new : List ℕ} {len capacity len' capacity' : ℕ} {at_end : Bool}
     → FillsRoom E (Ok at_end) old new after → HasRoom E len capacity → len ≡ length old → len' ≡ length new → capacity ≤ capacity'
     → HasRoom after len' capacity'
-room_left E after old new len capacity len' capacity' at_end read enough was is more =
+room_left {after} old read enough was is more =
     let all = ap (λ l. length (bytes l)) read.1 ∙ ap length (bytes-append read.0 after) ∙ length-append (bytes read.0) (bytes after) in
     let gave = ap length read.3 ∙ length-append old (bytes read.0) in (
       HasNoFault-behind read.0 after (subst HasNoFault read.1 enough.0),

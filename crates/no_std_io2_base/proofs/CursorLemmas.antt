@@ -55,11 +55,11 @@ told_err (Ok x) is h = absurd (false≢true is)
 told_err (Err e) is h = h
 
 -- zeros were put behind the bytes, and then x
-pub padded : (place len : ℕ) (x bs held mid bs' : List ℕ) (padding appending done : Bool) → held ≡ bs → len ≡ length held
+pub padded : (place : ℕ) {len : ℕ} (x : List ℕ) {bs held mid bs' : List ℕ} {padding appending done : Bool} → held ≡ bs → len ≡ length held
     → length bs ≤ place → padding ≡ true → mid ≡ cond padding (take place held ++ replicate (place - len) 0) held
     → appending ≡ true → bs' ≡ cond appending (mid ++ x) mid
     → done ≡ true → bs' ≡ cond done (put_at place x bs) bs
-padded place len x bs held mid bs' padding appending done same long past p is a new d =
+padded place x {bs} {held} {mid} {padding} {appending} {done} same long past p is a new d =
     let zeros : mid ≡ take place bs ++ replicate (place - length bs) 0 =
     is ∙ cond-true padding _ _ p ∙ ap (λ n. take place held ++ replicate (place - n) 0) long
     ∙ ap (λ l. take place l ++ replicate (place - length l) 0) same in
@@ -90,9 +90,9 @@ before_put place x bs =
     ∙ take_at front rest (place + length x) long
 
 -- bytes went out as soon as they were accepted
-pub appends_moves : (old new x : List ℕ) (k : List ErrorKind) → new ≡ old ++ x → count_by is_interruption k ≡ 0
+pub appends_moves : {old new x : List ℕ} {k : List ErrorKind} → new ≡ old ++ x → count_by is_interruption k ≡ 0
     → Moves (told_out old) x k (told_out new)
-appends_moves old new x k is none = record {
+appends_moves {old} {new} {x} is none = record {
   front = (x, is);
   bytes = append-nil new ∙ is ∙ ap (λ l. l ++ x) (sym (append-nil old));
   mishaps = tt;
@@ -120,20 +120,20 @@ pub puts_moves : (bs : List ℕ) (place : ℕ) (x : List ℕ) (reply : Result �
     → Moves (told_out (bytes_before place bs)) (taken reply x) (write_mishap reply x) (told_out (bytes_before place' bs'))
 puts_moves bs place x (Ok n) bs' place' h =
     let all : take n x ≡ x = take_all n x (omega (arith, h.1)) in
-    appends_moves _ _ _ _ (put_goes_out bs place x bs' place' h.2 h.3 ∙ ap (λ l. bytes_before place bs ++ l) (sym all)) (quiet_count n x)
+    appends_moves (put_goes_out bs place x bs' place' h.2 h.3 ∙ ap (λ l. bytes_before place bs ++ l) (sym all)) (quiet_count n x)
 puts_moves bs place x (Err e) bs' place' h =
-    appends_moves _ _ _ _ (ap (λ l. bytes_before place' l) h.2 ∙ ap (λ m. bytes_before m bs) h.3 ∙ sym (append-nil _))
+    appends_moves (ap (λ l. bytes_before place' l) h.2 ∙ ap (λ m. bytes_before m bs) h.3 ∙ sym (append-nil _))
     (refused_quietly place x e h.1)
 
 -- and so does `write_all`
-pub puts_moves_all : (bs : List ℕ) (place : ℕ) (x : List ℕ) (n : ℕ) (bs' : List ℕ) (place' : ℕ) → PutsWhole bs place x (Ok n) bs' place'
+pub puts_moves_all : (bs : List ℕ) (place : ℕ) {x : List ℕ} {n : ℕ} {bs' : List ℕ} {place' : ℕ} → PutsWhole bs place x (Ok n) bs' place'
     → MovesFront (told_out (bytes_before place bs)) x (Ok tt) (told_out (bytes_before place' bs'))
-puts_moves_all bs place x n bs' place' h =
+puts_moves_all bs place {x} {bs'} {place'} h =
     record {
       accepted = x;
       front = ([], sym (append-nil x));
       whole = refl;
-      moves = appends_moves _ _ _ _ (put_goes_out bs place x bs' place' h.2 h.3) refl;
+      moves = appends_moves (put_goes_out bs place x bs' place' h.2 h.3) refl;
     }
 
 -- what fits in a slice goes out
@@ -161,54 +161,55 @@ fitting_goes_out bs place x bs' place' h = elim (cases_lt (length bs) place) [ i
         ∙ sym (append-nil (bytes_before place bs)) ∙ ap (λ l. bytes_before place bs ++ l) (sym empty)
 
 -- `write` to a slice keeps the law of writers
-pub fits_moves : (bs : List ℕ) (place : ℕ) (x : List ℕ) (n : ℕ) (bs' : List ℕ) (place' : ℕ)
+pub fits_moves : (bs : List ℕ) (place : ℕ) (x : List ℕ) {n : ℕ} {bs' : List ℕ} {place' : ℕ}
     → n ≡ min (length x) (length bs - place) → PutsFitting bs place x bs' place'
     → Moves (told_out (bytes_before place bs)) (take n x) (write_mishap (Ok n) x) (told_out (bytes_before place' bs'))
-fits_moves bs place x n bs' place' count h =
+fits_moves bs place x {n} {bs'} {place'} count h =
     let part : take n x ≡ fitting place x bs =
     ap (λ m. take m x) (let e : n ≡ min (length bs - place) (length x) = omega arith in e)
     ∙ take_min (length bs - place) x in
-    appends_moves _ _ _ _ (fitting_goes_out bs place x bs' place' h ∙ ap (λ l. bytes_before place bs ++ l) (sym part)) (quiet_count n x)
+    appends_moves (fitting_goes_out bs place x bs' place' h ∙ ap (λ l. bytes_before place bs ++ l) (sym part)) (quiet_count n x)
 
 -- and so does `write_all`, where not all fits
-pub fits_moves_part : (bs : List ℕ) (place : ℕ) (x : List ℕ) (e : Error) (bs' : List ℕ) (place' : ℕ)
+pub fits_moves_part : (bs : List ℕ) (place : ℕ) {x : List ℕ} (e : Error) {bs' : List ℕ} {place' : ℕ}
     → error_kind e ≡ WriteZero → PutsFitting bs place x bs' place'
     → MovesFront (told_out (bytes_before place bs)) x (Err e) (told_out (bytes_before place' bs'))
-fits_moves_part bs place x e bs' place' kind h =
+fits_moves_part bs place {x} e {bs'} {place'} kind h =
     let room = length bs - place in
     record {
       accepted = fitting place x bs;
       front = (drop room x, sym (take-append-drop room x));
       whole = tt;
-      moves = appends_moves _ _ _ _ (fitting_goes_out bs place x bs' place' h) (ap (λ k. count_by is_interruption (k ∷ [])) kind);
+      moves = appends_moves (fitting_goes_out bs place x bs' place' h) (ap (λ k. count_by is_interruption (k ∷ [])) kind);
     }
 
 -- and where it does
-pub fits_moves_all : (bs : List ℕ) (place : ℕ) (x bs' : List ℕ) (place' : ℕ) → length x ≤ length bs - place
+pub fits_moves_all : (bs : List ℕ) (place : ℕ) {x bs' : List ℕ} {place' : ℕ} → length x ≤ length bs - place
     → PutsFitting bs place x bs' place'
     → MovesFront (told_out (bytes_before place bs)) x (Ok tt) (told_out (bytes_before place' bs'))
-fits_moves_all bs place x bs' place' room h =
+fits_moves_all bs place {x} {bs'} {place'} room h =
     let whole : fitting place x bs ≡ x = take_all (length bs - place) x room in
     record {
       accepted = x;
       front = ([], sym (append-nil x));
       whole = refl;
-      moves = appends_moves _ _ _ _ (fitting_goes_out bs place x bs' place' h ∙ ap (λ l. bytes_before place bs ++ l) whole) refl;
+      moves = appends_moves (fitting_goes_out bs place x bs' place' h ∙ ap (λ l. bytes_before place bs ++ l) whole) refl;
     }
 
 -- an error of a vector: none was accepted
-pub puts_moves_none : (bs : List ℕ) (place : ℕ) (x : List ℕ) (e : Error) (bs' : List ℕ) (place' : ℕ)
+pub puts_moves_none : {bs : List ℕ} {place : ℕ} {x : List ℕ} {e : Error} {bs' : List ℕ} {place' : ℕ}
     → PutsWhole bs place x (Err e) bs' place'
     → MovesFront (told_out (bytes_before place bs)) x (Err e) (told_out (bytes_before place' bs'))
-puts_moves_none bs place x e bs' place' h =
+puts_moves_none {bs} {place} {x} {e} {bs'} {place'} h =
     record { accepted = []; front = (x, refl); whole = tt; moves = puts_moves bs place x (Err e) bs' place' h }
 
 -- a vector that was refused memory has accepted none
-pub refused_moves : (old new x : List ℕ) (e : Error) → new ≡ old → IsOutOfMemory e
+pub refused_moves : {old new x : List ℕ} (e : Error) → new ≡ old → IsOutOfMemory e
     → MovesFront (told_out old) x (Err e) (told_out new)
-refused_moves old new x e same refused =
+refused_moves {old} {x} e same refused =
     let quiet = ap (λ k. count_by is_interruption (k ∷ [])) refused.0 in
-    record { accepted = []; front = (x, refl); whole = tt; moves = appends_moves old new [] _ (same ∙ sym (append-nil old)) quiet }
+    let moves = appends_moves (same ∙ sym (append-nil old)) quiet in
+    record { accepted = []; front = (x, refl); whole = tt; moves = moves }
 
 -- a refusal is no interruption
 pub refused_fault : (place : ℕ) (x : List ℕ) (e : Error) → IsRefusal place x e → IsFault e
@@ -216,10 +217,10 @@ refused_fault place x e (inl h) = ap is_interruption h.1
 refused_fault place x e (inr h) = ap is_interruption h.1
 
 -- `write_all` of some bytes that were put
-pub puts_all_some : (bs : List ℕ) (place : ℕ) (x : List ℕ) (n : ℕ) (bs' : List ℕ) (place' : ℕ) → PutsWhole bs place x (Ok n) bs' place'
+pub puts_all_some : {bs : List ℕ} (place : ℕ) (x : List ℕ) {n : ℕ} {bs' : List ℕ} {place' : ℕ} → PutsWhole bs place x (Ok n) bs' place'
     → 0 < length x
     → PutsAll bs place x (Ok tt) bs' place'
-puts_all_some bs place x n bs' place' h some = (λ _. (h.0, h.2), λ none. absurd (omega (arith, none, some)), h.3)
+puts_all_some place x h some = (λ _. (h.0, h.2), λ none. absurd (omega (arith, none, some)), h.3)
 
 -- `write_all` of none
 pub moves_none : (old x : List ℕ) → x ≡ [] → MovesFront (told_out old) x (Ok tt) (told_out old)
@@ -228,11 +229,11 @@ moves_none old x none =
       accepted = x;
       front = ([], sym (append-nil x));
       whole = refl;
-      moves = appends_moves old old x [] (sym (append-nil old) ∙ ap (λ l. old ++ l) (sym none)) refl;
+      moves = appends_moves (sym (append-nil old) ∙ ap (λ l. old ++ l) (sym none)) refl;
     }
 
 -- and nothing is put
-pub puts_all_none : (bs : List ℕ) (place : ℕ) (x : List ℕ) → x ≡ [] → PutsAll bs place x (Ok tt) bs place
-puts_all_none bs place x none =
+pub puts_all_none : {bs : List ℕ} {place : ℕ} {x : List ℕ} → x ≡ [] → PutsAll bs place x (Ok tt) bs place
+puts_all_none {x} none =
     let zero : length x ≡ 0 = ap length none in
     (λ some. absurd (omega (arith, zero, some)), λ _. refl, omega (arith, zero))

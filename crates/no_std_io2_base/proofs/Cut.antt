@@ -7,10 +7,11 @@ use Rattle.no_std_io2_base.specs.Events.{Event, fails, events_of, bytes, cut, Re
 use Rattle.no_std_io2_base.proofs.Events.{cut-bytes, length-events_of}
 
 -- the cut loses what the inner reader loses
-pub cut_reads : (E E' : List Event) (k n : ℕ) (part kept : List ℕ) → n ≤ length part → length part ≤ k → (0 < length (part ++ kept)
+pub cut_reads : {E : List Event} (E' : List Event) (k : ℕ) {n : ℕ} (part kept : List ℕ) → n ≤ length part → length part ≤ k
+    → (0 < length (part ++ kept)
     → 0 < length part)
     → Reads E (Ok n) part E' → Reads (cut k E) (Ok n) (part ++ kept) (cut (k - n) E')
-cut_reads E E' k n part kept fits within room read =
+cut_reads E' k {n} part kept fits within room read =
     let long = length-take-le n part fits in
     let rest : k - length (take n part) ≡ k - n = ap (λ m. k - m) long in (
       ap (cut k) read.0 ∙ cut-bytes (take n part) E' k (omega (arith, long)) ∙ ap (λ m. events_of (take n part) ++ cut m E') rest
@@ -41,9 +42,9 @@ cut_consumes E E' held n k within fits is =
     ap (cut k) is ∙ cut-bytes (take n held) E' k (omega (arith, long)) ∙ ap (λ m. events_of (take n held) ++ cut (k - m) E') long
 
 -- an error that stood first, where the limit isn't 0
-pub cut_error : (k : ℕ) (E E' : List Event) (e : Error) → E ≡ fails e ∷ E' → 0 < k → cut k E ≡ fails e ∷ cut k E'
-cut_error zero E E' e is some = absurd (omega arith)
-cut_error (suc k) E E' e is some = ap (cut (suc k)) is
+pub cut_error : {k : ℕ} {E E' : List Event} {e : Error} → E ≡ fails e ∷ E' → 0 < k → cut k E ≡ fails e ∷ cut k E'
+cut_error {k = zero} is some = absurd (omega arith)
+cut_error {k = suc k} is some = ap (cut (suc k)) is
 
 -- a part of a buffer that is cut to the limit has no more bytes than that
 pub part_within : (most k : ℕ) (buf part : List ℕ) → most ≡ min (length buf) k → length part ≡ length (take most buf) → length part ≤ k

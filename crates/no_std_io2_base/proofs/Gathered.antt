@@ -20,14 +20,14 @@ pub gathered_none : (E : List Event) (old new : List ℕ) → new ≡ old → Ga
 gathered_none E old new is = record { front = []; split = refl; no_fault = tt; gave = is ∙ sym (append-nil old) }
 
 -- the same is gathered in a list that is equal to the new one
-pub gathered_same : (E : List Event) (old new shown : List ℕ) (after : List Event) → Gathered E old new after
+pub gathered_same : {E : List Event} {old new shown : List ℕ} {after : List Event} → Gathered E old new after
     → shown ≡ new → Gathered E old shown after
-gathered_same E old new shown after t is = subst (λ l. Gathered E old l after) (sym is) t
+gathered_same {E} {old} {after} t is = subst (λ l. Gathered E old l after) (sym is) t
 
 -- a read gave n bytes more, and they were appended
-pub gathered_read : (E : List Event) (old new shown : List ℕ) (after rest : List Event) (n : ℕ) (buf : List ℕ)
+pub gathered_read : {E : List Event} {old new shown : List ℕ} {after rest : List Event} {n : ℕ} (buf : List ℕ)
     → Gathered E old new after → Reads after (Ok n) buf rest → shown ≡ new ++ take n buf → Gathered E old shown rest
-gathered_read E old new shown after rest n buf t read is = record {
+gathered_read {old} {rest} {n} buf t read is = record {
   front = t.front ++ events_of (take n buf);
   split = t.split ∙ ap (λ l. t.front ++ l) read.0 ∙ sym (append_assoc t.front (events_of (take n buf)) rest);
   no_fault = HasNoFault-append t.front (events_of (take n buf)) t.no_fault (HasNoFault-events_of (take n buf));
@@ -64,9 +64,9 @@ gathered_end E old new after rest n k buf t read zero some is =
     )
 
 -- where a read met a fault, what stood before it was appended, and the fault is gone
-pub gathered_fault : (E : List Event) (old new : List ℕ) (after : List Event) (e : Error) (rest : List Event)
+pub gathered_fault : {E : List Event} {old new : List ℕ} {after : List Event} {e : Error} {rest : List Event}
     → Gathered E old new after → after ≡ fails e ∷ rest → IsFault e → ReadsToEnd E (Err e) old new rest
-gathered_fault E old new after e rest t read fault = (
+gathered_fault {old} {e} {rest} t read fault = (
   t.front ++ fails e ∷ [],
   t.split ∙ ap (λ l. t.front ++ l) read ∙ sym (append_assoc t.front (fails e ∷ []) rest),
   t.gave ∙ ap (λ l. old ++ l) (sym (bytes-append t.front (fails e ∷ []) ∙ append-nil (bytes t.front))),
@@ -74,24 +74,24 @@ gathered_fault E old new after e rest t read fault = (
 )
 
 -- where memory was refused, what was gathered so far was appended
-pub gathered_memory : (E : List Event) (old new : List ℕ) (after : List Event) (e : Error)
+pub gathered_memory : {E : List Event} {old new : List ℕ} {after : List Event} {e : Error}
     → Gathered E old new after → IsOutOfMemory e → ReadsToEnd E (Err e) old new after
-gathered_memory E old new after e t kind = (t.front, t.split, t.gave, inr (t.no_fault, kind))
+gathered_memory t kind = (t.front, t.split, t.gave, inr (t.no_fault, kind))
 
 -- an empty read leaves the events as they are
-pub gathered_over : (E : List Event) (old new : List ℕ) (after rest : List Event) → Gathered E old new after → after ≡ rest
+pub gathered_over : {E : List Event} {old new : List ℕ} {after rest : List Event} → Gathered E old new after → after ≡ rest
     → Gathered E old new rest
-gathered_over E old new after rest t same = subst (Gathered E old new) same t
+gathered_over {E} {old} {new} t same = subst (Gathered E old new) same t
 
 -- what was gathered when the room was full, or the end was met
-pub gathered_room : (E : List Event) (old new : List ℕ) (after : List Event) (at_end : Bool)
+pub gathered_room : {E : List Event} {old new : List ℕ} {after : List Event} (at_end : Bool)
     → Gathered E old new after → (at_end ≡ true → after ≡ []) → FillsRoom E (Ok at_end) old new after
-gathered_room E old new after at_end t end = (t.front, t.split, t.no_fault, t.gave, end)
+gathered_room at_end t end = (t.front, t.split, t.no_fault, t.gave, end)
 
 -- or where a fault came
-pub gathered_failed : (E : List Event) (old new : List ℕ) (after : List Event) (e : Error) (rest : List Event)
+pub gathered_failed : {E : List Event} {old new : List ℕ} {after : List Event} {e : Error} {rest : List Event}
     → Gathered E old new after → after ≡ fails e ∷ rest → IsFault e → FillsRoom E (Err e) old new rest
-gathered_failed E old new after e rest t read fault = (
+gathered_failed {old} {e} {rest} t read fault = (
   t.front ++ fails e ∷ [],
   t.split ∙ ap (λ l. t.front ++ l) read ∙ sym (append_assoc t.front (fails e ∷ []) rest),
   t.gave ∙ ap (λ l. old ++ l) (sym (bytes-append t.front (fails e ∷ []) ∙ append-nil (bytes t.front))),
@@ -110,29 +110,29 @@ gathered_then E old mid new after rest at_end t more = record {
 }
 
 -- where there is room for all, a loop has not filled it
-pub gathered_fits : (E : List Event) (old new : List ℕ) (after : List Event) (len room now : ℕ)
+pub gathered_fits : {E : List Event} {old new : List ℕ} {after : List Event} {len room now : ℕ}
     → Gathered E old new after → HasRoom E len room → len ≡ length old → room ≤ now → length new < now
-gathered_fits E old new after len room now t enough long grows =
+gathered_fits {old} {after} t enough long grows =
     let gave = ap length t.gave ∙ length-append old (bytes t.front) in
     let all = ap (λ l. length (bytes l)) t.split ∙ ap length (bytes-append t.front after) ∙ length-append (bytes t.front) (bytes after) in
     omega (arith, enough.1, long, grows, gave, all)
 
 -- where no fault is to come, none came
-pub gathered_no_fault : (E : List Event) (old new : List ℕ) (after : List Event) (e : Error) (rest : List Event)
+pub gathered_no_fault : {E : List Event} {old new : List ℕ} {after : List Event} {e : Error} {rest : List Event}
     → Gathered E old new after → after ≡ fails e ∷ rest → IsFault e → HasNoFault E → ⊥
-gathered_no_fault E old new after e rest t read fault clean =
+gathered_no_fault {after} t read fault clean =
     let left = HasNoFault-behind t.front after (subst HasNoFault t.split clean) in
     true≢false (sym (subst HasNoFault read left).0 ∙ fault)
 
 -- a whole stream was read, before another one
-pub gathered_first : (E F : List Event) (n : ℕ) (old new : List ℕ) (after : List Event)
+pub gathered_first : (E F : List Event) {n : ℕ} {old new : List ℕ} {after : List Event}
     → ReadsToEnd E (Ok n) old new after → Gathered (E ++ F) old new F
-gathered_first E F n old new after read = record { front = E; split = refl; no_fault = read.0; gave = read.1 }
+gathered_first E F read = record { front = E; split = refl; no_fault = read.0; gave = read.1 }
 
 -- and then the rest, to its end
-pub gathered_all : (E : List Event) (old mid new : List ℕ) (after rest : List Event) (n k : ℕ)
+pub gathered_all : {E : List Event} {old mid new : List ℕ} {after rest : List Event} (n k : ℕ)
     → Gathered E old mid after → ReadsToEnd after (Ok n) mid new rest → k ≡ length new - length old → ReadsToEnd E (Ok k) old new rest
-gathered_all E old mid new after rest n k t read is =
+gathered_all {E} {old} {new} {after} n k t read is =
     let both : bytes E ≡ bytes t.front ++ bytes after = ap bytes t.split ∙ bytes-append t.front after in
     let gave : new ≡ old ++ bytes E =
     read.1 ∙ ap (λ l. l ++ bytes after) t.gave ∙ append_assoc old (bytes t.front) (bytes after)
@@ -141,9 +141,9 @@ gathered_all E old mid new after rest n k t read is =
     (subst HasNoFault (sym t.split) (HasNoFault-append t.front after t.no_fault read.0), gave, omega (arith, long, is), read.3)
 
 -- or to an error
-pub gathered_stop : (E : List Event) (old mid new : List ℕ) (after : List Event) (e : Error) (rest : List Event)
+pub gathered_stop : {E : List Event} {old mid new : List ℕ} {after : List Event} (e : Error) {rest : List Event}
     → Gathered E old mid after → ReadsToEnd after (Err e) mid new rest → ReadsToEnd E (Err e) old new rest
-gathered_stop E old mid new after e rest t read = (
+gathered_stop {old} e {rest} t read = (
   t.front ++ read.0,
   t.split ∙ ap (λ l. t.front ++ l) read.1 ∙ sym (append_assoc t.front read.0 rest),
   read.2 ∙ ap (λ l. l ++ bytes read.0) t.gave ∙ append_assoc old (bytes t.front) (bytes read.0)
@@ -160,19 +160,19 @@ gathered_stop E old mid new after e rest t read = (
 )
 
 -- a reader that went on where another one had stopped failed
-pub gathered_then_failed : (E : List Event) (old mid new : List ℕ) (after rest : List Event) (e : Error)
+pub gathered_then_failed : {E : List Event} {old mid new : List ℕ} {after rest : List Event} (e : Error)
     → Gathered E old mid after → FillsRoom after (Err e) mid new rest → ReadsToEnd E (Err e) old new rest
-gathered_then_failed E old mid new after rest e t more =
-    gathered_stop E old mid new after e rest t (more.0, more.1, more.2, inl more.3)
+gathered_then_failed e t more =
+    gathered_stop e t (more.0, more.1, more.2, inl more.3)
 
 -- a front stays where more is appended
 pub take-grown : (k : ℕ) (old mid new more : List ℕ) → take k mid ≡ old → k ≤ length mid → new ≡ mid ++ more → take k new ≡ old
 take-grown k old mid new more h fits is = ap (take k) is ∙ take-append-le k mid more fits ∙ h
 
 -- no fault comes of what has none
-pub stopped_clean : (E : List Event) (old new : List ℕ) (after : List Event) (e : Error) → FillsRoom E (Err e) old new after
+pub stopped_clean : {E : List Event} (old : List ℕ) {new : List ℕ} {after : List Event} {e : Error} → FillsRoom E (Err e) old new after
     → HasNoFault E → ⊥
-stopped_clean E old new after e stop clean =
+stopped_clean old {after} {e} stop clean =
     let f = stop.3 in
     let whole = stop.1 ∙ ap (λ l. l ++ after) f.1 ∙ append_assoc f.0 (fails e ∷ []) after in
     let left = HasNoFault-behind f.0 (fails e ∷ after) (subst HasNoFault whole clean) in

@@ -145,9 +145,9 @@ MovesFront-sends {r} x rest f none = record { accepted = f.sent; front = (rest, 
     whole (Err e) h = tt
 
 -- two calls that say what is left, one after the other: nothing went out twice
-pub Sends-then : {a b c : Told} {r s : Result (Unit {0}) Error} (x rest left : List ℕ) → Sends a x r b rest
+pub Sends-then : {a b c : Told} {r s : Result (Unit {0}) Error} {x rest left : List ℕ} → Sends a x r b rest
     → Sends b rest s c left → Sends a x s c left
-Sends-then x rest left f g = record {
+Sends-then {left} f g = record {
   sent = f.sent ++ g.sent;
   split = f.split ∙ ap (λ l. f.sent ++ l) g.split ∙ sym (append_assoc f.sent g.sent left);
   moves = Moves-then f.moves g.moves;

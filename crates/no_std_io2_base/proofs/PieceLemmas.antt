@@ -27,8 +27,8 @@ Lacks-append d [] cs h k = k
 Lacks-append d (b ∷ bs) cs h k = (h.0, Lacks-append d bs cs h.1 k)
 
 -- at the start nothing is gone of E, and nothing was appended
-pub piece_none : (d : ℕ) (E : List Event) (old new : List ℕ) → new ≡ old → PieceSoFar d E old new E
-piece_none d E old new is = record { front = []; split = refl; no_fault = tt; gave = is ∙ sym (append-nil old); no_end = tt }
+pub piece_none : {d : ℕ} {E : List Event} {old new : List ℕ} → new ≡ old → PieceSoFar d E old new E
+piece_none {old} is = record { front = []; split = refl; no_fault = tt; gave = is ∙ sym (append-nil old); no_end = tt }
 
 -- the bytes of a front, and some more
 gave_more : (front : List Event) (old mid new part : List ℕ) → mid ≡ old ++ bytes front → new ≡ mid ++ part
@@ -37,9 +37,9 @@ gave_more front old mid new part gave is = is ∙ ap (λ l. l ++ part) gave ∙ 
     ∙ ap (λ l. old ++ l) (sym (bytes-append front (events_of part) ∙ ap (λ l. bytes front ++ l) (bytes-events_of part)))
 
 -- some bytes without a d
-pub piece_more : (d : ℕ) (E : List Event) (old mid new : List ℕ) (after rest : List Event) (part : List ℕ)
+pub piece_more : {d : ℕ} {E : List Event} {old mid new : List ℕ} {after rest : List Event} (part : List ℕ)
     → PieceSoFar d E old mid after → after ≡ events_of part ++ rest → Lacks d part → new ≡ mid ++ part → PieceSoFar d E old new rest
-piece_more d E old mid new after rest part t read none is = record {
+piece_more {d} {old} {mid} {new} {rest} part t read none is = record {
   front = t.front ++ events_of part;
   split = t.split ∙ ap (λ l. t.front ++ l) read ∙ sym (append_assoc t.front (events_of part) rest);
   no_fault = HasNoFault-append t.front (events_of part) t.no_fault (HasNoFault-events_of part);
@@ -50,9 +50,9 @@ piece_more d E old mid new after rest part t read none is = record {
 }
 
 -- an interruption that stands first is passed over: it is gone too, and nothing more was appended
-pub piece_interruption : (d : ℕ) (E : List Event) (old new : List ℕ) (after : List Event) (e : Error) (rest : List Event)
+pub piece_interruption : {d : ℕ} {E : List Event} {old new : List ℕ} {after : List Event} {e : Error} {rest : List Event}
     → PieceSoFar d E old new after → after ≡ fails e ∷ rest → IsInterruption e → PieceSoFar d E old new rest
-piece_interruption d E old new after e rest t read again =
+piece_interruption {d} {old} {e} {rest} t read again =
     let same = bytes-append t.front (fails e ∷ []) ∙ append-nil (bytes t.front) in
     record {
       front = t.front ++ fails e ∷ [];
@@ -67,11 +67,11 @@ counted : (k : ℕ) (old new bs : List ℕ) → new ≡ old ++ bs → k ≡ leng
 counted k old new bs gave is = omega (arith, ap length gave ∙ length-append old bs)
 
 -- the bytes that end the piece, or none at the end
-pub piece_ended : (d : ℕ) (E : List Event) (old mid new : List ℕ) (after rest : List Event) (part : List ℕ) (k : ℕ)
+pub piece_ended : {d : ℕ} {E : List Event} {old mid new : List ℕ} {after rest : List Event} {part : List ℕ} {k : ℕ}
     → PieceSoFar d E old mid after → after ≡ events_of part ++ rest → EndsPiece d part ⊎ ((part ≡ []) × (after ≡ []))
     → new ≡ mid ++ part → k ≡ length new - length old
     → GivesPiece d E k old new rest
-piece_ended d E old mid new after rest part k t read (inl end) is count =
+piece_ended {d} {old} {mid} {new} {rest} {part} {k} t read (inl end) is count =
     let gave = gave_more t.front old mid new part t.gave is in
     record {
       taken = t.front ++ events_of part;
@@ -88,7 +88,7 @@ piece_ended d E old mid new after rest part k t read (inl end) is count =
             (Lacks-append d (bytes t.front) end.0 t.no_end end.2),
       );
     }
-piece_ended d E old mid new after rest part k t read (inr end) is count =
+piece_ended {old} {mid} {new} {after} {rest} {k} t read (inr end) is count =
     let gave : new ≡ old ++ bytes t.front = is ∙ ap (λ l. mid ++ l) end.0 ∙ append-nil mid ∙ t.gave in
     let left : after ≡ rest = read ∙ ap (λ l. events_of l ++ rest) end.0 in
     record {
@@ -101,9 +101,9 @@ piece_ended d E old mid new after rest part k t read (inr end) is count =
     }
 
 -- a fault that stands first stops the call: it is gone too, and is the answer
-pub piece_fault : (d : ℕ) (E : List Event) (old new : List ℕ) (after : List Event) (e : Error) (rest : List Event)
+pub piece_fault : {d : ℕ} {E : List Event} {old new : List ℕ} {after : List Event} {e : Error} {rest : List Event}
     → PieceSoFar d E old new after → after ≡ fails e ∷ rest → IsFault e → StopsInPiece d E e old new rest
-piece_fault d E old new after e rest t read fault =
+piece_fault {d} {old} {e} {rest} t read fault =
     let same = bytes-append t.front (fails e ∷ []) ∙ append-nil (bytes t.front) in
     record {
       taken = t.front ++ fails e ∷ [];
@@ -114,9 +114,9 @@ piece_fault d E old new after e rest t read fault =
     }
 
 -- refused memory stops the call: nothing more is gone, and nothing more was appended
-pub piece_memory : (d : ℕ) (E : List Event) (old mid new : List ℕ) (after rest : List Event) (e : Error)
+pub piece_memory : {d : ℕ} {E : List Event} {old mid new : List ℕ} {after rest : List Event} {e : Error}
     → PieceSoFar d E old mid after → rest ≡ after → new ≡ mid → IsOutOfMemory e → StopsInPiece d E e old new rest
-piece_memory d E old mid new after rest e t same is refused = record {
+piece_memory t same is refused = record {
   taken = t.front;
   split = t.split ∙ ap (λ l. t.front ++ l) (sym same);
   appended = is ∙ t.gave;
@@ -138,9 +138,9 @@ found_at d bs at within is none = record {
 }
 
 -- and where it doesn't stand, all belongs to it
-pub found_none : (d : ℕ) (bs : List ℕ) (is_whole : Bool) → is_whole ≡ (length bs == 0) → All (λ b. b ≢ d) bs
+pub found_none : {d : ℕ} {bs : List ℕ} {is_whole : Bool} → is_whole ≡ (length bs == 0) → All (λ b. b ≢ d) bs
     → FindsPiece d bs (length bs) is_whole
-found_none d bs is_whole is none = record {
+found_none {d} {bs} is none = record {
   within = omega arith;
   whole = λ e. inr (drop_of_length-le bs {i = 0} (omega (arith, eqb-true (length bs) 0 (sym is ∙ e))));
   open_ended = λ e. (
@@ -185,8 +185,8 @@ pub front_more : (old mid new more : List ℕ) → IsFront old mid → new ≡ m
 front_more old mid new more front is = (front.0 ++ more, is ∙ ap (λ l. l ++ more) front.1 ∙ append_assoc old front.0 more)
 
 -- where nothing more is appended, the old bytes still stand in front
-pub front_same : (old mid new : List ℕ) → IsFront old mid → new ≡ mid → IsFront old new
-front_same old mid new front is = (front.0, is ∙ front.1)
+pub front_same : (old : List ℕ) {mid new : List ℕ} → IsFront old mid → new ≡ mid → IsFront old new
+front_same old front is = (front.0, is ∙ front.1)
 
 -- a turn was spent where anything was appended
 pub spent_more : (old mid new n t r s u : ℕ) → (old < mid → r < t) → r ≤ t → s ≤ r → u ≤ s → (0 < n → u < s)
@@ -195,8 +195,8 @@ spent_more old mid new zero t r s u before a b c now within grown = let early : 
 spent_more old mid new (suc n) t r s u before a b c now within grown = let late : u < s = now (omega arith) in omega arith
 
 -- no more bytes than asked for
-pub part_fits : (n mid new : ℕ) (lent : List ℕ) → new ≡ mid + length (take n lent) → n ≤ length lent → new ≤ mid + n
-part_fits n mid new lent is fits = omega (arith, is, length-take-le n lent fits)
+pub part_fits : {n : ℕ} (mid : ℕ) {new : ℕ} (lent : List ℕ) → new ≡ mid + length (take n lent) → n ≤ length lent → new ≤ mid + n
+part_fits {n} mid lent is fits = omega (arith, is, length-take-le n lent fits)
 
 -- want of memory is a fault
 pub memory_fault : (e : Error) → IsOutOfMemory e → IsFault e

@@ -40,12 +40,12 @@ found_part d bs cs n false found =
     omega (arith, ap length part, length-append (take n bs) (up_to d (drop n bs ++ cs)), length-take-le n bs found.within)
 
 -- what is lent of a piece fits where the piece does
-pub part_has_room : (d : ℕ) (E : List Event) (old mid : List ℕ) (after : List Event) (lent : List ℕ) (n : ℕ)
-    (is_whole : Bool) (len len' capacity capacity' : ℕ)
+pub part_has_room : {d : ℕ} {E : List Event} {old mid : List ℕ} {after : List Event} {lent : List ℕ} {n : ℕ}
+    {is_whole : Bool} {len len' capacity capacity' : ℕ}
     → PieceSoFar d E old mid after → BeginsWith after lent → FindsPiece d lent n is_whole
     → HasPieceRoom d E len capacity → capacity ≤ capacity'
     → len ≡ length old → len' ≡ length mid → capacity' < len' + length (take n lent) → ⊥
-part_has_room d E old mid after lent n is_whole len len' capacity capacity' t begins found room grown long long' full =
+part_has_room {d} {old} {after} {lent} {n} {is_whole} t begins found room grown long long' full =
     let rest = begins.rest in
     let lends =
     ap bytes_to_fault begins.is ∙ bytes_to_fault-append (events_of lent) rest (HasNoFault-events_of lent)
@@ -69,8 +69,8 @@ part_has_room d E old mid after lent n is_whole len len' capacity capacity' t be
     )
 
 -- the fault that stops it is the first
-pub fault_is_first : (d : ℕ) (E : List Event) (old new : List ℕ) (after : List Event) (e : Error) (rest : List Event)
+pub fault_is_first : {d : ℕ} {E : List Event} {old new : List ℕ} {after : List Event} {e : Error} {rest : List Event}
     → PieceSoFar d E old new after → after ≡ fails e ∷ rest → IsFault e → first_fault E ≡ Some e
-fault_is_first d E old new after e rest t read fault =
+fault_is_first {after} {e} {rest} t read fault =
     ap first_fault t.split ∙ first_fault-append t.front after t.no_fault ∙ ap first_fault read
     ∙ ap (λ s. if s then first_fault rest else Some e) fault

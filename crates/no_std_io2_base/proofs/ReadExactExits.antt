@@ -47,7 +47,7 @@ exact_short may_take_none E room whole got after rest reply n buf e t read is no
     (taken_short may_take_none E room got after e rest t empty.0 (empty.0 ∙ sym empty.1) kind (omega (arith, short, same)))
 
 -- the whole was filled
-pub exact_done : (E : List Event) (room at : ℕ) (buf : List ℕ) (after : List Event) → Taken E room (take at buf) after
+pub exact_done : {E : List Event} {room at : ℕ} {buf : List ℕ} {after : List Event} → Taken E room (take at buf) after
     → length buf ≡ room → length buf ≤ at → Fills E buf after
-exact_done E room at buf after t long past =
+exact_done {E} {room} {at} {buf} {after} t long past =
     taken_fills E room buf after (subst (λ l. Taken E room l after) (take_all at buf past) t) long

@@ -8,8 +8,8 @@ use Rattle.no_std_io2_base.proofs.Gathered.{Gathered, gathered_end}
 use Rattle.no_std_io2_base.proofs.Taken.{moved_read}
 
 -- nothing was appended
-pub front_whole : (n : ℕ) (old new : List ℕ) → n ≡ length old → new ≡ old → take n new ≡ old
-front_whole n old new long is = ap (take n) is ∙ take_all n old (omega (arith, long))
+pub front_whole : {n : ℕ} {old new : List ℕ} → n ≡ length old → new ≡ old → take n new ≡ old
+front_whole {n} {old} long is = ap (take n) is ∙ take_all n old (omega (arith, long))
 
 -- the bytes behind the filled ones were cut off
 pub front_cut : (start filled : ℕ) (new mid old : List ℕ) → start ≤ filled → new ≡ take filled mid → take start mid ≡ old
@@ -51,21 +51,22 @@ some_room filled len slice part room long is =
     omega (arith, room, long, is, length-take (length slice - filled) (drop filled slice), length-drop filled slice)
 
 -- a read that gave nothing ends the loop
-pub gathered_stops : (E : List Event) (old new : List ℕ) (after rest : List Event) (reply : Result ℕ Error) (n k : ℕ) (buf : List ℕ)
+pub gathered_stops : {E : List Event} {old new : List ℕ} {after rest : List Event} {reply : Result ℕ Error} {n k : ℕ} (buf : List ℕ)
     → Gathered E old new after → Reads after reply buf rest → reply ≡ Ok n → n ≡ 0 → 0 < length buf → k ≡ length new - length old
     → ReadsToEnd E (Ok k) old new rest
-gathered_stops E old new after rest reply n k buf t read is none some count =
+gathered_stops {E} {old} {new} {after} {rest} {n} {k} buf t read is none some count =
     gathered_end E old new after rest n k buf t (subst (λ r. Reads after r buf rest) is read) none some count
 
 -- and the position stays where it was
-pub stays_at_end : (E E' : List Event) (reply : Result ℕ Error) (n : ℕ) (buf : List ℕ) (p p' all : ℕ)
+pub stays_at_end : (E E' : List Event) {reply : Result ℕ Error} {n : ℕ} (buf : List ℕ) (p : ℕ) {p' all : ℕ}
     → Reads E reply buf E' → reply ≡ Ok n → n ≡ 0 → p' ≡ p + given reply → p + length E ≡ all → p' + length E' ≡ all
-stays_at_end E E' reply n buf p p' all read is none move whole =
-    moved_read E E' n buf p p' all (omega (arith, none)) (subst (λ r. Reads E r buf E') is read).0 (move ∙ ap (λ r. p + given r) is) whole
+stays_at_end E E' {n} buf p read is none move whole =
+    moved_read E' n buf p (omega (arith, none))
+    (subst (λ r. Reads E r buf E') is read).0 (move ∙ ap (λ r. p + given r) is) whole
 
 -- what the first of two calls appended stays at the front
-pub front_then : (k n : ℕ) (old mid new : List ℕ) → k ≤ n → take k mid ≡ old → take n new ≡ mid → take k new ≡ old
-front_then k n old mid new below first next = sym (take-take k n new below) ∙ ap (take k) next ∙ first
+pub front_then : {k n : ℕ} {old : List ℕ} (mid new : List ℕ) → k ≤ n → take k mid ≡ old → take n new ≡ mid → take k new ≡ old
+front_then {k} {n} mid new below first next = sym (take-take k n new below) ∙ ap (take k) next ∙ first
 
 -- an error of the first of two readers
 pub stopped_first : (E F : List Event) (old new : List ℕ) (after : List Event) (e : Error) → ReadsToEnd E (Err e) old new after

@@ -17,9 +17,9 @@ pub passed_none : (E : List Event) → Passed E E
 passed_none E = record { front = []; split = refl; alone = (tt, refl) }
 
 -- where interruptions alone are gone, and one more stands first, that one is passed over too
-pub passed_interruption : (E after rest : List Event) (e : Error) → Passed E after → after ≡ fails e ∷ rest
+pub passed_interruption : {E after rest : List Event} {e : Error} → Passed E after → after ≡ fails e ∷ rest
     → IsInterruption e → Passed E rest
-passed_interruption E after rest e p read again = record {
+passed_interruption {rest} {e} p read again = record {
   front = p.front ++ fails e ∷ [];
   split = p.split ∙ ap (λ l. p.front ++ l) read ∙ sym (append_assoc p.front (fails e ∷ []) rest);
   alone = (

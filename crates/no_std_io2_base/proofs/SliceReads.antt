@@ -23,9 +23,9 @@ moved_whole all rest old new moved none =
     )
 
 -- a front of it was appended, and memory was refused for the rest
-pub moved_part : (all rest old new : List ℕ) (e : Error) → HasMoved all rest old new → IsOutOfMemory e
+pub moved_part : {all rest : List ℕ} (old : List ℕ) {new : List ℕ} {e : Error} → HasMoved all rest old new → IsOutOfMemory e
     → ReadsToEnd (events_of all) (Err e) old new (events_of rest)
-moved_part all rest old new e moved refused = (
+moved_part {rest} old moved refused = (
   events_of moved.0,
   ap events_of moved.1 ∙ events_of-append moved.0 rest,
   moved.2 ∙ ap (λ l. old ++ l) (sym (bytes-events_of moved.0)),
@@ -41,15 +41,16 @@ pub moved_on : (all rest old mid new : List ℕ) → HasMoved all rest old mid �
 moved_on all rest old mid new moved same = (moved.0, moved.1, same ∙ moved.2)
 
 -- its first n bytes were appended
-pub moved_first : (n : ℕ) (all rest old mid new : List ℕ) → mid ≡ old → new ≡ mid ++ take n all → rest ≡ drop n all
+pub moved_first : (n : ℕ) (all rest : List ℕ) {old mid new : List ℕ} → mid ≡ old → new ≡ mid ++ take n all → rest ≡ drop n all
     → HasMoved all rest old new
-moved_first n all rest old mid new same is left =
+moved_first n all rest same is left =
     (take n all, sym (take-append-drop n all) ∙ ap (λ l. take n all ++ l) (sym left), is ∙ ap (λ l. l ++ take n all) same)
 
 -- and then what was left of it
-pub moved_second : (all rest old first last mid new : List ℕ) → HasMoved all rest old first → mid ≡ first → new ≡ mid ++ rest → last ≡ []
+pub moved_second : {all rest : List ℕ} (old : List ℕ) {first last mid new : List ℕ} → HasMoved all rest old first → mid ≡ first
+    → new ≡ mid ++ rest → last ≡ []
     → HasMoved all last old new
-moved_second all rest old first last mid new moved same is none = (
+moved_second {all} {rest} old moved same is none = (
   all,
   sym (append-nil all) ∙ ap (λ l. all ++ l) (sym none),
   is ∙ ap (λ l. l ++ rest) (same ∙ moved.2) ∙ append_assoc old moved.0 rest ∙ ap (λ l. old ++ l) (sym moved.1),
@@ -76,21 +77,21 @@ pub wants_rest : (n : ℕ) → n ≤ n + 32
 wants_rest n = omega arith
 
 -- the lesser of n and a bound is at most n
-pub wants_bounded : (wanted n bound : ℕ) → wanted ≡ min n bound → wanted ≤ n
-wants_bounded wanted n bound is = omega (arith, is)
+pub wants_bounded : {wanted n : ℕ} (bound : ℕ) → wanted ≡ min n bound → wanted ≤ n
+wants_bounded bound is = omega (arith, is)
 
 -- the lesser of two, where it is below the second
-pub least_first : (n a b : ℕ) → n ≡ min a b → n < b → a ≤ n
-least_first n a b is below = omega (arith, is, below)
+pub least_first : {n a b : ℕ} → n ≡ min a b → n < b → a ≤ n
+least_first is below = omega (arith, is, below)
 
 -- what the vector had stays at its front
-pub front_stays : (len : ℕ) (all rest old new : List ℕ) → HasMoved all rest old new → len ≡ length old → take len new ≡ old
-front_stays len all rest old new moved long = ap (take len) moved.2 ∙ take_at old moved.0 len (sym long)
+pub front_stays : {len : ℕ} {all rest old new : List ℕ} → HasMoved all rest old new → len ≡ length old → take len new ≡ old
+front_stays {len} {old} moved long = ap (take len) moved.2 ∙ take_at old moved.0 len (sym long)
 
 -- and it is longer by all of it
-pub longer_by : (was is : ℕ) (all rest old new : List ℕ) → HasMoved all rest old new → rest ≡ [] → was ≡ length old
+pub longer_by : {was is : ℕ} {all rest : List ℕ} (old : List ℕ) {new : List ℕ} → HasMoved all rest old new → rest ≡ [] → was ≡ length old
     → is ≡ length new → is ≡ was + length all
-longer_by was is all rest old new moved none before now =
+longer_by {rest} old moved none before now =
     omega (arith, before, now, ap length moved.2, length-append old moved.0, ap length moved.1, length-append moved.0 rest, ap length none)
 
 -- behind a place that moves on stand no more bytes
@@ -106,21 +107,23 @@ pub rest_within : (all rest old new : List ℕ) → HasMoved all rest old new �
 rest_within all rest old new moved = omega (arith, ap length moved.1, length-append moved.0 rest)
 
 -- what a cursor has left, once it stands behind what was taken
-pub left_behind : (content : List ℕ) (place : ℕ) (left rest old new : List ℕ) → left ≡ drop place content → HasMoved left rest old new
+pub left_behind : (content : List ℕ) (place : ℕ) {left rest : List ℕ} (old : List ℕ) {new : List ℕ} → left ≡ drop place content
+    → HasMoved left rest old new
     → drop (place + (length left - length rest)) content ≡ rest
-left_behind content place left rest old new is moved =
+left_behind content place {left} {rest} old is moved =
     let n = length left - length rest in
     let taken : n ≡ length moved.0 = omega (arith, ap length moved.1, length-append moved.0 rest) in
     left_after content place n ∙ ap (drop n) (sym is ∙ moved.1) ∙ ap (λ k. drop k (moved.0 ++ rest)) taken ∙ drop-append_seam moved.0 rest
 
 -- and where it stands then
-pub place_behind : (content : List ℕ) (place : ℕ) (left rest old new : List ℕ) → length content < 2 ^ 64 → place < 2 ^ 64
+pub place_behind : (content : List ℕ) (place : ℕ) {left rest : List ℕ} (old : List ℕ) {new : List ℕ} → length content < 2 ^ 64
+    → place < 2 ^ 64
     → left ≡ drop place content → HasMoved left rest old new
     → (place + (length left - length rest) < 2 ^ 64)
     × (place + (length left - length rest) + length (events_of (drop (place + (length left - length rest)) content))
     ≡ place + length (events_of (drop place content)))
-place_behind content place left rest old new small fits is moved =
-    let after = left_behind content place left rest old new is moved in
+place_behind content place {left} {rest} old {new} small fits is moved =
+    let after = left_behind content place old is moved in
     let long = ap length is ∙ length-drop place content in
     let within = rest_within left rest old new moved in (
       omega (arith, small, fits, long),

@@ -44,9 +44,9 @@ taken_bytes E room got after more rest t read some = record {
 }
 
 -- an interruption is gone too, while the buffer is not full
-pub taken_interruption : (E : List Event) (room : ℕ) (got shown : List ℕ) (after : List Event) (e : Error) (rest : List Event)
+pub taken_interruption : {E : List Event} {room : ℕ} {got shown : List ℕ} {after : List Event} {e : Error} {rest : List Event}
     → Taken E room got after → after ≡ fails e ∷ rest → IsInterruption e → length got < room → shown ≡ got → Taken E room shown rest
-taken_interruption E room got shown after e rest t read again short is = record {
+taken_interruption {e} {rest} t read again short is = record {
   front = t.front ++ fails e ∷ [];
   split = t.split ∙ ap (λ l. t.front ++ l) read ∙ sym (append_assoc t.front (fails e ∷ []) rest);
   no_fault = HasNoFault-append t.front (fails e ∷ []) t.no_fault (again, tt);
@@ -66,9 +66,9 @@ taken_fills E room got after t h =
     }
 
 -- where a fault came before the buffer was full, `read_exact` stopped at it
-pub taken_fault : (E : List Event) (room most : ℕ) (got : List ℕ) (after : List Event) (e : Error) (rest : List Event)
+pub taken_fault : {E : List Event} {room most : ℕ} {got : List ℕ} {after : List Event} {e : Error} {rest : List Event}
     → Taken E room got after → after ≡ fails e ∷ rest → IsFault e → length got < most → StopsAtFault E most e rest
-taken_fault E room most got after e rest t read fault short =
+taken_fault {most} {got} {e} {rest} t read fault short =
     let gave : bytes (t.front ++ fails e ∷ []) ≡ got = bytes-append t.front (fails e ∷ []) ∙ append-nil (bytes t.front) ∙ t.gave in
     record {
       taken = t.front ++ fails e ∷ [];
@@ -90,22 +90,22 @@ taken_short may_take_none E room got after e rest t end same kind short =
     }
 
 -- one more read that gave bytes, in a loop that fills a buffer
-pub taken_read : (E : List Event) (room : ℕ) (got shown : List ℕ) (after rest : List Event) (n : ℕ) (buf : List ℕ)
+pub taken_read : {E : List Event} {room : ℕ} {got shown : List ℕ} {after rest : List Event} {n : ℕ} (buf : List ℕ)
     → Taken E room got after → Reads after (Ok n) buf rest → n ≤ length buf → 0 < n → shown ≡ got ++ take n buf → Taken E room shown rest
-taken_read E room got shown after rest n buf t read fits some is =
+taken_read {E} {room} {got} {after} {rest} {n} buf t read fits some is =
     subst (λ l. Taken E room l rest) (sym is)
     (taken_bytes E room got after (take n buf) rest t read.0 (omega (arith, length-take-le n buf fits)))
 
 -- as many bytes as a read gives, the position moves and the events are fewer
-pub moved_read : (E E' : List Event) (n : ℕ) (buf : List ℕ) (p p' : ℕ) (all : ℕ)
+pub moved_read : {E : List Event} (E' : List Event) (n : ℕ) (buf : List ℕ) (p : ℕ) {p' : ℕ} {all : ℕ}
     → n ≤ length buf → E ≡ events_of (take n buf) ++ E' → p' ≡ p + n → p + length E ≡ all → p' + length E' ≡ all
-moved_read E E' n buf p p' all fits read move is =
+moved_read {E} E' n buf p fits read move is =
     let long : length E ≡ n + length E' =
     ap length read ∙ length-append (events_of (take n buf)) E'
     ∙ ap (λ m. m + length E') (length-events_of (take n buf) ∙ length-take-le n buf fits) in
     omega arith
 
 -- bytes alone hold no error
-pub no_error : (bs : List ℕ) (E E' : List Event) (e : Error) → E ≡ events_of bs → E ≡ fails e ∷ E' → ⊥
-no_error [] E E' e h k = cc
-no_error (b ∷ bs) E E' e h k = cc
+pub no_error : (bs : List ℕ) {E E' : List Event} {e : Error} → E ≡ events_of bs → E ≡ fails e ∷ E' → ⊥
+no_error [] h k = cc
+no_error (b ∷ bs) h k = cc

@@ -19,9 +19,9 @@ pub given_none : (reply : Result ℕ Error) (n : ℕ) → reply ≡ Ok n → n �
 given_none reply n is none = ap given is ∙ none
 
 -- all was gathered
-pub gathered_done : (E : List Event) (old new : List ℕ) (after rest : List Event) (k : ℕ)
+pub gathered_done : {E : List Event} {old new : List ℕ} {after rest : List Event} (k : ℕ)
     → Gathered E old new after → after ≡ [] → rest ≡ [] → k ≡ length new - length old → ReadsToEnd E (Ok k) old new rest
-gathered_done E old new after rest k t none end count =
+gathered_done {E} {old} {new} {after} {rest} k t none end count =
     gathered_end E old new after rest 0 k (0 ∷ []) t (none ∙ sym end, λ zero some. none) refl (omega arith) count
 
 -- what the last turn of such a loop does to its reader, where it ends
@@ -34,9 +34,9 @@ pub record Ended {T : Type 0} (tells fills : T → Type 0) (turns : T → ℕ) (
   pub along : tells (take_inner was) → TakesAlong (take_limit was) (events (take_inner was)) (take_limit now) (events (take_inner now))
 
 -- at the limit it does nothing
-pub ended_at_limit : {T : Type 0} (tells fills : T → Type 0) (turns : T → ℕ) (events : T → List Event) (was now : Take T)
+pub ended_at_limit : {T : Type 0} {tells fills : T → Type 0} {turns : T → ℕ} {events : T → List Event} {was now : Take T}
     → now ≡ was → take_limit was ≡ 0 → Ended tells fills turns events was now
-ended_at_limit tells fills turns events was now same zero =
+ended_at_limit {tells} {fills} {turns} {events} {was} same zero =
     let none : take_events events was ≡ [] = ap (λ k. cut k (events (take_inner was))) zero in
     subst (Ended tells fills turns events was) (sym same) (record {
       spent = le_refl _;
@@ -44,7 +44,7 @@ ended_at_limit tells fills turns events was now same zero =
       fill = λ f. f;
       same = refl;
       at_limit = λ z. refl;
-      along = λ t. along_none _ _ _ _ refl refl;
+      along = λ t. along_none refl refl;
     })
 
 -- no loop turns at the limit
@@ -52,14 +52,14 @@ pub no_turn : (k filled first start : ℕ) → k + filled ≡ first + start → 
 no_turn k filled first start falls grows none some = omega (arith, falls, grows, none, some)
 
 -- the limit stays where nothing was given
-pub limit_same : (k k' n : ℕ) → k' + n ≡ k → n ≡ 0 → k' ≡ k
-limit_same k k' n falls none = omega (arith, falls, none)
+pub limit_same : {k k' n : ℕ} → k' + n ≡ k → n ≡ 0 → k' ≡ k
+limit_same falls none = omega (arith, falls, none)
 
 -- the limit falls by what the vector grew
-pub limit_cut : (k k' filled len first start : ℕ) → k' ≡ k → len ≡ filled → k + filled ≡ first + start → k' + len ≡ first + start
-limit_cut k k' filled len first start same long falls = omega (arith, same, long, falls)
+pub limit_cut : {k k' filled len : ℕ} (first start : ℕ) → k' ≡ k → len ≡ filled → k + filled ≡ first + start → k' + len ≡ first + start
+limit_cut first start same long falls = omega (arith, same, long, falls)
 
 -- at limit 0 the vector doesn't grow
-pub none_filled : (k filled first start was : ℕ) → k + filled ≡ first + was → was ≤ filled → start ≡ was → first ≡ 0
+pub none_filled : {k filled first : ℕ} (start was : ℕ) → k + filled ≡ first + was → was ≤ filled → start ≡ was → first ≡ 0
     → (filled - start ≡ 0) × (k ≡ 0)
-none_filled k filled first start was falls grows from none = (omega (arith, falls, grows, from, none), omega (arith, falls, grows, none))
+none_filled start was falls grows from none = (omega (arith, falls, grows, from, none), omega (arith, falls, grows, none))

@@ -41,13 +41,13 @@ dropped_last d n bs new long some last is =
     is ∙ sym (but_last-at bs (n - 1) (omega (arith, long, some))) ∙ sym (ap (λ t. if t then but_last bs else bs) last)
 
 -- a line is its text, or refused
-pub line_yields : {T : Type 0} (view : T → List ℕ) (E : List Event) (n : ℕ) (old piece trimmed : List ℕ)
-    (after : List Event) (r : Result T Error)
+pub line_yields : {T : Type 0} (view : T → List ℕ) {E : List Event} (n : ℕ) {old piece trimmed : List ℕ}
+    {after : List Event} (r : Result T Error)
     → GivesPiece 10 E n old piece after → old ≡ [] → 0 < n → trimmed ≡ line_text piece → IfOk r (λ text. view text ≡ trimmed)
     → IfErr r (λ e. (IsUtf8 trimmed → ⊥) × IsInvalidText e) → YieldsPiece view line_text RefusesLine 10 E (Some r) after
-line_yields view E n old piece trimmed after (Ok text) gives none some is ok err =
+line_yields view {E} n {piece} {after} (Ok text) gives none some is ok err =
     (piece, record { count = n; some = some; gives = subst (λ l. GivesPiece 10 E n l piece after) none gives }, ok ∙ is)
-line_yields view E n old piece trimmed after (Err e) gives none some is ok err = (
+line_yields view {E} n {piece} {after} (Err e) gives none some is ok err = (
   piece,
   inr (
     record { count = n; some = some; gives = subst (λ l. GivesPiece 10 E n l piece after) none gives },

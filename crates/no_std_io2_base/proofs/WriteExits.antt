@@ -33,29 +33,29 @@ pub is_empty : (b : Bool) (left : List ℕ) → b ≡ (length left == 0) → b �
 is_empty b left is h = drop_of_length-le left {i = 0} (omega (arith, eqb-true (length left) 0 (sym is ∙ h)))
 
 -- no byte was taken of some
-pub sends_zero : (a b c : Told) (start left : List ℕ) (reply : Result ℕ Error) (n : ℕ) (e : Error)
+pub sends_zero : {a b c : Told} {start left : List ℕ} {reply : Result ℕ Error} {n : ℕ} {e : Error}
     → SentSoFar a start b left → Moves b (taken reply left) (write_mishap reply left) c → reply ≡ Ok n → n ≡ 0 → 0 < length left
     → error_kind e ≡ WriteZero
     → Sends a start (Err e) c left
-sends_zero a b c start left reply n e so_far moves is none some kind =
+sends_zero {b} {c} {left} {e} so_far moves is none some kind =
     let zero : Moves b [] (zero_write 0 left) c = subst (λ r. Moves b (taken r left) (write_mishap r left) c) (is ∙ ap Ok none) moves in
     let told : Moves b [] (error_kind e ∷ []) c = subst (λ k. Moves b [] k c)
     (zero_write-some left some ∙ ap (λ k. k ∷ []) (sym kind)) zero in
     record { sent = so_far.0; split = so_far.1; moves = Moves-ends so_far.2 told }
 
 -- a fault stopped it
-pub sends_fault : (a b c : Told) (start left : List ℕ) (e : Error) → SentSoFar a start b left → Moves b [] (error_kind e ∷ []) c
+pub sends_fault : {a b c : Told} {start left : List ℕ} {e : Error} → SentSoFar a start b left → Moves b [] (error_kind e ∷ []) c
     → Sends a start (Err e) c left
-sends_fault a b c start left e so_far moves = record { sent = so_far.0; split = so_far.1; moves = Moves-ends so_far.2 moves }
+sends_fault so_far moves = record { sent = so_far.0; split = so_far.1; moves = Moves-ends so_far.2 moves }
 
 -- all was sent
-pub sends_done : (a b : Told) (start left : List ℕ) → SentSoFar a start b left → Sends a start (Ok tt) b left
-sends_done a b start left so_far = record { sent = so_far.0; split = so_far.1; moves = so_far.2 }
+pub sends_done : {a b : Told} {start left : List ℕ} → SentSoFar a start b left → Sends a start (Ok tt) b left
+sends_done so_far = record { sent = so_far.0; split = so_far.1; moves = so_far.2 }
 
 -- an interruption is passed over
-pub sent_interruption : (a b c : Told) (start left : List ℕ) (k : List ErrorKind) → SentSoFar a start b left → Moves b [] k c
+pub sent_interruption : {a b c : Told} {start left : List ℕ} {k : List ErrorKind} → SentSoFar a start b left → Moves b [] k c
     → SentSoFar a start c left
-sent_interruption a b c start left k so_far moves =
+sent_interruption {a} {c} so_far moves =
     (so_far.0, so_far.1, subst (λ s. Moves a s [] c) (append-nil so_far.0) (Moves-more so_far.2 moves))
 
 -- the rest of a slice from n on is its end
@@ -63,9 +63,9 @@ pub rest_is : (n : ℕ) (left : List ℕ) → take (length left - n) (drop n lef
 rest_is n left = take_all (length left - n) (drop n left) (omega (arith, length-drop n left))
 
 -- n bytes more were sent
-pub sent_more : (a b c : Told) (start left : List ℕ) (k : List ErrorKind) (n : ℕ)
+pub sent_more : {a b c : Told} {start : List ℕ} (left : List ℕ) (k : List ErrorKind) (n : ℕ)
     → SentSoFar a start b left → Moves b (take n left) k c → SentSoFar a start c (take (length left - n) (drop n left))
-sent_more a b c start left k n so_far moves = (
+sent_more left k n so_far moves = (
   so_far.0 ++ take n left,
   so_far.1 ∙ ap (λ l. so_far.0 ++ l) (sym (take-append-drop n left) ∙ ap (λ l. take n left ++ l) (sym (rest_is n left)))
       ∙ sym (append_assoc so_far.0 (take n left) (take (length left - n) (drop n left))),
@@ -89,12 +89,12 @@ pub no_error_there : (e : Error) (n : ℕ) → Err e ≡ Ok n → ⊥
 no_error_there e n same = cc
 
 -- an answer has one count
-pub same_count : (reply : Result ℕ Error) (n m : ℕ) → reply ≡ Ok n → reply ≡ Ok m → n ≡ m
-same_count reply n m is same = cc
+pub same_count : {reply : Result ℕ Error} {n m : ℕ} → reply ≡ Ok n → reply ≡ Ok m → n ≡ m
+same_count is same = cc
 
 -- a writer that takes all takes some of some
-pub takes_some : (reply : Result ℕ Error) (n : ℕ) (left : List ℕ) → reply ≡ Ok (length left) → reply ≡ Ok n → n ≡ 0 → 0 < length left → ⊥
-takes_some reply n left all is none some =
+pub takes_some : {reply : Result ℕ Error} {n : ℕ} (left : List ℕ) → reply ≡ Ok (length left) → reply ≡ Ok n → n ≡ 0 → 0 < length left → ⊥
+takes_some {n} left all is none some =
     let same : length left ≡ n = cc in
     omega (arith, same, none, some)
 
@@ -109,5 +109,5 @@ one_call n left cost cost' was for_all whole some counted so_far =
     omega (arith, no_more, one, counted, so_far)
 
 -- nothing that is left asks for no call
-pub no_call : (left : List ℕ) (cost total : ℕ) → left ≡ [] → cost + calls_for left ≡ total → cost ≡ total
-no_call left cost total none so_far = omega (arith, so_far, ap calls_for none)
+pub no_call : {left : List ℕ} {cost total : ℕ} → left ≡ [] → cost + calls_for left ≡ total → cost ≡ total
+no_call none so_far = omega (arith, so_far, ap calls_for none)

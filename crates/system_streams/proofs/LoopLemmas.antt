@@ -34,15 +34,15 @@ appends_kept (Some x) (Some y) None bs p q = absurd q
 appends_kept (Some x) (Some y) (Some z) bs p q = q ∙ p
 
 -- at the start nothing is given
-pub gives_none : (text out : List ℕ) (known : Option (List ℕ)) → Gives text text out out known known
-gives_none text out known = record { given = []; split = refl; taken = sym (append-nil out); device = appends_nil known }
+pub gives_none : {text out : List ℕ} {known : Option (List ℕ)} → Gives text text out out known known
+gives_none {out} {known} = record { given = []; split = refl; taken = sym (append-nil out); device = appends_nil known }
 
 -- the device took n bytes more
-pub gives_more : (text left out out' out'' : List ℕ) (known known' known'' : Option (List ℕ)) (n : ℕ)
+pub gives_more : {text left out out' out'' : List ℕ} {known known' known'' : Option (List ℕ)} (n : ℕ)
     → Gives text left out out' known known'
     → out'' ≡ out' ++ take n left → Appends known' known'' (take n left)
     → Gives text (take (length left - n) (drop n left)) out out'' known known''
-gives_more text left out out' out'' known known' known'' n so_far more device =
+gives_more {left} {out} {known} {known'} {known''} n so_far more device =
     let rest : take (length left - n) (drop n left) ≡ drop n left =
     take_all (length left - n) (drop n left) (omega (arith, length-drop n left)) in
     record {
@@ -54,9 +54,9 @@ gives_more text left out out' out'' known known' known'' n so_far more device =
     }
 
 -- it took nothing
-pub gives_same : (text left out out' out'' : List ℕ) (known known' known'' : Option (List ℕ)) → Gives text left out out' known known'
+pub gives_same : {text left out out' out'' : List ℕ} {known known' known'' : Option (List ℕ)} → Gives text left out out' known known'
     → out'' ≡ out' ++ [] → Keeps known' known'' → Gives text left out out'' known known''
-gives_same text left out out' out'' known known' known'' so_far same device = record {
+gives_same {out'} {known} {known'} {known''} so_far same device = record {
   given = so_far.given;
   split = so_far.split;
   taken = same ∙ append-nil out' ∙ so_far.taken;
@@ -64,11 +64,11 @@ gives_same text left out out' out'' known known' known'' so_far same device = re
 }
 
 -- it took none of some bytes
-pub gives_zero : (text left out out' out'' : List ℕ) (known known' known'' : Option (List ℕ)) (reply : Result ℕ Error) (n : ℕ)
+pub gives_zero : {text left out out' out'' : List ℕ} {known known' known'' : Option (List ℕ)} {reply : Result ℕ Error} {n : ℕ}
     → Gives text left out out' known known' → reply ≡ Ok n → n ≡ 0 → out'' ≡ out' ++ taken reply left
     → WriteAppends known' known'' reply left
     → Gives text left out out'' known known''
-gives_zero text left out out' out'' known known' known'' reply n so_far is none more device =
+gives_zero {left} {out'} {out''} {known} {known'} {known''} {reply} so_far is none more device =
     let zero : reply ≡ Ok 0 = is ∙ ap Ok none in
     record {
       given = so_far.given;
@@ -79,19 +79,19 @@ gives_zero text left out out' out'' known known' known'' reply n so_far is none 
     }
 
 -- and no turn is spent then
-pub ends_zero : (e : Error) (reply : Result ℕ Error) (n first old new : ℕ) → IsUnwritten e → old ≤ first → reply ≡ Ok n
+pub ends_zero : (e : Error) {reply : Result ℕ Error} {n first old new : ℕ} → IsUnwritten e → old ≤ first → reply ≡ Ok n
     → AnswersWrite reply old new
     → EndsWrites {T = Unit {0}} (Err e) first new
-ends_zero e reply n first old new kind fewer is asked =
+ends_zero e {old} {new} kind fewer is asked =
     let same : new ≡ old = subst (λ r. AnswersWrite r old new) is asked in
     (omega (arith, fewer, same), inr (inr kind))
 
 -- what a patient tells of such a loop
-pub gives_sends : (text left out out' : List ℕ) (known known' : Option (List ℕ)) (reply : Result (Unit {0}) Error) (turns turns' : ℕ)
+pub gives_sends : {text left out out' : List ℕ} {known known' : Option (List ℕ)} (reply : Result (Unit {0}) Error) (turns turns' : ℕ)
     → Gives text left out out' known known' → turns' + count_by is_interruption (call_mishap reply) ≤ turns
     → Sends (record { out = out; held = []; mishaps = None; turns = turns }) text reply
     (record { out = out'; held = []; mishaps = None; turns = turns' }) left
-gives_sends text left out out' known known' reply turns turns' so_far spent = record {
+gives_sends {out} {out'} reply turns turns' so_far spent = record {
   sent = so_far.given;
   split = so_far.split;
   moves = record {
@@ -180,13 +180,14 @@ consumed_none (suc zero) e known known' over last bytes = subst (Keeps known) (s
 consumed_none (suc (suc old)) e known known' over last bytes = bytes (omega arith)
 
 -- nor did one that gave no byte
-pub consumed_end : (old n : ℕ) (reply : Result ℕ Error) (known known' : Option (List ℕ)) (buf : List ℕ) → reply ≡ Ok n → n ≡ 0
+pub consumed_end : {old n : ℕ} (reply : Result ℕ Error) {known known' : Option (List ℕ)} (buf : List ℕ) → reply ≡ Ok n → n ≡ 0
     → (old ≡ 0 → known' ≡ known) → (old ≡ 1 → IsErrAnd reply IsOutOfTurns) → (1 < old → ReadConsumes known known' reply buf)
     → Consumes known known' []
-consumed_end zero n reply known known' buf is none over last bytes = subst (λ k. Consumes known k []) (sym (over refl)) (consumes_nil known)
-consumed_end (suc zero) n reply known known' buf is none over last bytes =
+consumed_end {old = zero} reply {known} buf is none over last bytes =
+    subst (λ k. Consumes known k []) (sym (over refl)) (consumes_nil known)
+consumed_end {old = suc zero} reply buf is none over last bytes =
     absurd (subst (λ r. IsErrAnd r IsOutOfTurns) (is ∙ ap Ok none) (last refl))
-consumed_end (suc (suc old)) n reply known known' buf is none over last bytes =
+consumed_end {old = suc (suc old)} reply {known} {known'} buf is none over last bytes =
     (subst (λ r. ReadConsumes known known' r buf) (is ∙ ap Ok none) (bytes (omega arith))).0
 
 -- an error but an interruption ends a loop of reads

@@ -64,7 +64,8 @@ impl<T: AsSlice<u8>> Read for Cursor<T> {
 
     fn read_exact(&mut self, buf: &mut [u8]) -> Result<()>
         // The trait's.
-        ensures told { ReadsExact (Unit {0}) (events_of (cursor_left T.slice self.old)) result buf.new (events_of (cursor_left T.slice self.new)) }
+        ensures told { ReadsExact (Unit {0}) (events_of (cursor_left T.slice self.old)) result buf.new
+            (events_of (cursor_left T.slice self.new)) }
         ensures store { cursor_stores T.slice self.old → cursor_stores T.slice self.new
             × (T.slice (cursor_inner self.new) ≡ T.slice (cursor_inner self.old))
             × (cursor_place self.new + length (events_of (cursor_left T.slice self.new))

@@ -148,7 +148,8 @@ impl<T: Read, U: Read> Read for Chain<T, U> {
     fn read_to_end<A: Allocator>(&mut self, buf: &mut Vec<u8, A>) -> Result<usize>
         // The trait's.
         ensures told { chain_tells T.tells U.tells self.old → chain_tells T.tells U.tells self.new
-            × ReadsToEnd (chain_events T.events U.events self.old) result buf.old.items buf.new.items (chain_events T.events U.events self.new) }
+            × ReadsToEnd (chain_events T.events U.events self.old) result buf.old.items buf.new.items
+            (chain_events T.events U.events self.new) }
         ensures appends { take (vec_len buf.old) buf.new.items ≡ buf.old.items }
         ensures count { IfOk result (λ n. vec_len buf.new ≡ vec_len buf.old + n) }
         ensures capacity { vec_capacity buf.old ≤ vec_capacity buf.new }

@@ -11,7 +11,7 @@ returns g c = record {
       let deep = given_behind 2 (reader_behind c.args.r.now) (reader_held c.args.r.now) _ _ read.1 enough read.3 in
       let moved = c.seek_relative.ensures.within (omega (arith, deep)) in
       let same =
-      stepped_back 2 (reader_behind c.args.r.now) (reader_held c.args.r.now) _ _ _ _ _ read.1 enough read.2 read.3
+      stepped_back 2 (reader_behind c.args.r.now) (reader_held c.args.r.now) read.1 enough read.2 read.3
       moved.2.0 moved.2.1 in
       (both_items _ (ap length read.1 ∙ length-take-le 2 _ enough) ∙ read.1, (same.0, same.1), moved.1 ∙ read.4);
 }

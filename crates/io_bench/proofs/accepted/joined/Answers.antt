@@ -22,7 +22,7 @@ loop-i-preserved c =
           let replies = take (c.loop-i.i + 1) c.args.replies.now in
           subst (λ bytes. IsJoined ops replies bytes.items) (sym w.bytes-is)
           (subst (λ bytes. IsJoined ops replies bytes) (sym w.in_ok-extend_from_slice.ensures.items)
-          (joined_next _ _ _ _ _ _ _ c.loop-i-test.true same c.loop-i.invariant front.0 front.1))
+          (joined_next _ _ _ _ _ c.loop-i-test.true same c.loop-i.invariant front.0 front.1))
       | in_default w ↦ absurd (w.in_default.ensures.none refl (clear_at _ _ _ _ _ c.loop-i-test.true clear))
     ]
 

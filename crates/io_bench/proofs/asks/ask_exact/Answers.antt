@@ -11,10 +11,10 @@ returns-in-Ok-clause-asked g c = λ m f.
     let filled = done.told (g.met.R.Read.filling_tells _ f).0 in
     let counted = done.asks m f in
     let left = done.left f in
-    let within = filled-le _ _ _ filled.1 in (
+    let within = filled-le filled.1 in (
       counted.0,
       left.0,
-      exact_asked g.row.S (length c.args.buf.now) _ _ _ _ _ _ _ (cut _ _, filled.1.split) left.2
+      exact_asked g.row.S (length c.args.buf.now) (cut _ _, filled.1.split) left.2
           (grind (arith, nat_tests, within)) counted.1 left.1,
     )
 
@@ -27,12 +27,12 @@ returns-in-UnexpectedEof-clause-asked g c = λ m f.
     let done = c.in-Err.ensures in
     let tells = g.met.R.Read.filling_tells _ f in
     let fell = done.told tells.0 in
-    let short = falls_short _ _ c.in-Err.e _ _ (bytes_behind (reader_held r) _ _ tells.1) fell.1 in
+    let short = falls_short _ c.in-Err.e _ (bytes_behind (reader_held r) _ _ tells.1) fell.1 in
     let counted = done.asks m f in
     let left = done.left f in (
       counted.0,
       left.0,
-      exact_asked g.row.S (length c.args.buf.now) _ _ _ _ _ _ _ short.2 left.2 (grind (arith, nat_tests, short.1))
+      exact_asked g.row.S (length c.args.buf.now) short.2 left.2 (grind (arith, nat_tests, short.1))
           counted.1 left.1,
     )
 
@@ -44,6 +44,6 @@ returns-in_default g c =
       told = λ t. ((failed t).0, failed_front _ c.in-Err.e _ _ (failed t).1);
       asked = λ m f.
           let tells = g.met.R.Read.filling_tells _ f in
-          let short = falls_short _ _ c.in-Err.e _ _ (bytes_behind (reader_held r) _ _ tells.1) (failed tells.0).1 in
+          let short = falls_short _ c.in-Err.e _ (bytes_behind (reader_held r) _ _ tells.1) (failed tells.0).1 in
           absurd (c.in_default.not-UnexpectedEof (c.kind.ensures ∙ short.0));
     }

@@ -33,7 +33,7 @@ returns-clause-asked g c = λ m f.
       last.0,
       dropped.lends_surely (after.stays_sure f),
       fill_asked g.row.S c.args.most (length (reader_held r)) (length (g.R.Read.events (reader_inner r))) (g.R.Read.cost (reader_inner r))
-          (length (reader_held new)) _ (length lent) _ _ _ (some_room r) (events_of (take n (reader_held mid)), sym same ∙ rest.1)
+          (length (reader_held new)) (length lent) (some_room r) (events_of (take n (reader_held mid)), sym same ∙ rest.1)
           (omega (arith, ap length same, gone, within, c.min.ensures)) (length-events (reader_held r) (g.R.Read.events (reader_inner r)))
           (c.in_ok-lent.ensures.lends_surely f) (omega (arith, left, ap length held, c.min.ensures)) (last.1 ∙ counted.1) refl,
     )

@@ -21,8 +21,8 @@ returns-then-branch-gt0-clause-asked g c = λ m f.
     let given = read.gives f in (
       counted.0,
       given.0,
-      read_asked g.row.S _ _ _ n (reader_held r) (reader_held c.read.new.self) c.read.new.buf
-          (g.R.Read.events (reader_inner r)) _ _ (some_room r) told.1 read.bound
+      read_asked g.row.S n (reader_held r) (reader_held c.read.new.self) c.read.new.buf
+          (g.R.Read.events (reader_inner r)) (some_room r) told.1 read.bound
           given.1 (λ h. (read.held h).2) (read.direct f) (read.filled f) counted.1 (grind (arith, nat_tests, c.if-branch-gt0.true)),
     )
 
@@ -36,8 +36,8 @@ returns-clause-asked g c = λ m f.
     let given = read.gives f in (
       counted.0,
       given.0,
-      read_asked g.row.S _ _ _ n (reader_held r) (reader_held c.read.new.self) c.read.new.buf
-          (g.R.Read.events (reader_inner r)) _ _ (some_room r) told.1 read.bound
+      read_asked g.row.S n (reader_held r) (reader_held c.read.new.self) c.read.new.buf
+          (g.R.Read.events (reader_inner r)) (some_room r) told.1 read.bound
           given.1 (λ h. (read.held h).2) (read.direct f) (read.filled f) counted.1
           (grind (arith, nat_tests, c.if-branch-gt0.false, c.is_empty.ensures, ap length c.buffer.ensures.value)),
     )

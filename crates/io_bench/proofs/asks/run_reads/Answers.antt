@@ -53,7 +53,7 @@ asks-preserved g c =
       steps = λ f.
           let so_far = before.steps f in
           let asked = call.asked tt so_far.0 in
-          (asked.1, so_far.1, Steps-asked g.row.S asks i (Read 0) _ _ _ _ _ _ _ _ _ c.from.result room fits within so_far.2 asked.2 ends);
+          (asked.1, so_far.1, Steps-asked g.row.S asks i (Read 0) _ _ c.from.result room fits within so_far.2 asked.2 ends);
       paid = λ f none.
           let so_far = before.steps f in
           let asked = call.asked tt so_far.0 in
@@ -62,7 +62,7 @@ asks-preserved g c =
           let reads = asked_reads (get_or asks i (Read 0)) (length held) _ in (
             paid.0 + reads,
             omega (arith, paid.1, asked.2.reads),
-            paid_asked g.row.S (get_or asks i (Read 0)) paid.0 _ _ _ _ _ _ _ _ _ c.from.result room fits front paid.2
+            paid_asked g.row.S (get_or asks i (Read 0)) paid.0 c.from.result room fits front paid.2
                 asked.2 ends,
           );
     }

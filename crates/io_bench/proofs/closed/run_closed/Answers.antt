@@ -30,7 +30,7 @@ calls-preserved g c =
       );
       all = call.all.0;
       paid =
-          Paid-on g.row.S _ _ _ ops i _ (writer_buffer w) (writer_buffer c.make_counted_call-reply.new.w) c.requires.some
+          Paid-on g.row.S _ ops i _ (writer_buffer w) (writer_buffer c.make_counted_call-reply.new.w) c.requires.some
           (buffer-le w) within before.paid call.calls call.buffer;
       room = omega (arith, c.push_reserved.ensures.len, c.push_reserved.ensures.capacity, before.room);
     }

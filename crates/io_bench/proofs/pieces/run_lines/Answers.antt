@@ -14,7 +14,7 @@ items-preserved g c =
     let pushed = c.push_reserved.ensures.items ∙ ap (λ l. l ++ item ∷ []) c.make_room.ensures.items in
     let next = c.next.ensures.steps in
     record {
-      appends = appended-more _ _ _ _ before.appends pushed;
+      appends = appended-more _ _ before.appends pushed;
       told = λ fresh t.
           let so_far = before.told fresh t in
           let step = next.1 so_far.0 in
@@ -25,7 +25,7 @@ items-preserved g c =
                 (map (string_bytes {Z = Global}) (appended c.args.items.now.items c.items.items.items))
                 (map (string_bytes {Z = Global}) (appended c.args.items.now.items c.push_reserved.new.self.items))
                 (events (lines_reader c.items.lines)) item (events (lines_reader c.next.new.self))
-                (shown-one (string_bytes {Z = Global}) _ _ _ _ before.appends pushed) so_far.2
+                (shown-one string_bytes _ _ before.appends pushed) so_far.2
                 (yields_at (string_bytes {Z = Global}) (λ _. line_text) RefusesLine 10 10
                 (events (lines_reader c.items.lines)) _ _ (events (lines_reader c.next.new.self)) refl is told.1),
           );

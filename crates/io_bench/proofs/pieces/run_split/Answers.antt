@@ -15,7 +15,7 @@ items-preserved g c =
     let pushed = c.push_reserved.ensures.items ∙ ap (λ l. l ++ item ∷ []) c.make_room.ensures.items in
     let next = c.next.ensures.steps in
     record {
-      appends = appended-more _ _ _ _ before.appends pushed;
+      appends = appended-more _ _ before.appends pushed;
       told = λ fresh t.
           let so_far = before.told fresh t in
           let step = next.1 so_far.0 in
@@ -27,7 +27,7 @@ items-preserved g c =
                 (map (vec_items {X = ℕ} {Z = Global}) (appended c.args.items.now.items c.items.items.items))
                 (map (vec_items {X = ℕ} {Z = Global}) (appended c.args.items.now.items c.push_reserved.new.self.items))
                 (events (split_reader c.items.split)) item (events (split_reader c.next.new.self))
-                (shown-one (vec_items {X = ℕ} {Z = Global}) _ _ _ _ before.appends pushed) so_far.3
+                (shown-one vec_items _ _ before.appends pushed) so_far.3
                 (yields_at (vec_items {X = ℕ} {Z = Global}) without (λ _ _. ⊥) (split_delim c.items.split) d
                 (events (split_reader c.items.split)) _ _ (events (split_reader c.next.new.self)) so_far.1 is
                 told.1),

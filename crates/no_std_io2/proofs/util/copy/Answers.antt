@@ -16,7 +16,7 @@ reads-preserved g c =
       told = λ t.
           let so_far = before.told t in
           let now = read.told so_far.0 in
-          (now.0, copied_interruption _ _ _ _ _ _ _ so_far.1 now.1 (search rules));
+          (now.0, copied_interruption so_far.1 now.1 (search rules));
       same = before.same;
       all = before.all;
       turns = le_trans read.turns before.turns;
@@ -25,7 +25,7 @@ reads-preserved g c =
       filling = λ f. (read.fills (before.filling f)).0;
       store = λ s.
           let tells = g.met.R.Read.store_tells _ (before.store s).0 in
-          absurd (no_error _ _ _ _ tells.1 (read.told tells.0).1);
+          absurd (no_error _ tells.1 (read.told tells.0).1);
     }
 
 pub reads-preserved-in-Ok : goal.reads-preserved-in-Ok
@@ -35,11 +35,11 @@ reads-preserved-in-Ok g c =
     let wrote = c.in_ok-write_all-in-Ok.ensures in
     record {
       long = search rules;
-      written = written_more _ _ _ c.in-Ok.n _ _ c.read.new.buf before.written wrote.moves read.bound (search rules);
+      written = written_more c.in-Ok.n _ _ c.read.new.buf before.written wrote.moves read.bound (search rules);
       told = λ t.
           let so_far = before.told t in
           let now = read.told so_far.0 in
-          (now.0, copied_more _ _ _ _ c.in-Ok.n _ _ c.read.new.buf _ _ so_far.1 now.1 wrote.moves read.bound (search rules));
+          (now.0, copied_more c.in-Ok.n c.read.new.buf so_far.1 now.1 wrote.moves read.bound (search rules));
       same = λ z. absurd (search rules);
       all = λ t. wrote.all (before.all t);
       turns = le_trans read.turns before.turns;
@@ -55,7 +55,7 @@ reads-preserved-in-Ok g c =
           let so_far = before.store s in
           let now = read.store so_far.0 in
           let tells = g.met.R.Read.store_tells _ so_far.0 in
-          (now.0, now.1 ∙ so_far.1, moved_read _ _ c.in-Ok.n c.read.new.buf _ _ _ read.bound (read.told tells.0).1.0 now.2 so_far.2);
+          (now.0, now.1 ∙ so_far.1, moved_read _ c.in-Ok.n c.read.new.buf _ read.bound (read.told tells.0).1.0 now.2 so_far.2);
     }
 
 -- the reader's end
@@ -64,7 +64,7 @@ returns-in-Ok-eq0-clause-told g c = λ t.
     let so_far = c.reads.invariant.told t in
     let now = c.read.ensures.told so_far.0 in (
       now.0,
-      copied_end g.row.S _ _ _ _ _ c.read.new.buf _ _ so_far.1 (rw c.in-Ok-eq0.is at now.1)
+      copied_end g.row.S c.read.new.buf so_far.1 (rw c.in-Ok-eq0.is at now.1)
           (search rules) (search rules) (λ z. (c.reads.invariant.same z).1),
     )
 
@@ -91,7 +91,7 @@ returns-in-Ok-eq0-clause-reads g c = λ some m f.
     let before = c.reads.invariant in
     let paid = (c.read.ensures.cost (before.metered m)).1 in
     let gave = rw c.in-Ok-eq0.is at (c.read.ensures.fills (before.filling f)).1 in
-    last_read g.row.S _ _ _ _ _ _ _ some before.long gave (search rules) paid (before.reads some m f)
+    last_read g.row.S _ _ _ _ some before.long gave (search rules) paid (before.reads some m f)
 
 pub returns-in-Ok-eq0-clause-store : goal.returns-in-Ok-eq0-clause-store
 returns-in-Ok-eq0-clause-store g c = λ s.
@@ -99,7 +99,7 @@ returns-in-Ok-eq0-clause-store g c = λ s.
     let now = rw c.in-Ok-eq0.is at c.read.ensures.store so_far.0 in
     let tells = g.met.R.Read.store_tells _ so_far.0 in
     let told = rw c.in-Ok-eq0.is at c.read.ensures.told tells.0 in
-    (now.0, now.1 ∙ so_far.1, moved_read _ _ _ c.read.new.buf _ _ _ (rw c.in-Ok-eq0.is at c.read.ensures.bound) told.1.0 now.2 so_far.2)
+    (now.0, now.1 ∙ so_far.1, moved_read _ _ c.read.new.buf _ (rw c.in-Ok-eq0.is at c.read.ensures.bound) told.1.0 now.2 so_far.2)
 
 -- the writer's fault
 pub returns-in_err-write_all-in-Ok-clause-unchanged : goal.returns-in_err-write_all-in-Ok-clause-unchanged
@@ -133,13 +133,13 @@ returns-in_err-write_all-in-Ok-clause-store g c = λ s.
     let so_far = c.reads.invariant.store s in
     let now = read.store so_far.0 in
     let tells = g.met.R.Read.store_tells _ so_far.0 in
-    (now.0, now.1 ∙ so_far.1, moved_read _ _ c.in-Ok.n c.read.new.buf _ _ _ read.bound (read.told tells.0).1.0 now.2 so_far.2)
+    (now.0, now.1 ∙ so_far.1, moved_read _ c.in-Ok.n c.read.new.buf _ read.bound (read.told tells.0).1.0 now.2 so_far.2)
 
 pub returns-in_err-write_all-in-Ok-clause-moves : goal.returns-in_err-write_all-in-Ok-clause-moves
 returns-in_err-write_all-in-Ok-clause-moves g c =
     let p = err_from_is_err_and c.from_residual.result c.from_residual.ensures.1 in
     rw (p.1, p.2)
-    (written_refused _ _ _ _ _ c.in_err-write_all-in-Ok.field-0.0 c.reads.invariant.written
+    (written_refused c.in_err-write_all-in-Ok.field-0.0 c.reads.invariant.written
     c.in_err-write_all-in-Ok.ensures.moves)
 
 pub returns-in_err-write_all-in-Ok-clause-told : goal.returns-in_err-write_all-in-Ok-clause-told
@@ -150,7 +150,7 @@ returns-in_err-write_all-in-Ok-clause-told g c = λ t.
     let e = c.in_err-write_all-in-Ok.field-0.0 in (
       now.0,
       rw (p.1, p.2)
-          (copied_refused g.row.S _ _ _ _ _ c.in-Ok.n c.read.new.buf _ _ e so_far.1 now.1 (search rules)
+          (copied_refused g.row.S c.in-Ok.n c.read.new.buf e so_far.1 now.1 (search rules)
           c.in-Ok.ensures.bound (search rules) c.in_err-write_all-in-Ok.ensures.moves),
     )
 
@@ -179,11 +179,11 @@ returns-in-Err-2-clause-filling g c = λ f. (c.in-Err.ensures.fills (c.reads.inv
 pub returns-in-Err-2-clause-store : goal.returns-in-Err-2-clause-store
 returns-in-Err-2-clause-store g c = λ s.
     let tells = g.met.R.Read.store_tells _ (c.reads.invariant.store s).0 in
-    absurd (no_error _ _ _ _ tells.1 (c.in-Err.ensures.told tells.0).1)
+    absurd (no_error _ tells.1 (c.in-Err.ensures.told tells.0).1)
 
 pub returns-in-Err-2-clause-told :
     goal.returns-in-Err-2-clause-told
 returns-in-Err-2-clause-told g c = λ t.
     let so_far = c.reads.invariant.told t in
     let now = c.in-Err.ensures.told so_far.0 in
-    (now.0, copied_fault g.row.S _ _ _ _ _ c.in-Err.e _ so_far.1 now.1 (search rules) (λ z. (c.reads.invariant.same z).1))
+    (now.0, copied_fault g.row.S c.in-Err.e so_far.1 now.1 (search rules) (λ z. (c.reads.invariant.same z).1))

@@ -22,7 +22,7 @@ pub returns-then-is_empty-clause-told : goal.returns-then-is_empty-clause-told
 returns-then-is_empty-clause-told g c = λ t.
     let said = c.in_ok-fill_header.ensures.told t in
     let none : part_bytes c.fill_header.new.self ≡ [] = none_of _ _ c.is_empty.ensures c.if-is_empty.true in
-    (said.0, no_frame 4 _ _ _ _ c.in_ok-fill_header.field-0 c.if-not-branch.true said.1 none)
+    (said.0, no_frame 4 _ _ c.in_ok-fill_header.field-0 c.if-not-branch.true said.1 none)
 
 pub returns-then-not-branch-clause-told : goal.returns-then-not-branch-clause-told
 returns-then-not-branch-clause-told g c = λ t.
@@ -44,7 +44,7 @@ returns-then-len-self-clause-told g c = λ t.
     let part = c.fill_header.new.self in
     let told = told_behind (part_header part) (part_payload part) (c.in_ok-fill_header.ensures.whole b) in (
       said.0,
-      too_long (most c.args.self.now) _ _ _ _ c.new.result whole.0 whole.1
+      too_long (most c.args.self.now) c.new.result whole.0 whole.1
           (omega (arith, told, c.told_len-len.ensures.value, c.if-len-self.true)) c.new.ensures.kind,
     )
 

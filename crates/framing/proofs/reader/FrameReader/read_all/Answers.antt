@@ -9,7 +9,7 @@ pub returns-in_err-reserve-clause-told : goal.returns-in_err-reserve-clause-told
 returns-in_err-reserve-clause-told g c = λ t.
     let p = err_from_is_err_and c.from_residual.result c.from_residual.ensures.1 in
     let run = c.frames.invariant.told t in
-    let same = run_same (λ v. v.items) _ _ _ c.args.payloads.now.items _ c.reserve.new.self.items run.1 c.reserve.ensures.items in
+    let same = run_same (λ v. v.items) c.args.payloads.now.items c.reserve.new.self.items run.1 c.reserve.ensures.items in
     (run.0, rw p.1 (run_refused (most c.args.self.now) _ _ _ p.0 same p.2))
 
 pub returns-in_err-reserve-clause-back : goal.returns-in_err-reserve-clause-back
@@ -22,11 +22,11 @@ pub returns-in_err-next-clause-told : goal.returns-in_err-next-clause-told
 returns-in_err-next-clause-told g c = λ t.
     let p = err_from_is_err_and c.from_residual-in_err-next.result c.from_residual-in_err-next.ensures.1 in
     let run = c.frames.invariant.told t in
-    let same = run_same (λ v. v.items) _ _ _ c.args.payloads.now.items _ c.reserve.new.self.items run.1 c.reserve.ensures.items in
+    let same = run_same (λ v. v.items) c.args.payloads.now.items c.reserve.new.self.items run.1 c.reserve.ensures.items in
     let said = c.in_err-next.ensures.told run.0 in (
       said.0,
       rw (p.1, p.2)
-          (run_stops (most c.args.self.now) (most c.frames.self) _ _ _ _ c.in_err-next.field-0.0 same
+          (run_stops (most c.args.self.now) (most c.frames.self) c.in_err-next.field-0.0 same
           c.frames.invariant.limit said.1),
     )
 
@@ -39,7 +39,7 @@ returns-in_err-next-clause-back g c = λ sent t is within.
 pub returns-in-None-clause-told : goal.returns-in-None-clause-told
 returns-in-None-clause-told g c = λ t.
     let run = c.frames.invariant.told t in
-    let same = run_same (λ v. v.items) _ _ _ c.args.payloads.now.items _ c.reserve.new.self.items run.1 c.reserve.ensures.items in
+    let same = run_same (λ v. v.items) c.args.payloads.now.items c.reserve.new.self.items run.1 c.reserve.ensures.items in
     let said = (rw c.in-None.is at c.in_ok-next.ensures.told) run.0 in
     (said.0, run_ends (most c.args.self.now) _ _ _ _ same said.1)
 

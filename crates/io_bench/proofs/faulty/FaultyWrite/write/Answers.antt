@@ -6,7 +6,7 @@ use Rattle.io_bench.proofs.faulty.FaultyWrite.write.Goals as goal
 
 pub returns-in-None-clause-moves : goal.returns-in-None-clause-moves
 returns-in-None-clause-moves g c =
-    moves_past _ _ _ _ _ _ _ (ap g.W.Write.told c.spend.ensures.inner) c.write.ensures.moves
+    moves_past _ (ap g.W.Write.told c.spend.ensures.inner) c.write.ensures.moves
     (sym c.spend.ensures.act ∙ c.in-None.is) c.spend.ensures.acts
 
 pub returns-in-Some-Fail-clause-moves : goal.returns-in-Some-Fail-clause-moves
@@ -19,13 +19,13 @@ returns-in-Some-Fail-clause-moves g c =
 pub returns-in-Some-Zero-clause-moves : goal.returns-in-Some-Zero-clause-moves
 returns-in-Some-Zero-clause-moves g c =
     let none : act_mishap c.in-Some-Zero.field-0 ≡ WriteZero ∷ [] = search rules in
-    moves_zero _ _ _ _ _ _ (ap g.W.Write.told c.spend.ensures.inner) none (sym c.spend.ensures.act ∙ c.in-Some-Zero.is) c.spend.ensures.acts
+    moves_zero _ _ (ap g.W.Write.told c.spend.ensures.inner) none (sym c.spend.ensures.act ∙ c.in-Some-Zero.is) c.spend.ensures.acts
 
 pub returns-in-Some-Take-clause-moves : goal.returns-in-Some-Take-clause-moves
 returns-in-Some-Take-clause-moves g c =
     let act = c.in-Some-Take in
     let some : 0 < act.n = search rules in
     let none : act_mishap act.field-0 ≡ [] = search rules in
-    moves_through _ _ _ _ _ _ _ _ (ap g.W.Write.told c.spend.ensures.inner)
-    (taken_of_front _ _ _ act.n _ _ some c.min-most.ensures c.write-in-Some-Take.ensures.bound c.write-in-Some-Take.ensures.moves) none
+    moves_through _ (ap g.W.Write.told c.spend.ensures.inner)
+    (taken_of_front _ act.n _ some c.min-most.ensures c.write-in-Some-Take.ensures.bound c.write-in-Some-Take.ensures.moves) none
     (sym c.spend.ensures.act ∙ act.is) c.spend.ensures.acts

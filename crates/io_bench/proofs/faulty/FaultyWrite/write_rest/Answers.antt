@@ -22,10 +22,10 @@ returns-in-Ok-eq0 g c =
     let some = not_empty _ c.writes.rest.now c.is_empty.ensures c.writes-test.true in
     record {
       fault = search rules;
-      sends = sends_zero _ _ _ _ _ _ _ _ before.sent c.write.ensures.moves is none some cc;
+      sends = sends_zero before.sent c.write.ensures.moves is none some cc;
       done = tt;
-      all = λ a. absurd (takes_some _ _ _ (c.write.ensures.all (before.all a)).1 is none some);
-      acts = spent_stop _ _ _ _ _ _ _ _ _ before.acts c.write.ensures.acts some (omega (arith, c.write.ensures.moves.turns));
+      all = λ a. absurd (takes_some _ (c.write.ensures.all (before.all a)).1 is none some);
+      acts = spent_stop before.acts c.write.ensures.acts some (omega (arith, c.write.ensures.moves.turns));
     }
 
 pub writes-smaller-in-Ok : goal.writes-smaller-in-Ok
@@ -42,7 +42,7 @@ writes-preserved-in-Ok g c =
     (λ kind is. (wrote.fail kind is).0) (λ is. (wrote.zero is).0) (λ is. (wrote.take_none is).0)
     (λ m some is. (wrote.take m some is).bound) in
     record {
-      sent = sent_more _ _ _ _ left _ n before.sent wrote.moves;
+      sent = sent_more left _ n before.sent wrote.moves;
       all = λ a. (wrote.all (before.all a)).0;
       acts = spent_more _ _ _ _ _ _ _ n _ _ before.acts went wrote.acts (left_of n left wrote.bound) (omega (arith, fewer));
     }
@@ -61,7 +61,7 @@ writes-preserved g c =
     let went = interrupted_by (acts_left c.writes.self) c.in-Err.e again
     (λ kind is. (wrote.fail kind is).0) (λ is. (wrote.zero is).0) (λ is. (wrote.take_none is).0) in
     record {
-      sent = sent_interruption _ _ _ _ _ _ before.sent wrote.moves;
+      sent = sent_interruption before.sent wrote.moves;
       all = λ a. (wrote.all (before.all a)).0;
       acts = spent_more _ _ _ _ _ _ _ 0 _ _ before.acts went wrote.acts (omega arith) (omega (arith, fewer));
     }
@@ -73,10 +73,10 @@ returns-in-Err-2 g c =
     let some = not_empty _ c.writes.rest.now c.is_empty.ensures c.writes-test.true in
     record {
       fault = cc;
-      sends = sends_fault _ _ _ _ _ _ before.sent wrote.moves;
+      sends = sends_fault before.sent wrote.moves;
       done = tt;
       all = λ a. absurd (no_error_there _ _ (wrote.all (before.all a)).1);
-      acts = spent_stop _ _ _ _ _ _ _ _ _ before.acts wrote.acts some (omega (arith, wrote.moves.turns));
+      acts = spent_stop before.acts wrote.acts some (omega (arith, wrote.moves.turns));
     }
 
 pub returns : goal.returns
@@ -84,9 +84,9 @@ returns g c =
     let before = c.writes.invariant in
     let none = is_empty _ c.writes.rest.now c.is_empty.ensures c.writes-test.false in
     record {
-      sends = sends_done _ _ _ _ before.sent;
+      sends = sends_done before.sent;
       fault = tt;
       done = none;
       all = λ a. (before.all a, refl);
-      acts = spent_done _ _ _ _ _ _ before.acts (ap length none);
+      acts = spent_done before.acts (ap length none);
     }

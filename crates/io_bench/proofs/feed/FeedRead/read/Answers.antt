@@ -6,6 +6,6 @@ pub returns-in-None-clause-told : goal.returns-in-None-clause-told
 returns-in-None-clause-told c u =
     let given = c.give.ensures in (
       u,
-      feed_reads c.give.result _ _ _ _ _ _ c.take_failure.new.self.some (omega arith) c.in-None.ensures.left
+      feed_reads c.give.result _ c.take_failure.new.self.some (omega arith) c.in-None.ensures.left
           (sym c.in-None.ensures.kind) given.count given.bytes given.left,
     )

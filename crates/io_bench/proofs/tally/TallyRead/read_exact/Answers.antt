@@ -16,7 +16,7 @@ reads-init g c = record {
   told = λ t. (t, taken_none _ _);
   is_filling = λ f. f;
   store = λ s. (s, refl, refl);
-  counts = counted_none _ _ _ _ (omega arith);
+  counts = counted_none (omega arith);
   handed = λ m. (m, refl);
   none = λ e. refl;
   writes = refl;
@@ -48,9 +48,9 @@ returns-in-Ok-eq0 g c =
           let so_far = before.store s in
           let now = read.store so_far.0 in
           let tells = g.met.T.Read.store_tells _ so_far.0 in
-          (now.0, now.1 ∙ so_far.1, stays_at_end _ _ _ _ _ _ _ _ (read.told tells.0).1 is none now.2 so_far.2);
-      counts = counted_stop _ _ _ _ _ _ _ _ _ before.counts (one_read _ _ _ (part_room at old c.reads-test.true) read.reads) read.turns;
-      handed = λ m. handed_once _ _ _ _ _ _ _ (before.handed m) (read.handed.counted (before.handed m).0) read.reads;
+          (now.0, now.1 ∙ so_far.1, stays_at_end _ _ _ _ (read.told tells.0).1 is none now.2 so_far.2);
+      counts = counted_stop before.counts (one_read _ _ _ (part_room at old c.reads-test.true) read.reads) read.turns;
+      handed = λ m. handed_once _ _ _ _ _ (before.handed m) (read.handed.counted (before.handed m).0) read.reads;
       empty = λ e. absurd (omega (arith, e, before.long, c.reads-test.true));
       writes = read.writes ∙ before.writes;
     }
@@ -60,12 +60,12 @@ returns g c =
     let before = c.reads.invariant in
     let test = c.reads-test.false in
     record {
-      told = λ t. let so_far = before.told t in (so_far.0, exact_done _ _ _ _ _ so_far.1 before.long test);
+      told = λ t. let so_far = before.told t in (so_far.0, exact_done so_far.1 before.long test);
       fault = tt;
       turns = before.turns;
       filling = before.is_filling;
       store = before.store;
-      counts = counted_done _ _ _ _ _ _ _ before.counts (omega (arith, test));
+      counts = counted_done before.counts (omega (arith, test));
       handed = before.handed;
       empty = λ e. (refl, before.none e);
       writes = before.writes;
@@ -93,16 +93,16 @@ reads-preserved-in-Ok g c =
       told = λ t.
           let so_far = before.told t in
           let now = read.told so_far.0 in
-          (now.0, taken_read _ _ _ _ _ _ _ _ so_far.1 now.1 read.bound (some_bytes n c.in-Ok.n-test.1) shown);
+          (now.0, taken_read _ so_far.1 now.1 read.bound (some_bytes n c.in-Ok.n-test.1) shown);
       is_filling = λ f. (read.fills (before.is_filling f)).0;
       store = λ s.
           let so_far = before.store s in
           let now = read.store so_far.0 in
           let tells = g.met.T.Read.store_tells _ so_far.0 in
-          (now.0, now.1 ∙ so_far.1, moved_read _ _ _ _ _ _ _ read.bound (read.told tells.0).1.0 now.2 so_far.2);
-      counts = counted_more _ _ _ _ _ _ _ _ _ before.counts (one_read _ _ _ (part_room at old c.reads-test.true) read.reads)
+          (now.0, now.1 ∙ so_far.1, moved_read _ _ _ _ read.bound (read.told tells.0).1.0 now.2 so_far.2);
+      counts = counted_more before.counts (one_read _ _ _ (part_room at old c.reads-test.true) read.reads)
           (c.in-Ok.ensures.turn (some_bytes c.in-Ok.n c.in-Ok.n-test.1));
-      handed = λ m. handed_once _ _ _ _ _ _ _ (before.handed m) (read.handed.counted (before.handed m).0) read.reads;
+      handed = λ m. handed_once _ _ _ _ _ (before.handed m) (read.handed.counted (before.handed m).0) read.reads;
       none = λ e. absurd (omega (arith, e, before.long, c.reads-test.true));
       writes = read.writes ∙ before.writes;
     }
@@ -119,7 +119,7 @@ returns-in-Err-2 g c =
           let so_far = before.told t in
           let now = read.told so_far.0 in (
             now.0,
-            inl (taken_fault _ _ _ _ _ _ _ so_far.1 now.1 fault
+            inl (taken_fault so_far.1 now.1 fault
                 (short_before at _ old c.reads-test.true (length_stays at old c.read.new.buf c.read.auto.buf))),
           );
       fault = fault;
@@ -128,9 +128,9 @@ returns-in-Err-2 g c =
       store = λ s.
           let so_far = before.store s in
           let tells = g.met.T.Read.store_tells _ so_far.0 in
-          absurd (no_error _ _ _ _ tells.1 (read.told tells.0).1);
-      counts = counted_stop _ _ _ _ _ _ _ _ _ before.counts (one_read _ _ _ (part_room at old c.reads-test.true) read.reads) read.turns;
-      handed = λ m. handed_once _ _ _ _ _ _ _ (before.handed m) (read.handed.counted (before.handed m).0) read.reads;
+          absurd (no_error _ tells.1 (read.told tells.0).1);
+      counts = counted_stop before.counts (one_read _ _ _ (part_room at old c.reads-test.true) read.reads) read.turns;
+      handed = λ m. handed_once _ _ _ _ _ (before.handed m) (read.handed.counted (before.handed m).0) read.reads;
       empty = λ e. absurd (omega (arith, e, before.long, c.reads-test.true));
       writes = read.writes ∙ before.writes;
     }
@@ -151,15 +151,15 @@ reads-preserved g c =
           let so_far = before.told t in
           let now = read.told so_far.0 in
           let short = short_before at _ old c.reads-test.true (sym before.long) in
-          (now.0, taken_interruption _ _ _ _ _ _ _ so_far.1 now.1 again short (take-put_mid_below _ _ _ _ _ (le_refl _) before.within));
+          (now.0, taken_interruption so_far.1 now.1 again short (take-put_mid_below _ _ _ _ _ (le_refl _) before.within));
       is_filling = λ f. (read.fills (before.is_filling f)).0;
       store = λ s.
           let so_far = before.store s in
           let tells = g.met.T.Read.store_tells _ so_far.0 in
-          absurd (no_error _ _ _ _ tells.1 (read.told tells.0).1);
-      counts = counted_more _ _ _ _ _ _ _ _ _ before.counts (one_read _ _ _ (part_room at old c.reads-test.true) read.reads)
+          absurd (no_error _ tells.1 (read.told tells.0).1);
+      counts = counted_more before.counts (one_read _ _ _ (part_room at old c.reads-test.true) read.reads)
           c.in-Err.ensures.turn;
-      handed = λ m. handed_once _ _ _ _ _ _ _ (before.handed m) (read.handed.counted (before.handed m).0) read.reads;
+      handed = λ m. handed_once _ _ _ _ _ (before.handed m) (read.handed.counted (before.handed m).0) read.reads;
       none = λ e. absurd (omega (arith, e, before.long, c.reads-test.true));
       writes = read.writes ∙ before.writes;
     }

@@ -17,14 +17,14 @@ returns-in_err-reserve_room g c =
     let refused = c.in_err-reserve_room.ensures.refused in
     let same = c.reserve_room.ensures.items in
     rw (p.1, p.2) (record {
-      told = λ t. (t, gathered_memory _ _ _ _ _ (gathered_none _ _ _ same) refused);
-      appends = front_whole _ _ _ c.args.buf.now.ok.0 same;
+      told = λ t. (t, gathered_memory (gathered_none _ _ _ same) refused);
+      appends = front_whole c.args.buf.now.ok.0 same;
       count = tt;
       capacity = c.reserve_room.ensures.grows;
       room = λ t enough. absurd (omega (arith, enough.1, c.in_err-reserve_room.ensures.full));
       fault = memory_fault _ refused;
       turns = le_refl _;
-      counts = counted_refused _ _ _ _ _ (counted_none _ _ _ _ refl) refused;
+      counts = counted_refused (counted_none refl) refused;
       handed = λ m. (m, refl);
       writes = refl;
       filling = λ f. f;
@@ -39,10 +39,10 @@ reads-init g c =
       grows = omega arith;
       within = omega arith;
       capacity = c.reserve_room.ensures.grows;
-      front = front_whole _ _ _ c.args.buf.now.ok.0 same;
+      front = front_whole c.args.buf.now.ok.0 same;
       turns = le_refl _;
-      told = λ t. (t, gathered_none _ _ _ (front_whole _ _ _ (start ∙ c.args.buf.now.ok.0) same));
-      counts = counted_none _ _ _ _ refl;
+      told = λ t. (t, gathered_none _ _ _ (front_whole (start ∙ c.args.buf.now.ok.0) same));
+      counts = counted_none refl;
       handed = λ m. (m, refl);
       writes = refl;
       is_filling = λ f. f;
@@ -61,16 +61,16 @@ returns-in_err-open_room g c =
     rw (p.1, p.2) (record {
       told = λ t.
           let so_far = before.told t in
-          (so_far.0, gathered_memory _ _ _ _ _ (gathered_same _ _ _ _ _ so_far.1 same) refused);
+          (so_far.0, gathered_memory (gathered_same so_far.1 same) refused);
       appends = front_cut _ filled _ c.reads.buf.items _ before.grows same before.front;
       count = tt;
       capacity = le_trans before.capacity c.open_room.ensures.grows;
       room = λ t enough.
-          let left = gathered_fits _ _ _ _ _ _ _ (before.told t).1 enough c.args.buf.now.ok.0 before.capacity in
+          let left = gathered_fits (before.told t).1 enough c.args.buf.now.ok.0 before.capacity in
           absurd (omega (arith, full.0, left, filled_bytes filled _ _ before.within c.reads.buf.ok.0));
       fault = memory_fault _ refused;
       turns = before.turns;
-      counts = counted_refused _ _ _ _ _ before.counts refused;
+      counts = counted_refused before.counts refused;
       handed = before.handed;
       writes = before.writes;
       filling = before.is_filling;
@@ -97,7 +97,7 @@ returns-in-Ok-eq0 g c =
       told = λ t.
           let so_far = before.told t in
           let now = read.told so_far.0 in
-          (now.0, gathered_stops _ _ _ _ _ _ _ _ _ (gathered_same _ _ _ _ _ so_far.1 same) now.1 is none some count);
+          (now.0, gathered_stops _ (gathered_same so_far.1 same) now.1 is none some count);
       appends = front_cut _ filled _ mid _ before.grows same before.front;
       count = len_cut c.len-start.result filled new.len _ _ mid c.len-start.ensures before.grows new.ok.0 same within;
       capacity = omega (arith, before.capacity, c.open_room.ensures.grows, c.truncate.ensures.capacity);
@@ -105,20 +105,20 @@ returns-in-Ok-eq0 g c =
       fault = tt;
       turns = le_trans read.turns before.turns;
       counts =
-          counted_end _ _ _ _ _ _ _ before.counts
+          counted_end before.counts
           (one_read _ _ _
           (part_room filled c.deref_mut.result.now
           (omega (arith, c.in_ok-open_room.ensures.room, c.deref_mut.ensures.len)))
           read.reads)
           read.turns;
-      handed = λ m. handed_once _ _ _ _ _ _ _ (before.handed m) (read.handed.counted (before.handed m).0) read.reads;
+      handed = λ m. handed_once _ _ _ _ _ (before.handed m) (read.handed.counted (before.handed m).0) read.reads;
       writes = read.writes ∙ before.writes;
       filling = λ f. (read.fills (before.is_filling f)).0;
       store = λ s.
           let so_far = before.store s in
           let now = read.store so_far.0 in
           let tells = g.met.T.Read.store_tells _ so_far.0 in
-          (now.0, now.1 ∙ so_far.1, stays_at_end _ _ _ _ _ _ _ _ (read.told tells.0).1 is none now.2 so_far.2);
+          (now.0, now.1 ∙ so_far.1, stays_at_end _ _ _ _ (read.told tells.0).1 is none now.2 so_far.2);
     }
 
 pub reads-smaller-in-Ok : goal.reads-smaller-in-Ok
@@ -142,29 +142,29 @@ returns-in-Err-2 g c =
       told = λ t.
           let so_far = before.told t in
           let now = read.told so_far.0 in
-          (now.0, gathered_fault _ _ _ _ _ _ (gathered_same _ _ _ _ _ so_far.1 same) now.1 fault);
+          (now.0, gathered_fault (gathered_same so_far.1 same) now.1 fault);
       appends = front_cut start filled _ c.reads.buf.items _ before.grows same before.front;
       count = tt;
       capacity = omega (arith, before.capacity, c.open_room.ensures.grows, c.truncate-in-Err-2.ensures.capacity);
       room = λ t enough.
           let so_far = before.told t in
-          absurd (gathered_no_fault _ _ _ _ _ _ so_far.1 (read.told so_far.0).1 fault enough.0);
+          absurd (gathered_no_fault so_far.1 (read.told so_far.0).1 fault enough.0);
       fault = fault;
       turns = le_trans read.turns before.turns;
       counts =
-          counted_fault _ _ _ _ _ _ _ before.counts
+          counted_fault before.counts
           (one_read _ _ _
           (part_room filled c.deref_mut.result.now
           (omega (arith, c.in_ok-open_room.ensures.room, c.deref_mut.ensures.len)))
           read.reads)
           c.in-Err.ensures.turn;
-      handed = λ m. handed_once _ _ _ _ _ _ _ (before.handed m) (read.handed.counted (before.handed m).0) read.reads;
+      handed = λ m. handed_once _ _ _ _ _ (before.handed m) (read.handed.counted (before.handed m).0) read.reads;
       writes = read.writes ∙ before.writes;
       filling = λ f. (read.fills (before.is_filling f)).0;
       store = λ s.
           let so_far = before.store s in
           let tells = g.met.T.Read.store_tells _ so_far.0 in
-          absurd (no_error _ _ _ _ tells.1 (read.told tells.0).1);
+          absurd (no_error _ tells.1 (read.told tells.0).1);
     }
 
 pub reads-preserved-in-Ok : goal.reads-preserved-in-Ok
@@ -190,22 +190,22 @@ reads-preserved-in-Ok g c =
       told = λ t.
           let so_far = before.told t in
           let now = read.told so_far.0 in
-          (now.0, gathered_read _ _ _ _ _ _ _ _ so_far.1 now.1 (shown ∙ ap (λ l. l ++ take n c.read.new.buf) c.open_room.ensures.front));
+          (now.0, gathered_read _ so_far.1 now.1 (shown ∙ ap (λ l. l ++ take n c.read.new.buf) c.open_room.ensures.front));
       counts =
-          counted_more _ _ _ _ _ _ _ _ _ before.counts
+          counted_more before.counts
           (one_read _ _ _
           (part_room filled c.deref_mut.result.now
           (omega (arith, c.in_ok-open_room.ensures.room, c.deref_mut.ensures.len)))
           read.reads)
           (c.in-Ok.ensures.turn (omega arith));
-      handed = λ m. handed_once _ _ _ _ _ _ _ (before.handed m) (read.handed.counted (before.handed m).0) read.reads;
+      handed = λ m. handed_once _ _ _ _ _ (before.handed m) (read.handed.counted (before.handed m).0) read.reads;
       writes = read.writes ∙ before.writes;
       is_filling = λ f. (read.fills (before.is_filling f)).0;
       store = λ s.
           let so_far = before.store s in
           let now = read.store so_far.0 in
           let tells = g.met.T.Read.store_tells _ so_far.0 in
-          (now.0, now.1 ∙ so_far.1, moved_read _ _ _ _ _ _ _ read.bound (read.told tells.0).1.0 now.2 so_far.2);
+          (now.0, now.1 ∙ so_far.1, moved_read _ _ _ _ read.bound (read.told tells.0).1.0 now.2 so_far.2);
     }
 
 pub reads-preserved : goal.reads-preserved
@@ -230,21 +230,21 @@ reads-preserved g c =
           let so_far = before.told t in
           let now = read.told so_far.0 in (
             now.0,
-            gathered_interruption _ _ _ _ _ _ (gathered_same _ _ _ _ _ so_far.1 (kept ∙ c.open_room.ensures.front)) now.1
+            gathered_interruption _ _ _ _ _ _ (gathered_same so_far.1 (kept ∙ c.open_room.ensures.front)) now.1
                 (sym c.is_interrupted.ensures ∙ c.if-is_interrupted.true),
           );
       counts =
-          counted_more _ _ _ _ _ _ _ _ _ before.counts
+          counted_more before.counts
           (one_read _ _ _
           (part_room filled c.deref_mut.result.now
           (omega (arith, c.in_ok-open_room.ensures.room, c.deref_mut.ensures.len)))
           read.reads)
           c.in-Err.ensures.turn;
-      handed = λ m. handed_once _ _ _ _ _ _ _ (before.handed m) (read.handed.counted (before.handed m).0) read.reads;
+      handed = λ m. handed_once _ _ _ _ _ (before.handed m) (read.handed.counted (before.handed m).0) read.reads;
       writes = read.writes ∙ before.writes;
       is_filling = λ f. (read.fills (before.is_filling f)).0;
       store = λ s.
           let so_far = before.store s in
           let tells = g.met.T.Read.store_tells _ so_far.0 in
-          absurd (no_error _ _ _ _ tells.1 (read.told tells.0).1);
+          absurd (no_error _ tells.1 (read.told tells.0).1);
     }

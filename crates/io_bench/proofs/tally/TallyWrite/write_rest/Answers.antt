@@ -10,7 +10,7 @@ writes-init g c = record {
   sent = sent_none _ _;
   all = λ a. a;
   cost = λ a. refl;
-  counts = counted_none _ _ _ _ refl;
+  counts = counted_none refl;
   none = λ e. (refl, e);
   reads = refl;
 }
@@ -23,11 +23,11 @@ returns-in-Ok-eq0 g c =
     let some = not_empty _ c.writes.rest.now c.is_empty.ensures c.writes-test.true in
     record {
       fault = search rules;
-      sends = sends_zero _ _ _ _ _ _ _ _ before.sent c.write.ensures.moves is none some cc;
+      sends = sends_zero before.sent c.write.ensures.moves is none some cc;
       done = tt;
-      all = λ a. absurd (takes_some _ _ _ (c.write.ensures.all (before.all a)).1 is none some);
-      cost = λ m a. absurd (takes_some _ _ _ (c.write.ensures.all (before.all a)).1 is none some);
-      counts = counted_stop _ _ _ _ _ _ _ _ _ before.counts c.write.ensures.writes (omega (arith, c.write.ensures.moves.turns));
+      all = λ a. absurd (takes_some _ (c.write.ensures.all (before.all a)).1 is none some);
+      cost = λ m a. absurd (takes_some _ (c.write.ensures.all (before.all a)).1 is none some);
+      counts = counted_stop before.counts c.write.ensures.writes (omega (arith, c.write.ensures.moves.turns));
       none = λ e. absurd (omega (arith, some, ap length (before.none e).1));
       reads = c.write.ensures.reads ∙ before.reads;
     }
@@ -44,10 +44,10 @@ writes-preserved-in-Ok g c =
     let some = not_empty _ left c.is_empty.ensures c.writes-test.true in
     let fewer = fewer_left n _ _ _ left c.in-Ok.n-test.1 wrote.bound wrote.moves.turns in
     record {
-      sent = sent_more _ _ _ _ left _ n before.sent wrote.moves;
+      sent = sent_more left _ n before.sent wrote.moves;
       all = λ a. (wrote.all (before.all a)).0;
-      cost = λ a. one_call n left _ _ _ _ (same_count _ _ _ refl (wrote.all (before.all a)).1) some wrote.writes (before.cost a);
-      counts = counted_more _ _ _ _ _ _ _ _ _ before.counts wrote.writes (omega (arith, fewer));
+      cost = λ a. one_call n left _ _ _ _ (same_count refl (wrote.all (before.all a)).1) some wrote.writes (before.cost a);
+      counts = counted_more before.counts wrote.writes (omega (arith, fewer));
       none = λ e. absurd (omega (arith, some, ap length (before.none e).1));
       reads = wrote.reads ∙ before.reads;
     }
@@ -64,10 +64,10 @@ writes-preserved g c =
     let some = not_empty _ c.writes.rest.now c.is_empty.ensures c.writes-test.true in
     let fewer = fewer_turns c.in-Err.e _ _ (length c.writes.rest.now) wrote.moves.turns cc in
     record {
-      sent = sent_interruption _ _ _ _ _ _ before.sent wrote.moves;
+      sent = sent_interruption before.sent wrote.moves;
       all = λ a. (wrote.all (before.all a)).0;
       cost = λ a. absurd (no_error_there _ _ (wrote.all (before.all a)).1);
-      counts = counted_more _ _ _ _ _ _ _ _ _ before.counts wrote.writes (omega (arith, fewer));
+      counts = counted_more before.counts wrote.writes (omega (arith, fewer));
       none = λ e. absurd (omega (arith, some, ap length (before.none e).1));
       reads = wrote.reads ∙ before.reads;
     }
@@ -79,11 +79,11 @@ returns-in-Err-2 g c =
     let some = not_empty _ c.writes.rest.now c.is_empty.ensures c.writes-test.true in
     record {
       fault = cc;
-      sends = sends_fault _ _ _ _ _ _ before.sent wrote.moves;
+      sends = sends_fault before.sent wrote.moves;
       done = tt;
       all = λ a. absurd (no_error_there _ _ (wrote.all (before.all a)).1);
       cost = λ m a. absurd (no_error_there _ _ (wrote.all (before.all a)).1);
-      counts = counted_stop _ _ _ _ _ _ _ _ _ before.counts wrote.writes (omega (arith, wrote.moves.turns));
+      counts = counted_stop before.counts wrote.writes (omega (arith, wrote.moves.turns));
       none = λ e. absurd (omega (arith, some, ap length (before.none e).1));
       reads = wrote.reads ∙ before.reads;
     }
@@ -93,12 +93,12 @@ returns g c =
     let before = c.writes.invariant in
     let none = is_empty _ c.writes.rest.now c.is_empty.ensures c.writes-test.false in
     record {
-      sends = sends_done _ _ _ _ before.sent;
+      sends = sends_done before.sent;
       fault = tt;
       done = none;
       all = λ a. (before.all a, refl);
-      cost = λ m a. (tt, no_call _ _ _ none (before.cost a));
-      counts = counted_done _ _ _ _ _ _ _ before.counts (ap length none);
+      cost = λ m a. (tt, no_call none (before.cost a));
+      counts = counted_done before.counts (ap length none);
       none = λ e. (before.none e).0;
       reads = before.reads;
     }

@@ -24,7 +24,7 @@ returns g c = λ some t whole steady.
 
 pub returns-in_err-n : goal.returns-in_err-n
 returns-in_err-n g c = λ some t whole steady.
-    absurd (copies_steadily g.row.S _ c.in_err-n.field-0.0 _ _ _ (c.in_err-n.ensures.told t).1 whole steady)
+    absurd (copies_steadily g.row.S c.in_err-n.field-0.0 (c.in_err-n.ensures.told t).1 whole steady)
 
 pub returns-in_err-flush : goal.returns-in_err-flush
 returns-in_err-flush g c = λ some t whole steady.

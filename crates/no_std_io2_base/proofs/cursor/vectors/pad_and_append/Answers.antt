@@ -34,6 +34,6 @@ returns-then-is_ok g c =
     let past : length bs ≤ c.args.start = omega (arith, c.requires.gap, c.args.content.now.ok.0) in
     let held = c.reserve.new.self.ok.0 in
     record {
-      puts = padded c.args.start _ c.args.buf.now _ _ _ _ _ _ _ reserve.items held past grown resize.items sure append.items done;
+      puts = padded c.args.start c.args.buf.now reserve.items held past grown resize.items sure append.items done;
       full = λ no. absurd (both_ways _ no done);
     }

@@ -41,8 +41,8 @@ returns-then-n-room g c =
     let first = c.in_ok-extend_from_slice.ensures in
     let left = take_rest all n in
     record {
-      moved = moved_first n all _ _ _ _ room.items first.items left;
-      done = left ∙ drop_all n all (least_first _ _ _ c.min-n.ensures c.if-n-room.true);
+      moved = moved_first n all _ room.items first.items left;
+      done = left ∙ drop_all n all (least_first c.min-n.ensures c.if-n-room.true);
       grows = le_trans room.grows first.capacity;
       refused = tt;
       full = tt;
@@ -58,7 +58,7 @@ returns-in_err-reserve_room-2 g c =
     let more = c.in_err-reserve_room-2.ensures in
     let is = c.extend_from_slice.new.self.ok.0 in
     let rest = take (length all - n) (drop n all) in
-    let moved = moved_first n all rest _ _ _ room.items first.items (take_rest all n) in
+    let moved = moved_first n all rest room.items first.items (take_rest all n) in
     rw (p.1, p.2) (record {
       moved = moved_on _ _ _ _ _ moved more.items;
       done = tt;
@@ -66,7 +66,7 @@ returns-in_err-reserve_room-2 g c =
       refused = more.refused;
       full =
           no_room _ _ _ _ _ _ _ _ _ moved c.args.buf.now.ok.0 is (le_trans room.grows first.capacity) more.full
-          (wants_bounded _ _ _ c.saturating_add.ensures);
+          (wants_bounded _ c.saturating_add.ensures);
     })
 
 pub returns-in_err-extend_from_slice-2 : goal.returns-in_err-extend_from_slice-2
@@ -81,7 +81,7 @@ returns-in_err-extend_from_slice-2 g c =
     let is = c.reserve_room-2.new.buf.ok.0 in
     let grown = le_trans room.grows (le_trans first.capacity more.grows) in
     let rest = take (length all - n) (drop n all) in
-    let moved = moved_on _ _ _ _ _ (moved_first n all rest _ _ _ room.items first.items (take_rest all n)) more.items in
+    let moved = moved_on _ _ _ _ _ (moved_first n all rest room.items first.items (take_rest all n)) more.items in
     rw p.1 (record {
       moved = moved_on _ _ _ _ _ moved same.items;
       done = tt;
@@ -98,10 +98,10 @@ returns g c =
     let first = c.in_ok-extend_from_slice.ensures in
     let more = c.in_ok-reserve_room-2.ensures in
     let second = c.in_ok-extend_from_slice-2.ensures in
-    let moved = moved_first n all (take (length all - n) (drop n all)) _ _ _ room.items first.items (take_rest all n) in
+    let moved = moved_first n all (take (length all - n) (drop n all)) room.items first.items (take_rest all n) in
     let none = take_rest all (length all) ∙ drop_all (length all) all (le_refl _) in
     record {
-      moved = moved_second _ _ _ _ _ _ _ moved more.items second.items none;
+      moved = moved_second _ moved more.items second.items none;
       done = none;
       grows = le_trans room.grows (le_trans first.capacity (le_trans more.grows second.capacity));
       refused = tt;

@@ -5,4 +5,4 @@ pub returns-in-Some : goal.returns-in-Some
 returns-in-Some c = let found = c.in-Some.ensures.some in found_at _ _ c.in-Some.at found.0 found.1 found.2
 
 pub returns-in-None : goal.returns-in-None
-returns-in-None c = found_none _ _ _ c.is_empty.ensures c.in-None.ensures.none
+returns-in-None c = found_none c.is_empty.ensures c.in-None.ensures.none

@@ -15,9 +15,9 @@ reads-init g c =
       grows = omega arith;
       within = omega arith;
       capacity = le_refl _;
-      front = front_whole _ _ _ c.args.buf.now.ok.0 refl;
+      front = front_whole c.args.buf.now.ok.0 refl;
       turns = le_refl _;
-      told = λ t. (t, gathered_none _ _ _ (front_whole _ _ _ (start ∙ c.args.buf.now.ok.0) refl));
+      told = λ t. (t, gathered_none _ _ _ (front_whole (start ∙ c.args.buf.now.ok.0) refl));
       store = λ s. (s, refl, refl);
     }
 
@@ -46,8 +46,8 @@ returns-in-Ok-eq0 g c =
           let now = read.told so_far.0 in
           let none_left = (nothing_read _ _ _ _ _ now.1 is none some).1 in
           let none_was = (nothing_read _ _ _ _ _ now.1 is none some).0 in
-          let shown = gathered_same _ _ _ _ _ so_far.1 same in
-          (now.0, gathered_room _ _ _ _ true (gathered_over _ _ _ _ _ shown (none_was ∙ sym none_left)) (λ _. none_left));
+          let shown = gathered_same so_far.1 same in
+          (now.0, gathered_room true (gathered_over shown (none_was ∙ sym none_left)) (λ _. none_left));
       appends = front_cut _ filled _ mid _ before.grows same before.front;
       grows = omega (arith, before.grows, filled_length filled new.len _ mid new.ok.0 same within);
       capacity = omega (arith, before.capacity, c.open_room.ensures.grows, c.truncate.ensures.capacity);
@@ -58,7 +58,7 @@ returns-in-Ok-eq0 g c =
           let so_far = before.store s in
           let now = read.store so_far.0 in
           let tells = g.met.R.Read.store_tells _ so_far.0 in
-          (now.0, now.1 ∙ so_far.1, stays_at_end _ _ _ _ _ _ _ _ (read.told tells.0).1 is none now.2 so_far.2);
+          (now.0, now.1 ∙ so_far.1, stays_at_end _ _ _ _ (read.told tells.0).1 is none now.2 so_far.2);
     }
 
 pub reads-smaller-in-Ok : goal.reads-smaller-in-Ok
@@ -85,7 +85,7 @@ returns-in-Err-2 g c =
       told = λ t.
           let so_far = before.told t in
           let now = read.told so_far.0 in
-          (now.0, gathered_failed _ _ _ _ _ _ (gathered_same _ _ _ _ _ so_far.1 same) now.1 fault);
+          (now.0, gathered_failed (gathered_same so_far.1 same) now.1 fault);
       appends = front_cut start filled _ mid _ before.grows same before.front;
       grows = omega (arith, before.grows, filled_length filled new.len _ mid new.ok.0 same within);
       capacity = omega (arith, before.capacity, c.open_room.ensures.grows, c.truncate-in-Err-2.ensures.capacity);
@@ -95,7 +95,7 @@ returns-in-Err-2 g c =
       store = λ s.
           let so_far = before.store s in
           let tells = g.met.R.Read.store_tells _ so_far.0 in
-          absurd (no_error _ _ _ _ tells.1 (read.told tells.0).1);
+          absurd (no_error _ tells.1 (read.told tells.0).1);
     }
 
 pub reads-preserved-in-Ok : goal.reads-preserved-in-Ok
@@ -121,12 +121,12 @@ reads-preserved-in-Ok g c =
       told = λ t.
           let so_far = before.told t in
           let now = read.told so_far.0 in
-          (now.0, gathered_read _ _ _ _ _ _ _ _ so_far.1 now.1 (shown ∙ ap (λ l. l ++ take n c.read.new.buf) c.open_room.ensures.front));
+          (now.0, gathered_read _ so_far.1 now.1 (shown ∙ ap (λ l. l ++ take n c.read.new.buf) c.open_room.ensures.front));
       store = λ s.
           let so_far = before.store s in
           let now = read.store so_far.0 in
           let tells = g.met.R.Read.store_tells _ so_far.0 in
-          (now.0, now.1 ∙ so_far.1, moved_read _ _ _ _ _ _ _ read.bound (read.told tells.0).1.0 now.2 so_far.2);
+          (now.0, now.1 ∙ so_far.1, moved_read _ _ _ _ read.bound (read.told tells.0).1.0 now.2 so_far.2);
     }
 
 pub reads-preserved : goal.reads-preserved
@@ -151,13 +151,13 @@ reads-preserved g c =
           let so_far = before.told t in
           let now = read.told so_far.0 in (
             now.0,
-            gathered_interruption _ _ _ _ _ _ (gathered_same _ _ _ _ _ so_far.1 (kept ∙ c.open_room.ensures.front)) now.1
+            gathered_interruption _ _ _ _ _ _ (gathered_same so_far.1 (kept ∙ c.open_room.ensures.front)) now.1
                 (sym c.is_interrupted.ensures ∙ c.if-is_interrupted.true),
           );
       store = λ s.
           let so_far = before.store s in
           let tells = g.met.R.Read.store_tells _ so_far.0 in
-          absurd (no_error _ _ _ _ tells.1 (read.told tells.0).1);
+          absurd (no_error _ tells.1 (read.told tells.0).1);
     }
 
 pub returns : goal.returns
@@ -169,7 +169,7 @@ returns g c =
     record {
       told = λ t.
           let so_far = before.told t in
-          (so_far.0, gathered_room _ _ _ _ false (gathered_same _ _ _ _ _ so_far.1 (sym whole)) (λ h. absurd (true≢false (sym h))));
+          (so_far.0, gathered_room false (gathered_same so_far.1 (sym whole)) (λ h. absurd (true≢false (sym h))));
       appends = before.front;
       grows = le_trans before.grows before.within;
       capacity = before.capacity;

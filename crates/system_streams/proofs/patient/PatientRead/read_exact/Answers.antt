@@ -25,7 +25,7 @@ returns-in-Ok-eq0 g c =
     let room = part_room at old c.reads-test.true in
     let stays = length_stays at old c.read.new.buf c.read.auto.buf in
     let known = g.D.Read.remaining in
-    let none = consumed_end _ _ c.read.result _ _ _ c.in-Ok-eq0.is c.in-Ok-eq0.field-0-test
+    let none = consumed_end c.read.result _ c.in-Ok-eq0.is c.in-Ok-eq0.field-0-test
     (λ e. ap (λ p. known (patient_device p)) (read.over e).1)
     (λ e. (read.last room e).0) read.bytes in
     record {

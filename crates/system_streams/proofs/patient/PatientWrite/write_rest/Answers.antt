@@ -5,7 +5,7 @@ use Rattle.system_streams.proofs.LoopLemmas.{turn_spent, ends_zero, ends_writes,
 use Rattle.system_streams.proofs.patient.PatientWrite.write_rest.Goals as goal
 
 pub writes-init : goal.writes-init
-writes-init g c = record { gives = gives_none _ _ _; turns = le_refl _ }
+writes-init g c = record { gives = gives_none; turns = le_refl _ }
 
 pub returns-in-Ok-eq0 : goal.returns-in-Ok-eq0
 returns-in-Ok-eq0 g c =
@@ -13,11 +13,11 @@ returns-in-Ok-eq0 g c =
     let wrote = c.write.ensures in
     let is = c.in-Ok-eq0.is in
     let fault : IsFault c.took_nothing.result = search rules in
-    let gives = gives_zero _ _ _ _ _ _ _ _ _ _ before.gives is c.in-Ok-eq0.field-0-test wrote.taken wrote.bytes in
-    let ends = ends_zero c.took_nothing.result _ _ _ _ _ c.took_nothing.ensures before.turns is wrote.asked in
+    let gives = gives_zero before.gives is c.in-Ok-eq0.field-0-test wrote.taken wrote.bytes in
+    let ends = ends_zero c.took_nothing.result c.took_nothing.ensures before.turns is wrote.asked in
     record {
       fault = fault;
-      sends = gives_sends _ _ _ _ _ _ (Err c.took_nothing.result) _ _ gives (no_turn c.took_nothing.result _ _ fault ends.0);
+      sends = gives_sends (Err c.took_nothing.result) _ _ gives (no_turn c.took_nothing.result _ _ fault ends.0);
       done = tt;
       bytes = gives;
       ends = ends;
@@ -31,7 +31,7 @@ writes-preserved-in-Ok g c =
     let before = c.writes.invariant in
     let wrote = c.in-Ok.ensures in
     record {
-      gives = gives_more _ _ _ _ _ _ _ _ c.in-Ok.n before.gives wrote.taken wrote.bytes;
+      gives = gives_more c.in-Ok.n before.gives wrote.taken wrote.bytes;
       turns = omega (arith, before.turns, wrote.asked);
     }
 
@@ -47,7 +47,7 @@ writes-preserved g c =
     let wrote = c.in-Err.ensures in
     let again : IsInterruption c.in-Err.e = cc in
     record {
-      gives = gives_same _ _ _ _ _ _ _ _ before.gives wrote.taken wrote.bytes;
+      gives = gives_same before.gives wrote.taken wrote.bytes;
       turns = omega (arith, before.turns, turn_spent c.in-Err.e _ _ again wrote.asked);
     }
 
@@ -56,11 +56,11 @@ returns-in-Err-2 g c =
     let before = c.writes.invariant in
     let wrote = c.in-Err.ensures in
     let fault : IsFault c.in-Err.e = cc in
-    let gives = gives_same _ _ _ _ _ _ _ _ before.gives wrote.taken wrote.bytes in
+    let gives = gives_same before.gives wrote.taken wrote.bytes in
     let ends = ends_writes c.in-Err.e _ _ _ fault before.turns wrote.asked in
     record {
       fault = fault;
-      sends = gives_sends _ _ _ _ _ _ (Err c.in-Err.e) _ _ gives (no_turn c.in-Err.e _ _ fault ends.0);
+      sends = gives_sends (Err c.in-Err.e) _ _ gives (no_turn c.in-Err.e _ _ fault ends.0);
       done = tt;
       bytes = gives;
       ends = ends;
@@ -71,7 +71,7 @@ returns g c =
     let before = c.writes.invariant in
     record {
       fault = tt;
-      sends = gives_sends _ _ _ _ _ _ _ _ _ before.gives (omega (arith, before.turns));
+      sends = gives_sends _ _ _ before.gives (omega (arith, before.turns));
       done = is_empty _ c.writes.rest.now c.is_empty.ensures c.writes-test.false;
       bytes = before.gives;
       ends = before.turns;

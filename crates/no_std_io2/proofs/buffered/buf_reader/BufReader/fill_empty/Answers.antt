@@ -21,7 +21,7 @@ returns g c =
       sound = λ s.
           let now = read.store s.0 in
           let tells = g.met.R.Read.store_tells _ s.0 in
-          let sound = sound_ahead c.fill.result held _ _ _ _ _ _ tells.1 (read.told tells.0).1 now.2 now.1 in
+          let sound = sound_ahead c.fill.result held _ tells.1 (read.told tells.0).1 now.2 now.1 in
           (now.0, sound_alone (ahead_behind c.fill.new.self) held _ _ read.behind sound.0);
       told = λ t. let now = read.told t in (now.0, fill_told c.fill.result old held _ _ none read.err now.1);
       end = λ t. fill_end c.fill.result old held _ _ none (read.told t).1;
@@ -35,7 +35,7 @@ returns g c =
       store = λ s.
           let now = read.store s.0 in
           let tells = g.met.R.Read.store_tells _ s.0 in
-          let sound = sound_ahead c.fill.result held _ _ _ _ _ _ tells.1 (read.told tells.0).1 now.2 now.1 in
+          let sound = sound_ahead c.fill.result held _ tells.1 (read.told tells.0).1 now.2 now.1 in
           let here = position_none (g.R.Stored.position c.args.self.now.inner) (reader_held c.args.self.now) none in
           ((now.0, sound.0), now.1, sound.1 ∙ sym here);
     }

@@ -36,7 +36,7 @@ reads-init g c =
           let now = gave.store s in
           (now.0, ap g.R.Stored.content gave.inner, omega (arith, now.1, moved, before, after));
       sound = gave.sound;
-      filling = λ f. (subst g.R.Read.is_filling same f, exact_begins _ _ _ _ _ _ _ all left (omega (arith, moved, before)));
+      filling = λ f. (subst g.R.Read.is_filling same f, exact_begins all left (omega (arith, moved, before)));
       cost = λ m f. (subst g.R.Read.is_metered same m, omega (arith, ap g.R.Read.cost gave.inner));
     }
 
@@ -57,12 +57,12 @@ reads-preserved-in-Ok g c =
       told = λ t.
           let before = c.reads.invariant.told t in
           let now = read.told before.0 in
-          (now.0, taken_read _ _ _ _ _ _ _ _ before.1 now.1 (omega (arith, read.bound)) (omega arith) shown);
+          (now.0, taken_read _ before.1 now.1 (omega (arith, read.bound)) (omega arith) shown);
       store = λ t.
           let before = c.reads.invariant.store t in
           let now = read.store before.0 in
           let tells = g.met.R.Read.store_tells _ before.0.0 in
-          (now.0, now.1 ∙ before.1, moved_read _ _ _ _ _ _ _ (omega (arith, read.bound)) (read.told tells.0).1.0 now.2 before.2);
+          (now.0, now.1 ∙ before.1, moved_read _ _ _ _ (omega (arith, read.bound)) (read.told tells.0).1.0 now.2 before.2);
       sound = λ h. read.sound (c.reads.invariant.sound h);
       filling = λ f.
           let before = c.reads.invariant.filling f in
@@ -71,7 +71,7 @@ reads-preserved-in-Ok g c =
           let moved = moved_length (reader_held old) (reader_held new) (take n c.read_anew.new.buf) (g.R.Read.events (reader_inner
           old)) (g.R.Read.events (reader_inner new)) n (read.told tells.0).1.0 (length-take-le n c.read_anew.new.buf read.bound) in (
             now.0,
-            exact_read _ _ _ _ _ _ _ n _ _ before.1 (omega arith) (omega (arith, now.1)) (λ h. ap length (read.direct before.0
+            exact_read n _ _ before.1 (omega arith) (omega (arith, now.1)) (λ h. ap length (read.direct before.0
                 (omega (arith, h)))) (λ h. read.filled before.0 (omega (arith, h))) moved (omega arith) (omega (arith, c.requires)),
           );
       cost = λ m f.
@@ -102,13 +102,13 @@ reads-preserved g c =
           let now = read.told before.0 in
           let long = length-take-le at buf (omega arith) in (
             now.0,
-            taken_interruption _ _ _ _ _ _ _ before.1 now.1 again (omega arith) (take-put_mid_below _ _ _ _ _ (le_refl _) (omega
+            taken_interruption before.1 now.1 again (omega arith) (take-put_mid_below _ _ _ _ _ (le_refl _) (omega
                 arith)),
           );
       store = λ t.
           let before = c.reads.invariant.store t in
           let tells = g.met.R.Read.store_tells _ before.0.0 in
-          absurd (no_error_behind _ _ _ _ _ tells.1 (read.told tells.0).1);
+          absurd (no_error_behind _ _ tells.1 (read.told tells.0).1);
       sound = λ h. read.sound (c.reads.invariant.sound h);
       filling = λ f. absurd (read.gives (c.reads.invariant.filling f).0).1;
       cost = λ m f. absurd (read.gives (c.reads.invariant.filling f).0).1;
@@ -123,13 +123,13 @@ returns-in-Err-2 g c =
           let before = c.reads.invariant.told t in
           let now = read.told before.0 in
           let long = length-take-le c.reads.at c.reads.buf (omega arith) in
-          (now.0, inl (taken_fault _ _ _ _ _ _ _ before.1 now.1 fault (omega (arith, long))));
+          (now.0, inl (taken_fault before.1 now.1 fault (omega (arith, long))));
       fault = fault;
       no_later = omega (arith, read.no_later, c.reads.invariant.turns);
       store = λ t.
           let before = c.reads.invariant.store t in
           let tells = g.met.R.Read.store_tells _ before.0.0 in
-          absurd (no_error_behind _ _ _ _ _ tells.1 (read.told tells.0).1);
+          absurd (no_error_behind _ _ tells.1 (read.told tells.0).1);
       sound = λ h. read.sound (c.reads.invariant.sound h);
       asks = λ m f. absurd (read.gives (c.reads.invariant.filling f).0).1;
       left = λ f. absurd (read.gives (c.reads.invariant.filling f).0).1;
@@ -147,7 +147,7 @@ returns-in-Ok-eq0 g c =
           let now = read.told before.0 in
           let long = length-take-le c.reads.at c.reads.buf (omega arith) in (
             now.0,
-            inr (taken_end _ _ _ _ _ c.failed_to_fill.result _ c.in-Ok-eq0.field-0 _ before.1 now.1 zero (omega arith)
+            inr (taken_end c.failed_to_fill.result _ c.in-Ok-eq0.field-0 _ before.1 now.1 zero (omega arith)
                 c.failed_to_fill.ensures (omega (arith, long))),
           );
       fault = ap is_interruption c.failed_to_fill.ensures.0;
@@ -156,7 +156,7 @@ returns-in-Ok-eq0 g c =
           let before = c.reads.invariant.store t in
           let now = read.store before.0 in
           let tells = g.met.R.Read.store_tells _ before.0.0 in
-          (now.0, now.1 ∙ before.1, moved_read _ _ _ _ _ _ _ (omega (arith, read.bound)) (read.told tells.0).1.0 now.2 before.2);
+          (now.0, now.1 ∙ before.1, moved_read _ _ _ _ (omega (arith, read.bound)) (read.told tells.0).1.0 now.2 before.2);
       sound = λ h. read.sound (c.reads.invariant.sound h);
       asks = λ m f.
           let before = c.reads.invariant.cost m f in
@@ -172,7 +172,7 @@ returns-in-Ok-eq0 g c =
           let told = (read.told tells.0).1 in
           let end = told.1 zero (omega arith) in
           let held = length (reader_held c.read_anew.new.self) in
-          let left = exact_left-end g.row.S _ _ _ _ _ _ held (length c.reads.buf - c.reads.at) so_far.1 (omega arith)
+          let left = exact_left-end g.row.S held (length c.reads.buf - c.reads.at) so_far.1 (omega arith)
           (omega (arith, gives.1, zero)) (λ h. ap length (read.direct so_far.0 (omega (arith, h))))
           (λ h. omega (arith, read.filled so_far.0 (omega (arith, h)), zero)) (omega (arith, c.requires)) in
           (gives.0, left.0, ap length (sym (nothing_read _ _ _ _ told zero) ∙ end) ∙ left.1);
@@ -189,11 +189,11 @@ returns g c =
       sound = all.sound;
       asks = λ m f.
           let now = all.cost m f in
-          (now.0, omega (arith, now.1, exact_end _ _ _ _ _ _ _ (all.filling f).1 (omega arith) (omega (arith, c.requires))));
+          (now.0, omega (arith, now.1, exact_end (all.filling f).1 (omega arith) (omega (arith, c.requires))));
       left = λ f.
           let now = all.filling f in
           let to_come = length-events (reader_held c.reads.self) (g.R.Read.events (reader_inner c.reads.self)) in
-          let left = exact_left-full _ _ _ _ _ _ _ (length (reader_events g.R.Read.events c.reads.self)) now.1 (omega arith) (omega
+          let left = exact_left-full (length (reader_events g.R.Read.events c.reads.self)) now.1 (omega arith) (omega
           (arith, c.requires)) to_come in
           (now.0, left.0, left.1);
     }

@@ -19,7 +19,7 @@ returns-in-Some g c =
           let now = seek.store s.0 in
           let rest : ℤ = to_z w64 (of_z w64 c.in-Some.rest) in
           let is : rest ≡ c.args.offset -ℤ pos (length held) = omega (arith, ints, c.in-Some.ensures.1, c.len-held.ensures.len) in
-          let done = sought_current c.args.offset rest c.seek_inner.result held (reader_held c.seek_inner.new.self) _ _ _ _ is s.1
+          let done = sought_current c.args.offset rest c.seek_inner.result held (reader_held c.seek_inner.new.self) is s.1
           now.1 now.2 seek.empty seek.kept in
           ((now.0, done.0), now.1, done.1);
       position = seek.position;
@@ -48,7 +48,7 @@ returns-in_ok-seek_back-in-None g c =
       store = λ s.
           let there = first.store s in
           let now = second.store there.0 in
-          let done = sought_again c.args.offset _ answer (reader_held mid) (reader_held new) _ _ _ _ _ _ first.empty same there.2
+          let done = sought_again c.args.offset answer (reader_held mid) (reader_held new) _ first.empty same there.2
           there.3 now.2 second.empty second.kept in
           ((now.0, done.0), now.1 ∙ there.2, done.1);
       position = second.position;

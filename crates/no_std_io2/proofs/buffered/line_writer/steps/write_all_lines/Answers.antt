@@ -51,7 +51,7 @@ returns-clause-after g c =
 
 pub returns-clause-rest : goal.returns-clause-rest
 returns-clause-rest g c =
-    HoldsEnd-rest _ c.args.x.now _ _ _ c.args.len c.in_ok-send_lines.ensures.sent (take_rest c.args.x.now c.args.len)
+    HoldsEnd-rest _ c.args.x.now c.args.len c.in_ok-send_lines.ensures.sent (take_rest c.args.x.now c.args.len)
     c.write_all.ensures.rest
 
 pub returns-in_err-send_lines-clause-after : goal.returns-in_err-send_lines-clause-after

@@ -25,9 +25,9 @@ returns-in_err-appended g c =
     let held = c.drop_front.ensures.held in
     let left = length c.append_rest-appended.new.rest.now in
     rw (p.1, p.2) (record {
-      moved = moved_from _ _ _ shown cut.moved (ap (λ k. k - left) c.len.ensures.len) held;
+      moved = moved_from _ shown cut.moved (ap (λ k. k - left) c.len.ensures.len) held;
       done = tt;
-      kept = kept_in_all _ _ _ _ _ c.drop_front.ensures.behind held;
+      kept = kept_in_all _ _ _ c.drop_front.ensures.behind held;
       grows = cut.grows;
       refused = cut.refused;
       full = rw (sym shown) cut.full;

@@ -14,8 +14,8 @@ returns-in_err-answer g c =
     let left = c.left-rest.ensures.left in
     let said = c.in_err-answer.ensures in
     rw (p.1, p.2) (record {
-      told = λ _. rw (left_behind content start _ _ _ _ left said.moved, sym left) (tt, moved_part _ _ _ _ _ said.moved said.refused);
-      appends = front_stays _ _ _ _ _ said.moved c.args.buf.now.ok.0;
+      told = λ _. rw (left_behind content start _ left said.moved, sym left) (tt, moved_part _ said.moved said.refused);
+      appends = front_stays said.moved c.args.buf.now.ok.0;
       count = tt;
       capacity = said.grows;
       room = λ _. λ enough. absurd (never_refused _ _ _ enough (subst
@@ -25,7 +25,7 @@ returns-in_err-answer g c =
       metered = λ h. h;
       filling = λ h. h;
       store = λ h.
-          let place = place_behind content start _ _ _ _ h.0 h.1 left said.moved in
+          let place = place_behind content start _ h.0 h.1 left said.moved in
           ((h.0, place.0), refl, place.1);
     })
 
@@ -36,9 +36,9 @@ returns g c =
     let left = c.left-rest.ensures.left in
     let said = c.in_ok-answer.ensures in
     record {
-      told = λ _. rw (left_behind content start _ _ _ _ left said.moved, sym left) (tt, moved_whole _ _ _ _ said.moved said.done);
-      appends = front_stays _ _ _ _ _ said.moved c.args.buf.now.ok.0;
-      count = longer_by _ _ _ _ _ _ said.moved said.done c.args.buf.now.ok.0 c.append_rest-answer.new.buf.ok.0;
+      told = λ _. rw (left_behind content start _ left said.moved, sym left) (tt, moved_whole _ _ _ _ said.moved said.done);
+      appends = front_stays said.moved c.args.buf.now.ok.0;
+      count = longer_by _ said.moved said.done c.args.buf.now.ok.0 c.append_rest-answer.new.buf.ok.0;
       capacity = said.grows;
       room = λ _. λ _. refl;
       fault = tt;
@@ -46,6 +46,6 @@ returns g c =
       metered = λ h. h;
       filling = λ h. h;
       store = λ h.
-          let place = place_behind content start _ _ _ _ h.0 h.1 left said.moved in
+          let place = place_behind content start _ h.0 h.1 left said.moved in
           ((h.0, place.0), refl, place.1);
     }

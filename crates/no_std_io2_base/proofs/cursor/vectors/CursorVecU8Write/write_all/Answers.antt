@@ -12,7 +12,7 @@ returns-then-is_empty g c =
       moves = moves_none _ _ none;
       all = λ h. h;
       cost = λ h. absurd h;
-      puts = puts_all_none _ _ _ none;
+      puts = puts_all_none none;
       empty = λ zero. (refl, refl);
       full = tt;
     }
@@ -24,7 +24,7 @@ returns-in_err-write_at g c =
     let some : 0 < length c.args.buf.now = not_empty _ _ c.is_empty.ensures c.if-is_empty.false in
     rw (p.1, p.2) (record {
       fault = refused_fault _ _ _ put.1;
-      moves = puts_moves_none _ _ _ _ _ _ put;
+      moves = puts_moves_none put;
       all = λ h. h;
       cost = λ h. absurd h;
       puts = put;
@@ -38,10 +38,10 @@ returns g c =
     let some : 0 < length c.args.buf.now = not_empty _ _ c.is_empty.ensures c.if-is_empty.false in
     record {
       fault = tt;
-      moves = puts_moves_all _ _ _ _ _ _ put;
+      moves = puts_moves_all _ _ put;
       all = λ h. h;
       cost = λ h. absurd h;
-      puts = puts_all_some _ _ _ _ _ _ put some;
+      puts = puts_all_some _ _ put some;
       empty = λ zero. absurd (omega (arith, some, zero));
       full = tt;
     }

@@ -15,7 +15,7 @@ pieces-init g c =
       front = ([], sym (append-nil _));
       turns = le_refl _;
       spent = λ more. absurd (omega (arith, more));
-      told = λ t. (t, piece_none _ _ _ _ refl);
+      told = λ t. (t, piece_none refl);
     }
 
 pub returns-then-is_whole : goal.returns-then-is_whole
@@ -25,7 +25,7 @@ returns-then-is_whole g c =
     let dropped = c.consume.ensures in
     let found = c.find_piece-len.ensures in
     let appended = c.in_ok-append-in-Ok.ensures.ok in
-    let grown = part_fits _ _ _ _ c.in_ok-append-in-Ok.ensures.len found.within in
+    let grown = part_fits _ _ c.in_ok-append-in-Ok.ensures.len found.within in
     record {
       told = λ t.
           let so_far = before.told t in
@@ -37,7 +37,7 @@ returns-then-is_whole g c =
           c.consume.new.self.value)
           c.find_piece-len.result.0 c.in-Ok.is filled.lends lent.1 rest.1 in (
             rest.0,
-            piece_ended _ _ _ _ _ _ _ _ _ so_far.1 part
+            piece_ended so_far.1 part
                 (whole_part _ _ _ _ _ found c.if-is_whole.true (c.in-Ok.ensures.end so_far.0)) appended
                 (omega (arith, c.append.new.buf.ok.0, c.args.buf.now.ok.0, c.len.ensures, before.start)),
           );
@@ -70,7 +70,7 @@ pieces-preserved-else-is_whole g c =
       turns = omega (arith, dropped.turns, filled.turns, before.turns);
       spent =
           spent_more _ _ _ _ _ _ _ _ before.spent before.turns filled.turns dropped.turns dropped.turn
-          (part_fits _ _ _ _ c.in_ok-append-in-Ok.ensures.len found.within);
+          (part_fits _ _ c.in_ok-append-in-Ok.ensures.len found.within);
       told = λ t.
           let so_far = before.told t in
           let lent = filled.told so_far.0 in
@@ -80,7 +80,7 @@ pieces-preserved-else-is_whole g c =
           ((goal.BufRead-dyn g (c.consume.new.self.vtable, c.consume.new.self.value)).Read.events
           c.consume.new.self.value)
           c.find_piece-len.result.0 c.in-Ok.is filled.lends lent.1 rest.1 in
-          (rest.0, piece_more _ _ _ _ _ _ _ _ so_far.1 part (found.open_ended c.if-is_whole.false).1 appended);
+          (rest.0, piece_more _ so_far.1 part (found.open_ended c.if-is_whole.false).1 appended);
     }
 
 pub pieces-smaller-else-is_whole : goal.pieces-smaller-else-is_whole
@@ -103,7 +103,7 @@ pieces-preserved g c =
           let so_far = before.told t in
           let lent = filled.told so_far.0 in (
             lent.0,
-            piece_interruption _ _ _ _ _ _ _ so_far.1 (error_taken _ _ _ _ c.in-Err.is lent.1)
+            piece_interruption so_far.1 (error_taken _ _ _ _ c.in-Err.is lent.1)
                 (sym c.is_interrupted.ensures ∙ c.if-is_interrupted.true),
           );
     }
@@ -120,13 +120,13 @@ returns-in-Err-2 g c =
       told = λ t.
           let so_far = before.told t in
           let lent = filled.told so_far.0 in
-          (lent.0, piece_fault _ _ _ _ _ _ _ so_far.1 (error_taken _ _ _ _ c.in-Err.is lent.1) fault);
+          (lent.0, piece_fault so_far.1 (error_taken _ _ _ _ c.in-Err.is lent.1) fault);
       appends = before.front;
       count = tt;
       capacity = before.capacity;
       room = λ t enough.
           let so_far = before.told t in
-          fault_is_first _ _ _ _ _ _ _ so_far.1 (error_taken _ _ _ _ c.in-Err.is (filled.told so_far.0).1) fault;
+          fault_is_first so_far.1 (error_taken _ _ _ _ c.in-Err.is (filled.told so_far.0).1) fault;
       fault = fault;
       turns = le_trans filled.turns before.turns;
       turn = tt;
@@ -145,15 +145,15 @@ returns-in_err-append-in-Ok g c =
       told = λ t.
           let so_far = before.told t in
           let lent = filled.told so_far.0 in
-          (lent.0, piece_memory _ _ _ _ _ _ _ _ so_far.1 (none_taken _ c.in-Ok.lent _ _ c.in-Ok.is lent.1) refused.err refused.refused);
-      appends = front_same _ _ _ before.front refused.err;
+          (lent.0, piece_memory so_far.1 (none_taken _ c.in-Ok.lent _ _ c.in-Ok.is lent.1) refused.err refused.refused);
+      appends = front_same _ before.front refused.err;
       count = tt;
       capacity = le_trans before.capacity c.append.ensures.grows;
       room = λ t enough.
           let so_far = before.told t in
           let found = c.find_piece-len.ensures in
           absurd
-          (part_has_room _ _ _ _ _ _ _ _ _ _ _ _ so_far.1 (c.in-Ok.ensures.front so_far.0) found enough
+          (part_has_room so_far.1 (c.in-Ok.ensures.front so_far.0) found enough
           before.capacity c.args.buf.now.ok.0 c.pieces.buf.ok.0 refused.full);
       fault = memory_fault _ refused.refused;
       turns = le_trans filled.turns before.turns;

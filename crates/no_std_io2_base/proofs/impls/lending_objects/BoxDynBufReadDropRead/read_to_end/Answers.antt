@@ -14,8 +14,8 @@ returns-in_err-reserve_room g c =
     let refused = c.in_err-reserve_room.ensures.refused in
     let same = c.reserve_room.ensures.items in
     rw (p.1, p.2) (record {
-      told = λ t. (t, gathered_memory _ _ _ _ _ (gathered_none _ _ _ same) refused);
-      appends = front_whole _ _ _ c.args.buf.now.ok.0 same;
+      told = λ t. (t, gathered_memory (gathered_none _ _ _ same) refused);
+      appends = front_whole c.args.buf.now.ok.0 same;
       count = tt;
       capacity = c.reserve_room.ensures.grows;
       room = λ t enough. absurd (omega (arith, enough.1, c.in_err-reserve_room.ensures.full));
@@ -34,9 +34,9 @@ reads-init g c =
       grows = omega arith;
       within = omega arith;
       capacity = c.reserve_room.ensures.grows;
-      front = front_whole _ _ _ c.args.buf.now.ok.0 same;
+      front = front_whole c.args.buf.now.ok.0 same;
       turns = le_refl _;
-      told = λ t. (t, gathered_none _ _ _ (front_whole _ _ _ (start ∙ c.args.buf.now.ok.0) same));
+      told = λ t. (t, gathered_none _ _ _ (front_whole (start ∙ c.args.buf.now.ok.0) same));
     }
 
 pub returns-in_err-open_room : goal.returns-in_err-open_room
@@ -51,12 +51,12 @@ returns-in_err-open_room g c =
     rw (p.1, p.2) (record {
       told = λ t.
           let so_far = before.told t in
-          (so_far.0, gathered_memory _ _ _ _ _ (gathered_same _ _ _ _ _ so_far.1 same) refused);
+          (so_far.0, gathered_memory (gathered_same so_far.1 same) refused);
       appends = front_cut _ filled _ c.reads.buf.items _ before.grows same before.front;
       count = tt;
       capacity = le_trans before.capacity c.open_room.ensures.grows;
       room = λ t enough.
-          let left = gathered_fits _ _ _ _ _ _ _ (before.told t).1 enough c.args.buf.now.ok.0 before.capacity in
+          let left = gathered_fits (before.told t).1 enough c.args.buf.now.ok.0 before.capacity in
           absurd (omega (arith, full.0, left, filled_bytes filled _ _ before.within c.reads.buf.ok.0));
       fault = memory_fault _ refused;
       turns = before.turns;
@@ -85,7 +85,7 @@ returns-in-Ok-eq0 g c =
       told = λ t.
           let so_far = before.told t in
           let now = read.told so_far.0 in
-          (now.0, gathered_stops _ _ _ _ _ _ _ _ _ (gathered_same _ _ _ _ _ so_far.1 same) now.1 is none some count);
+          (now.0, gathered_stops _ (gathered_same so_far.1 same) now.1 is none some count);
       appends = front_cut _ filled _ mid _ before.grows same before.front;
       count = len_cut c.len-start.result filled new.len _ _ mid c.len-start.ensures before.grows new.ok.0 same within;
       capacity = omega (arith, before.capacity, c.open_room.ensures.grows, c.truncate.ensures.capacity);
@@ -118,13 +118,13 @@ returns-in-Err-2 g c =
       told = λ t.
           let so_far = before.told t in
           let now = read.told so_far.0 in
-          (now.0, gathered_fault _ _ _ _ _ _ (gathered_same _ _ _ _ _ so_far.1 same) now.1 fault);
+          (now.0, gathered_fault (gathered_same so_far.1 same) now.1 fault);
       appends = front_cut start filled _ c.reads.buf.items _ before.grows same before.front;
       count = tt;
       capacity = omega (arith, before.capacity, c.open_room.ensures.grows, c.truncate-in-Err-2.ensures.capacity);
       room = λ t enough.
           let so_far = before.told t in
-          absurd (gathered_no_fault _ _ _ _ _ _ so_far.1 (read.told so_far.0).1 fault enough.0);
+          absurd (gathered_no_fault so_far.1 (read.told so_far.0).1 fault enough.0);
       fault = fault;
       turns = le_trans read.turns before.turns;
       metered = λ h. h;
@@ -155,7 +155,7 @@ reads-preserved-in-Ok g c =
       told = λ t.
           let so_far = before.told t in
           let now = read.told so_far.0 in
-          (now.0, gathered_read _ _ _ _ _ _ _ _ so_far.1 now.1 (shown ∙ ap (λ l. l ++ take n c.read.new.buf) c.open_room.ensures.front));
+          (now.0, gathered_read _ so_far.1 now.1 (shown ∙ ap (λ l. l ++ take n c.read.new.buf) c.open_room.ensures.front));
     }
 
 pub reads-preserved : goal.reads-preserved
@@ -180,7 +180,7 @@ reads-preserved g c =
           let so_far = before.told t in
           let now = read.told so_far.0 in (
             now.0,
-            gathered_interruption _ _ _ _ _ _ (gathered_same _ _ _ _ _ so_far.1 (kept ∙ c.open_room.ensures.front)) now.1
+            gathered_interruption _ _ _ _ _ _ (gathered_same so_far.1 (kept ∙ c.open_room.ensures.front)) now.1
                 (sym c.is_interrupted.ensures ∙ c.if-is_interrupted.true),
           );
     }

@@ -7,7 +7,7 @@ pub returns-in_err-append_rest-clause-told : goal.returns-in_err-append_rest-cla
 returns-in_err-append_rest-clause-told g c = λ _.
     let p = err_from_is_err_and c.from_residual.result c.from_residual.ensures.1 in
     let said = c.in_err-append_rest.ensures in
-    rw (p.1, p.2) (tt, moved_part _ _ _ _ _ said.moved said.refused)
+    rw (p.1, p.2) (tt, moved_part _ said.moved said.refused)
 
 pub returns-in_err-append_rest-clause-room : goal.returns-in_err-append_rest-clause-room
 returns-in_err-append_rest-clause-room g c = λ _. λ enough.

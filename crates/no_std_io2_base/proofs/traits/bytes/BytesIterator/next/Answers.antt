@@ -11,5 +11,5 @@ reads-preserved g c =
       told = λ t.
           let before = c.reads.invariant.told t in
           let now = read.told before.0 in
-          (now.0, passed_interruption _ _ _ _ before.1 now.1 (search rules));
+          (now.0, passed_interruption before.1 now.1 (search rules));
     }

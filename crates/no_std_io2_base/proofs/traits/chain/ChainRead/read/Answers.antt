@@ -21,7 +21,7 @@ returns-in_err-n g c =
       turns = omega (arith, read.turns);
       turn = omega (arith, read.turn);
       in_turn = turn_of_first _ _ going refl;
-      ended = λ t none some. absurd (failed_none _ _ _ (read.told t).1 none);
+      ended = λ t none some. absurd (failed_none (read.told t).1 none);
     })
 
 -- what the first gave: how it stood at its end is left to the search
@@ -34,7 +34,7 @@ returns-in_default-clause-turn g c = first_turn c.in_ok-n.n _ _ _ c.in_ok-n.ensu
 pub returns-in_default-clause-ended : goal.returns-in_default-clause-ended
 returns-in_default-clause-ended g c = λ t none some.
     let read = c.in_ok-n.ensures in
-    let zero = gave_none _ _ _ _ (read.told t).1 read.bound none in
+    let zero = gave_none _ _ (read.told t).1 read.bound none in
     search (rules, not_empty)
 
 pub returns : goal.returns
@@ -46,9 +46,9 @@ returns g c =
       | then-not-self+in_ok-n+in-0 w ↦
           let room : 0 < length w.read.new.buf = search (rules, not_empty) in
           let read = w.read.ensures in
-          past_read _ _ _ _ _ _ _ _ w.self-is w.if-not-self.true read.turns
+          past_read w.self-is w.if-not-self.true read.turns
           (λ t. (nothing_read _ _ _ _ _ (read.told t).1 w.in_ok-n.was w.in-0.is room).0)
-      | else-not-self w ↦ past_done _ _ _ _ _ _ _ w.self-is w.if-not-self.false
+      | else-not-self w ↦ past_done w.self-is w.if-not-self.false
     ] in
     let read = c.read-2.ensures in
     record {
@@ -59,9 +59,9 @@ returns g c =
             (λ going. absurd (true≢false (sym past.done ∙ going)), now.0),
             rw past.done (subst (λ E. Reads E c.read-2.result c.read-2.new.buf (U.events c.read-2.new.self)) (sym left) now.1),
           );
-      turns = both_turns _ _ _ _ past.spent (subst (λ u. U.turns c.read-2.new.self ≤ U.turns u) past.second read.turns);
-      turn = second_turn c.read-2.result _ _ _ _ past.spent (subst
+      turns = both_turns past.spent (subst (λ u. U.turns c.read-2.new.self ≤ U.turns u) past.second read.turns);
+      turn = second_turn c.read-2.result _ _ past.spent (subst
           (λ u. SpendsTurn c.read-2.result (U.turns u) (U.turns c.read-2.new.self)) past.second read.turn);
-      in_turn = turn_past _ _ _ _ _ _ c.if-not-self.self (record c.if-not-self.self { second = c.read-2.new.self }) past refl refl;
+      in_turn = turn_past c.if-not-self.self (record c.if-not-self.self { second = c.read-2.new.self }) past refl refl;
       ended = λ t none some. past.done;
     }

@@ -58,13 +58,13 @@ returns-in_err-is_at_end g c =
       told = λ t.
           let before = first.told (t.0 going) in
           let now = second.told t.1 in
-          ((λ _. before.0, now.0), rw going (gathered_then_failed _ _ _ _ _ _ _ (gathered_first one two _ _ _ _ before.1) now.1));
-      appends = front_then _ _ _ _ _ (omega (arith, first.count)) first.appends second.appends;
+          ((λ _. before.0, now.0), rw going (gathered_then_failed _ (gathered_first one two before.1) now.1));
+      appends = front_then _ _ (omega (arith, first.count)) first.appends second.appends;
       count = tt;
       capacity = le_trans first.capacity second.capacity;
       room = λ t enough.
           let both = room_while_going _ one two _ _ going enough in
-          absurd (stopped_clean _ _ _ _ _ (second.told t.1).1 (HasNoFault-behind one two both.0));
+          absurd (stopped_clean _ (second.told t.1).1 (HasNoFault-behind one two both.0));
       fault = second.fault;
       turns = omega (arith, first.turns, second.turns);
       in_turn = turn_of_both _ _ going refl;
@@ -84,9 +84,9 @@ returns-then-is_at_end g c =
           let before = first.told (t.0 going) in
           let now = second.told t.1 in
           let end = now.1.4 c.if-is_at_end.true in
-          let all = gathered_then _ _ _ _ _ _ _ (gathered_first one two _ _ _ _ before.1) now.1 in
-          ((λ _. before.0, now.0), rw going (gathered_done _ _ _ _ _ _ all end end count));
-      appends = front_then _ _ _ _ _ (omega (arith, first.count)) first.appends second.appends;
+          let all = gathered_then _ _ _ _ _ _ _ (gathered_first one two before.1) now.1 in
+          ((λ _. before.0, now.0), rw going (gathered_done _ all end end count));
+      appends = front_then _ _ (omega (arith, first.count)) first.appends second.appends;
       count = omega (arith, first.count, second.grows);
       capacity = le_trans first.capacity second.capacity;
       room = λ t enough. refl;
@@ -110,10 +110,10 @@ returns-in_err-read_to_end-2 g c =
           let before = first.told (t.0 going) in
           let then = second.told t.1 in
           let now = last.told then.0 in
-          let so_far = gathered_then _ _ _ _ _ _ _ (gathered_first one two _ _ _ _ before.1) then.1 in
-          ((λ _. before.0, now.0), rw going (gathered_stop _ _ _ _ _ _ _ so_far now.1));
-      appends = front_then _ _ _ _ _ (omega (arith, first.count, second.grows))
-          (front_then _ _ _ _ _ (omega (arith, first.count)) first.appends second.appends) last.appends;
+          let so_far = gathered_then _ _ _ _ _ _ _ (gathered_first one two before.1) then.1 in
+          ((λ _. before.0, now.0), rw going (gathered_stop _ so_far now.1));
+      appends = front_then _ _ (omega (arith, first.count, second.grows))
+          (front_then _ _ (omega (arith, first.count)) first.appends second.appends) last.appends;
       count = tt;
       capacity = le_trans first.capacity (le_trans second.capacity last.capacity);
       room = λ t enough.
@@ -121,7 +121,7 @@ returns-in_err-read_to_end-2 g c =
           let behind = room_of_second one two _ _ _ _ _ both (first.told (t.0 going)).1.2 first.count first.capacity in
           let then = second.told t.1 in
           last.room then.0
-          (room_left _ _ _ _ _ _ _ _ _ then.1 behind c.read_to_end-2.new.buf.ok.0 c.fill_room.new.buf.ok.0
+          (room_left _ then.1 behind c.read_to_end-2.new.buf.ok.0 c.fill_room.new.buf.ok.0
           second.capacity);
       fault = last.fault;
       turns = omega (arith, first.turns, second.turns, last.turns);
@@ -143,10 +143,10 @@ returns g c =
           let before = first.told (t.0 going) in
           let then = second.told t.1 in
           let now = last.told then.0 in
-          let so_far = gathered_then _ _ _ _ _ _ _ (gathered_first one two _ _ _ _ before.1) then.1 in
-          ((λ _. before.0, now.0), rw going (gathered_all _ _ _ _ _ _ _ _ so_far now.1 count));
-      appends = front_then _ _ _ _ _ (omega (arith, first.count, second.grows))
-          (front_then _ _ _ _ _ (omega (arith, first.count)) first.appends second.appends) last.appends;
+          let so_far = gathered_then _ _ _ _ _ _ _ (gathered_first one two before.1) then.1 in
+          ((λ _. before.0, now.0), rw going (gathered_all _ _ so_far now.1 count));
+      appends = front_then _ _ (omega (arith, first.count, second.grows))
+          (front_then _ _ (omega (arith, first.count)) first.appends second.appends) last.appends;
       count = omega (arith, first.count, second.grows, last.count);
       capacity = le_trans first.capacity (le_trans second.capacity last.capacity);
       room = λ t enough. refl;

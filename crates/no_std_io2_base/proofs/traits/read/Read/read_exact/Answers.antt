@@ -47,7 +47,7 @@ returns-in-Ok-eq0 g c =
           let so_far = before.store s in
           let now = read.store so_far.0 in
           let tells = g.met.Self.Read.store_tells _ so_far.0 in
-          (now.0, now.1 ∙ so_far.1, stays_at_end _ _ _ _ _ _ _ _ (read.told tells.0).1 is none now.2 so_far.2);
+          (now.0, now.1 ∙ so_far.1, stays_at_end _ _ _ _ (read.told tells.0).1 is none now.2 so_far.2);
     }
 
 pub returns : goal.returns
@@ -55,7 +55,7 @@ returns g c =
     let before = c.reads.invariant in
     let test = c.reads-test.false in
     record {
-      told = λ t. let so_far = before.told t in (so_far.0, exact_done _ _ _ _ _ so_far.1 before.long test);
+      told = λ t. let so_far = before.told t in (so_far.0, exact_done so_far.1 before.long test);
       fault = tt;
       empty = λ none. (refl, before.untouched none);
       turns = before.turns;
@@ -87,14 +87,14 @@ reads-preserved-in-Ok g c =
       told = λ t.
           let so_far = before.told t in
           let now = read.told so_far.0 in
-          (now.0, taken_read _ _ _ _ _ _ _ _ so_far.1 now.1 read.bound (some_bytes n c.in-Ok.n-test.1) shown);
+          (now.0, taken_read _ so_far.1 now.1 read.bound (some_bytes n c.in-Ok.n-test.1) shown);
       is_metered = λ m. (read.cost (before.is_metered m)).0;
       is_filling = λ f. (read.fills (before.is_filling f)).0;
       store = λ s.
           let so_far = before.store s in
           let now = read.store so_far.0 in
           let tells = g.met.Self.Read.store_tells _ so_far.0 in
-          (now.0, now.1 ∙ so_far.1, moved_read _ _ _ _ _ _ _ read.bound (read.told tells.0).1.0 now.2 so_far.2);
+          (now.0, now.1 ∙ so_far.1, moved_read _ _ _ _ read.bound (read.told tells.0).1.0 now.2 so_far.2);
     }
 
 pub returns-in-Err-2 : goal.returns-in-Err-2
@@ -109,7 +109,7 @@ returns-in-Err-2 g c =
           let so_far = before.told t in
           let now = read.told so_far.0 in (
             now.0,
-            inl (taken_fault _ _ _ _ _ _ _ so_far.1 now.1 fault
+            inl (taken_fault so_far.1 now.1 fault
                 (short_before at _ old c.reads-test.true (length_stays at old c.read.new.buf c.read.auto.buf))),
           );
       fault = fault;
@@ -120,7 +120,7 @@ returns-in-Err-2 g c =
       store = λ s.
           let so_far = before.store s in
           let tells = g.met.Self.Read.store_tells _ so_far.0 in
-          absurd (no_error _ _ _ _ tells.1 (read.told tells.0).1);
+          absurd (no_error _ tells.1 (read.told tells.0).1);
     }
 
 pub reads-preserved : goal.reads-preserved
@@ -140,11 +140,11 @@ reads-preserved g c =
           let so_far = before.told t in
           let now = read.told so_far.0 in
           let short = short_before at _ old c.reads-test.true (sym before.long) in
-          (now.0, taken_interruption _ _ _ _ _ _ _ so_far.1 now.1 again short (take-put_mid_below _ _ _ _ _ (le_refl _) before.within));
+          (now.0, taken_interruption so_far.1 now.1 again short (take-put_mid_below _ _ _ _ _ (le_refl _) before.within));
       is_metered = λ m. (read.cost (before.is_metered m)).0;
       is_filling = λ f. (read.fills (before.is_filling f)).0;
       store = λ s.
           let so_far = before.store s in
           let tells = g.met.Self.Read.store_tells _ so_far.0 in
-          absurd (no_error _ _ _ _ tells.1 (read.told tells.0).1);
+          absurd (no_error _ tells.1 (read.told tells.0).1);
     }

@@ -18,7 +18,7 @@ returns-then-self-eq0 g c =
       fills = λ f. (f, omega (arith, ap (λ k. length (cut k E)) zero));
       limit = omega arith;
       at_limit = λ _. (refl, refl);
-      along = λ t. along_none _ _ _ _ refl refl;
+      along = λ t. along_none refl refl;
     }
 
 pub returns-in_err-n : goal.returns-in_err-n
@@ -28,13 +28,13 @@ returns-in_err-n g c =
     let some = some_bytes _ c.if-self-eq0.false in
     rw (p.1, p.2) (record {
       bound = tt;
-      told = λ t. let now = read.told t in (now.0, cut_error _ _ _ _ now.1 some);
+      told = λ t. let now = read.told t in (now.0, cut_error now.1 some);
       turns = read.turns;
       turn = read.turn;
       fills = λ f. absurd (read.fills f).1;
       limit = omega arith;
       at_limit = λ zero. absurd (c.if-self-eq0.false zero);
-      along = λ t. along_error _ _ _ _ (read.told t).1 some;
+      along = λ t. along_error (read.told t).1 some;
     })
 
 pub returns : goal.returns
@@ -52,7 +52,7 @@ returns g c =
       told = λ t.
           let now = read.told t in (
             now.0,
-            cut_reads _ _ limit _ part _ read.bound within
+            cut_reads _ limit part _ read.bound within
                 (part_room most limit buf part c.min_with_limit-most.ensures c.read.auto.buf some) now.1,
           );
       turns = read.turns;
@@ -64,5 +64,5 @@ returns g c =
           (now.0, omega (arith, long, now.1, cut-length limit _ alone.1));
       limit = falls;
       at_limit = λ zero. absurd (c.if-self-eq0.false zero);
-      along = λ t. along_read _ _ _ _ _ _ (read.told t).1 read.bound falls;
+      along = λ t. along_read _ (read.told t).1 read.bound falls;
     }

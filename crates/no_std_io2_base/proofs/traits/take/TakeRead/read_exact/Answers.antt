@@ -17,7 +17,7 @@ reads-init g c = record {
   is_filling = λ f. f;
   limit = omega arith;
   at_limit = λ none. refl;
-  along = λ t. along_none _ _ _ _ refl refl;
+  along = λ t. along_none refl refl;
 }
 
 pub returns-in-Ok-eq0 : goal.returns-in-Ok-eq0
@@ -46,7 +46,7 @@ returns-in-Ok-eq0 g c =
       limit = tt;
       falls = omega (arith, read.limit, before.limit);
       at_limit = λ none. (read.at_limit (omega (arith, before.limit, none))).1 ∙ before.at_limit none;
-      along = λ t. along_then _ _ _ _ _ _ (before.along t) (read.along (before.told t).0);
+      along = λ t. along_then (before.along t) (read.along (before.told t).0);
     }
 
 pub returns : goal.returns
@@ -54,7 +54,7 @@ returns g c =
     let before = c.reads.invariant in
     let test = c.reads-test.false in
     record {
-      told = λ t. let so_far = before.told t in (so_far.0, exact_done _ _ _ _ _ so_far.1 before.long test);
+      told = λ t. let so_far = before.told t in (so_far.0, exact_done so_far.1 before.long test);
       fault = tt;
       empty = λ none. (refl, before.untouched none);
       turns = before.turns;
@@ -88,11 +88,11 @@ reads-preserved-in-Ok g c =
       told = λ t.
           let so_far = before.told t in
           let now = read.told so_far.0 in
-          (now.0, taken_read _ _ _ _ _ _ _ _ so_far.1 now.1 read.bound (some_bytes n c.in-Ok.n-test.1) shown);
+          (now.0, taken_read _ so_far.1 now.1 read.bound (some_bytes n c.in-Ok.n-test.1) shown);
       is_filling = λ f. (read.fills (before.is_filling f)).0;
       limit = omega (arith, before.limit, read.limit);
       at_limit = λ none. (read.at_limit (omega (arith, before.limit, none))).1 ∙ before.at_limit none;
-      along = λ t. along_then _ _ _ _ _ _ (before.along t) (read.along (before.told t).0);
+      along = λ t. along_then (before.along t) (read.along (before.told t).0);
     }
 
 pub returns-in-Err-2 : goal.returns-in-Err-2
@@ -107,7 +107,7 @@ returns-in-Err-2 g c =
           let so_far = before.told t in
           let now = read.told so_far.0 in (
             now.0,
-            inl (taken_fault _ _ _ _ _ _ _ so_far.1 now.1 fault
+            inl (taken_fault so_far.1 now.1 fault
                 (short_before at _ old c.reads-test.true (length_stays at old c.read.new.buf c.read.auto.buf))),
           );
       fault = fault;
@@ -117,7 +117,7 @@ returns-in-Err-2 g c =
       limit = tt;
       falls = omega (arith, read.limit, before.limit);
       at_limit = λ none. absurd (read.at_limit (omega (arith, before.limit, none))).0;
-      along = λ t. along_then _ _ _ _ _ _ (before.along t) (read.along (before.told t).0);
+      along = λ t. along_then (before.along t) (read.along (before.told t).0);
     }
 
 pub reads-preserved : goal.reads-preserved
@@ -137,9 +137,9 @@ reads-preserved g c =
           let so_far = before.told t in
           let now = read.told so_far.0 in
           let short = short_before at _ old c.reads-test.true (sym before.long) in
-          (now.0, taken_interruption _ _ _ _ _ _ _ so_far.1 now.1 again short (take-put_mid_below _ _ _ _ _ (le_refl _) before.within));
+          (now.0, taken_interruption so_far.1 now.1 again short (take-put_mid_below _ _ _ _ _ (le_refl _) before.within));
       is_filling = λ f. (read.fills (before.is_filling f)).0;
       limit = omega (arith, before.limit, read.limit);
       at_limit = λ none. absurd (read.at_limit (omega (arith, before.limit, none))).0;
-      along = λ t. along_then _ _ _ _ _ _ (before.along t) (read.along (before.told t).0);
+      along = λ t. along_then (before.along t) (read.along (before.told t).0);
     }

@@ -18,8 +18,8 @@ returns-in_err-reserve_room g c =
     let refused = c.in_err-reserve_room.ensures.refused in
     let same = c.reserve_room.ensures.items in
     rw (p.1, p.2) (record {
-      told = λ t. (t, gathered_memory _ _ _ _ _ (gathered_none _ _ _ same) refused);
-      appends = front_whole _ _ _ c.args.buf.now.ok.0 same;
+      told = λ t. (t, gathered_memory (gathered_none _ _ _ same) refused);
+      appends = front_whole c.args.buf.now.ok.0 same;
       count = tt;
       capacity = c.reserve_room.ensures.grows;
       room = λ t enough. absurd (omega (arith, enough.1, c.in_err-reserve_room.ensures.full));
@@ -28,7 +28,7 @@ returns-in_err-reserve_room g c =
       filling = λ f. f;
       limit = ap (λ n. c.args.self.now.limit + n) c.reserve_room.ensures.len;
       at_limit = λ none. absurd (omega (arith, c.args.buf.now.ok.1, c.in_err-reserve_room.ensures.full));
-      along = λ t. along_none _ _ _ _ refl refl;
+      along = λ t. along_none refl refl;
     })
 
 pub reads-init : goal.reads-init
@@ -39,13 +39,13 @@ reads-init g c =
       grows = omega arith;
       within = omega arith;
       capacity = c.reserve_room.ensures.grows;
-      front = front_whole _ _ _ c.args.buf.now.ok.0 same;
+      front = front_whole c.args.buf.now.ok.0 same;
       turns = le_refl _;
-      told = λ t. (t, gathered_none _ _ _ (front_whole _ _ _ (start ∙ c.args.buf.now.ok.0) same));
+      told = λ t. (t, gathered_none _ _ _ (front_whole (start ∙ c.args.buf.now.ok.0) same));
       is_filling = λ f. f;
       limit = ap (λ n. c.args.self.now.limit + n) start;
       at_limit = λ none. refl;
-      along = λ t. along_none _ _ _ _ refl refl;
+      along = λ t. along_none refl refl;
     }
 
 pub returns-in_err-open_room : goal.returns-in_err-open_room
@@ -60,12 +60,12 @@ returns-in_err-open_room g c =
     rw (p.1, p.2) (record {
       told = λ t.
           let so_far = before.told t in
-          (so_far.0, gathered_memory _ _ _ _ _ (gathered_same _ _ _ _ _ so_far.1 same) refused);
+          (so_far.0, gathered_memory (gathered_same so_far.1 same) refused);
       appends = front_cut _ filled _ c.reads.buf.items _ before.grows same before.front;
       count = tt;
       capacity = le_trans before.capacity c.open_room.ensures.grows;
       room = λ t enough.
-          let left = gathered_fits _ _ _ _ _ _ _ (before.told t).1 enough c.args.buf.now.ok.0 before.capacity in
+          let left = gathered_fits (before.told t).1 enough c.args.buf.now.ok.0 before.capacity in
           absurd (omega (arith, full.0, left, filled_bytes filled _ _ before.within c.reads.buf.ok.0));
       fault = memory_fault _ refused;
       turns = before.turns;
@@ -104,11 +104,11 @@ reads-preserved-in-Ok g c =
       told = λ t.
           let so_far = before.told t in
           let now = read.told so_far.0 in
-          (now.0, gathered_read _ _ _ _ _ _ _ _ so_far.1 now.1 (shown ∙ ap (λ l. l ++ take n c.read.new.buf) c.open_room.ensures.front));
+          (now.0, gathered_read _ so_far.1 now.1 (shown ∙ ap (λ l. l ++ take n c.read.new.buf) c.open_room.ensures.front));
       is_filling = λ f. (read.fills (before.is_filling f)).0;
       limit = omega (arith, before.limit, read.limit);
       at_limit = λ none. (read.at_limit (omega (arith, before.limit, before.grows, none))).1 ∙ before.at_limit none;
-      along = λ t. along_then _ _ _ _ _ _ (before.along t) (read.along (before.told t).0);
+      along = λ t. along_then (before.along t) (read.along (before.told t).0);
     }
 
 pub returns-in-Err-2 : goal.returns-in-Err-2
@@ -129,20 +129,20 @@ returns-in-Err-2 g c =
       told = λ t.
           let so_far = before.told t in
           let now = read.told so_far.0 in
-          (now.0, gathered_fault _ _ _ _ _ _ (gathered_same _ _ _ _ _ so_far.1 same) now.1 fault);
+          (now.0, gathered_fault (gathered_same so_far.1 same) now.1 fault);
       appends = front_cut start filled _ c.reads.buf.items _ before.grows same before.front;
       count = tt;
       capacity = omega (arith, before.capacity, c.open_room.ensures.grows, c.truncate.ensures.capacity);
       room = λ t enough.
           let so_far = before.told t in
-          absurd (gathered_no_fault _ _ _ _ _ _ so_far.1 (read.told so_far.0).1 fault enough.0);
+          absurd (gathered_no_fault so_far.1 (read.told so_far.0).1 fault enough.0);
       fault = fault;
       turns = le_trans read.turns before.turns;
       filling = λ f. (read.fills (before.is_filling f)).0;
-      limit = limit_cut _ _ _ _ _ _ (limit_same _ _ _ read.limit refl)
+      limit = limit_cut _ _ (limit_same read.limit refl)
           (filled_length filled new.len _ mid new.ok.0 same within) before.limit;
       at_limit = λ none. absurd (no_turn _ _ _ _ before.limit before.grows none c.reads-test.true);
-      along = λ t. along_then _ _ _ _ _ _ (before.along t) (read.along (before.told t).0);
+      along = λ t. along_then (before.along t) (read.along (before.told t).0);
     }
 
 pub reads-preserved : goal.reads-preserved
@@ -167,13 +167,13 @@ reads-preserved g c =
           let so_far = before.told t in
           let now = read.told so_far.0 in (
             now.0,
-            gathered_interruption _ _ _ _ _ _ (gathered_same _ _ _ _ _ so_far.1 (kept ∙ c.open_room.ensures.front)) now.1
+            gathered_interruption _ _ _ _ _ _ (gathered_same so_far.1 (kept ∙ c.open_room.ensures.front)) now.1
                 (sym c.is_interrupted.ensures ∙ c.if-is_interrupted.true),
           );
       is_filling = λ f. (read.fills (before.is_filling f)).0;
       limit = omega (arith, before.limit, read.limit);
       at_limit = λ none. absurd (read.at_limit (omega (arith, before.limit, before.grows, none))).0;
-      along = λ t. along_then _ _ _ _ _ _ (before.along t) (read.along (before.told t).0);
+      along = λ t. along_then (before.along t) (read.along (before.told t).0);
     }
 
 pub returns : goal.returns
@@ -195,7 +195,7 @@ returns g c =
       | then-reads-test+in_ok-open_room+in-Ok-eq0 w ↦ omega (arith, ap vec_capacity w.buf-is, w.open_room.ensures.grows)
     ] in
     let ended : Ended T.tells T.is_filling T.turns T.events c.reads.self c.reads-test.self = elim c.reads-test.branch [
-      | else-reads-test w ↦ ended_at_limit _ _ _ _ _ _ w.self-is (omega (arith, w.reads-test.false))
+      | else-reads-test w ↦ ended_at_limit w.self-is (omega (arith, w.reads-test.false))
       | then-reads-test+in_ok-open_room+in-Ok-eq0 w ↦
           let read = w.read.ensures in
           let is = w.in-Ok-eq0.is in
@@ -209,7 +209,7 @@ returns g c =
                 let empty = nothing_read _ _ _ _ _ now.1 is none some in
                 (now.0, empty.0, empty.1);
             fill = λ f. (read.fills f).0;
-            same = limit_same _ _ _ read.limit (given_none _ _ is none);
+            same = limit_same read.limit (given_none _ _ is none);
             at_limit = λ zero. (read.at_limit zero).1;
             along = read.along;
           })
@@ -221,7 +221,7 @@ returns g c =
       told = λ t.
           let so_far = before.told t in
           let now = ended.told so_far.0 in
-          (now.0, gathered_done _ _ _ _ _ _ (gathered_same _ _ _ _ _ so_far.1 same) now.1 now.2 count);
+          (now.0, gathered_done _ (gathered_same so_far.1 same) now.1 now.2 count);
       appends = front_cut _ filled _ mid _ before.grows same before.front;
       count = len_cut c.len-start.result filled new.len _ _ mid c.len-start.ensures before.grows new.ok.0 same within;
       capacity = omega (arith, before.capacity, grown, c.truncate-2.ensures.capacity);
@@ -229,9 +229,9 @@ returns g c =
       fault = tt;
       turns = le_trans ended.spent before.turns;
       filling = λ f. ended.fill (before.is_filling f);
-      limit = limit_cut _ _ _ _ _ _ ended.same (filled_length filled new.len _ mid new.ok.0 same within) before.limit;
+      limit = limit_cut _ _ ended.same (filled_length filled new.len _ mid new.ok.0 same within) before.limit;
       at_limit = λ none.
-          let zero = none_filled _ _ _ c.len-start.result _ before.limit before.grows c.len-start.ensures none in
+          let zero = none_filled c.len-start.result _ before.limit before.grows c.len-start.ensures none in
           (zero.0, ended.at_limit zero.1 ∙ before.at_limit none);
-      along = λ t. along_then _ _ _ _ _ _ (before.along t) (ended.along (before.told t).0);
+      along = λ t. along_then (before.along t) (ended.along (before.told t).0);
     }

@@ -19,10 +19,10 @@ returns-in-Ok-eq0 g c =
     let some = not_empty _ c.writes.rest.now c.is_empty.ensures c.writes-test.true in
     record {
       fault = search rules;
-      sends = sends_zero _ _ _ _ _ _ _ _ before.sent c.write.ensures.moves is none some cc;
+      sends = sends_zero before.sent c.write.ensures.moves is none some cc;
       done = tt;
-      all = λ a. absurd (takes_some _ _ _ (c.write.ensures.all (before.all a)).1 is none some);
-      cost = λ m a. absurd (takes_some _ _ _ (c.write.ensures.all (before.all a)).1 is none some);
+      all = λ a. absurd (takes_some _ (c.write.ensures.all (before.all a)).1 is none some);
+      cost = λ m a. absurd (takes_some _ (c.write.ensures.all (before.all a)).1 is none some);
     }
 
 pub writes-smaller-in-Ok : goal.writes-smaller-in-Ok
@@ -35,13 +35,13 @@ writes-preserved-in-Ok g c =
     let left = c.writes.rest.now in
     let n = c.in-Ok.n in
     record {
-      sent = sent_more _ _ _ _ left _ n before.sent wrote.moves;
+      sent = sent_more left _ n before.sent wrote.moves;
       all = λ a. (wrote.all (before.all a)).0;
       cost = λ m a.
           let so_far = before.cost m a in
           let now = wrote.cost so_far.0 (before.all a) in (
             now.0,
-            one_call n left _ _ _ _ (same_count _ _ _ refl (wrote.all (before.all a)).1)
+            one_call n left _ _ _ _ (same_count refl (wrote.all (before.all a)).1)
                 (not_empty _ left c.is_empty.ensures c.writes-test.true) now.1 so_far.1,
           );
     }
@@ -56,7 +56,7 @@ writes-preserved g c =
     let before = c.writes.invariant in
     let wrote = c.in-Err.ensures in
     record {
-      sent = sent_interruption _ _ _ _ _ _ before.sent wrote.moves;
+      sent = sent_interruption before.sent wrote.moves;
       all = λ a. (wrote.all (before.all a)).0;
       cost = λ m a. absurd (no_error_there _ _ (wrote.all (before.all a)).1);
     }
@@ -67,7 +67,7 @@ returns-in-Err-2 g c =
     let wrote = c.in-Err.ensures in
     record {
       fault = cc;
-      sends = sends_fault _ _ _ _ _ _ before.sent wrote.moves;
+      sends = sends_fault before.sent wrote.moves;
       done = tt;
       all = λ a. absurd (no_error_there _ _ (wrote.all (before.all a)).1);
       cost = λ m a. absurd (no_error_there _ _ (wrote.all (before.all a)).1);
@@ -78,9 +78,9 @@ returns g c =
     let before = c.writes.invariant in
     let none = is_empty _ c.writes.rest.now c.is_empty.ensures c.writes-test.false in
     record {
-      sends = sends_done _ _ _ _ before.sent;
+      sends = sends_done before.sent;
       fault = tt;
       done = none;
       all = λ a. (before.all a, refl);
-      cost = λ m a. let so_far = before.cost m a in (so_far.0, no_call _ _ _ none so_far.1);
+      cost = λ m a. let so_far = before.cost m a in (so_far.0, no_call none so_far.1);
     }

@@ -19,7 +19,7 @@ pieces-init g c =
       front = ([], sym (append-nil _));
       turns = le_refl _;
       spent = λ more. absurd (omega (arith, more));
-      told = λ t. (t, piece_none _ _ _ _ refl);
+      told = λ t. (t, piece_none refl);
       store = λ h. (h, refl, refl);
     }
 
@@ -30,7 +30,7 @@ returns-then-is_whole g c =
     let dropped = c.consume.ensures in
     let found = c.find_piece-len.ensures in
     let appended = c.in_ok-append-in-Ok.ensures.ok in
-    let grown = part_fits _ _ _ _ c.in_ok-append-in-Ok.ensures.len found.within in
+    let grown = part_fits _ _ c.in_ok-append-in-Ok.ensures.len found.within in
     record {
       told = λ t.
           let so_far = before.told t in
@@ -40,7 +40,7 @@ returns-then-is_whole g c =
           part_taken _ c.in-Ok.lent _ _ _ (reader_events g.R.Read.events c.consume.new.self) c.find_piece-len.result.0
           c.in-Ok.is filled.lends lent.1 rest.1 in (
             rest.0,
-            piece_ended _ _ _ _ _ _ _ _ _ so_far.1 part
+            piece_ended so_far.1 part
                 (whole_part _ _ _ _ _ found c.if-is_whole.true (c.in-Ok.ensures.end so_far.0)) appended
                 (omega (arith, c.append.new.buf.ok.0, c.args.buf.now.ok.0, c.len.ensures, before.start)),
           );
@@ -65,8 +65,8 @@ returns-then-is_whole g c =
           c.in-Ok.is filled.lends told.1 (dropped.told told.0).1 in (
             rest.0,
             rest.1 ∙ lent.1 ∙ so_far.1,
-            moved_read _ (reader_events g.R.Read.events c.consume.new.self) c.find_piece-len.result.0 c.in-Ok.lent.now _
-                _ _ found.within part (rest.2 ∙ ap (λ p. p + c.find_piece-len.result.0) lent.2) so_far.2,
+            moved_read (reader_events g.R.Read.events c.consume.new.self) c.find_piece-len.result.0 c.in-Ok.lent.now _ found.within part
+                (rest.2 ∙ ap (λ p. p + c.find_piece-len.result.0) lent.2) so_far.2,
           );
     }
 
@@ -85,7 +85,7 @@ pieces-preserved-else-is_whole g c =
       turns = omega (arith, dropped.turns, filled.turns, before.turns);
       spent =
           spent_more _ _ _ _ _ _ _ _ before.spent before.turns filled.turns dropped.turns dropped.turn
-          (part_fits _ _ _ _ c.in_ok-append-in-Ok.ensures.len found.within);
+          (part_fits _ _ c.in_ok-append-in-Ok.ensures.len found.within);
       told = λ t.
           let so_far = before.told t in
           let lent = filled.told so_far.0 in
@@ -93,7 +93,7 @@ pieces-preserved-else-is_whole g c =
           let part =
           part_taken _ c.in-Ok.lent _ _ _ (reader_events g.R.Read.events c.consume.new.self) c.find_piece-len.result.0
           c.in-Ok.is filled.lends lent.1 rest.1 in
-          (rest.0, piece_more _ _ _ _ _ _ _ _ so_far.1 part (found.open_ended c.if-is_whole.false).1 appended);
+          (rest.0, piece_more _ so_far.1 part (found.open_ended c.if-is_whole.false).1 appended);
       store = λ h.
           let so_far = before.store h in
           let lent = filled.store so_far.0 in
@@ -104,8 +104,8 @@ pieces-preserved-else-is_whole g c =
           c.in-Ok.is filled.lends told.1 (dropped.told told.0).1 in (
             rest.0,
             rest.1 ∙ lent.1 ∙ so_far.1,
-            moved_read _ (reader_events g.R.Read.events c.consume.new.self) c.find_piece-len.result.0 c.in-Ok.lent.now _
-                _ _ found.within part (rest.2 ∙ ap (λ p. p + c.find_piece-len.result.0) lent.2) so_far.2,
+            moved_read (reader_events g.R.Read.events c.consume.new.self) c.find_piece-len.result.0 c.in-Ok.lent.now _ found.within part
+                (rest.2 ∙ ap (λ p. p + c.find_piece-len.result.0) lent.2) so_far.2,
           );
     }
 
@@ -129,14 +129,14 @@ pieces-preserved g c =
           let so_far = before.told t in
           let lent = filled.told so_far.0 in (
             lent.0,
-            piece_interruption _ _ _ _ _ _ _ so_far.1 (error_taken _ _ _ _ c.in-Err.is lent.1)
+            piece_interruption so_far.1 (error_taken _ _ _ _ c.in-Err.is lent.1)
                 (sym c.is_interrupted.ensures ∙ c.if-is_interrupted.true),
           );
       store = λ h.
           let so_far = before.store h in
           let inner = g.met.R.Read.store_tells _ so_far.0.0 in
           let alone = sound_tells (reader_held c.pieces.self) _ _ _ so_far.0.1 inner.1 in
-          absurd (no_error _ _ _ _ alone (error_taken _ _ _ _ c.in-Err.is (filled.told inner.0).1));
+          absurd (no_error _ alone (error_taken _ _ _ _ c.in-Err.is (filled.told inner.0).1));
     }
 
 pub pieces-smaller : goal.pieces-smaller
@@ -151,13 +151,13 @@ returns-in-Err-2 g c =
       told = λ t.
           let so_far = before.told t in
           let lent = filled.told so_far.0 in
-          (lent.0, piece_fault _ _ _ _ _ _ _ so_far.1 (error_taken _ _ _ _ c.in-Err.is lent.1) fault);
+          (lent.0, piece_fault so_far.1 (error_taken _ _ _ _ c.in-Err.is lent.1) fault);
       appends = before.front;
       count = tt;
       capacity = before.capacity;
       room = λ t enough.
           let so_far = before.told t in
-          fault_is_first _ _ _ _ _ _ _ so_far.1 (error_taken _ _ _ _ c.in-Err.is (filled.told so_far.0).1) fault;
+          fault_is_first so_far.1 (error_taken _ _ _ _ c.in-Err.is (filled.told so_far.0).1) fault;
       fault = fault;
       turns = le_trans filled.turns before.turns;
       turn = tt;
@@ -167,7 +167,7 @@ returns-in-Err-2 g c =
           let so_far = before.store h in
           let inner = g.met.R.Read.store_tells _ so_far.0.0 in
           let alone = sound_tells (reader_held c.pieces.self) _ _ _ so_far.0.1 inner.1 in
-          absurd (no_error _ _ _ _ alone (error_taken _ _ _ _ c.in-Err.is (filled.told inner.0).1));
+          absurd (no_error _ alone (error_taken _ _ _ _ c.in-Err.is (filled.told inner.0).1));
     }
 
 pub returns-in_err-append-in-Ok : goal.returns-in_err-append-in-Ok
@@ -180,15 +180,15 @@ returns-in_err-append-in-Ok g c =
       told = λ t.
           let so_far = before.told t in
           let lent = filled.told so_far.0 in
-          (lent.0, piece_memory _ _ _ _ _ _ _ _ so_far.1 (none_taken _ c.in-Ok.lent _ _ c.in-Ok.is lent.1) refused.err refused.refused);
-      appends = front_same _ _ _ before.front refused.err;
+          (lent.0, piece_memory so_far.1 (none_taken _ c.in-Ok.lent _ _ c.in-Ok.is lent.1) refused.err refused.refused);
+      appends = front_same _ before.front refused.err;
       count = tt;
       capacity = le_trans before.capacity c.append.ensures.grows;
       room = λ t enough.
           let so_far = before.told t in
           let found = c.find_piece-len.ensures in
           absurd
-          (part_has_room _ _ _ _ _ _ _ _ _ _ _ _ so_far.1 (c.in-Ok.ensures.front so_far.0) found enough
+          (part_has_room so_far.1 (c.in-Ok.ensures.front so_far.0) found enough
           before.capacity c.args.buf.now.ok.0 c.pieces.buf.ok.0 refused.full);
       fault = memory_fault _ refused.refused;
       turns = le_trans filled.turns before.turns;

@@ -24,7 +24,7 @@ returns-in_err-append_to g c =
     let refused = c.in_err-append_to.ensures in
     let moved = refused.moved in
     rw (p.1, p.2) (record {
-      told = λ t. (t, part_refused held left _ _ _ _ moved refused.refused);
+      told = λ t. (t, part_refused held left _ _ moved refused.refused);
       appends = part_front held left _ _ _ c.args.buf.now.ok.0 moved;
       count = tt;
       capacity = refused.grows;
@@ -33,7 +33,7 @@ returns-in_err-append_to g c =
       turns = part_turns held left _ _ _ _ moved;
       metered = λ h. h;
       filling = λ h. h;
-      store = λ s. ((s.0, part_sound held left _ _ _ _ moved s.1), refl, part_moved held left _ _ _ _ s.1.0 moved);
+      store = λ s. ((s.0, part_sound held left _ _ moved s.1), refl, part_moved held left _ _ s.1.0 moved);
       empties = inr (refused.refused, refl, moved);
       sound = λ s. (s.0, sound_stayed _ _ _ _ _ _ refused.kept refl refl s.1);
     })
@@ -48,11 +48,11 @@ returns-in_err-is_at_end g c =
     let read = c.in_err-is_at_end.ensures in
     let few : length none ≤ g.row.S = omega (arith, ap length done.done.0) in
     rw (p.1, p.2) (record {
-      told = λ t. let now = read.told t in (now.0, emptied_failed held none _ _ _ _ _ _ first done.done.0 now.1);
-      appends = emptied_front held _ _ _ _ _ c.args.buf.now.ok.0 c.append_to.new.buf.ok.0 first read.appends;
+      told = λ t. let now = read.told t in (now.0, emptied_failed held none _ first done.done.0 now.1);
+      appends = emptied_front held _ c.args.buf.now.ok.0 c.append_to.new.buf.ok.0 first read.appends;
       count = tt;
       capacity = le_trans done.grows read.capacity;
-      room = λ t enough. absurd (stopped_clean _ _ _ _ _ (read.told t).1 (room_behind held _ _ _ enough));
+      room = λ t enough. absurd (stopped_clean _ (read.told t).1 (room_behind held _ _ _ enough));
       fault = read.fault;
       turns =
           turns_read g.row.S (length held) (length none) _ _ few read.turns
@@ -62,7 +62,7 @@ returns-in_err-is_at_end g c =
       store = λ s.
           let now = read.store s.0 in
           ((now.0, sound_none none _ _ done.done.0), now.1, emptied_moved held none _ _ _ _ s.1.0 done.done.0 now.2);
-      empties = inl (emptied_shown _ _ _ _ first read.appends, done.done);
+      empties = inl (emptied_shown _ first read.appends, done.done);
       sound = λ s. ((read.store s.0).0, sound_empty (ahead_behind c.append_to.new.self) none _ _ done.done.1 done.done.0);
     })
 
@@ -76,9 +76,9 @@ returns-then-is_at_end g c =
     let few : length none ≤ g.row.S = omega (arith, ap length done.done.0) in
     let count : c.len.result - c.len-start.result ≡ length c.fill_room.new.buf.items - length c.args.buf.now.items = omega arith in
     record {
-      told = λ t. let now = read.told t in (now.0, emptied_done held none _ _ _ _ _ _ _ first done.done.0 now.1 c.if-is_at_end.true count);
-      appends = emptied_front held _ _ _ _ _ c.args.buf.now.ok.0 c.append_to.new.buf.ok.0 first read.appends;
-      count = omega (arith, read.grows, emptied_again held _ _ _ _ c.args.buf.now.ok.0 c.append_to.new.buf.ok.0 first);
+      told = λ t. let now = read.told t in (now.0, emptied_done held none _ first done.done.0 now.1 c.if-is_at_end.true count);
+      appends = emptied_front held _ c.args.buf.now.ok.0 c.append_to.new.buf.ok.0 first read.appends;
+      count = omega (arith, read.grows, emptied_again held _ c.args.buf.now.ok.0 c.append_to.new.buf.ok.0 first);
       capacity = le_trans done.grows read.capacity;
       room = λ t enough. refl;
       fault = tt;
@@ -90,7 +90,7 @@ returns-then-is_at_end g c =
       store = λ s.
           let now = read.store s.0 in
           ((now.0, sound_none none _ _ done.done.0), now.1, emptied_moved held none _ _ _ _ s.1.0 done.done.0 now.2);
-      empties = (emptied_shown _ _ _ _ first read.appends, done.done);
+      empties = (emptied_shown _ first read.appends, done.done);
       sound = λ s. ((read.store s.0).0, sound_empty (ahead_behind c.append_to.new.self) none _ _ done.done.1 done.done.0);
     }
 
@@ -104,19 +104,19 @@ returns-in_err-read_to_end g c =
     let read = c.in_ok-is_at_end.ensures in
     let last = c.in_err-read_to_end.ensures in
     let few : length none ≤ g.row.S = omega (arith, ap length done.done.0) in
-    let shown = emptied_then _ _ _ _ _ read.grows read.appends last.appends in
+    let shown = emptied_then _ read.grows read.appends last.appends in
     rw (p.1, p.2) (record {
       told = λ t.
           let then = read.told t in
           let now = last.told then.0 in
-          (now.0, emptied_stop held none _ _ _ _ _ _ _ _ _ first done.done.0 then.1 now.1);
-      appends = emptied_front held _ _ _ _ _ c.args.buf.now.ok.0 c.append_to.new.buf.ok.0 first shown;
+          (now.0, emptied_stop held none _ first done.done.0 then.1 now.1);
+      appends = emptied_front held _ c.args.buf.now.ok.0 c.append_to.new.buf.ok.0 first shown;
       count = tt;
       capacity = le_trans done.grows (le_trans read.capacity last.capacity);
       room = λ t enough.
           let then = read.told t in
-          let behind = emptied_on held _ _ _ _ _ _ _ enough c.args.buf.now.ok.0 c.append_to.new.buf.ok.0 first done.grows in
-          last.room then.0 (room_left _ _ _ _ _ _ _ _ _ then.1 behind c.append_to.new.buf.ok.0 c.fill_room.new.buf.ok.0 read.capacity);
+          let behind = emptied_on held _ _ enough c.args.buf.now.ok.0 c.append_to.new.buf.ok.0 first done.grows in
+          last.room then.0 (room_left _ then.1 behind c.append_to.new.buf.ok.0 c.fill_room.new.buf.ok.0 read.capacity);
       fault = last.fault;
       turns = turns_read g.row.S (length held) (length none) _ _ few (le_trans last.turns read.turns)
           (λ some. absurd (omega (arith, some, ap length done.done.0)));
@@ -126,7 +126,7 @@ returns-in_err-read_to_end g c =
           let then = read.store s.0 in
           let now = last.store then.0 in
           ((now.0, sound_none none _ _ done.done.0), now.1 ∙ then.1, emptied_moved held none _ _ _ _ s.1.0 done.done.0 (now.2 ∙ then.2));
-      empties = inl (emptied_shown _ _ _ _ first shown, done.done);
+      empties = inl (emptied_shown _ first shown, done.done);
       sound = λ s. ((last.store (read.store s.0).0).0, sound_empty (ahead_behind c.append_to.new.self) none _ _ done.done.1 done.done.0);
     })
 
@@ -139,15 +139,15 @@ returns g c =
     let read = c.in_ok-is_at_end.ensures in
     let last = c.in_ok-read_to_end.ensures in
     let few : length none ≤ g.row.S = omega (arith, ap length done.done.0) in
-    let shown = emptied_then _ _ _ _ _ read.grows read.appends last.appends in
+    let shown = emptied_then _ read.grows read.appends last.appends in
     let count : c.len-2.result - c.len-start.result ≡ length c.read_to_end.new.buf.items - length c.args.buf.now.items = omega arith in
     record {
       told = λ t.
           let then = read.told t in
           let now = last.told then.0 in
-          (now.0, emptied_all held none _ _ _ _ _ _ _ _ _ _ first done.done.0 then.1 now.1 count);
-      appends = emptied_front held _ _ _ _ _ c.args.buf.now.ok.0 c.append_to.new.buf.ok.0 first shown;
-      count = omega (arith, read.grows, last.count, emptied_again held _ _ _ _ c.args.buf.now.ok.0 c.append_to.new.buf.ok.0 first);
+          (now.0, emptied_all held none _ first done.done.0 then.1 now.1 count);
+      appends = emptied_front held _ c.args.buf.now.ok.0 c.append_to.new.buf.ok.0 first shown;
+      count = omega (arith, read.grows, last.count, emptied_again held _ c.args.buf.now.ok.0 c.append_to.new.buf.ok.0 first);
       capacity = le_trans done.grows (le_trans read.capacity last.capacity);
       room = λ t enough. refl;
       fault = tt;
@@ -159,6 +159,6 @@ returns g c =
           let then = read.store s.0 in
           let now = last.store then.0 in
           ((now.0, sound_none none _ _ done.done.0), now.1 ∙ then.1, emptied_moved held none _ _ _ _ s.1.0 done.done.0 (now.2 ∙ then.2));
-      empties = (emptied_shown _ _ _ _ first shown, done.done);
+      empties = (emptied_shown _ first shown, done.done);
       sound = λ s. ((last.store (read.store s.0).0).0, sound_empty (ahead_behind c.append_to.new.self) none _ _ done.done.1 done.done.0);
     }
