@@ -9,6 +9,6 @@ mod reading_objects;
 mod slices;
 mod vectors;
 
-pub use copying::copy_bytes;
 pub(crate) use copying::copy_prefix;
+pub use copying::{copy_bytes, copy_wide};
 pub use slices::append_rest;

@@ -6,7 +6,7 @@ ghost use Rattle.no_std_io2_base.specs.Errors.{IsOutOfMemory};
 ghost use Rattle.no_std_io2_base.specs.Slices.{HasMoved};
 
 use no_std_io2_base::error::Result;
-use no_std_io2_base::impls::{append_rest, copy_bytes};
+use no_std_io2_base::impls::{append_rest, copy_wide};
 use no_std_io2_base::traits::Read;
 use std::alloc::Allocator;
 
@@ -116,7 +116,7 @@ impl<const S: usize> ReadAhead<S> {
     {
         let end = self.start + buf.len();
         let all = &self.bytes[..];
-        copy_bytes(&all[self.start..end], buf);
+        copy_wide(&all[self.start..end], buf);
         self.start = end;
     }
 

@@ -46,6 +46,7 @@ impl<T: AsSlice<u8>> Read for Cursor<T> {
 
     ghost may_take_none = { λ _. Unit {0} };
 
+    #[inline(always)]
     fn read(&mut self, buf: &mut [u8]) -> Result<usize>
         // The trait's.
         ensures bound { IfOk result (λ n. n ≤ length buf.new) }

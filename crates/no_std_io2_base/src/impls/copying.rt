@@ -53,6 +53,24 @@ pub fn copy_bytes(from: &[u8], to: &mut [u8])
     }
 }
 
+/// Copies bytes over as many others, as [`copy_bytes`] does, of which up to 128 are moved in place: for readers, whose
+/// callers ask for pieces of some tens of bytes too. Follows `copy_from_slice` of std's slices.
+#[inline(always)]
+pub fn copy_wide(from: &[u8], to: &mut [u8])
+    requires { length from.now ≡ length to.old }
+    ensures { to.new ≡ from.now }
+{
+    if from.len() <= 32 {
+        copy_bytes(from, to);
+    } else if from.len() <= 64 {
+        copy_ends::<32>(from, to);
+    } else if from.len() <= 128 {
+        copy_ends::<64>(from, to);
+    } else {
+        to.copy_from_slice(from);
+    }
+}
+
 // Copies as many bytes as both have, and returns how many.
 #[inline(always)]
 pub(crate) fn copy_prefix(from: &[u8], to: &mut [u8]) -> usize
@@ -65,6 +83,6 @@ pub(crate) fn copy_prefix(from: &[u8], to: &mut [u8]) -> usize
         return 1;
     }
     let n = from.len().min(to.len());
-    copy_bytes(&from[..n], &mut to[..n]);
+    copy_wide(&from[..n], &mut to[..n]);
     n
 }

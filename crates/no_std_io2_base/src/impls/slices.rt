@@ -61,6 +61,7 @@ impl Read for &[u8] {
 
     ghost may_take_none = { λ _. Unit {0} };
 
+    #[inline(always)]
     fn read(&mut self, buf: &mut [u8]) -> Result<usize> {
         let all: &[u8] = *self;
         let n = copy_prefix(all, buf);
