@@ -1,7 +1,10 @@
 // Makes one call of a program fail: LD_PRELOAD of this, and in the environment
 //   MISBEHAVE=memory, read or write   of what kind the call is: an allocation, a read of standard input, a write to standard output
+//   MISBEHAVE=large                   each allocation of more than MISBEHAVE_AT bytes fails
 //   MISBEHAVE_AT=N                    which of them
+//   MISBEHAVE_TIMES=N                 how many in a row, one where it is not set
 //   MISBEHAVE_BY=short or a number    a read or write then moves one byte; or it fails with this number of errno
+//   MISBEHAVE_BY=nothing              a write then takes nothing
 //   MISBEHAVE_TOLD=PATH               the file that is made when the call has come
 #define _GNU_SOURCE
 #include <dlfcn.h>
@@ -18,6 +21,9 @@ void *__libc_realloc(void *pointer, size_t size);
 static const char *kind = "", *path;
 // How many calls there are up to the one that fails; 0 where none is left.
 static long left;
+// How many calls fail from there on.
+static long times;
+static int takes_nothing;
 // The number of errno, or 0 for a call that moves one byte.
 static int number;
 
@@ -27,13 +33,25 @@ __attribute__((constructor)) static void begin(void)
     kind = getenv("MISBEHAVE") ? getenv("MISBEHAVE") : "";
     path = getenv("MISBEHAVE_TOLD");
     number = by ? atoi(by) : 0;
+    takes_nothing = by && strcmp(by, "nothing") == 0;
     left = at ? atol(at) : 0;
+    times = getenv("MISBEHAVE_TIMES") ? atol(getenv("MISBEHAVE_TIMES")) : 1;
+}
+
+static int is_too_large(size_t size)
+{
+    return strcmp(kind, "large") == 0 && size > (size_t)left;
 }
 
 static int has_come(const char *of)
 {
-    if (left == 0 || strcmp(kind, of) != 0 || --left != 0)
+    if (left == 0 || times == 0 || strcmp(kind, of) != 0)
         return 0;
+    if (left > 1) {
+        left--;
+        return 0;
+    }
+    times--;
     if (path)
         close(open(path, O_WRONLY | O_CREAT, 0644));
     return 1;
@@ -41,12 +59,12 @@ static int has_come(const char *of)
 
 void *malloc(size_t size)
 {
-    return has_come("memory") ? NULL : __libc_malloc(size);
+    return is_too_large(size) || has_come("memory") ? NULL : __libc_malloc(size);
 }
 
 void *realloc(void *pointer, size_t size)
 {
-    return has_come("memory") ? NULL : __libc_realloc(pointer, size);
+    return is_too_large(size) || has_come("memory") ? NULL : __libc_realloc(pointer, size);
 }
 
 ssize_t read(int file, void *buffer, size_t size)
@@ -65,6 +83,8 @@ ssize_t write(int file, const void *buffer, size_t size)
 {
     ssize_t (*next)(int, const void *, size_t) = (ssize_t (*)(int, const void *, size_t))dlsym(RTLD_NEXT, "write");
     if (file == 1 && size > 0 && has_come("write")) {
+        if (takes_nothing)
+            return 0;
         if (number == 0)
             return next(file, buffer, 1);
         errno = number;
