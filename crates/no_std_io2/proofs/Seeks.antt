@@ -8,6 +8,7 @@ use Rattle.no_std_io2_base.specs.declared.error.Error.{Error}
 use Rattle.no_std_io2_base.specs.declared.traits.seek.SeekFrom.{SeekFrom}
 use Rattle.no_std_io2_base.specs.declared.traits.seek.SeekFrom.TheVariants.{Start, End, Current}
 use Rattle.no_std_io2_base.specs.Seek.{IsAtOffset, IsTarget, Seeks}
+use Rattle.no_std_io2.specs.BufferedSeek.{SeeksInner}
 use Rattle.no_std_io2.specs.Reading.{IsTooFarBack}
 use Rattle.no_std_io2.specs.Sound.{IsSound}
 
@@ -90,6 +91,11 @@ pub kept_whole : {A : Type 0} (r : Result A Error) (P Q X : Type 0) → OnErr r 
 kept_whole (Ok n) P Q X held behind = tt
 kept_whole (Err e) P Q X held behind = inl (held, behind)
 
+-- both halves of an empty buffer
+pub dropped_whole : {A : Type 0} (r : Result A Error) (P Q : Type 0) → OnOk r P → OnOk r Q → OnOk r (P × Q)
+dropped_whole (Ok n) P Q held behind = (held, behind)
+dropped_whole (Err e) P Q held behind = tt
+
 -- or the buffer was dropped for an offset too far back
 pub dropped_far : {A : Type 0} (r : Result A Error) (P X : Type 0) → P → OnErr r (X ⊎ P)
 dropped_far (Ok n) P X p = tt
@@ -110,19 +116,31 @@ sought_again o r held held' {old} {content} content' {at} {at'} {place} none sam
       subst (Seeks (length old) place (Current o) r) ends (subst (λ p. Seeks (length old) p (Current o) r at') here inside),
     )
 
+-- `Current` is neither of the two others
+pub is_current : (offset : ℤ) → ((k : ℕ) × (Current offset ≡ Start k)) ⊎ ((o : ℤ) × (Current offset ≡ End o)) → ⊥
+is_current offset (inl is) = not_start offset is.0 is.1
+  where
+    not_start : (o : ℤ) (k : ℕ) → Current o ≡ Start k → ⊥
+    not_start o k e = cc
+is_current offset (inr is) = not_end offset is.0 is.1
+  where
+    not_end : (o k : ℤ) → Current o ≡ End k → ⊥
+    not_end o k e = cc
+
 -- `Start` and `End` go to the same place from everywhere
 pub elsewhere : (target : SeekFrom) → ((k : ℕ) × (target ≡ Start k)) ⊎ ((o : ℤ) × (target ≡ End o)) → (len at at' n : ℕ)
     → IsTarget len at target n → IsTarget len at' target n
 elsewhere (Start k) is len at at' n h = h
 elsewhere (End o) is len at at' n h = h
-elsewhere (Current o) (inl is) len at at' n h = absurd (current_not_start o is.0 is.1)
-  where
-    current_not_start : (o : ℤ) (k : ℕ) → Current o ≡ Start k → ⊥
-    current_not_start o k e = cc
-elsewhere (Current o) (inr is) len at at' n h = absurd (current_not_end o is.0 is.1)
-  where
-    current_not_end : (o k : ℤ) → Current o ≡ End k → ⊥
-    current_not_end o k e = cc
+elsewhere (Current o) is len at at' n h = absurd (is_current o is)
+
+-- one of these is one seek of the inner reader
+pub one_inner : {R : Type 0} (may_seek : R → SeekFrom → R → Result ℕ Error → Type 0) (held : ℕ) (old new : R) (reply : Result ℕ Error)
+    (target : SeekFrom) → ((k : ℕ) × (target ≡ Start k)) ⊎ ((o : ℤ) × (target ≡ End o)) → may_seek old target new reply
+    → SeeksInner may_seek held old target new reply
+one_inner may_seek held old new reply (Start k) is h = h
+one_inner may_seek held old new reply (End o) is h = h
+one_inner may_seek held old new reply (Current o) is h = absurd (is_current o is)
 
 -- a seek from the start or from the end is never too far back
 pub not_far : (target : SeekFrom) (held : ℕ) → ((k : ℕ) × (target ≡ Start k)) ⊎ ((o : ℤ) × (target ≡ End o)) → IsTooFarBack target held → ⊥

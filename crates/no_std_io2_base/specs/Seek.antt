@@ -20,3 +20,12 @@ IsTarget len position (Current offset) n = IsAtOffset position offset n × (n < 
 abbrev pub Seeks : ℕ → ℕ → SeekFrom → Result ℕ Error → ℕ → Type 0
 Seeks len old from (Ok n) new = IsTarget len old from n × (new ≡ n)
 Seeks len old from (Err e) new = ((n : ℕ) → IsTarget len old from n → ⊥) × IsInvalidSeek e × (new ≡ old)
+
+-- where `stream_position` seeks
+abbrev pub here : SeekFrom
+here = Current (pos 0)
+
+-- a call that answers as a seek did, and leaves out the position
+abbrev pub WithoutPosition : (Result ℕ Error → Type 0) → Result (Unit {0}) Error → Type 0
+WithoutPosition answers (Ok done) = (n : ℕ) × answers (Ok n)
+WithoutPosition answers (Err e) = answers (Err e)

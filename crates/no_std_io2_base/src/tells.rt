@@ -7,8 +7,8 @@ ghost use Rattle.no_std_io2_base.specs.Errors.{error_display, kind_number};
 ghost use Rattle.no_std_io2_base.specs.Writes.{told_out};
 
 use crate::cursor::Cursor;
-use crate::error::{Error, ErrorKind};
-use crate::traits::{BufRead, Read, SeekFrom, Stored, Write};
+use crate::error::{Error, ErrorKind, Result};
+use crate::traits::{BufRead, Read, Seek, SeekFrom, Stored, Write};
 use std::alloc::AllocError;
 use std::fmt;
 
@@ -106,6 +106,22 @@ fn boxed_store_tells<T: Stored>(b: &Box<T>)
     ensures has_store { T.has_store b.now.value → ⟦<Box<T> as Stored>⟧.has_store b.now }
     ensures content { ⟦<Box<T> as Stored>⟧.content b.now ≡ T.content b.now.value }
     ensures position { ⟦<Box<T> as Stored>⟧.position b.now ≡ T.position b.now.value }
+{}
+
+// A lent seeker makes the seeks of its target, and a boxed one those of what is in the box.
+fn lent_seeker_tells<'a, T: Seek>(
+    old: &&'a mut T,
+    pos: SeekFrom,
+    new: &&'a mut T,
+    reply: &Result<u64>,
+)
+    ensures { ⟦<&'a mut T as Seek>⟧.may_seek old.now pos new.now reply.now
+        → T.may_seek old.now.now pos new.now.now reply.now }
+{}
+
+fn boxed_seeker_tells<T: Seek>(old: &Box<T>, pos: SeekFrom, new: &Box<T>, reply: &Result<u64>)
+    ensures { ⟦<Box<T> as Seek>⟧.may_seek old.now pos new.now reply.now
+        → T.may_seek old.now.value pos new.now.value reply.now }
 {}
 
 fn lent_reader_tells<'a, R: Read>(r: &&'a mut R)

@@ -6,11 +6,12 @@ ghost use Rattle.no_std_io2_base.specs.Events.{events_of};
 ghost use Rattle.no_std_io2_base.specs.Lending.{BeginsWith};
 ghost use Rattle.no_std_io2.specs.Reading.{reader_held, reader_behind, reader_inner, reader_is_sound};
 ghost use Rattle.no_std_io2.specs.Behind.{IsInBuffer, MovesEvents};
+ghost use Rattle.no_std_io2.specs.BufferedSeek.{ReaderSeeks};
 ghost use Rattle.no_std_io2.specs.Sound.{IsSound};
 
 use super::buf_reader::BufReader;
 use no_std_io2_base::error::Result;
-use no_std_io2_base::traits::{BufRead, Read, Seek, Stored};
+use no_std_io2_base::traits::{BufRead, Read, Seek, SeekFrom, Stored};
 
 // Its events are the held bytes, then the inner reader's.
 fn reader_tells<R: Read, const S: usize>(r: &BufReader<R, S>)
@@ -81,6 +82,17 @@ fn consume_counted<R: Read, const S: usize>(r: &mut BufReader<R, S>, amount: usi
 {
     r.consume(amount);
 }
+
+// Its seeks are one of the inner reader, or two.
+fn reader_seeks_tell<R: Seek, const S: usize>(
+    old: &BufReader<R, S>,
+    pos: SeekFrom,
+    new: &BufReader<R, S>,
+    reply: &Result<u64>,
+)
+    ensures { ⟦<BufReader<R, S> as Seek>⟧.may_seek old.now pos new.now reply.now
+        → ReaderSeeks R.may_seek old.now pos new.now reply.now }
+{}
 
 // Moves inside the buffer once. The events to come move with it, and none is taken from the inner.
 fn move_told<R: Read + Seek, const S: usize>(r: &mut BufReader<R, S>, offset: i64) -> Result<()>

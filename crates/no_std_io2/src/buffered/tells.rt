@@ -2,10 +2,12 @@
 //! make every promise over it empty. The functions have no body of their own; their contracts are
 //! proved.
 ghost use Rattle.std.specs.Prelude.{◌≡◌, []};
-ghost use Rattle.no_std_io2.specs.Buffered.{writer_inner, writer_buffer, with_buffer};
+ghost use Rattle.no_std_io2.specs.Buffered.{writer_inner, writer_buffer, writer_told, with_buffer};
+ghost use Rattle.no_std_io2.specs.BufferedSeek.{WriterSeeks};
 
 use super::buf_writer::BufWriter;
-use no_std_io2_base::traits::{Stored, Write};
+use no_std_io2_base::error::Result;
+use no_std_io2_base::traits::{Seek, SeekFrom, Stored, Write};
 
 fn buffered_writer_tells<W: Write + Drop, const S: usize>(w: &BufWriter<W, S>)
     ensures told { ⟦<BufWriter<W, S> as Write>⟧.told w.now
@@ -22,4 +24,16 @@ fn buffered_store_tells<W: Write + Stored + Drop, const S: usize>(w: &BufWriter<
     ensures empty { ⟦<BufWriter<W, S> as Stored>⟧.has_store w.now → writer_buffer w.now ≡ [] }
     ensures content { ⟦<BufWriter<W, S> as Stored>⟧.content w.now ≡ W.content (writer_inner w.now) }
     ensures position { ⟦<BufWriter<W, S> as Stored>⟧.position w.now ≡ W.position (writer_inner w.now) }
+{}
+
+// Its seeks send what is held, and then make one of the inner writer.
+fn buffered_seeker_tells<W: Write + Seek + Drop, const S: usize>(
+    old: &BufWriter<W, S>,
+    pos: SeekFrom,
+    new: &BufWriter<W, S>,
+    reply: &Result<u64>,
+)
+    ensures { ⟦<BufWriter<W, S> as Seek>⟧.may_seek old.now pos new.now reply.now
+        → WriterSeeks W.told W.has_store W.content W.position W.may_seek (writer_told W.told old.now) pos
+        (writer_buffer new.now) (writer_inner new.now) reply.now }
 {}

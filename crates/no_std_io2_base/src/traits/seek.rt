@@ -1,4 +1,4 @@
-ghost use Rattle.std.specs.Prelude.{◌≡◌, ◌<◌, ◌^◌, length, IfOk, IsOkAnd, IsOk};
+ghost use Rattle.std.specs.Prelude.{◌≡◌, ◌<◌, ◌^◌, ℕ, ⊤, Result, length, IfOk, IsOkAnd, IsOk};
 
 use super::stored::Stored;
 use crate::error::Result;
@@ -31,7 +31,12 @@ pub enum SeekFrom {
 /// assert_eq!(rt; r.seek(SeekFrom::End(-1))?, 4);
 /// ```
 pub trait Seek: Stored {
-    ghost use Rattle.no_std_io2_base.specs.Seek.{Seeks};
+    ghost use Rattle.no_std_io2_base.specs.declared.error.Error.{Error};
+    ghost use Rattle.no_std_io2_base.specs.declared.traits.seek.SeekFrom.{SeekFrom};
+    ghost use Rattle.no_std_io2_base.specs.Seek.{Seeks, WithoutPosition, here};
+
+    // What one `seek` of this type may do: the state before, the target, the state after, the answer. Left out, anything.
+    ghost may_seek: { Self → SeekFrom → Self → Result ℕ Error → Type 0 } = { λ old pos new reply. ⊤ };
 
     /// Moves to `pos`, past the end too, and answers the new position from the start. A told store
     /// keeps its content. Follows `std::io::Seek::seek`.
@@ -52,7 +57,8 @@ pub trait Seek: Stored {
         ensures store { Self.has_store self.old → Self.has_store self.new
             × (Self.content self.new ≡ Self.content self.old)
             × Seeks (length (Self.content self.old)) (Self.position self.old) pos result (Self.position self.new) }
-        ensures position { IfOk result (λ n. Self.has_store self.new → Self.position self.new ≡ n) };
+        ensures position { IfOk result (λ n. Self.has_store self.new → Self.position self.new ≡ n) }
+        ensures sought { Self.may_seek self.old pos self.new result };
 
     /// Returns the position from the start. Follows `std::io::Seek::stream_position`.
     ///
@@ -70,6 +76,7 @@ pub trait Seek: Stored {
             × (Self.position self.new ≡ Self.position self.old)
             × IsOkAnd result (λ n. n ≡ Self.position self.old) }
         ensures position { IfOk result (λ n. Self.has_store self.new → Self.position self.new ≡ n) }
+        ensures sought { Self.may_seek self.old here self.new result }
     {
         self.seek(SeekFrom::Current(0))
     }
@@ -88,9 +95,10 @@ pub trait Seek: Stored {
     /// assert_eq!(rt; r.stream_position()?, 0);
     /// ```
     fn rewind(&mut self) -> Result<()>
-        ensures { Self.has_store self.old → Self.has_store self.new
+        ensures store { Self.has_store self.old → Self.has_store self.new
             × (Self.content self.new ≡ Self.content self.old)
             × (Self.position self.new ≡ 0) × IsOk result }
+        ensures sought { WithoutPosition (Self.may_seek self.old (SeekFrom.Start 0) self.new) result }
     {
         self.seek(SeekFrom::Start(0))?;
         Ok(())

@@ -1,11 +1,12 @@
 // A `BufReader` as a seeker.
 ghost use Rattle.std.specs.Prelude.{FitsSigned, SomeIff, ◌≡◌, ◌<◌, ◌^◌, ◌⊎◌, ◌-ℤ◌, pos, [], List, length, IfOk, IsOk, IsOkAnd, OnOk, OnErr};
 ghost use Rattle.std.specs.Int.{w64};
-ghost use Rattle.no_std_io2_base.specs.Seek.{Seeks};
+ghost use Rattle.no_std_io2_base.specs.Seek.{Seeks, WithoutPosition, here};
 ghost use Rattle.no_std_io2_base.specs.Events.{Event};
 ghost use Rattle.no_std_io2.specs.Behind.{IsInBuffer, IsCutOn, MovesEvents, led_to};
 ghost use Rattle.no_std_io2.specs.Reading.{reader_held, reader_behind, reader_inner, reader_events, reader_has_store};
 ghost use Rattle.no_std_io2.specs.Reading.{reader_is_sound, reader_position, KeepsBuffer, HasNoBuffer, IsTooFarBack};
+ghost use Rattle.no_std_io2.specs.BufferedSeek.{SeeksInner, ReaderSeeks, at_start, back_by};
 ghost use Rattle.no_std_io2.specs.Sound.{sound_fits};
 
 use super::BufReader;
@@ -31,6 +32,7 @@ impl<R: Seek, const S: usize> BufReader<R, S> {
             × (R.content (reader_inner self.new) ≡ R.content (reader_inner self.old))
             × Seeks (length (R.content (reader_inner self.old))) (R.position (reader_inner self.old))
             target result (R.position (reader_inner self.new)) }
+        ensures sought { R.may_seek (reader_inner self.old) target (reader_inner self.new) result }
         ensures position { IfOk result (λ n. R.has_store (reader_inner self.new)
             → R.position (reader_inner self.new) ≡ n) }
         ensures sound { reader_is_sound R.has_store R.position R.content self.old
@@ -51,6 +53,8 @@ impl<R: Seek, const S: usize> BufReader<R, S> {
             → R.has_store (reader_inner self.new) × IsOk result
             × (R.content (reader_inner self.new) ≡ R.content (reader_inner self.old))
             × (R.position (reader_inner self.new) ≡ reader_position R.position self.old) }
+        ensures sought { WithoutPosition (R.may_seek (reader_inner self.old)
+            (back_by (length (reader_held self.old))) (reader_inner self.new)) result }
         ensures sound { reader_is_sound R.has_store R.position R.content self.old
             → reader_is_sound R.has_store R.position R.content self.new }
     {
@@ -66,6 +70,8 @@ impl<R: Seek, const S: usize> BufReader<R, S> {
             × (R.content (reader_inner self.new) ≡ R.content (reader_inner self.old))
             × Seeks (length (R.content (reader_inner self.old))) (reader_position R.position self.old)
             (SeekFrom.Current offset) result (reader_position R.position self.new) }
+        ensures sought { SeeksInner R.may_seek (length (reader_held self.old)) (reader_inner self.old)
+            (SeekFrom.Current offset) (reader_inner self.new) result }
         ensures position { IfOk result (λ n. R.has_store (reader_inner self.new)
             → R.position (reader_inner self.new) ≡ n) }
         ensures empty { OnOk result (reader_held self.new ≡ []) }
@@ -133,6 +139,9 @@ impl<R: Seek, const S: usize> BufReader<R, S> {
             × Seeks (length (R.content (reader_inner self.old))) (reader_position R.position self.old)
             (SeekFrom.Current offset) (led_to (reader_position R.position self.new) result)
             (reader_position R.position self.new) }
+        ensures inner { ¬ IsInBuffer offset (length (reader_behind self.old)) (length (reader_held self.old))
+            → WithoutPosition (SeeksInner R.may_seek (length (reader_held self.old)) (reader_inner self.old)
+            (SeekFrom.Current offset) (reader_inner self.new)) result }
 
         // Over a sound store it succeeds exactly where there is a target, wherever that lies.
         ensures store { reader_is_sound R.has_store R.position R.content self.old
@@ -167,6 +176,7 @@ impl<R: Seek, const S: usize> Seek for BufReader<R, S> {
             pos result (reader_position R.position self.new) }
         ensures position { IfOk result (λ n. reader_has_store R.has_store R.position R.content self.new
             → reader_position R.position self.new ≡ n) }
+        ensures sought { ReaderSeeks R.may_seek self.old pos self.new result }
 
         // The buffer is dropped by success, and kept by a refusal of the first or only seek.
         ensures empty { OnOk result (reader_held self.new ≡ []) }
@@ -193,6 +203,7 @@ impl<R: Seek, const S: usize> Seek for BufReader<R, S> {
             × IsOkAnd result (λ n. n ≡ reader_position R.position self.old) }
         ensures position { IfOk result (λ n. reader_has_store R.has_store R.position R.content self.new
             → reader_position R.position self.new ≡ n) }
+        ensures sought { ReaderSeeks R.may_seek self.old here self.new result }
         ensures empty { OnOk result (reader_held self.new ≡ []) }
         ensures behind { OnOk result (reader_behind self.new ≡ []) }
         ensures kept { OnErr result (KeepsBuffer self.old self.new) }
@@ -207,6 +218,7 @@ impl<R: Seek, const S: usize> Seek for BufReader<R, S> {
             → reader_has_store R.has_store R.position R.content self.new
             × (R.content (reader_inner self.new) ≡ R.content (reader_inner self.old))
             × (reader_position R.position self.new ≡ 0) × IsOk result }
+        ensures sought { WithoutPosition (ReaderSeeks R.may_seek self.old at_start self.new) result }
         ensures empty { OnOk result (reader_held self.new ≡ []) }
         ensures behind { OnOk result (reader_behind self.new ≡ []) }
         ensures kept { OnErr result (KeepsBuffer self.old self.new) }
@@ -234,6 +246,8 @@ impl<R: Seek, const S: usize> Seek for BufReader<R, S> {
     {
         self.inner.stream_len()
     }
+
+    ghost may_seek = { λ old pos new reply. ReaderSeeks R.may_seek old pos new reply };
 
     ghost seek_fits = { λ r h. sound_fits _ (reader_held r) _ (R.seek_fits (reader_inner r) h.0) };
 }

@@ -1,9 +1,9 @@
 ghost use Rattle.std.specs.Prelude.{◌≡◌, ◌<◌, [], ◌∷◌, length, IsOk, IfOk, IfErr, OnOk, IsOkAnd};
 ghost use Rattle.no_std_io2_base.specs.Errors.{error_kind, IsFault};
-ghost use Rattle.no_std_io2_base.specs.Seek.{Seeks};
+ghost use Rattle.no_std_io2_base.specs.Seek.{Seeks, WithoutPosition, here};
 ghost use Rattle.no_std_io2_base.specs.Writes.{Moves};
 ghost use Rattle.no_std_io2.specs.Buffered.{writer_inner, writer_buffer, writer_told, IsEnd};
-ghost use Rattle.no_std_io2.specs.BufferedSeek.{SeeksAfterSending, MeasuredAfterSending, here, at_start, as_seek};
+ghost use Rattle.no_std_io2.specs.BufferedSeek.{SeeksAfterSending, WriterSeeks, MeasuredAfterSending, at_start};
 
 use super::BufWriter;
 use no_std_io2_base::error::Result;
@@ -49,6 +49,8 @@ impl<W: Write + Seek + Drop, const S: usize> Seek for BufWriter<W, S> {
             result (W.position (writer_inner self.new)) }
         ensures position { IfOk result (λ n. (writer_buffer self.new ≡ []) × W.has_store (writer_inner self.new)
             → W.position (writer_inner self.new) ≡ n) }
+        ensures sought { WriterSeeks W.told W.has_store W.content W.position W.may_seek (writer_told W.told self.old) pos
+            (writer_buffer self.new) (writer_inner self.new) result }
 
         // Refused by the sending, with bytes still held.
         ensures rest { IsEnd (writer_buffer self.old) (writer_buffer self.new) }
@@ -58,8 +60,8 @@ impl<W: Write + Seek + Drop, const S: usize> Seek for BufWriter<W, S> {
 
         // Else all was sent, and the inner seek went from there.
         ensures empty { OnOk result (writer_buffer self.new ≡ []) }
-        ensures sent { writer_buffer self.new ≡ [] → SeeksAfterSending W.told W.has_store W.content
-            W.position (writer_told W.told self.old) pos result (writer_inner self.new) }
+        ensures sent { writer_buffer self.new ≡ [] → SeeksAfterSending W.told W.has_store W.content W.position W.may_seek
+            (writer_told W.told self.old) pos (writer_inner self.new) result }
     {
         self.core.send()?;
         self.core.get_mut().seek(pos)
@@ -75,6 +77,8 @@ impl<W: Write + Seek + Drop, const S: usize> Seek for BufWriter<W, S> {
             × IsOkAnd result (λ n. n ≡ W.position (writer_inner self.old)) }
         ensures position { IfOk result (λ n. (writer_buffer self.new ≡ []) × W.has_store (writer_inner self.new)
             → W.position (writer_inner self.new) ≡ n) }
+        ensures sought { WriterSeeks W.told W.has_store W.content W.position W.may_seek (writer_told W.told self.old) here
+            (writer_buffer self.new) (writer_inner self.new) result }
 
         // Those of `seek`.
         ensures rest { IsEnd (writer_buffer self.old) (writer_buffer self.new) }
@@ -82,8 +86,8 @@ impl<W: Write + Seek + Drop, const S: usize> Seek for BufWriter<W, S> {
             → Moves (writer_told W.told self.old) [] (error_kind e ∷ []) (writer_told W.told self.new)) }
         ensures fault { IfErr result (λ e. 0 < length (writer_buffer self.new) → IsFault e) }
         ensures empty { OnOk result (writer_buffer self.new ≡ []) }
-        ensures sent { writer_buffer self.new ≡ [] → SeeksAfterSending W.told W.has_store W.content
-            W.position (writer_told W.told self.old) here result (writer_inner self.new) }
+        ensures sent { writer_buffer self.new ≡ [] → SeeksAfterSending W.told W.has_store W.content W.position W.may_seek
+            (writer_told W.told self.old) here (writer_inner self.new) result }
     {
         self.seek(SeekFrom::Current(0))
     }
@@ -94,6 +98,8 @@ impl<W: Write + Seek + Drop, const S: usize> Seek for BufWriter<W, S> {
             → ((writer_buffer self.new ≡ []) × W.has_store (writer_inner self.new))
             × (W.content (writer_inner self.new) ≡ W.content (writer_inner self.old))
             × (W.position (writer_inner self.new) ≡ 0) × IsOk result }
+        ensures sought { WithoutPosition (WriterSeeks W.told W.has_store W.content W.position W.may_seek
+            (writer_told W.told self.old) at_start (writer_buffer self.new) (writer_inner self.new)) result }
 
         // Those of `seek`.
         ensures rest { IsEnd (writer_buffer self.old) (writer_buffer self.new) }
@@ -101,8 +107,8 @@ impl<W: Write + Seek + Drop, const S: usize> Seek for BufWriter<W, S> {
             → Moves (writer_told W.told self.old) [] (error_kind e ∷ []) (writer_told W.told self.new)) }
         ensures fault { IfErr result (λ e. 0 < length (writer_buffer self.new) → IsFault e) }
         ensures empty { OnOk result (writer_buffer self.new ≡ []) }
-        ensures sent { writer_buffer self.new ≡ [] → SeeksAfterSending W.told W.has_store W.content
-            W.position (writer_told W.told self.old) at_start (as_seek result) (writer_inner self.new) }
+        ensures sent { writer_buffer self.new ≡ [] → WithoutPosition (SeeksAfterSending W.told W.has_store W.content W.position
+            W.may_seek (writer_told W.told self.old) at_start (writer_inner self.new)) result }
     {
         self.seek(SeekFrom::Start(0))?;
         Ok(())
@@ -131,6 +137,9 @@ impl<W: Write + Seek + Drop, const S: usize> Seek for BufWriter<W, S> {
             Err(e) => Err(e),
         }
     }
+
+    ghost may_seek = { λ old pos new reply. WriterSeeks W.told W.has_store W.content W.position W.may_seek
+        (writer_told W.told old) pos (writer_buffer new) (writer_inner new) reply };
 
     ghost seek_fits = { λ w h. W.seek_fits (writer_inner w) h.1 };
 }

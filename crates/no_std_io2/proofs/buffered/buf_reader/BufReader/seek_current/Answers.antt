@@ -1,11 +1,11 @@
 -- A seek from the next byte, by its three ends: one inner seek, two, and a first of two that failed.
-use Rattle.std.proofs.Common.{◌≡◌, ◌-ℤ◌, ℤ, pos, length, FitsSigned, rules, arith, ◌∙◌, subst, inl}
+use Rattle.std.proofs.Common.{◌≡◌, ◌-ℤ◌, ℤ, pos, length, FitsSigned, rules, arith, refl, ◌∙◌, subst, inl, inr}
 use Rattle.std.proofs.lemmas.Int.{ints, to_z-of_z}
 use Rattle.std.proofs.lemmas.Result.{err_from_is_err_and}
 use Rattle.std.specs.Int.{w64}
 use mir.Val.{to_z, of_z}
 use Rattle.no_std_io2_base.specs.declared.traits.seek.SeekFrom.TheVariants.{Current}
-use Rattle.no_std_io2.specs.Reading.{reader_held, reader_behind, IsTooFarBack}
+use Rattle.no_std_io2.specs.Reading.{reader_held, reader_behind, reader_inner, IsTooFarBack}
 use Rattle.no_std_io2.proofs.ReaderCallLemmas.{not_ok}
 use Rattle.no_std_io2.proofs.Seeks.{sought_current, sought_again, fits_not_far, far_unless_fits, kept_whole, dropped_far, still_none}
 use Rattle.no_std_io2.proofs.buffered.buf_reader.BufReader.seek_current.Goals as goal
@@ -14,14 +14,17 @@ pub returns-in-Some : goal.returns-in-Some
 returns-in-Some g c =
     let held = reader_held c.args.self.now in
     let seek = c.seek_inner.ensures in
+    let rest : ℤ = to_z w64 (of_z w64 c.in-Some.rest) in
+    let is : rest ≡ c.args.offset -ℤ pos (length held) = omega (arith, ints, c.in-Some.ensures.1, c.len-held.ensures.len) in
+    let inner = reader_inner c.args.self.now in
+    let new = reader_inner c.seek_inner.new.self in
     record {
       store = λ s.
           let now = seek.store s.0 in
-          let rest : ℤ = to_z w64 (of_z w64 c.in-Some.rest) in
-          let is : rest ≡ c.args.offset -ℤ pos (length held) = omega (arith, ints, c.in-Some.ensures.1, c.len-held.ensures.len) in
           let done = sought_current c.args.offset rest c.seek_inner.result held (reader_held c.seek_inner.new.self) is s.1
           now.1 now.2 seek.empty seek.kept in
           ((now.0, done.0), now.1, done.1);
+      sought = inl (subst (λ (z : ℤ). g.R.Seek.may_seek inner (Current z) new c.seek_inner.result) is seek.sought);
       position = seek.position;
       empty = seek.empty;
       behind = seek.behind;
@@ -44,6 +47,11 @@ returns-in_ok-seek_back-in-None g c =
     let same = to_z-of_z w64 c.args.offset c.ranges.offset in
     let none = still_none answer (reader_held mid) (reader_held new) first.empty second.empty second.kept in
     let none_behind = still_none answer (reader_behind mid) (reader_behind new) first.behind second.behind second.behind_kept in
+    let not_fits : FitsSigned w64 (c.args.offset -ℤ pos c.len-held.result) → ⊥ =
+    subst (λ (z : ℤ). FitsSigned w64 (z -ℤ pos c.len-held.result) → ⊥) same c.in-None.ensures in
+    let far = far_unless_fits c.args.offset c.len-held.result c.ranges.offset c.len-held.ensures.in_memory not_fits in
+    let too_far = subst (IsTooFarBack (Current c.args.offset)) c.len-held.ensures.len far in
+    let on = λ (z : ℤ). g.R.Seek.may_seek (reader_inner mid) (Current z) (reader_inner new) answer in
     record {
       store = λ s.
           let there = first.store s in
@@ -51,14 +59,19 @@ returns-in_ok-seek_back-in-None g c =
           let done = sought_again c.args.offset answer (reader_held mid) (reader_held new) _ first.empty same there.2
           there.3 now.2 second.empty second.kept in
           ((now.0, done.0), now.1 ∙ there.2, done.1);
+      sought = inr (
+        too_far,
+        inl (record {
+          between = reader_inner mid;
+          at = first.sought.0;
+          back = first.sought.1;
+          on = subst on same second.sought;
+        }),
+      );
       position = second.position;
       empty = second.empty;
       behind = second.behind;
-      kept =
-          let not_fits : FitsSigned w64 (c.args.offset -ℤ pos c.len-held.result) → ⊥ =
-          subst (λ (z : ℤ). FitsSigned w64 (z -ℤ pos c.len-held.result) → ⊥) same c.in-None.ensures in
-          let far = far_unless_fits c.args.offset c.len-held.result c.ranges.offset c.len-held.ensures.in_memory not_fits in
-          dropped_far answer _ _ (subst (IsTooFarBack (Current c.args.offset)) c.len-held.ensures.len far, (none, none_behind));
+      kept = dropped_far answer _ _ (too_far, (none, none_behind));
       dropped = λ s far. (none, none_behind);
       sound = λ h. second.sound (first.sound h);
     }
@@ -68,8 +81,14 @@ returns-in_err-seek_back-in-None g c =
     let p = err_from_is_err_and c.from_residual.result c.from_residual.ensures.1 in
     let first = c.in_err-seek_back-in-None.ensures in
     let failed = c.in_err-seek_back-in-None.field-0.0 in
+    let same = to_z-of_z w64 c.args.offset c.ranges.offset in
+    let not_fits : FitsSigned w64 (c.args.offset -ℤ pos c.len-held.result) → ⊥ =
+    subst (λ (z : ℤ). FitsSigned w64 (z -ℤ pos c.len-held.result) → ⊥) same c.in-None.ensures in
+    let far = far_unless_fits c.args.offset c.len-held.result c.ranges.offset c.len-held.ensures.in_memory not_fits in
+    let too_far = subst (IsTooFarBack (Current c.args.offset)) c.len-held.ensures.len far in
     rw (p.1, p.2) (record {
       store = λ s. absurd (not_ok failed (first.store s).1);
+      sought = inr (too_far, inr (refl, first.sought));
       position = tt;
       empty = tt;
       behind = tt;

@@ -4,8 +4,9 @@ use Rattle.std.specs.Int.{w64}
 use Rattle.no_std_io2_base.specs.declared.traits.seek.SeekFrom.{SeekFrom}
 use Rattle.no_std_io2_base.specs.declared.traits.seek.SeekFrom.TheVariants.{Current}
 use Rattle.no_std_io2_base.specs.Seek.{Seeks}
+use Rattle.no_std_io2.specs.BufferedSeek.{ReaderSeeks}
 use Rattle.no_std_io2.specs.Reading.{reader_held, reader_inner, reader_position}
-use Rattle.no_std_io2.proofs.Seeks.{sought, elsewhere, not_far}
+use Rattle.no_std_io2.proofs.Seeks.{sought, elsewhere, not_far, one_inner, dropped_whole, kept_whole}
 use Rattle.no_std_io2.proofs.buffered.buf_reader.seeks.BufReaderSeek.seek.Goals as goal
 
 pub returns-in-Current-clause-store : goal.returns-in-Current-clause-store
@@ -33,3 +34,24 @@ returns-in-Start-clause-store g c = λ s.
 
 pub returns-in-Start-clause-dropped : goal.returns-in-Start-clause-dropped
 returns-in-Start-clause-dropped g c = λ s far. absurd (not_far c.args.pos _ c.in-Start.is far)
+
+pub returns-in-Current-clause-sought : goal.returns-in-Current-clause-sought
+returns-in-Current-clause-sought g c =
+    let seek = c.seek_current.ensures in
+    let fits : FitsSigned w64 c.in-Current.offset = search rules in
+    let same = ap Current (to_z-of_z w64 c.in-Current.offset fits) ∙ sym c.in-Current.is in
+    let sought_to =
+    λ (target : SeekFrom). ReaderSeeks g.R.Seek.may_seek c.args.self.now target c.seek_current.new.self c.seek_current.result in
+    subst sought_to same (record {
+      dropped = dropped_whole c.seek_current.result _ _ seek.empty seek.behind;
+      kept = seek.kept;
+      inner = seek.sought;
+    })
+
+pub returns-in-Start-clause-sought : goal.returns-in-Start-clause-sought
+returns-in-Start-clause-sought g c =
+    let seek = c.seek_inner.ensures in record {
+      dropped = dropped_whole c.seek_inner.result _ _ seek.empty seek.behind;
+      kept = kept_whole c.seek_inner.result _ _ _ seek.kept seek.behind_kept;
+      inner = one_inner g.R.Seek.may_seek _ _ _ c.seek_inner.result c.args.pos c.in-Start.is seek.sought;
+    }

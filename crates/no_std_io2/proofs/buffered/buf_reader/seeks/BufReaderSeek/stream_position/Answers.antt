@@ -17,3 +17,6 @@ returns-clause-position g c = c.seek.ensures.position
 
 pub returns-clause-sound : goal.returns-clause-sound
 returns-clause-sound g c = c.seek.ensures.sound
+
+pub returns-clause-sought : goal.returns-clause-sought
+returns-clause-sought g c = c.seek.ensures.sought

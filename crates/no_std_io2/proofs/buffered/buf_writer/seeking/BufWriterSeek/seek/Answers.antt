@@ -58,6 +58,7 @@ returns-clause-sent g c =
     λ empty. record {
       sent = sender_inner c.send.new.self;
       moves = Moves-out {k = []} _ sends.sent _ sends.split none sends.moves;
+      sought = rw c.get_mut.ensures.value at c.seek.ensures.sought;
       seeks = rw c.get_mut.ensures.value at c.seek.ensures.store;
     }
 
@@ -69,3 +70,17 @@ returns-in_err-send-clause-fault g c =
 pub returns-clause-fault : goal.returns-clause-fault
 returns-clause-fault g c =
     iferr c.seek.result (λ e some. absurd (omega (arith, some, ap length c.in_ok-send.ensures.empty)))
+
+pub returns-in_err-send-clause-sought : goal.returns-in_err-send-clause-sought
+returns-in_err-send-clause-sought g c = record {
+  empty = returns-in_err-send-clause-empty g c;
+  fault = returns-in_err-send-clause-fault g c;
+  sent = returns-in_err-send-clause-sent g c;
+}
+
+pub returns-clause-sought : goal.returns-clause-sought
+returns-clause-sought g c = record {
+  empty = returns-clause-empty g c;
+  fault = returns-clause-fault g c;
+  sent = returns-clause-sent g c;
+}

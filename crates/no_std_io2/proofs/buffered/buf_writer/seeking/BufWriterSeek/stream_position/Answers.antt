@@ -28,3 +28,6 @@ returns-clause-empty g c = c.seek.ensures.empty
 
 pub returns-clause-sent : goal.returns-clause-sent
 returns-clause-sent g c = c.seek.ensures.sent
+
+pub returns-clause-sought : goal.returns-clause-sought
+returns-clause-sought g c = c.seek.ensures.sought
