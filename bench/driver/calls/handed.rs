@@ -52,7 +52,7 @@ pub fn cursor_seek(source: &[u8], size: usize, calls: u64) -> u64 {
     let mut cursor = Cursor::new(source);
     let mut sum = 0u64;
     for at in 0..calls {
-        let target = match at % 3 {
+        let target = match at & 3 {
             0 => SeekFrom::Start(size as u64),
             1 => SeekFrom::Current(3),
             _ => SeekFrom::End(-3),
