@@ -139,9 +139,6 @@ impl<R: Seek, const S: usize> BufReader<R, S> {
             × Seeks (length (R.content (reader_inner self.old))) (reader_position R.position self.old)
             (SeekFrom.Current offset) (led_to (reader_position R.position self.new) result)
             (reader_position R.position self.new) }
-        ensures inner { ¬ IsInBuffer offset (length (reader_behind self.old)) (length (reader_held self.old))
-            → WithoutPosition (SeeksInner R.may_seek (length (reader_held self.old)) (reader_inner self.old)
-            (SeekFrom.Current offset) (reader_inner self.new)) result }
 
         // Over a sound store it succeeds exactly where there is a target, wherever that lies.
         ensures store { reader_is_sound R.has_store R.position R.content self.old

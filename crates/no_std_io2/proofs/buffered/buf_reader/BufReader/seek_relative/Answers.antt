@@ -26,7 +26,6 @@ returns-then-shift g c =
           (events inner) cut;
       outside = λ not. absurd (not within);
       sought = λ not _. absurd (not within);
-      inner = λ not. absurd (not within);
       store = λ s.
           let small = (g.met.R.Seek.seek_fits inner s.0).1 in (
             (
@@ -60,7 +59,6 @@ returns-in-Ok g c =
       sought = λ _ s.
           let now = store s in
           (now.0, now.1, led now.2);
-      inner = λ _. (c.in-Ok.field-0, rw (kept.0, same) at c.in-Ok.ensures.sought);
       store = λ s.
           let now = store (s.0, sound_held (reader_behind old) (reader_held old) _ _ s.1) in
           (sound s, now.1, led now.2);
@@ -80,7 +78,6 @@ returns-in-Err g c =
       events = λ h events. absurd (not h);
       outside = λ _. (tt, rw (kept.0, same) at c.in-Err.ensures.kept);
       sought = λ _ s. store s;
-      inner = λ _. rw (kept.0, same) at c.in-Err.ensures.sought;
       store = λ s.
           let now = store (s.0, sound_held (reader_behind old) (reader_held old) _ _ s.1) in
           (sound s, now.1, now.2);
