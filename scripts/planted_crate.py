@@ -3,11 +3,13 @@ import os
 import re
 from collections import namedtuple
 
+import refusing_goals
 from source_functions import blanked, items_of
 
 # A wrong body: its changes (file, old, new), what they stand in, the functions that must be refused,
-# whether it stands in their bodies alone, and the functions that must be whole when it is tried.
-Edit = namedtuple("Edit", "name changes places judged in_bodies needs")
+# whether it stands in their bodies alone, the functions that must be whole when it is tried, and of
+# each refused function the goals that stay open, where they are known.
+Edit = namedtuple("Edit", "name changes places judged in_bodies needs goals")
 
 
 class Fault(Exception):
@@ -32,7 +34,9 @@ class Crate:
             self.items[path] = self.items_in(path, text)
         self.names = [it.name for functions, _ in self.items.values() for it in functions]
         self.proofs = {name: self.proof_of(name) for name in self.names}
-        self.holes = set()
+        self.goals = refusing_goals.read(self.folder)
+        # the proofs that stand in the copy in place of the repository's
+        self.others = {}
 
     def module_of(self, path):
         names = path[len("src/") : -len(".rt")].split("/")
@@ -50,32 +54,44 @@ class Crate:
                     texts[file] = it.read()
         return texts
 
+    def proof(self, name):
+        """Gives the files of a function's proof as the copy has them."""
+        return self.others.get(name, self.proofs.get(name, {}))
+
     def answered(self, name, file, at):
-        """Gives the clause that an answer is for, by its place in a proof's file: the field or else the goal above it."""
-        for line in reversed(self.proofs.get(name, {}).get(file, "").split("\n")[:at]):
-            if found := re.match(r"\s+(\w+) =( |$)", line) or re.match(r"(?:pub )?([^\s:]+) [^=]*[:=]", line):
-                return clause_of(found[1])
-        return "an answer"
+        """Gives what an answer is for, by its place in a proof's file: the goal, and the clause, which is the field or else the goal's."""
+        clause = ""
+        for line in reversed(self.proof(name).get(file, "").split("\n")[:at]):
+            if not clause and (found := re.match(r"\s+(\w+) =( |$)", line)):
+                clause = found[1]
+            if found := re.match(r"(?:pub )?([^\s:]+) [^=]*[:=]", line):
+                return found[1], clause or clause_of(found[1])
+        return "", clause or "an answer"
 
     def folder_of(self, name):
         return "/".join([self.folder, "proofs", *name.split("::")[1:]])
 
-    def prove_alone(self, names, texts):
-        """Writes the proofs of these functions, and holes for the proofs of those that their texts name."""
+    def prove_alone(self, names, texts, goals):
+        """Writes the proofs of these functions, with holes for the goals that are not tried, and holes for the proofs of those that their texts name."""
         words = set()
         for path, text in texts.items():
             for it in self.items_in(path, text)[0]:
                 words |= set(re.findall(r"\w+", text[it.body : it.end])) if it.name in names else set()
         holes = {it for it in self.names if it.rpartition("::")[2] in words} - names
-        for name in holes ^ self.holes:
-            folder, proof = self.folder_of(name), {"Proof.antt": hole(name)} if name in holes else self.proofs[name]
+        others = {name: {"Proof.antt": hole(name)} for name in holes}
+        others |= {name: refusing_goals.with_holes(name, self.proofs[name], goals[name]) for name in names & goals.keys()}
+        for name in {*others, *self.others}:
+            proof = others.get(name, self.proofs[name])
+            if proof == self.proof(name):
+                continue
+            folder = self.folder_of(name)
             os.makedirs(folder, exist_ok=True)
             for file in (it for it in os.listdir(folder) if it.endswith(".antt")):
                 os.remove(f"{folder}/{file}")
             for file, text in proof.items():
                 with open(f"{folder}/{file}", "w", encoding="utf-8") as it:
                     it.write(text)
-        self.holes = holes
+        self.others = others
 
     def place_of(self, path, old):
         """Says in what a change stands, and whether that is a function's body or an import."""
@@ -118,7 +134,9 @@ class Crate:
             raise Fault("it changes no one function, so it needs a line 'refused by: FUNCTION'")
         judged = judged or places
         in_bodies = judged <= places and all(it for _, it in found)
-        return Edit(name, changes, frozenset(places | judged), judged, in_bodies, frozenset())
+        goals = {it: self.goals.get(name, {}).get(it) for it in judged}
+        goals = goals if all(goals.values()) else {}
+        return Edit(name, changes, frozenset(places | judged), judged, in_bodies, frozenset(), goals)
 
 
 def clause_of(goal):
