@@ -54,6 +54,7 @@ static int has_come(const char *of)
     times--;
     if (path)
         close(open(path, O_WRONLY | O_CREAT, 0644));
+    path = NULL;
     return 1;
 }
 

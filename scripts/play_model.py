@@ -157,7 +157,7 @@ def text_of(line):
     """Gives the bytes of a `w` or `a` line, or nothing where it is bad."""
     if line[1:2] not in (b"", b" "):
         return None
-    if not re.fullmatch(rb"(?s:[^\\]|\\n|\\\\)*", line[2:]):
+    if b"\\" in re.sub(rb"\\[n\\]", b"", line[2:]):
         return None
     return re.sub(rb"\\([n\\])", lambda it: b"\n" if it[1] == b"n" else b"\\", line[2:])
 

@@ -1,4 +1,5 @@
 pub mod Script
+pub mod Lines
 pub mod Report
 pub mod Faults
 pub mod Play

@@ -1,9 +1,10 @@
 // The script of `play`: acts of a faulty device, and then calls of a writer, a line each.
-ghost use Rattle.std.specs.Prelude.{◌≡◌, ℕ, ◌+◌, ◌≤◌, List, ◌∷◌, take, drop, IfSome, IfNone, ◌<◌, OnOk, OnErr, IfErr};
-ghost use Rattle.std.specs.Prelude.{length, vec_len, vec_capacity};
+ghost use Rattle.std.specs.Prelude.{◌≡◌, ℕ, ◌+◌, ◌-◌, ◌≤◌, List, [], ◌∷◌, ◌++◌, take, drop, IfSome, IfNone, ◌<◌, OnOk, OnErr};
+ghost use Rattle.std.specs.Prelude.{IfOk, IfErr, length, vec_len, vec_capacity, true, false};
 ghost use Rattle.no_std_io2_base.specs.Errors.{IsOutOfMemory};
 ghost use Rattle.iotower.specs.Faults.{IsNumbered};
 ghost use Rattle.iotower.specs.Script.{kind_name, IsCount, IsTextArgument};
+ghost use Rattle.iotower.specs.Lines.{Says, IsGood, text_step};
 ghost use Rattle.no_std_io2_base.specs.declared.error.ErrorKind.{ErrorKind as Kind};
 
 use crate::play::Fault;
@@ -80,7 +81,10 @@ impl Script {
     }
 
     // `false` where the line is bad.
-    fn add_line(&mut self, line: &[u8]) -> Result<bool> {
+    fn add_line(&mut self, line: &[u8]) -> Result<bool>
+        ensures good { IfOk result (λ good. good ≡ true → IsGood line.now) }
+        ensures kind { IfErr result IsOutOfMemory }
+    {
         match parse_line(line) {
             Line::Empty => Ok(true),
             Line::Act(act) => self.add_act(act),
@@ -95,7 +99,13 @@ impl Script {
     }
 
     // `false` where a call stands before it.
-    fn add_act(&mut self, act: Act) -> Result<bool> {
+    fn add_act(&mut self, act: Act) -> Result<bool>
+        ensures added { IfOk result (λ good. good ≡ true → (vec_len self.old.calls.steps ≡ 0)
+            × (self.new.acts.items ≡ self.old.acts.items ++ act ∷ []) × (self.new.calls ≡ self.old.calls)) }
+        ensures bad { IfOk result (λ good. good ≡ false → 0 < vec_len self.old.calls.steps) }
+        ensures kind { IfErr result IsOutOfMemory }
+        ensures full { OnErr result (vec_capacity self.old.acts < vec_len self.old.acts + 1) }
+    {
         if !self.calls.steps.is_empty() {
             return Ok(false);
         }
@@ -110,7 +120,10 @@ impl Calls {
     ///
     /// # Errors
     /// `OutOfMemory`.
-    pub fn ops(&self, alloc: Global) -> Result<Vec<Op<'_>>> {
+    pub fn ops(&self, alloc: Global) -> Result<Vec<Op<'_>>>
+        ensures count { IfOk result (λ ops. vec_len ops ≡ vec_len self.now.steps) }
+        ensures kind { IfErr result IsOutOfMemory }
+    {
         let mut ops = Vec::new(alloc);
         reserve(&mut ops, self.steps.len())?;
         let mut rest = self.texts.as_slice();
@@ -123,7 +136,11 @@ impl Calls {
     }
 
     // `false` where the text stands for no bytes.
-    fn add_text(&mut self, text: &[u8], is_whole: bool) -> Result<bool> {
+    fn add_text(&mut self, text: &[u8], is_whole: bool) -> Result<bool>
+        ensures kind { IfErr result IsOutOfMemory }
+        ensures added { IfOk result (λ good. good ≡ true
+            → self.new.steps.items ≡ self.old.steps.items ++ text_step is_whole (vec_len self.new.texts - vec_len self.old.texts) ∷ []) }
+    {
         let start = self.texts.len();
         reserve(&mut self.texts, text.len())?;
         if !unescape(text, &mut self.texts) {
@@ -138,7 +155,11 @@ impl Calls {
         Ok(true)
     }
 
-    fn add_step(&mut self, step: Step) -> Result<()> {
+    fn add_step(&mut self, step: Step) -> Result<()>
+        ensures added { OnOk result ((self.new.steps.items ≡ self.old.steps.items ++ step ∷ []) × (self.new.texts ≡ self.old.texts)) }
+        ensures kind { IfErr result IsOutOfMemory }
+        ensures full { OnErr result (vec_capacity self.old.steps < vec_len self.old.steps + 1) }
+    {
         reserve(&mut self.steps, 1)?;
         self.steps.push_reserved(step);
         Ok(())
@@ -203,7 +224,9 @@ fn unescape(text: &[u8], bytes: &mut Vec<u8>) -> bool
     !is_escaped
 }
 
-fn parse_line(line: &[u8]) -> Line<'_> {
+fn parse_line(line: &[u8]) -> Line<'_>
+    ensures { Says line.now result }
+{
     let Some((letter, rest)) = line.split_first() else {
         return Line::Empty;
     };
