@@ -128,8 +128,11 @@ impl<const S: usize> ReadAhead<S> {
         ensures held { ahead_held self.new ≡ drop result (ahead_held self.old) }
         ensures behind { ahead_behind self.new ≡ ahead_behind self.old ++ take result buf.new }
     {
+        if self.start == self.end {
+            return 0;
+        }
         // Who reads byte by byte asks for one.
-        if buf.len() == 1 && self.start < self.end {
+        if buf.len() == 1 {
             buf[0] = self.bytes[self.start];
             self.start += 1;
             return 1;

@@ -5,7 +5,7 @@ use Rattle.no_std_io2.proofs.Sounds.{held_rest, held_first}
 use Rattle.no_std_io2.proofs.buffered.read_ahead.ReadAhead.give.Goals as goal
 
 -- the one byte that moves
-given : goal.returns-then-self-clause-gave
+given : goal.returns-then-buf-eq1-clause-gave
 given g c =
     let self = c.args.self.now in
     let long : length self.bytes ≡ g.row.S = search rules in
@@ -15,16 +15,16 @@ given g c =
     take-suc-set c.args.buf.now 0 (slice_index_or self.bytes self.start 0) room
     ∙ sym (held_first self.bytes self.start self.end some (omega arith))
 
-pub returns-then-self-clause-gave : goal.returns-then-self-clause-gave
-returns-then-self-clause-gave g c = given g c
+pub returns-then-buf-eq1-clause-gave : goal.returns-then-buf-eq1-clause-gave
+returns-then-buf-eq1-clause-gave g c = given g c
 
-pub returns-then-self-clause-held : goal.returns-then-self-clause-held
-returns-then-self-clause-held g c =
+pub returns-then-buf-eq1-clause-held : goal.returns-then-buf-eq1-clause-held
+returns-then-buf-eq1-clause-held g c =
     let self = c.args.self.now in
     held_rest self.bytes self.start self.end 1 (omega (arith, length-take (self.end - self.start) (drop self.start self.bytes)))
 
-pub returns-then-self-clause-behind : goal.returns-then-self-clause-behind
-returns-then-self-clause-behind g c =
+pub returns-then-buf-eq1-clause-behind : goal.returns-then-buf-eq1-clause-behind
+returns-then-buf-eq1-clause-behind g c =
     let self = c.args.self.now in
     behind_more self.bytes self.start self.end 1 (omega (arith, length-take (self.end - self.start) (drop self.start self.bytes)))
     ∙ ap (λ l. take self.start self.bytes ++ l) (sym (given g c))
