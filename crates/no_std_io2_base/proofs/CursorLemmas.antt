@@ -4,6 +4,8 @@ use Rattle.std.proofs.Common.{length, take, drop, replicate, refl, sym, ap, ◌�
 use Rattle.std.proofs.Common.{append_assoc, take-append-drop, length-append, length-take}
 use Rattle.std.proofs.lemmas.Bool.{cases_lt, cond-true, false≢true}
 use Rattle.std.proofs.lemmas.List.{length-replicate, drop-drop, take_all, take_at, take_min, drop_all, drop_at, take-append-le}
+use Rattle.std.proofs.lemmas.List.{take-replicate}
+use Rattle.std.proofs.Math.Seq.{take-append-add}
 use Rattle.std.specs.Result.{OnOk, OnErr, is_ok, is_err}
 use Rattle.std.proofs.lemmas.Grind.{common_steps}
 use Rattle.std.proofs.lemmas.Bool.Decides.{nat_tests}
@@ -78,6 +80,28 @@ put_across place k x bs seam fits =
     ∙ ap (λ l. bytes_before place bs ++ take k x ++ l) back
     ∙ append_assoc (bytes_before place bs) (take k x) (drop k x) ∙ ap (λ l. bytes_before place bs ++ l) whole
     ∙ sym (append-nil _) ∙ ap (λ l. bytes_before place bs ++ x ++ l) (sym none)
+
+-- before a place zeros that stand behind the bytes are those that would be added
+before-opened : (more place : ℕ) (bs : List ℕ) → place ≤ length bs + more → take place (bs ++ replicate more 0) ≡ bytes_before place bs
+before-opened more place bs near = elim (cases_lt (length bs) place) [ inl past ↦ behind past | inr within ↦ inside within ]
+  where
+    inside : place ≤ length bs → take place (bs ++ replicate more 0) ≡ bytes_before place bs
+    inside within = take-append-le place bs (replicate more 0) within ∙ sym (bytes_before-within place bs within)
+
+    behind : length bs < place → take place (bs ++ replicate more 0) ≡ bytes_before place bs
+    behind past =
+        let gap = place - length bs in
+        let at : place ≡ length bs + gap = omega arith in
+        let all : take place bs ≡ bs = take_all place bs (omega arith) in
+        ap (λ n. take n (bs ++ replicate more 0)) at ∙ take-append-add bs (replicate more 0) gap
+        ∙ ap (λ l. bs ++ l) (take-replicate gap more 0 (omega arith)) ∙ ap (λ l. l ++ replicate gap 0) (sym all)
+
+-- x was put over zeros that stood behind the bytes, and those behind it are gone
+pub put_opened : (more place : ℕ) (x bs : List ℕ) → length bs ≤ place + length x → place + length x ≤ length bs + more
+    → take place (bs ++ replicate more 0) ++ x ≡ put_at place x bs
+put_opened more place x bs past near =
+    ap (λ l. l ++ x) (before-opened more place bs (omega arith))
+    ∙ sym (append-nil _) ∙ ap (λ l. bytes_before place bs ++ x ++ l) (sym (drop_all (place + length x) bs past))
 
 -- what was put stands right before the place behind it
 pub before_put : (place : ℕ) (x bs : List ℕ) → bytes_before (place + length x) (put_at place x bs) ≡ bytes_before place bs ++ x

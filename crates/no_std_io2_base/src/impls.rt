@@ -9,6 +9,6 @@ mod reading_objects;
 mod slices;
 mod vectors;
 
-pub(crate) use copying::copy_prefix;
+pub(crate) use copying::{copy_prefix, put_short};
 pub use copying::{copy_bytes, copy_wide};
 pub use slices::append_rest;

@@ -1,4 +1,7 @@
-ghost use Rattle.std.specs.Prelude.{◌≡◌, ◌≤◌, ◌+◌, ◌++◌, min, length, take, drop};
+ghost use Rattle.std.specs.Prelude.{◌≡◌, ◌≤◌, ◌+◌, ◌++◌, min, length, take, drop, vec_len, vec_capacity};
+ghost use Rattle.no_std_io2_base.specs.Cursor.{put_at};
+
+use std::alloc::Allocator;
 
 // Copies a slice of N to 2 N bytes by two moves of N, its front and its back, which may overlap.
 #[inline(always)]
@@ -85,4 +88,24 @@ pub(crate) fn copy_prefix(from: &[u8], to: &mut [u8]) -> usize
     let n = from.len().min(to.len());
     copy_wide(&from[..n], &mut to[..n]);
     n
+}
+
+// Puts a short slice at `start` into a vector that ends at most M bytes before the slice's end, and has room for M more. It
+// opens M zeros, which no call is needed for, since M is known; those behind the slice go again.
+#[inline(always)]
+pub(crate) fn put_short<const M: usize, A: Allocator>(
+    content: &mut Vec<u8, A>,
+    start: usize,
+    buf: &[u8],
+)
+    requires small { M ≤ 32 }
+    requires past { vec_len content.old ≤ start + length buf.now }
+    requires near { start + length buf.now ≤ vec_len content.old + M }
+    requires room { vec_len content.old + M ≤ vec_capacity content.old }
+    ensures { content.new.items ≡ put_at start buf.now content.old.items }
+{
+    let end = start + buf.len();
+    let _ = content.extend_from_slice(&[0u8; M]);
+    copy_bytes(buf, &mut content[start..end]);
+    content.truncate(end);
 }
