@@ -1,3 +1,6 @@
 mod ScriptLemmas
 mod PlayLemmas
 mod Escapes
+mod Unescaping
+mod CallLemmas
+mod LineLemmas
