@@ -1,5 +1,5 @@
 -- The calls of a script, one after another.
-use Rattle.std.proofs.Common.{◌≡◌, ℕ, ◌+◌, ◌<◌, List, [], ◌∷◌, ◌++◌, length, get_or, take, refl, subst, sym}
+use Rattle.std.proofs.Common.{ℕ, ◌+◌, ◌<◌, List, [], ◌∷◌, ◌++◌, length, get_or, take, refl, subst, sym}
 use Rattle.std.proofs.lemmas.List.{take_more}
 use Rattle.io_bench.specs.declared.runs.Op.{Op}
 use Rattle.iotower.specs.declared.script.Step.{Step}

@@ -4,3 +4,4 @@ mod Escapes
 mod Unescaping
 mod CallLemmas
 mod LineLemmas
+mod ReadLemmas

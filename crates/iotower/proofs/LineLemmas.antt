@@ -1,5 +1,5 @@
 -- What stands behind the letter of a line that makes a call.
-use Rattle.std.proofs.Common.{◌≡◌, ℕ, List, [], ◌∷◌, get_or, subst, ap, arith}
+use Rattle.std.proofs.Common.{◌≡◌, ℕ, List, ◌∷◌, get_or, subst, ap, arith}
 use Rattle.io_bench.specs.declared.faulty.Act.TheVariants.{Take, Zero, Fail}
 use Rattle.iotower.specs.declared.script.Line.{Line}
 use Rattle.iotower.specs.declared.script.Line.TheVariants.{Empty, Act, Write, WriteAll, Flush, Bad}

@@ -1,5 +1,8 @@
 -- What the lines of a script add to it.
 use Rattle.std.specs.Prelude.{◌≡◌, ℕ, ◌<◌, ◌⊎◌, true, false, List, [], ◌∷◌, ◌++◌, vec_len, None}
+use Rattle.no_std_io2_base.specs.Events.{Event}
+use Rattle.no_std_io2_base.specs.Pieces.{without}
+use Rattle.io_bench.specs.PieceRuns.{AllPieces}
 use Rattle.iotower.specs.declared.script.Calls.{Calls}
 use Rattle.iotower.specs.declared.script.Script.{Script}
 use Rattle.iotower.specs.declared.script.Line.{Line}
@@ -41,3 +44,22 @@ IsRefused Bad old = ⊥
 -- a bad line behind those that made this script: it says nothing, or is refused
 abbrev pub IsBadLine : List ℕ → Script → Type 0
 IsBadLine line old = (IsGood line → ⊥) ⊎ ((said : Line) × Says line said × IsRefused said old)
+
+-- what lines add, one after another
+abbrev pub AddsAll : List (List ℕ) → Script → Script → Type 0
+AddsAll [] old new = new ≡ old
+AddsAll (line ∷ lines) old new = (mid : Script) × Adds line old mid × AddsAll lines mid new
+
+-- a script of no lines
+pub record IsFresh (script : Script) : Type 0 where
+  pub acts : script.acts.items ≡ []
+  pub steps : script.calls.steps.items ≡ []
+  pub texts : script.calls.texts.items ≡ []
+
+-- a script is what all lines of these events add, each cut at d, and no event is a fault
+pub record IsRead (d : ℕ) (E : List Event) (script : Script) : Type 0 where
+  pub lines : List (List ℕ)
+  pub all : AllPieces (without d) d E lines
+  pub start : Script
+  pub fresh : IsFresh start
+  pub adds : AddsAll lines start script

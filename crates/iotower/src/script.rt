@@ -5,7 +5,8 @@ ghost use Rattle.no_std_io2_base.specs.Errors.{IsOutOfMemory};
 ghost use Rattle.iotower.specs.Faults.{IsNumbered};
 ghost use Rattle.iotower.specs.Script.{kind_name, IsCount, IsTextArgument, unescaped, Appends};
 ghost use Rattle.iotower.specs.Calls.{IsNext, AreCalls, AddsText, IsFull};
-ghost use Rattle.iotower.specs.Reading.{Adds, IsBadLine};
+ghost use Rattle.iotower.specs.Reading.{Adds, IsBadLine, IsRead};
+ghost use Rattle.no_std_io2_base.specs.PieceItems.{split_reader, split_delim, split_is_ended};
 ghost use Rattle.iotower.specs.declared.script.Line.TheVariants.{Bad};
 ghost use Rattle.iotower.specs.Lines.{Says, IsGood, text_step};
 ghost use Rattle.no_std_io2_base.specs.declared.error.ErrorKind.{ErrorKind as Kind};
@@ -59,7 +60,10 @@ impl Script {
         alloc: Global,
         lines: Split<R>,
     ) -> std::result::Result<Script, Fault>
-        ensures { IfErr result IsNumbered }
+        ensures numbered { IfErr result IsNumbered }
+        // Every line of the reader's is read, and adds what it says.
+        ensures read { split_is_ended lines ≡ false → R.tells (split_reader lines)
+            → IfOk result (IsRead (split_delim lines) (R.events (split_reader lines))) }
     {
         let mut script = Script {
             acts: Vec::new(alloc),
