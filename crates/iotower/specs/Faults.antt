@@ -14,3 +14,8 @@ fault_display (Line n) = codes "bad line " ++ decimal n
 abbrev pub IsNumbered : Fault → Type 0
 IsNumbered (Io e) = ⊤
 IsNumbered (Line n) = 0 < n
+
+-- what holds of the number of a bad line
+abbrev pub IfLine : (ℕ → Type 0) → Fault → Type 0
+IfLine P (Io e) = ⊤
+IfLine P (Line n) = P n

@@ -1,5 +1,5 @@
 -- What the lines of a script add to it.
-use Rattle.std.specs.Prelude.{◌≡◌, ℕ, ◌<◌, ◌⊎◌, true, false, List, [], ◌∷◌, ◌++◌, vec_len, None}
+use Rattle.std.specs.Prelude.{◌≡◌, ℕ, ◌+◌, ◌-◌, ◌^◌, ◌<◌, ◌⊎◌, min, true, false, List, [], ◌∷◌, ◌++◌, length, vec_len, None}
 use Rattle.no_std_io2_base.specs.Events.{Event}
 use Rattle.no_std_io2_base.specs.Pieces.{without}
 use Rattle.io_bench.specs.PieceRuns.{AllPieces}
@@ -63,3 +63,22 @@ pub record IsRead (d : ℕ) (E : List Event) (script : Script) : Type 0 where
   pub start : Script
   pub fresh : IsFresh start
   pub adds : AddsAll lines start script
+
+-- of these lines the first bad one has this number, from 1: those before it make a script, and it is bad behind them
+pub record IsFirstBad (lines : List (List ℕ)) (n : ℕ) : Type 0 where
+  pub good : List (List ℕ)
+  pub bad : List ℕ
+  pub left : List (List ℕ)
+  pub are : lines ≡ good ++ bad ∷ left
+  pub start : Script
+  pub fresh : IsFresh start
+  pub made : Script
+  pub adds : AddsAll good start made
+  pub is : IsBadLine bad made
+  pub number : n ≡ min (length good + 1) (2 ^ 64 - 1)
+
+-- no event is a fault, and of all lines of these events, each cut at d, this is the number of the first bad one
+pub record IsBadAt (d : ℕ) (E : List Event) (n : ℕ) : Type 0 where
+  pub lines : List (List ℕ)
+  pub all : AllPieces (without d) d E lines
+  pub first : IsFirstBad lines n

@@ -3,7 +3,8 @@ ghost use Rattle.no_std_io2.specs.Fits.{BufReaderFits};
 ghost use Rattle.std.specs.Prelude.{◌≡◌, ◌++◌, Some, IfOk, IfErr};
 ghost use Rattle.no_std_io2_base.specs.Errors.{IsOutOfMemory};
 ghost use Rattle.iotower.specs.declared.play.Fault.TheVariants.{Io};
-ghost use Rattle.iotower.specs.Faults.{fault_display};
+ghost use Rattle.iotower.specs.Faults.{fault_display, IfLine};
+ghost use Rattle.iotower.specs.Reading.{IsBadAt};
 ghost use Rattle.iotower.specs.Play.{Shows, IsPlay, IsPlayOf, Writes, fresh_told};
 
 use crate::report::report_of;
@@ -130,6 +131,8 @@ pub fn play<R: Read + Drop, W: Write + Drop>(
     ensures ok { IfOk result (λ w. Writes IsPlay (W.told output) (W.told w)) }
     // The script is what the input tells.
     ensures script { R.tells input → IfOk result (λ w. Writes (IsPlayOf (R.events input)) (W.told output) (W.told w)) }
+    // A bad line is the first one of all that the input tells.
+    ensures first { R.tells input → IfErr result (IfLine (IsBadAt 10 (R.events input))) }
 {
     let reader = BufReader::<R, INPUT_ROOM>::new(input);
     let Script { acts, calls } = Script::read(alloc, reader.split(alloc, b'\n'))?;

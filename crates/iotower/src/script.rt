@@ -2,10 +2,10 @@
 ghost use Rattle.std.specs.Prelude.{◌≡◌, ℕ, ◌+◌, ◌-◌, ◌≤◌, List, [], ◌∷◌, ◌++◌, take, drop, IfSome, IfNone, None, ◌<◌, OnOk, OnErr};
 ghost use Rattle.std.specs.Prelude.{IfOk, IfErr, length, vec_len, vec_capacity, true, false, ◌⊎◌};
 ghost use Rattle.no_std_io2_base.specs.Errors.{IsOutOfMemory};
-ghost use Rattle.iotower.specs.Faults.{IsNumbered};
+ghost use Rattle.iotower.specs.Faults.{IsNumbered, IfLine};
 ghost use Rattle.iotower.specs.Script.{kind_name, IsCount, IsTextArgument, unescaped, Appends};
 ghost use Rattle.iotower.specs.Calls.{IsNext, AreCalls, AddsText, IsFull};
-ghost use Rattle.iotower.specs.Reading.{Adds, IsBadLine, IsRead};
+ghost use Rattle.iotower.specs.Reading.{Adds, IsBadLine, IsRead, IsBadAt};
 ghost use Rattle.no_std_io2_base.specs.PieceItems.{split_reader, split_delim, split_is_ended};
 ghost use Rattle.iotower.specs.declared.script.Line.TheVariants.{Bad};
 ghost use Rattle.iotower.specs.Lines.{Says, IsGood, text_step};
@@ -64,6 +64,9 @@ impl Script {
         // Every line of the reader's is read, and adds what it says.
         ensures read { split_is_ended lines ≡ false → R.tells (split_reader lines)
             → IfOk result (IsRead (split_delim lines) (R.events (split_reader lines))) }
+        // A bad line is told once all are read, and is the first one.
+        ensures first { split_is_ended lines ≡ false → R.tells (split_reader lines)
+            → IfErr result (IfLine (IsBadAt (split_delim lines) (R.events (split_reader lines)))) }
     {
         let mut script = Script {
             acts: Vec::new(alloc),

@@ -34,4 +34,5 @@ returns g c =
     record {
       ok = writes_text is c.deref-2.ensures.value wrote flushed c.in_ok-flush.ensures.empty;
       script = λ t. writes_text (play_of t) c.deref-2.ensures.value wrote flushed c.in_ok-flush.ensures.empty;
+      first = λ _. tt;
     }

@@ -3,8 +3,9 @@ use Rattle.std.specs.Prelude.{is_some}
 use Rattle.no_std_io2_base.specs.Pieces.{without}
 use Rattle.no_std_io2_base.specs.PieceItems.{split_reader, split_delim, ends_at}
 use Rattle.io_bench.proofs.PieceRunLemmas.{none_gathered, one_gathered, all_gathered, yields_at}
-use Rattle.iotower.specs.Reading.{Adds, AddsAll}
-use Rattle.iotower.proofs.ReadLemmas.{adds_more}
+use Rattle.std.specs.Option.{IfSome}
+use Rattle.iotower.specs.Reading.{Adds, AddsAll, IsBadLine, IsFirstBad}
+use Rattle.iotower.proofs.ReadLemmas.{adds_more, count_more, first_more, first_here, is_none}
 use Rattle.iotower.proofs.script.Script.read.Goals as goal
 use Rattle.iotower.proofs.script.Script.read.Goals.{then-is_none+in_ok-add_line+then-not-branch, else-is_none}
 use Rattle.iotower.proofs.script.Script.read.Goals.{else-is_none-via-then-is_none+in_ok-add_line+else-not-branch}
@@ -29,6 +30,8 @@ lines-init g c =
               start = _;
               fresh = record { acts = c.new.ensures.items; steps = c.new-2.ensures.items; texts = c.new-3.ensures.items };
               adds = λ _. refl;
+              count = refl;
+              first = tt;
             },
           );
     }
@@ -80,6 +83,20 @@ lines-preserved g c =
                           absurd (cc wrong)
                     ]
                   ];
+              count = count_more so.lines item.items c.lines.number _ so.count c.saturating_add-number.ensures;
+              first =
+                  elim c.if-is_none.branch [
+                    | then-is_none+in_ok-add_line+then-not-branch w ↦
+                        let none = is_none c.lines.bad (c.is_none.ensures ∙ ap not w.if-is_none.true) in
+                        let bad = w.in_ok-add_line.ensures.bad w.if-not-branch.true in
+                        let line = subst (λ l. IsBadLine l c.lines.script) w.deref.ensures.value bad in
+                        subst (λ b. IfSome b (IsFirstBad (so.lines ++ item.items ∷ []))) (sym w.bad-is)
+                        (first_here so.lines item.items c.lines.number _ so.start c.lines.script so.fresh (so.adds none) line so.count
+                        c.saturating_add-number.ensures)
+                    | else-is_none w ↦
+                        subst (λ b. IfSome b (IsFirstBad (so.lines ++ item.items ∷ []))) (sym w.bad-is)
+                        (first_more c.lines.bad so.lines item.items so.first)
+                  ];
             },
           );
     }
@@ -102,4 +119,21 @@ returns-in-None-bad-clause-read g c = λ fresh t.
       start = so.start;
       fresh = so.fresh;
       adds = so.adds c.in-None-bad.is;
+    }
+
+pub returns-in-Some-bad-clause-first : goal.returns-in-Some-bad-clause-first
+returns-in-Some-bad-clause-first g c = λ fresh t.
+    let R = g.R.Read in
+    let d = split_delim c.args.lines in
+    let so_far = c.lines.invariant.told fresh t in
+    let so = so_far.3 in
+    let told = (c.next.ensures.steps.1 so_far.0).1 so_far.2 in
+    record {
+      lines = so.lines;
+      all =
+          all_gathered (vec_items {X = ℕ} {Z = Global}) (without d) (λ _ _. ⊥) d (R.events (split_reader c.args.lines)) so.lines
+          so.lines (R.events (split_reader c.lines.line-iterator)) (R.events (split_reader c.next.new.self)) refl so.gathered
+          (yields_at (vec_items {X = ℕ} {Z = Global}) without (λ _ _. ⊥) (split_delim c.lines.line-iterator) d
+          (R.events (split_reader c.lines.line-iterator)) _ _ (R.events (split_reader c.next.new.self)) so_far.1 c.in-None.is told.1);
+      first = subst (λ b. IfSome b (IsFirstBad so.lines)) c.in-Some-bad.is so.first;
     }

@@ -15,5 +15,5 @@ invariant-lines g l =
       told : split_is_ended l.fn.lines ≡ false → R.tells (split_reader l.fn.lines)
           → (split_is_ended l.line-iterator ≡ false) × (split_delim l.line-iterator ≡ d)
           × R.tells (split_reader l.line-iterator)
-          × ReadSoFar d E l.bad l.script (R.events (split_reader l.line-iterator));
+          × ReadSoFar d E l.number l.bad l.script (R.events (split_reader l.line-iterator));
     }
