@@ -6,6 +6,10 @@ use Rattle.io_bench.specs.declared.runs.Op.{Op}
 use Rattle.io_bench.specs.declared.runs.Reply.{Reply}
 use Rattle.io_bench.specs.Faulty.{with_acts}
 use Rattle.io_bench.specs.Runs.{Ran}
+use Rattle.no_std_io2_base.specs.Events.{Event}
+use Rattle.iotower.specs.declared.script.Script.{Script}
+use Rattle.iotower.specs.Calls.{AreCalls}
+use Rattle.iotower.specs.Reading.{IsRead}
 use Rattle.iotower.specs.Report.{report}
 
 -- These calls were made of a tower, and the text shows their replies, and what was then out and held.
@@ -24,6 +28,14 @@ pub record IsPlay (text : List ℕ) : Type 0 where
   pub acts : List Act
   pub ops : List Op
   pub shows : Shows (fresh_told acts) ops text
+
+-- The text shows the play of the script that is read from these events.
+pub record IsPlayOf (E : List Event) (text : List ℕ) : Type 0 where
+  pub script : Script
+  pub ops : List Op
+  pub read : IsRead 10 E script
+  pub calls : AreCalls script.calls ops
+  pub shows : Shows (fresh_told script.acts.items) ops text
 
 -- From old to new a writer accepted one text that is P, and nothing is held.
 pub record Writes (P : List ℕ → Type 0) (old new : Told) : Type 0 where

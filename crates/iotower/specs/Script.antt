@@ -1,5 +1,6 @@
 -- The lines of a script.
-use Rattle.std.specs.Prelude.{◌≡◌, ℕ, ◌==◌, ◌≤◌, ◌<◌, ◌^◌, if◌then◌else◌, codes, List, [], ◌∷◌, length, ◌⊎◌}
+use Rattle.std.specs.Prelude.{◌≡◌, ℕ, ◌==◌, ◌≤◌, ◌<◌, ◌^◌, if◌then◌else◌, codes, List, [], ◌∷◌, ◌++◌, length, ◌⊎◌}
+use Rattle.std.specs.Prelude.{Option, Some, None, Bool, true, false}
 use Rattle.std.specs.List.{flat_map}
 use Rattle.std.specs.Str.Parse.{IsNumeral, digits_value}
 use Rattle.no_std_io2_base.specs.declared.error.ErrorKind.{ErrorKind}
@@ -18,6 +19,26 @@ escaped_byte b = if b == 10 then codes "\\n" else (if b == 92 then codes "\\\\" 
 -- these bytes as a text shows them
 abbrev pub escaped : List ℕ → List ℕ
 escaped bytes = flat_map escaped_byte bytes
+
+-- these bytes before those, where there are any
+abbrev pub before : List ℕ → Option (List ℕ) → Option (List ℕ)
+before bytes None = None
+before bytes (Some rest) = Some (bytes ++ rest)
+
+-- the bytes that a text stands for, if it stands for any: a backslash and `n` for a newline, two backslashes for one, every
+-- other byte for itself
+abbrev pub unescaped : List ℕ → Option (List ℕ)
+unescaped [] = Some []
+unescaped (b ∷ []) = if b == 92 then None else Some (b ∷ [])
+unescaped (b ∷ c ∷ text) =
+    if b == 92
+    then (if c == 110 then before (10 ∷ []) (unescaped text) else (if c == 92 then before (92 ∷ []) (unescaped text) else None))
+    else before (b ∷ []) (unescaped (c ∷ text))
+
+-- a text that stands for bytes is good, and they stand behind the old ones
+abbrev pub Appends : Option (List ℕ) → Bool → List ℕ → List ℕ → Type 0
+Appends (Some bytes) good old new = (good ≡ true) × (new ≡ old ++ bytes)
+Appends None good old new = good ≡ false
 
 -- the name of a kind
 abbrev pub kind_name : ErrorKind → List ℕ

@@ -1,5 +1,5 @@
 -- The words that ask for each command.
-use Rattle.std.specs.Prelude.{ℕ, true, false, codes, List}
+use Rattle.std.specs.Prelude.{◌≡◌, ℕ, true, false, codes, List, [], ◌∷◌}
 use Rattle.iotower.specs.declared.Command.{Command}
 use Rattle.iotower.specs.declared.Command.TheVariants.{Copy, Play}
 use Rattle.iotower.specs.declared.play.Shape.TheVariants.{Buf, Line, BufBuf, LineBuf}
@@ -17,3 +17,7 @@ mode_of (Play Buf) = codes "buf"
 mode_of (Play Line) = codes "line"
 mode_of (Play BufBuf) = codes "buf-buf"
 mode_of (Play LineBuf) = codes "line-buf"
+
+-- the program's name and these two words
+abbrev pub AreWords : {X : Type 0} → List X → X → X → Type 0
+AreWords {X = X} words verb mode = (program : X) × (words ≡ program ∷ verb ∷ mode ∷ [])

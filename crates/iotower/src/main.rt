@@ -8,7 +8,8 @@
 ghost use Rattle.std.specs.Prelude.{◌≡◌, ◌^◌, ◌-◌, IfSome, IfNone, OnOk, OnErr};
 ghost use Rattle.std.specs.Process.{exit_status};
 ghost use Rattle.iotower.specs.declared.Command.{Command as Asked};
-ghost use Rattle.iotower.specs.Words.{verb_of, mode_of};
+ghost use Rattle.iotower.specs.Words.{verb_of, mode_of, AreWords};
+ghost use Rattle.std.specs.Vec.Iter.{into_iter_items};
 ghost use Rattle.system_streams.specs.Patient.{patient_turns};
 
 mod copy;
@@ -36,7 +37,9 @@ enum Command {
 }
 
 // The words behind the program's name, where there are two.
-fn two_words(mut words: env::Args) -> Option<(String, String)> {
+fn two_words(mut words: env::Args) -> Option<(String, String)>
+    ensures two { IfSome result (λ two. AreWords (into_iter_items words) two.0 two.1) }
+{
     let _program = words.next();
     let verb = words.next()?;
     let mode = words.next()?;

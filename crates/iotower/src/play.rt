@@ -4,7 +4,7 @@ ghost use Rattle.std.specs.Prelude.{◌≡◌, ◌++◌, Some, IfOk, IfErr};
 ghost use Rattle.no_std_io2_base.specs.Errors.{IsOutOfMemory};
 ghost use Rattle.iotower.specs.declared.play.Fault.TheVariants.{Io};
 ghost use Rattle.iotower.specs.Faults.{fault_display};
-ghost use Rattle.iotower.specs.Play.{Shows, IsPlay, Writes, fresh_told};
+ghost use Rattle.iotower.specs.Play.{Shows, IsPlay, IsPlayOf, Writes, fresh_told};
 
 use crate::report::report_of;
 use crate::script::Script;
@@ -128,6 +128,8 @@ pub fn play<R: Read + Drop, W: Write + Drop>(
 ) -> std::result::Result<W, Fault>
     requires reader_fits { BufReaderFits R.row 64 }
     ensures ok { IfOk result (λ w. Writes IsPlay (W.told output) (W.told w)) }
+    // The script is what the input tells.
+    ensures script { R.tells input → IfOk result (λ w. Writes (IsPlayOf (R.events input)) (W.told output) (W.told w)) }
 {
     let reader = BufReader::<R, INPUT_ROOM>::new(input);
     let Script { acts, calls } = Script::read(alloc, reader.split(alloc, b'\n'))?;

@@ -1,9 +1,13 @@
 // The script of `play`: acts of a faulty device, and then calls of a writer, a line each.
-ghost use Rattle.std.specs.Prelude.{◌≡◌, ℕ, ◌+◌, ◌-◌, ◌≤◌, List, [], ◌∷◌, ◌++◌, take, drop, IfSome, IfNone, ◌<◌, OnOk, OnErr};
-ghost use Rattle.std.specs.Prelude.{IfOk, IfErr, length, vec_len, vec_capacity, true, false};
+ghost use Rattle.std.specs.Prelude.{◌≡◌, ℕ, ◌+◌, ◌-◌, ◌≤◌, List, [], ◌∷◌, ◌++◌, take, drop, IfSome, IfNone, None, ◌<◌, OnOk, OnErr};
+ghost use Rattle.std.specs.Prelude.{IfOk, IfErr, length, vec_len, vec_capacity, true, false, ◌⊎◌};
 ghost use Rattle.no_std_io2_base.specs.Errors.{IsOutOfMemory};
 ghost use Rattle.iotower.specs.Faults.{IsNumbered};
-ghost use Rattle.iotower.specs.Script.{kind_name, IsCount, IsTextArgument};
+ghost use Rattle.iotower.specs.Script.{kind_name, IsCount, IsTextArgument, unescaped, Appends};
+ghost use Rattle.iotower.specs.Calls.{IsNext, AreCalls, AddsText, IsFull};
+ghost use Rattle.iotower.specs.Reading.{Adds, IsBadLine, IsRead};
+ghost use Rattle.no_std_io2_base.specs.PieceItems.{split_reader, split_delim, split_is_ended};
+ghost use Rattle.iotower.specs.declared.script.Line.TheVariants.{Bad};
 ghost use Rattle.iotower.specs.Lines.{Says, IsGood, text_step};
 ghost use Rattle.no_std_io2_base.specs.declared.error.ErrorKind.{ErrorKind as Kind};
 
@@ -56,7 +60,10 @@ impl Script {
         alloc: Global,
         lines: Split<R>,
     ) -> std::result::Result<Script, Fault>
-        ensures { IfErr result IsNumbered }
+        ensures numbered { IfErr result IsNumbered }
+        // Every line of the reader's is read, and adds what it says.
+        ensures read { split_is_ended lines ≡ false → R.tells (split_reader lines)
+            → IfOk result (IsRead (split_delim lines) (R.events (split_reader lines))) }
     {
         let mut script = Script {
             acts: Vec::new(alloc),
@@ -83,7 +90,12 @@ impl Script {
     // `false` where the line is bad.
     fn add_line(&mut self, line: &[u8]) -> Result<bool>
         ensures good { IfOk result (λ good. good ≡ true → IsGood line.now) }
+        ensures adds { IfOk result (λ good. good ≡ true → Adds line.now self.old self.new) }
+        ensures bad { IfOk result (λ good. good ≡ false → IsBadLine line.now self.old) }
         ensures kind { IfErr result IsOutOfMemory }
+        // Nothing is refused where there is room for all that a line may add.
+        ensures full { OnErr result (vec_capacity self.old.acts < vec_len self.old.acts + 1
+            ⊎ IsFull (length line.now) self.old.calls) }
     {
         match parse_line(line) {
             Line::Empty => Ok(true),
@@ -122,7 +134,10 @@ impl Calls {
     /// `OutOfMemory`.
     pub fn ops(&self, alloc: Global) -> Result<Vec<Op<'_>>>
         ensures count { IfOk result (λ ops. vec_len ops ≡ vec_len self.now.steps) }
+        ensures calls { IfOk result (λ ops. AreCalls self.now ops.items) }
         ensures kind { IfErr result IsOutOfMemory }
+        // No calls want no memory.
+        ensures full { OnErr result (0 < vec_len self.now.steps) }
     {
         let mut ops = Vec::new(alloc);
         reserve(&mut ops, self.steps.len())?;
@@ -138,6 +153,9 @@ impl Calls {
     // `false` where the text stands for no bytes.
     fn add_text(&mut self, text: &[u8], is_whole: bool) -> Result<bool>
         ensures kind { IfErr result IsOutOfMemory }
+        ensures adds { IfOk result (λ good. good ≡ true → AddsText is_whole text.now self.old self.new) }
+        ensures bad { IfOk result (λ good. good ≡ false → unescaped text.now ≡ None) }
+        ensures full { OnErr result (IsFull (length text.now) self.old) }
         ensures added { IfOk result (λ good. good ≡ true
             → self.new.steps.items ≡ self.old.steps.items ++ text_step is_whole (vec_len self.new.texts - vec_len self.old.texts) ∷ []) }
     {
@@ -180,7 +198,9 @@ fn reserve<T>(list: &mut Vec<T>, more: usize) -> Result<()>
 }
 
 // The call of a step whose text stands at the front of `texts`, and what follows that.
-fn next_op(step: Step, texts: &[u8]) -> (Op<'_>, &[u8]) {
+fn next_op(step: Step, texts: &[u8]) -> (Op<'_>, &[u8])
+    ensures { IsNext step texts.now result.0 result.1.now }
+{
     match step {
         Step::Write(length) => {
             let (text, rest) = split_text(texts, length);
@@ -204,7 +224,8 @@ fn split_text(texts: &[u8], len: usize) -> (&[u8], &[u8])
 // Appends the bytes that an escaped text stands for; `false` where it stands for none.
 fn unescape(text: &[u8], bytes: &mut Vec<u8>) -> bool
     requires { vec_len bytes.old + length text.now ≤ vec_capacity bytes.old }
-    ensures { vec_len bytes.old ≤ vec_len bytes.new }
+    ensures grows { vec_len bytes.old ≤ vec_len bytes.new }
+    ensures meant { Appends (unescaped text.now) result bytes.old.items bytes.new.items }
 {
     let mut is_escaped = false;
     'bytes: for b in text {
@@ -225,7 +246,8 @@ fn unescape(text: &[u8], bytes: &mut Vec<u8>) -> bool
 }
 
 fn parse_line(line: &[u8]) -> Line<'_>
-    ensures { Says line.now result }
+    ensures says { Says line.now result }
+    ensures bad { result ≡ Bad → IsGood line.now → ⊥ }
 {
     let Some((letter, rest)) = line.split_first() else {
         return Line::Empty;

@@ -1,13 +1,37 @@
-use Rattle.iotower.specs.Play.{IsPlay}
+use Rattle.std.proofs.Common.{◌≡◌, subst, sym, ap, ◌∙◌}
+use Rattle.no_std_io2.specs.Reading.{reader_inner, reader_events}
+use Rattle.no_std_io2_base.specs.PieceItems.{split_reader, split_delim}
+use Rattle.iotower.specs.Play.{IsPlay, IsPlayOf, Shows, fresh_told}
+use Rattle.iotower.specs.Reading.{IsRead}
 use Rattle.iotower.proofs.PlayLemmas.{writes_text}
 use Rattle.iotower.proofs.play.play.Goals as goal
 
 pub returns : goal.returns
 returns g c =
+    let R = g.R.Read in
+    let E = R.events c.args.input in
+    let script = c.in_ok-acts.field-0 in
     let is : IsPlay c.in_ok-report.report.items =
-    record { acts = c.in_ok-acts.field-0.acts.items; ops = c.deref.result.now; shows = c.in_ok-report.ensures.ok } in
+    record { acts = script.acts.items; ops = c.deref.result.now; shows = c.in_ok-report.ensures.ok } in
+    let reader = c.split.ensures.reader in
+    let inner : reader_inner (split_reader c.split.result) ≡ c.args.input = ap reader_inner reader ∙ c.new-reader.ensures.inner in
+    let events : reader_events R.events (split_reader c.split.result) ≡ E =
+    ap (reader_events R.events) reader ∙ c.new-reader.ensures.events in
+    let play_of : R.tells c.args.input → IsPlayOf E c.in_ok-report.report.items = λ t. record {
+      script = script;
+      ops = c.in_ok-ops.ops.items;
+      read =
+          subst (λ d. IsRead d E script) c.split.ensures.delim
+          (subst (λ e. IsRead (split_delim c.split.result) e script) events
+          (c.in_ok-acts.ensures.read c.split.ensures.fresh (subst R.tells (sym inner) t)));
+      calls = c.in_ok-ops.ensures.calls;
+      shows =
+          subst (λ ops. Shows (fresh_told script.acts.items) ops c.in_ok-report.report.items) c.deref.ensures.value
+          c.in_ok-report.ensures.ok;
+    } in
+    let wrote = c.in_ok-write_all.ensures.moves in
+    let flushed = c.in_ok-flush.ensures.moves in
     record {
-      ok =
-          writes_text is c.deref-2.ensures.value c.in_ok-write_all.ensures.moves c.in_ok-flush.ensures.moves
-          c.in_ok-flush.ensures.empty;
+      ok = writes_text is c.deref-2.ensures.value wrote flushed c.in_ok-flush.ensures.empty;
+      script = λ t. writes_text (play_of t) c.deref-2.ensures.value wrote flushed c.in_ok-flush.ensures.empty;
     }

@@ -1,0 +1,65 @@
+-- What the lines of a script add to it.
+use Rattle.std.specs.Prelude.{◌≡◌, ℕ, ◌<◌, ◌⊎◌, true, false, List, [], ◌∷◌, ◌++◌, vec_len, None}
+use Rattle.no_std_io2_base.specs.Events.{Event}
+use Rattle.no_std_io2_base.specs.Pieces.{without}
+use Rattle.io_bench.specs.PieceRuns.{AllPieces}
+use Rattle.iotower.specs.declared.script.Calls.{Calls}
+use Rattle.iotower.specs.declared.script.Script.{Script}
+use Rattle.iotower.specs.declared.script.Line.{Line}
+use Rattle.iotower.specs.declared.script.Line.TheVariants.{Empty, Act, Write, WriteAll, Flush, Bad}
+use Rattle.iotower.specs.declared.script.Step.TheVariants.{Flush as flush_step}
+use Rattle.iotower.specs.Script.{unescaped}
+use Rattle.iotower.specs.Lines.{Says, IsGood}
+use Rattle.iotower.specs.Calls.{AddsText}
+
+-- one more flush
+abbrev pub AddsFlush : Calls → Calls → Type 0
+AddsFlush old new = (new.steps.items ≡ old.steps.items ++ flush_step ∷ []) × (new.texts ≡ old.texts)
+
+-- what a line that says this adds: nothing, an act before the first call, or a call
+abbrev pub AddsSaid : Line → Script → Script → Type 0
+AddsSaid Empty old new = new ≡ old
+AddsSaid (Act act) old new =
+    (vec_len old.calls.steps ≡ 0) × (new.acts.items ≡ old.acts.items ++ act ∷ []) × (new.calls ≡ old.calls)
+AddsSaid (Write text) old new = (new.acts ≡ old.acts) × AddsText false text.now old.calls new.calls
+AddsSaid (WriteAll text) old new = (new.acts ≡ old.acts) × AddsText true text.now old.calls new.calls
+AddsSaid Flush old new = (new.acts ≡ old.acts) × AddsFlush old.calls new.calls
+AddsSaid Bad old new = ⊥
+
+-- what a good line adds
+pub record Adds (line : List ℕ) (old new : Script) : Type 0 where
+  pub said : Line
+  pub says : Says line said
+  pub adds : AddsSaid said old new
+
+-- what makes a line bad that says something: an act behind a call, a text that stands for nothing
+abbrev pub IsRefused : Line → Script → Type 0
+IsRefused Empty old = ⊥
+IsRefused (Act act) old = 0 < vec_len old.calls.steps
+IsRefused (Write text) old = unescaped text.now ≡ None
+IsRefused (WriteAll text) old = unescaped text.now ≡ None
+IsRefused Flush old = ⊥
+IsRefused Bad old = ⊥
+
+-- a bad line behind those that made this script: it says nothing, or is refused
+abbrev pub IsBadLine : List ℕ → Script → Type 0
+IsBadLine line old = (IsGood line → ⊥) ⊎ ((said : Line) × Says line said × IsRefused said old)
+
+-- what lines add, one after another
+abbrev pub AddsAll : List (List ℕ) → Script → Script → Type 0
+AddsAll [] old new = new ≡ old
+AddsAll (line ∷ lines) old new = (mid : Script) × Adds line old mid × AddsAll lines mid new
+
+-- a script of no lines
+pub record IsFresh (script : Script) : Type 0 where
+  pub acts : script.acts.items ≡ []
+  pub steps : script.calls.steps.items ≡ []
+  pub texts : script.calls.texts.items ≡ []
+
+-- a script is what all lines of these events add, each cut at d, and no event is a fault
+pub record IsRead (d : ℕ) (E : List Event) (script : Script) : Type 0 where
+  pub lines : List (List ℕ)
+  pub all : AllPieces (without d) d E lines
+  pub start : Script
+  pub fresh : IsFresh start
+  pub adds : AddsAll lines start script
