@@ -32,9 +32,13 @@ class Crate:
             self.types.update(dict.fromkeys(types, self.module_of(path)))
         for path, text in self.texts.items():
             self.items[path] = self.items_in(path, text)
-        self.names = [it.name for functions, _ in self.items.values() for it in functions]
+        functions = {it.name: (it, path) for path, (found, _) in self.items.items() for it in found}
+        self.names = list(functions)
+        self.generic = {name for name, (it, _) in functions.items() if it.is_generic}
         self.proofs = {name: self.proof_of(name) for name in self.names}
-        self.goals = refusing_goals.read(self.folder)
+        specs = self.definitions()
+        self.marks = {name: refusing_goals.mark_of(self.texts[path][it.head : it.end], specs) for name, (it, path) in functions.items()}
+        self.listed = refusing_goals.read(self.folder, self.marks)
         # the proofs that stand in the copy in place of the repository's
         self.others = {}
 
@@ -44,6 +48,15 @@ class Crate:
 
     def items_in(self, path, text):
         return items_of(blanked(text), self.module_of(path), self.types)
+
+    def definitions(self):
+        """Gives the texts of the crate's definitions."""
+        files = sorted(f"{at}/{it}" for at, _, names in os.walk(f"{self.folder}/specs") for it in names)
+        texts = []
+        for file in files:
+            with open(file, encoding="utf-8") as it:
+                texts.append(it.read())
+        return "\0".join(texts)
 
     def proof_of(self, name):
         """Gives the files of a function's proof, by their names."""
@@ -71,17 +84,25 @@ class Crate:
     def folder_of(self, name):
         return "/".join([self.folder, "proofs", *name.split("::")[1:]])
 
-    def prove_alone(self, names, texts, goals):
-        """Writes the proofs of these functions, with holes for the goals that are not tried, and holes for the proofs of those that their texts name."""
+    def tried_by(self, name, goals):
+        """Gives a function's proof with the first of these goals to be tried, where there are any, and holes for the others."""
+        proof = self.proofs.get(name, {})
+        if not goals:
+            # with a file of answers of its own, the check does not go once more over the crate to propose one
+            return proof or {"Answers.antt": f"{refusing_goals.head_of(name)}\n"}
+        proof, word = refusing_goals.with_holes(name, proof, goals), self.listed.words.get((name, goals[0]))
+        return refusing_goals.with_answers(name, proof, {goals[0]: word}, name in self.generic) if word else proof
+
+    def prove_alone(self, names, texts, proofs):
+        """Writes these proofs of these functions, and holes for the proofs of those that their texts name."""
         words = set()
         for path, text in texts.items():
             for it in self.items_in(path, text)[0]:
                 words |= set(re.findall(r"\w+", text[it.body : it.end])) if it.name in names else set()
         holes = {it for it in self.names if it.rpartition("::")[2] in words} - names
-        others = {name: {"Proof.antt": hole(name)} for name in holes}
-        others |= {name: refusing_goals.with_holes(name, self.proofs[name], goals[name]) for name in names & goals.keys()}
+        others = {name: {"Proof.antt": hole(name)} for name in holes} | proofs
         for name in {*others, *self.others}:
-            proof = others.get(name, self.proofs[name])
+            proof = others.get(name, self.proofs.get(name, {}))
             if proof == self.proof(name):
                 continue
             folder = self.folder_of(name)
@@ -134,7 +155,7 @@ class Crate:
             raise Fault("it changes no one function, so it needs a line 'refused by: FUNCTION'")
         judged = judged or places
         in_bodies = judged <= places and all(it for _, it in found)
-        goals = {it: self.goals.get(name, {}).get(it) for it in judged}
+        goals = {it: self.listed.goals.get(name, {}).get(it) for it in judged}
         goals = goals if all(goals.values()) else {}
         return Edit(name, changes, frozenset(places | judged), judged, in_bodies, frozenset(), goals)
 

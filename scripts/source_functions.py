@@ -7,8 +7,9 @@ NO_CODE = re.compile(r'//[^\n]*|/\*.*?\*/|\bb?r(#*)".*?"\1|"(?:\\.|[^"\\])*"|\'(
 TOKEN = re.compile(r"\b(?:mod|impl|trait)\b|\bfn\s+\w+|[{}()\[\];]")
 CLAUSE = re.compile(r"(?:\b(?:requires|ensures)\*?\s*\w*|\bghost\s+\w+\s*:)\s*\Z")
 
-# A function: its name as the checker prints it, and where its head, its body and its end stand.
-Function = namedtuple("Function", "name head body end")
+# A function: its name as the checker prints it, where its head, its body and its end stand, and whether it, its impl or
+# its trait has parameters for types or constants.
+Function = namedtuple("Function", "name head body end is_generic")
 # An impl, a trait or a function that is open at a brace, or a clause's or any other brace.
 Open = namedtuple("Open", "kind head at depth")
 
@@ -72,6 +73,17 @@ def owner_of(head, module, types):
     return f"{types.get(name, module)}::{name}"
 
 
+def has_parameters(text):
+    """Says whether a text that may begin with `<..>` has a parameter there that is no lifetime."""
+    generics = cut(text)[0] if text.startswith("<") else ""
+    return any(it.strip() and not it.strip().startswith("'") for it in pieces(generics, ","))
+
+
+def is_generic(heads):
+    """Says whether a function is, by the texts of its own head and those that it stands in."""
+    return any(it.startswith("trait") or has_parameters(re.sub(r"\A(impl|fn\s+\w+)\s*", "", it)) for it in heads)
+
+
 def items_of(code, module, types):
     """Lists the functions with a body of a source file, and the texts of its impls and traits."""
     functions, items, opened, head, depth = [], [], [], None, 0
@@ -93,7 +105,9 @@ def items_of(code, module, types):
                 owners = [code[o.head : o.at].split() for o in opened if o.kind in ("impl", "trait")]
                 owner = owner_of(" ".join(owners[-1]), module, types) if owners else module
                 name = re.match(r"fn\s+(\w+)", code[last.head :])[1]
-                functions.append(Function(f"{owner}::{name}", code.rfind("\n", 0, last.head) + 1, last.at, it.end()))
+                heads = [code[last.head : last.at], *(" ".join(words) for words in owners)]
+                first = code.rfind("\n", 0, last.head) + 1
+                functions.append(Function(f"{owner}::{name}", first, last.at, it.end(), is_generic(heads)))
             elif last.kind in ("impl", "trait"):
                 items.append((last.head, it.end()))
         elif it[0] == ";":
