@@ -1,5 +1,6 @@
 -- How the lines that were read so far make a script.
-use Rattle.std.proofs.Common.{◌≡◌, ℕ, ◌+◌, ◌-◌, ◌^◌, List, [], ◌∷◌, ◌++◌, Bool, true, false, Option, None, Some, refl, subst, ap, ◌∙◌, arith, length, length-append, append_assoc}
+use Rattle.std.proofs.Common.{◌≡◌, ℕ, ◌+◌, ◌-◌, ◌^◌, List, [], ◌∷◌, ◌++◌, Bool, true}
+use Rattle.std.proofs.Common.{false, Option, None, Some, refl, subst, ap, ◌∙◌, arith, length, length-append, append_assoc}
 use Rattle.std.specs.Prelude.{min, is_some}
 use Rattle.std.specs.Option.{IfSome}
 use Rattle.no_std_io2_base.specs.Events.{Event}
