@@ -1,11 +1,17 @@
 -- How the lines that were read so far make a script.
-use Rattle.std.proofs.Common.{◌≡◌, ℕ, ◌+◌, ◌-◌, ◌^◌, List, [], ◌∷◌, ◌++◌, Bool, true}
-use Rattle.std.proofs.Common.{false, Option, None, Some, refl, subst, ap, ◌∙◌, arith, length, length-append, append_assoc}
+use Rattle.std.proofs.Common.{◌≡◌, ℕ, ◌+◌, ◌-◌, ◌^◌, List, [], ◌∷◌, ◌++◌}
+use Rattle.std.proofs.Common.{false, Option, None, Some, refl, sym, subst, ap, ◌∙◌, arith, length, length-append, append_assoc}
+use Rattle.std.proofs.Common.{Err, inl, inr, ◌⊎◌, vec_items, Global}
 use Rattle.std.specs.Prelude.{min, is_some}
 use Rattle.std.specs.Option.{IfSome}
-use Rattle.no_std_io2_base.specs.Events.{Event}
+use Rattle.no_std_io2_base.specs.declared.error.Error.{Error}
+use Rattle.no_std_io2_base.specs.Errors.{IsOutOfMemory}
+use Rattle.no_std_io2_base.specs.Events.{Event, fails}
 use Rattle.no_std_io2_base.specs.Pieces.{without}
-use Rattle.io_bench.proofs.PieceRunLemmas.{GatheredSoFar}
+use Rattle.no_std_io2_base.specs.PieceItems.{YieldsPiece}
+use Rattle.io_bench.specs.PieceRuns.{GathersPieces}
+use Rattle.io_bench.proofs.PieceRunLemmas.{GatheredSoFar, gathered_to}
+use Rattle.system_streams.specs.Copies.{HasFirstFault}
 use Rattle.iotower.specs.declared.script.Script.{Script}
 use Rattle.iotower.specs.Reading.{Adds, AddsAll, IsFresh, IsBadLine, IsFirstBad}
 
@@ -68,6 +74,23 @@ first_here lines line n next start script fresh adds is count more = record {
   is = is;
   number = number_here lines n next count more;
 }
+
+-- a line that could not be read: the reader had its first fault, or memory was refused
+pub stopped : {d : ℕ} {E mid after : List Event} {lines : List (List ℕ)} {e : Error} → GatheredSoFar (without d) d E lines mid
+    → YieldsPiece (vec_items {X = ℕ} {Z = Global}) (without d) (λ _ _. ⊥) d mid (Some (Err e)) after
+    → HasFirstFault E e ⊎ IsOutOfMemory e
+stopped {d} {E} {mid} {after} {lines} {e} so no_line =
+    why (gathered_to (Unit {0}) (vec_items {X = ℕ} {Z = Global}) (without d) (λ _ _. ⊥) d E lines lines mid e after refl so no_line)
+  where
+    why : GathersPieces {A = Unit {0}} (without d) (λ _ _. ⊥) d E (Err e) lines → HasFirstFault E e ⊎ IsOutOfMemory e
+    why (inl fault) = inl (record {
+      front = fault.before ++ fails e ∷ [];
+      rest = fault.behind;
+      split = fault.split ∙ sym (append_assoc fault.before (fails e ∷ []) fault.behind);
+      ends = (fault.before, refl, fault.no_fault, fault.fault);
+    })
+    why (inr (inl refused)) = absurd refused.refused
+    why (inr (inr memory)) = inr memory.refused
 
 -- what is not there
 pub is_none : (o : Option ℕ) → is_some o ≡ false → o ≡ None

@@ -1,6 +1,7 @@
--- What a fault prints.
+-- What a fault prints and says.
 use Rattle.std.specs.Prelude.{ℕ, ◌<◌, codes, List, ◌++◌, ⊤}
 use Rattle.std.specs.Fmt.{decimal}
+use Rattle.no_std_io2_base.specs.declared.error.Error.{Error}
 use Rattle.no_std_io2_base.specs.Errors.{error_display}
 use Rattle.iotower.specs.declared.play.Fault.{Fault}
 use Rattle.iotower.specs.declared.play.Fault.TheVariants.{Io, Line}
@@ -14,6 +15,11 @@ fault_display (Line n) = codes "bad line " ++ decimal n
 abbrev pub IsNumbered : Fault → Type 0
 IsNumbered (Io e) = ⊤
 IsNumbered (Line n) = 0 < n
+
+-- what holds of the error of a fault that is no bad line
+abbrev pub IfIo : (Error → Type 0) → Fault → Type 0
+IfIo P (Io e) = P e
+IfIo P (Line n) = ⊤
 
 -- what holds of the number of a bad line
 abbrev pub IfLine : (ℕ → Type 0) → Fault → Type 0

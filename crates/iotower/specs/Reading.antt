@@ -1,5 +1,5 @@
 -- What the lines of a script add to it.
-use Rattle.std.specs.Prelude.{◌≡◌, ℕ, ◌+◌, ◌-◌, ◌^◌, ◌<◌, ◌⊎◌, min, true, false, List, [], ◌∷◌, ◌++◌, length, vec_len, None}
+use Rattle.std.specs.Prelude.{◌≡◌, ℕ, ◌+◌, ◌-◌, ◌^◌, ◌<◌, ◌⊎◌, min, true, false, List, [], ◌∷◌, ◌++◌, length, vec_len, vec_capacity, None}
 use Rattle.no_std_io2_base.specs.Events.{Event}
 use Rattle.no_std_io2_base.specs.Pieces.{without}
 use Rattle.io_bench.specs.PieceRuns.{AllPieces}
@@ -10,7 +10,7 @@ use Rattle.iotower.specs.declared.script.Line.TheVariants.{Empty, Act, Write, Wr
 use Rattle.iotower.specs.declared.script.Step.TheVariants.{Flush as flush_step}
 use Rattle.iotower.specs.Script.{unescaped}
 use Rattle.iotower.specs.Lines.{Says, IsGood}
-use Rattle.iotower.specs.Calls.{AddsText}
+use Rattle.iotower.specs.Calls.{AddsText, IsFull}
 
 -- one more flush
 abbrev pub AddsFlush : Calls → Calls → Type 0
@@ -40,6 +40,15 @@ IsRefused (Write text) old = unescaped text.now ≡ None
 IsRefused (WriteAll text) old = unescaped text.now ≡ None
 IsRefused Flush old = ⊥
 IsRefused Bad old = ⊥
+
+-- there is no room for what a line that says this may add: an act before the first call, a text and a call, or a call
+abbrev pub LacksRoom : Line → Script → Type 0
+LacksRoom Empty old = ⊥
+LacksRoom (Act act) old = (vec_len old.calls.steps ≡ 0) × (vec_capacity old.acts < vec_len old.acts + 1)
+LacksRoom (Write text) old = IsFull (length text.now) old.calls
+LacksRoom (WriteAll text) old = IsFull (length text.now) old.calls
+LacksRoom Flush old = vec_capacity old.calls.steps < vec_len old.calls.steps + 1
+LacksRoom Bad old = ⊥
 
 -- a bad line behind those that made this script: it says nothing, or is refused
 abbrev pub IsBadLine : List ℕ → Script → Type 0

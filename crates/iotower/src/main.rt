@@ -5,7 +5,7 @@
 //! words that are no command.
 #![tactic(auto)]
 
-ghost use Rattle.std.specs.Prelude.{◌≡◌, ◌^◌, ◌-◌, IfSome, IfNone, OnOk, OnErr};
+ghost use Rattle.std.specs.Prelude.{◌≡◌, ◌^◌, ◌-◌, length, IfSome, IfNone, OnOk, OnErr};
 ghost use Rattle.std.specs.Process.{exit_status};
 ghost use Rattle.iotower.specs.declared.Command.{Command as Asked};
 ghost use Rattle.iotower.specs.Words.{verb_of, mode_of, AreWords};
@@ -13,6 +13,7 @@ ghost use Rattle.std.specs.Vec.Iter.{into_iter_items};
 ghost use Rattle.system_streams.specs.Patient.{patient_turns};
 
 mod copy;
+mod memory;
 mod patient;
 mod play;
 mod report;
@@ -39,6 +40,8 @@ enum Command {
 // The words behind the program's name, where there are two.
 fn two_words(mut words: env::Args) -> Option<(String, String)>
     ensures two { IfSome result (λ two. AreWords (into_iter_items words) two.0 two.1) }
+    // The program's name and two more are always taken.
+    ensures none { IfNone result (length (into_iter_items words) ≡ 3 → ⊥) }
 {
     let _program = words.next();
     let verb = words.next()?;

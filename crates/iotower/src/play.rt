@@ -1,16 +1,18 @@
 // Plays a script on a tower of buffered writers.
 ghost use Rattle.no_std_io2.specs.Fits.{BufReaderFits};
-ghost use Rattle.std.specs.Prelude.{◌≡◌, ◌++◌, Some, IfOk, IfErr};
+ghost use Rattle.std.specs.Prelude.{◌≡◌, ◌++◌, ◌⊎◌, Some, IfOk, IfErr};
 ghost use Rattle.no_std_io2_base.specs.Errors.{IsOutOfMemory};
 ghost use Rattle.iotower.specs.declared.play.Fault.TheVariants.{Io};
-ghost use Rattle.iotower.specs.Faults.{fault_display, IfLine};
+ghost use Rattle.system_streams.specs.Copies.{HasFirstFault, MayFail};
+ghost use Rattle.iotower.specs.Faults.{fault_display, IfIo, IfLine};
 ghost use Rattle.iotower.specs.Reading.{IsBadAt};
 ghost use Rattle.iotower.specs.Play.{Shows, IsPlay, IsPlayOf, Writes, fresh_told};
 
+use crate::memory::{Refused, replies_of};
 use crate::report::report_of;
 use crate::script::Script;
-use io_bench::{Act, Faulty, Op, run_writes};
-use no_std_io2::io::{BufRead, BufReader, BufWriter, Error, LineWriter, Read, Result, Write};
+use io_bench::{Act, Faulty, Op};
+use no_std_io2::io::{BufRead, BufReader, BufWriter, Error, ErrorKind, LineWriter, Read, Write};
 use std::alloc::Global;
 use std::fmt;
 
@@ -41,6 +43,14 @@ impl From<Error> for Fault {
 
     fn from(error: Error) -> Fault {
         Fault::Io(error)
+    }
+}
+
+impl From<Refused> for Fault {
+    ghost from_gives = { λ _ fault. IfIo IsOutOfMemory fault × IfLine (λ _. ⊥) fault };
+
+    fn from(_refused: Refused) -> Fault {
+        Fault::Io(Error::from(ErrorKind::OutOfMemory))
     }
 }
 
@@ -126,13 +136,16 @@ pub fn play<R: Read + Drop, W: Write + Drop>(
     input: R,
     mut output: W,
     shape: Shape,
-) -> std::result::Result<W, Fault>
+) -> Result<W, Fault>
     requires reader_fits { BufReaderFits R.row 64 }
     ensures ok { IfOk result (λ w. Writes IsPlay (W.told output) (W.told w)) }
     // The script is what the input tells.
     ensures script { R.tells input → IfOk result (λ w. Writes (IsPlayOf (R.events input)) (W.told output) (W.told w)) }
     // A bad line is the first one of all that the input tells.
     ensures first { R.tells input → IfErr result (IfLine (IsBadAt 10 (R.events input))) }
+    // Any other fault is the input's first one, want of memory, or an error of the output.
+    ensures other { R.tells input → IfErr result (IfIo (λ e. HasFirstFault (R.events input) e
+        ⊎ IsOutOfMemory e ⊎ MayFail (W.told output) e)) }
 {
     let reader = BufReader::<R, INPUT_ROOM>::new(input);
     let Script { acts, calls } = Script::read(alloc, reader.split(alloc, b'\n'))?;
@@ -143,9 +156,8 @@ pub fn play<R: Read + Drop, W: Write + Drop>(
     Ok(output)
 }
 
-fn play_ops(alloc: Global, acts: Vec<Act>, ops: &[Op<'_>], shape: Shape) -> Result<Vec<u8>>
+fn play_ops(alloc: Global, acts: Vec<Act>, ops: &[Op<'_>], shape: Shape) -> Result<Vec<u8>, Refused>
     ensures ok { IfOk result (λ text. Shows (fresh_told acts.items) ops.now text.items) }
-    ensures kind { IfErr result IsOutOfMemory }
 {
     let base = Faulty::new(Vec::new(alloc), acts);
     match shape {
@@ -171,12 +183,10 @@ fn play_ops(alloc: Global, acts: Vec<Act>, ops: &[Op<'_>], shape: Shape) -> Resu
 }
 
 // Makes the calls, and then the text, before the tower is dropped.
-fn play_on<T: Tower + Drop>(alloc: Global, mut tower: T, ops: &[Op<'_>]) -> Result<Vec<u8>>
+fn play_on<T: Tower + Drop>(alloc: Global, mut tower: T, ops: &[Op<'_>]) -> Result<Vec<u8>, Refused>
     ensures ok { IfOk result (λ text. Shows (T.Write.told tower) ops.now text.items) }
-    ensures kind { IfErr result IsOutOfMemory }
 {
-    let mut replies = Vec::new(alloc);
-    run_writes(&mut tower, ops, &mut replies)?;
+    let replies = replies_of(alloc, &mut tower, ops)?;
     let (inner, outer) = tower.held();
     report_of(alloc, &replies, tower.out(), inner, outer)
 }

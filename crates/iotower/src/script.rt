@@ -2,18 +2,21 @@
 ghost use Rattle.std.specs.Prelude.{◌≡◌, ℕ, ◌+◌, ◌-◌, ◌≤◌, List, [], ◌∷◌, ◌++◌, take, drop, IfSome, IfNone, None, ◌<◌, OnOk, OnErr};
 ghost use Rattle.std.specs.Prelude.{IfOk, IfErr, length, vec_len, vec_capacity, true, false, ◌⊎◌};
 ghost use Rattle.no_std_io2_base.specs.Errors.{IsOutOfMemory};
-ghost use Rattle.iotower.specs.Faults.{IsNumbered, IfLine};
+ghost use Rattle.system_streams.specs.Copies.{HasFirstFault};
+ghost use Rattle.iotower.specs.Faults.{IsNumbered, IfIo, IfLine};
 ghost use Rattle.iotower.specs.Script.{kind_name, IsCount, IsTextArgument, unescaped, Appends};
 ghost use Rattle.iotower.specs.Calls.{IsNext, AreCalls, AddsText, IsFull};
-ghost use Rattle.iotower.specs.Reading.{Adds, IsBadLine, IsRead, IsBadAt};
+ghost use Rattle.iotower.specs.Reading.{Adds, IsBadLine, IsRead, IsBadAt, LacksRoom};
 ghost use Rattle.no_std_io2_base.specs.PieceItems.{split_reader, split_delim, split_is_ended};
+ghost use Rattle.iotower.specs.declared.script.Line.{Line as Said};
 ghost use Rattle.iotower.specs.declared.script.Line.TheVariants.{Bad};
 ghost use Rattle.iotower.specs.Lines.{Says, IsGood, text_step};
 ghost use Rattle.no_std_io2_base.specs.declared.error.ErrorKind.{ErrorKind as Kind};
 
+use crate::memory::{Refused, reserve};
 use crate::play::Fault;
 use io_bench::{Act, Op};
-use no_std_io2::io::{BufRead, Error, ErrorKind, Result, Split};
+use no_std_io2::io::{BufRead, ErrorKind, Split};
 use std::alloc::Global;
 
 /// What a line of a script says. Its text is still escaped.
@@ -56,10 +59,7 @@ impl Script {
     ///
     /// # Errors
     /// A fault of the reader, or `OutOfMemory`; else the first bad line, by its number.
-    pub fn read<R: BufRead + Drop>(
-        alloc: Global,
-        lines: Split<R>,
-    ) -> std::result::Result<Script, Fault>
+    pub fn read<R: BufRead + Drop>(alloc: Global, lines: Split<R>) -> Result<Script, Fault>
         ensures numbered { IfErr result IsNumbered }
         // Every line of the reader's is read, and adds what it says.
         ensures read { split_is_ended lines ≡ false → R.tells (split_reader lines)
@@ -67,6 +67,9 @@ impl Script {
         // A bad line is told once all are read, and is the first one.
         ensures first { split_is_ended lines ≡ false → R.tells (split_reader lines)
             → IfErr result (IfLine (IsBadAt (split_delim lines) (R.events (split_reader lines)))) }
+        // Any other fault is the reader's first one, or want of memory.
+        ensures stops { split_is_ended lines ≡ false → R.tells (split_reader lines)
+            → IfErr result (IfIo (λ e. HasFirstFault (R.events (split_reader lines)) e ⊎ IsOutOfMemory e)) }
     {
         let mut script = Script {
             acts: Vec::new(alloc),
@@ -91,14 +94,12 @@ impl Script {
     }
 
     // `false` where the line is bad.
-    fn add_line(&mut self, line: &[u8]) -> Result<bool>
+    fn add_line(&mut self, line: &[u8]) -> Result<bool, Refused>
         ensures good { IfOk result (λ good. good ≡ true → IsGood line.now) }
         ensures adds { IfOk result (λ good. good ≡ true → Adds line.now self.old self.new) }
         ensures bad { IfOk result (λ good. good ≡ false → IsBadLine line.now self.old) }
-        ensures kind { IfErr result IsOutOfMemory }
-        // Nothing is refused where there is room for all that a line may add.
-        ensures full { OnErr result (vec_capacity self.old.acts < vec_len self.old.acts + 1
-            ⊎ IsFull (length line.now) self.old.calls) }
+        // Nothing is refused where there is room for what the line may add, nor where it is empty or says nothing.
+        ensures full { OnErr result ((said : Said) × Says line.now said × LacksRoom said self.old) }
     {
         match parse_line(line) {
             Line::Empty => Ok(true),
@@ -114,12 +115,11 @@ impl Script {
     }
 
     // `false` where a call stands before it.
-    fn add_act(&mut self, act: Act) -> Result<bool>
+    fn add_act(&mut self, act: Act) -> Result<bool, Refused>
         ensures added { IfOk result (λ good. good ≡ true → (vec_len self.old.calls.steps ≡ 0)
             × (self.new.acts.items ≡ self.old.acts.items ++ act ∷ []) × (self.new.calls ≡ self.old.calls)) }
         ensures bad { IfOk result (λ good. good ≡ false → 0 < vec_len self.old.calls.steps) }
-        ensures kind { IfErr result IsOutOfMemory }
-        ensures full { OnErr result (vec_capacity self.old.acts < vec_len self.old.acts + 1) }
+        ensures full { OnErr result ((vec_len self.old.calls.steps ≡ 0) × (vec_capacity self.old.acts < vec_len self.old.acts + 1)) }
     {
         if !self.calls.steps.is_empty() {
             return Ok(false);
@@ -134,11 +134,10 @@ impl Calls {
     /// The calls, in order.
     ///
     /// # Errors
-    /// `OutOfMemory`.
-    pub fn ops(&self, alloc: Global) -> Result<Vec<Op<'_>>>
+    /// Where memory was refused.
+    pub fn ops(&self, alloc: Global) -> Result<Vec<Op<'_>>, Refused>
         ensures count { IfOk result (λ ops. vec_len ops ≡ vec_len self.now.steps) }
         ensures calls { IfOk result (λ ops. AreCalls self.now ops.items) }
-        ensures kind { IfErr result IsOutOfMemory }
         // No calls want no memory.
         ensures full { OnErr result (0 < vec_len self.now.steps) }
     {
@@ -154,8 +153,7 @@ impl Calls {
     }
 
     // `false` where the text stands for no bytes.
-    fn add_text(&mut self, text: &[u8], is_whole: bool) -> Result<bool>
-        ensures kind { IfErr result IsOutOfMemory }
+    fn add_text(&mut self, text: &[u8], is_whole: bool) -> Result<bool, Refused>
         ensures adds { IfOk result (λ good. good ≡ true → AddsText is_whole text.now self.old self.new) }
         ensures bad { IfOk result (λ good. good ≡ false → unescaped text.now ≡ None) }
         ensures full { OnErr result (IsFull (length text.now) self.old) }
@@ -176,27 +174,13 @@ impl Calls {
         Ok(true)
     }
 
-    fn add_step(&mut self, step: Step) -> Result<()>
+    fn add_step(&mut self, step: Step) -> Result<(), Refused>
         ensures added { OnOk result ((self.new.steps.items ≡ self.old.steps.items ++ step ∷ []) × (self.new.texts ≡ self.old.texts)) }
-        ensures kind { IfErr result IsOutOfMemory }
         ensures full { OnErr result (vec_capacity self.old.steps < vec_len self.old.steps + 1) }
     {
         reserve(&mut self.steps, 1)?;
         self.steps.push_reserved(step);
         Ok(())
-    }
-}
-
-// Room for so many more.
-fn reserve<T>(list: &mut Vec<T>, more: usize) -> Result<()>
-    ensures items { list.new.items ≡ list.old.items }
-    ensures room { OnOk result (vec_len list.new + more ≤ vec_capacity list.new) }
-    ensures kind { IfErr result IsOutOfMemory }
-    ensures full { OnErr result (vec_capacity list.old < vec_len list.old + more) }
-{
-    match list.reserve(more) {
-        Ok(()) => Ok(()),
-        Err(_refused) => Err(Error::from(ErrorKind::OutOfMemory)),
     }
 }
 

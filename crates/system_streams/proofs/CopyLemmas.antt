@@ -89,7 +89,7 @@ told_mishap (Some old) kind (Some new) h =
     omega (arith, h (λ other. kind_number other == kind_number kind), one)
 
 -- what is known of a writer that failed
-may_fail : {old : Told} {e : Error} → HasFailed old e → MayFail old e
+pub may_fail : {old : Told} {e : Error} → HasFailed old e → MayFail old e
 may_fail {old} {e} f = record {
   mishap = told_mishap old.mishaps (error_kind e) f.new.mishaps f.moves.mishaps;
   turn = λ again.

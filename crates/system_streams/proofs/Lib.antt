@@ -1,2 +1,2 @@
-mod CopyLemmas
+pub mod CopyLemmas
 mod LoopLemmas

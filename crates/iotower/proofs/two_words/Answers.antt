@@ -33,4 +33,5 @@ returns c =
     let verbs = c.in_ok-verb.ensures.items ∙ ap (λ l. c.in_ok-verb.verb ∷ l) modes in
     record {
       two = (first.0, program.items ∙ ap (λ l. l ++ into_iter_items c.next-program.new.self) first.1 ∙ ap (λ l. first.0 ∷ l) verbs);
+      none = tt;
     }

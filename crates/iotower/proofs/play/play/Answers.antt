@@ -1,9 +1,10 @@
-use Rattle.std.proofs.Common.{◌≡◌, subst, sym, ap, ◌∙◌}
+use Rattle.std.proofs.Common.{◌≡◌, subst, sym, ap, ◌∙◌, inr}
+use Rattle.std.proofs.lemmas.Result.{err_from_is_err_and}
 use Rattle.no_std_io2.specs.Reading.{reader_inner, reader_events}
 use Rattle.no_std_io2_base.specs.PieceItems.{split_reader, split_delim}
 use Rattle.iotower.specs.Play.{IsPlay, IsPlayOf, Shows, fresh_told}
 use Rattle.iotower.specs.Reading.{IsRead}
-use Rattle.iotower.proofs.PlayLemmas.{writes_text}
+use Rattle.iotower.proofs.PlayLemmas.{writes_text, write_failed, flush_failed}
 use Rattle.iotower.proofs.play.play.Goals as goal
 
 pub returns : goal.returns
@@ -35,4 +36,17 @@ returns g c =
       ok = writes_text is c.deref-2.ensures.value wrote flushed c.in_ok-flush.ensures.empty;
       script = λ t. writes_text (play_of t) c.deref-2.ensures.value wrote flushed c.in_ok-flush.ensures.empty;
       first = λ _. tt;
+      other = λ _. tt;
     }
+
+pub returns-in_err-write_all-clause-other : goal.returns-in_err-write_all-clause-other
+returns-in_err-write_all-clause-other g c = λ _.
+    let left = c.from_residual-in_err-write_all in
+    let p = err_from_is_err_and left.result left.ensures.1 in
+    rw (p.1, p.2) (inr (inr (write_failed c.in_err-write_all.ensures.moves)))
+
+pub returns-in_err-flush-clause-other : goal.returns-in_err-flush-clause-other
+returns-in_err-flush-clause-other g c = λ _.
+    let left = c.from_residual-in_err-flush in
+    let p = err_from_is_err_and left.result left.ensures.1 in
+    rw (p.1, p.2) (inr (inr (flush_failed c.in_ok-write_all.ensures.moves c.in_err-flush.ensures.moves)))

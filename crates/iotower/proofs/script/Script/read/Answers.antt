@@ -1,11 +1,12 @@
 use Rattle.std.proofs.Common.{◌≡◌, ℕ, ◌∙◌, ap, sym, subst, refl, vec_items, Global, true, false, not, [], ◌∷◌, ◌++◌, Some, Ok, arith}
 use Rattle.std.specs.Prelude.{is_some}
+use Rattle.std.proofs.lemmas.Result.{err_from_is_err_and}
 use Rattle.no_std_io2_base.specs.Pieces.{without}
 use Rattle.no_std_io2_base.specs.PieceItems.{split_reader, split_delim, ends_at}
 use Rattle.io_bench.proofs.PieceRunLemmas.{none_gathered, one_gathered, all_gathered, yields_at}
 use Rattle.std.specs.Option.{IfSome}
 use Rattle.iotower.specs.Reading.{Adds, AddsAll, IsBadLine, IsFirstBad}
-use Rattle.iotower.proofs.ReadLemmas.{adds_more, count_more, first_more, first_here, is_none}
+use Rattle.iotower.proofs.ReadLemmas.{adds_more, count_more, first_more, first_here, stopped, is_none}
 use Rattle.iotower.proofs.script.Script.read.Goals as goal
 use Rattle.iotower.proofs.script.Script.read.Goals.{then-is_none+in_ok-add_line+then-not-branch, else-is_none}
 use Rattle.iotower.proofs.script.Script.read.Goals.{else-is_none-via-then-is_none+in_ok-add_line+else-not-branch}
@@ -137,3 +138,15 @@ returns-in-Some-bad-clause-first g c = λ fresh t.
           (R.events (split_reader c.lines.line-iterator)) _ _ (R.events (split_reader c.next.new.self)) so_far.1 c.in-None.is told.1);
       first = subst (λ b. IfSome b (IsFirstBad so.lines)) c.in-Some-bad.is so.first;
     }
+
+pub returns-in_err-line-clause-stops : goal.returns-in_err-line-clause-stops
+returns-in_err-line-clause-stops g c = λ fresh t.
+    let R = g.R.Read in
+    let so_far = c.lines.invariant.told fresh t in
+    let told = (c.next.ensures.steps.1 so_far.0).1 so_far.2 in
+    let no_line =
+    yields_at (vec_items {X = ℕ} {Z = Global}) without (λ _ _. ⊥) (split_delim c.lines.line-iterator) (split_delim c.args.lines)
+    (R.events (split_reader c.lines.line-iterator)) _ _ (R.events (split_reader c.next.new.self)) so_far.1
+    (c.in-Some.is ∙ ap Some c.in_err-line.was) told.1 in
+    let p = err_from_is_err_and c.from_residual.result c.from_residual.ensures.1 in
+    rw (p.1, p.2) (stopped so_far.3.gathered no_line)
