@@ -74,10 +74,11 @@ def open_goals(crate, name, texts, said):
     return goals
 
 
-def judged(crate, name, texts, said):
+def judged(crate, name, texts, said, wanted=None):
     """Says whether the prover refused a function by a goal of its own, how to put it, and which goals stayed open.
 
-    An answer whose names are gone says nothing, and no more does an open goal that it may have been meant for."""
+    An answer whose names are gone says nothing, and no more does an open goal that it may have been meant for. Where the
+    function has several wrong bodies, the one goal that is wanted judges."""
     short, line = name.removeprefix(f"{crate.name}::"), line_of(name, said)
     if line in ("", "could not tell"):
         return Judgement(False, f"NOT REFUSED: {short} is {line or 'no function that the check names'}", [])
@@ -91,7 +92,9 @@ def judged(crate, name, texts, said):
     goals |= {it: clause_of(it) for it in re.findall(rf"^note: `([^`]+)` of proofs/{folder}/\w+\.antt must prove", said, re.M)}
     left = open_goals(crate, name, texts, said)
     goals |= {it: clause_of(it) for it in left if clause_of(it) not in unanswered}
-    if goals or "did not prove `" in line:
+    if wanted:
+        goals, left = {it: clause for it, clause in goals.items() if it == wanted}, []
+    if goals or not wanted and "did not prove `" in line:
         words = f"refused by {short}: {', '.join(sorted({*goals.values()} - unanswered)) or 'a goal'}"
         return Judgement(True, words, [*dict.fromkeys([*goals, *left])] if goals else [])
     if gone:

@@ -7,9 +7,13 @@ import refusing_goals
 from source_functions import blanked, items_of
 
 # A wrong body: its changes (file, old, new), what they stand in, the functions that must be refused,
-# whether it stands in their bodies alone, the functions that must be whole when it is tried, and of
-# each refused function the goals that stay open, where they are known.
-Edit = namedtuple("Edit", "name changes places judged in_bodies needs goals")
+# whether it stands in their bodies alone, the functions that must be whole when it is tried, of
+# each refused function the goals that stay open, where they are known, and whether it may stand in
+# a round with others of its function.
+Edit = namedtuple("Edit", "name changes places judged in_bodies needs goals is_open")
+
+# The folders of a crate that hold its wrong bodies.
+EDITS = ("wrong-bodies", "must-fail")
 
 
 class Fault(Exception):
@@ -84,14 +88,17 @@ class Crate:
     def folder_of(self, name):
         return "/".join([self.folder, "proofs", *name.split("::")[1:]])
 
-    def tried_by(self, name, goals):
-        """Gives a function's proof with the first of these goals to be tried, where there are any, and holes for the others."""
+    def tried_by(self, name, lists):
+        """Gives a function's proof with the first goal of each list to be tried, and holes for the others; with an empty list all are."""
         proof = self.proofs.get(name, {})
-        if not goals:
+        if not all(lists):
             # with a file of answers of its own, the check does not go once more over the crate to propose one
             return proof or {"Answers.antt": f"{refusing_goals.head_of(name)}\n"}
-        proof, word = refusing_goals.with_holes(name, proof, goals), self.listed.words.get((name, goals[0]))
-        return refusing_goals.with_answers(name, proof, {goals[0]: word}, name in self.generic) if word else proof
+        firsts = [*dict.fromkeys(goals[0] for goals in lists)]
+        left = [*dict.fromkeys(it for goals in lists for it in goals[1:] if it not in firsts)]
+        proof = refusing_goals.with_holes(name, proof, firsts, left)
+        words = {it: self.listed.words[name, it] for it in firsts if (name, it) in self.listed.words}
+        return refusing_goals.with_answers(name, proof, words, name in self.generic) if words else proof
 
     def prove_alone(self, names, texts, proofs):
         """Writes these proofs of these functions, and holes for the proofs of those that their texts name."""
@@ -133,10 +140,16 @@ class Crate:
             raise Fault(f"'refused by: {given}' fits several functions")
         return fits[0] if fits else f"{self.name}::{given}"
 
-    def edit(self, name):
+    def edit_files(self):
+        """Lists the files of the crate's edits."""
+        folders = [it for it in EDITS if os.path.isdir(f"{self.folder}/{it}")]
+        return [f"{it}/{file}" for it in folders for file in sorted(os.listdir(f"{self.folder}/{it}")) if file.endswith(".edit")]
+
+    def edit(self, file):
         """Reads an edit."""
         changes, judged, path, old = [], set(), "", ""
-        with open(f"{self.folder}/wrong-bodies/{name}.edit", encoding="utf-8") as it:
+        name = os.path.basename(file).removesuffix(".edit")
+        with open(f"{self.folder}/{file}", encoding="utf-8") as it:
             lines = it.read().split("\n")
         for line in lines:
             word, rest = line.partition(":")[0], line.partition(":")[2][1:]
@@ -157,7 +170,23 @@ class Crate:
         in_bodies = judged <= places and all(it for _, it in found)
         goals = {it: self.listed.goals.get(name, {}).get(it) for it in judged}
         goals = goals if all(goals.values()) else {}
-        return Edit(name, changes, frozenset(places | judged), judged, in_bodies, frozenset(), goals)
+        is_open = in_bodies and len(judged) == 1 and places == judged and bool(goals) and self.listed.is_fresh(name, *judged)
+        return Edit(name, changes, frozenset(places | judged), judged, in_bodies, frozenset(), goals, is_open)
+
+    def spans(self, edit):
+        """Gives where the texts stand that an edit takes away."""
+        found = [(path, self.texts[path].find(old), len(old)) for path, old, _ in edit.changes]
+        return [(path, at, at + length) for path, at, length in found]
+
+    def can_stand(self, edit, other):
+        """Says whether two bodies of one function can be judged in one check: each by its goal, which the other leaves proved."""
+        if not (edit.is_open and other.is_open and edit.judged == other.judged):
+            return False
+        (own,), (others,) = edit.goals.values(), other.goals.values()
+        if own[0] in others or others[0] in own:
+            return False
+        spans = [(a, b) for a in self.spans(edit) for b in self.spans(other)]
+        return all(a[0] != b[0] or a[2] <= b[1] or b[2] <= a[1] for a, b in spans)
 
 
 def clause_of(goal):

@@ -28,8 +28,13 @@ IMPORTS = {
 # The line that says what an answer is for, in a proof's file.
 SIGNATURE = re.compile(r"pub (\S+) : goal\.(\S+)$")
 
-# What is listed: the goals of each function that an edit changes, by the edits' names, and the words of goals.
-Listed = namedtuple("Listed", "goals words")
+# What is listed: the goals of each function that an edit changes, by the edits' names, the words of goals, and the edits with
+# the functions that are still as they were when it was listed.
+class Listed(namedtuple("Listed", "goals words fresh")):
+    def is_fresh(self, edit, function):
+        """Says whether what is listed of an edit's function was found of the function as it is."""
+        return (edit, function) in self.fresh
+
 
 
 def file_of(folder):
@@ -44,15 +49,16 @@ def mark_of(*texts):
 
 def read(folder, marks):
     """Reads a crate's list, with the words of the functions whose marks are these."""
-    listed = Listed({}, {})
+    listed = Listed({}, {}, set())
     if os.path.isfile(file_of(folder)):
         with open(file_of(folder), encoding="utf-8") as it:
             for line in it:
                 edit, function, mark, *found = line.split()
                 goals = [name.partition("=")[::2] for name in found]
                 listed.goals.setdefault(edit, {})[function] = [goal for goal, _ in goals]
-                is_fresh = mark == marks.get(function)
-                listed.words.update({(function, goal): word for goal, word in goals if word and is_fresh})
+                if mark == marks.get(function):
+                    listed.fresh.add((edit, function))
+                    listed.words.update({(function, goal): word for goal, word in goals if word})
     return listed
 
 
@@ -101,18 +107,17 @@ def with_answers(name, proof, words, is_generic):
     return {**proof, "Answers.antt": "\n".join(lines) + "\n"}
 
 
-def with_holes(name, proof, goals):
-    """Gives a function's proof with holes for all its answers but that of the first of these goals, and for the others of them."""
-    kept, *left = goals
+def with_holes(name, proof, kept, left):
+    """Gives a function's proof with holes for all its answers but those of the kept goals, and for those that are left out."""
     lines, has_answer, at = [], answered(proof), None
     for line in proof.get("Answers.antt", head_of(name)).split("\n"):
         if found := SIGNATURE.match(line):
             at = found[1]
-            lines += [line] if at == kept else [line, f"{at} = ?", ""]
+            lines += [line] if at in kept else [line, f"{at} = ?", ""]
         elif line[:1] not in ("", " ", "}", ")") and line.split()[0] != at:
             at = None
             lines.append(line)
-        elif at in (None, kept):
+        elif at is None or at in kept:
             lines.append(line)
     lines += [f"\npub {it} : goal.{it}\n{it} = ?" for it in left if it not in has_answer]
     return {**proof, "Answers.antt": "\n".join(lines).rstrip() + "\n"}
