@@ -105,6 +105,7 @@ def judged(crate, name, texts, said, wanted=None):
 def check(crate, texts, proofs):
     """Checks the functions of these proofs by what their callees state, and gives what the check says."""
     crate.prove_alone(proofs.keys(), texts, proofs)
+    crate.write_alone(proofs.keys(), texts)
     only = [word for it in sorted(proofs) for word in ("--only", it)]
     lines, used = run(["rt", "check", "--allow-holes", "--short-goals", "--progress", "--jobs", "1", *only], crate.folder)
     crate.used += used

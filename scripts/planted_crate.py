@@ -100,6 +100,17 @@ class Crate:
         words = {it: self.listed.words[name, it] for it in firsts if (name, it) in self.listed.words}
         return refusing_goals.with_answers(name, proof, words, name in self.generic) if words else proof
 
+    def write_alone(self, names, texts):
+        """Writes the sources, and a loop for the body of each function that is not one of these: its contract stands for it."""
+        for path, text in texts.items():
+            parts, done = [], 0
+            for it in sorted(self.items_in(path, text)[0], key=lambda it: it.body):
+                if it.name not in names and it.body > done:
+                    lines = text.count("\n", it.body, it.end)
+                    parts, done = [*parts, text[done : it.body], "{ loop {} ", "\n" * lines, "}"], it.end
+            with open(f"{self.folder}/{path}", "w", encoding="utf-8") as it:
+                it.write("".join([*parts, text[done:]]))
+
     def prove_alone(self, names, texts, proofs):
         """Writes these proofs of these functions, and holes for the proofs of those that their texts name."""
         words = set()
