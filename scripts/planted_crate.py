@@ -101,22 +101,24 @@ class Crate:
         return refusing_goals.with_answers(name, proof, words, name in self.generic) if words else proof
 
     def write_alone(self, names, texts):
-        """Writes the sources, and a loop for the body of each function that is not one of these: its contract stands for it."""
+        """Writes the sources, and a loop for the body of each function that is not one of these, nor an edit's own: its contract
+        stands for it."""
         for path, text in texts.items():
             parts, done = [], 0
             for it in sorted(self.items_in(path, text)[0], key=lambda it: it.body):
-                if it.name not in names and it.body > done:
+                if it.name in self.names and it.name not in names and it.body > done:
                     lines = text.count("\n", it.body, it.end)
                     parts, done = [*parts, text[done : it.body], "{ loop {} ", "\n" * lines, "}"], it.end
             with open(f"{self.folder}/{path}", "w", encoding="utf-8") as it:
                 it.write("".join([*parts, text[done:]]))
 
     def prove_alone(self, names, texts, proofs):
-        """Writes these proofs of these functions, and holes for the proofs of those that their texts name."""
+        """Writes these proofs of these functions, and holes for the proofs of those that their texts name, or an edit's own function's."""
         words = set()
         for path, text in texts.items():
             for it in self.items_in(path, text)[0]:
-                words |= set(re.findall(r"\w+", text[it.body : it.end])) if it.name in names else set()
+                is_alone = it.name in self.names and it.name not in names
+                words |= set() if is_alone else set(re.findall(r"\w+", text[it.body : it.end]))
         holes = {it for it in self.names if it.rpartition("::")[2] in words} - names
         others = {name: {"Proof.antt": hole(name)} for name in holes} | proofs
         for name in {*others, *self.others}:
