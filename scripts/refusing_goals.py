@@ -36,7 +36,6 @@ class Listed(namedtuple("Listed", "goals words fresh")):
         return (edit, function) in self.fresh
 
 
-
 def file_of(folder):
     """Gives the path of a crate's list."""
     return f"{folder}/wrong-bodies/goals.txt"
