@@ -3,7 +3,7 @@
 //!
 //! To put a buffer in front of a device, take [`io::BufWriter`], [`io::LineWriter`] or
 //! [`io::BufReader`]. In this example and all others `rt` is the `HostRuntime` that a program's
-//! `main` and a test are given, and `?` leaves a function that answers a `Result`:
+//! `main` and a test are given, and `?` leaves a function that returns a `Result`:
 //!
 //! ```rust
 //! let mut w = BufWriter::<Vec<u8>, 8>::new(Vec::new(rt.alloc()));

@@ -4,7 +4,7 @@ ghost use Rattle.std.specs.Borrow.{ftrue};
 
 use std::marker::{Model, PhantomData};
 
-/// A list of bytes that is seen by contracts alone. It takes no memory, and its calls do nothing when they run.
+/// A list of bytes that is seen by contracts alone: ghost state. It takes no memory, and its calls do nothing when they run.
 ///
 /// A device that doesn't keep what it took tells its `out` by one: a port, a socket, a sink.
 ///

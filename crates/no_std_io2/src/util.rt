@@ -9,14 +9,14 @@ use no_std_io2_base::traits::{Read, Write};
 mod steady;
 
 /// Copies all bytes to come of `reader` to `writer`, through a buffer of `S` bytes on the stack,
-/// and answers their number, or the greatest `u64` where there are more. It passes over the
+/// and returns their number, or the greatest `u64` where there are more. It passes over the
 /// reader's interruptions, and doesn't flush `writer`. Follows `std::io::copy`.
 ///
 /// Of a reader that gives as many bytes as fit, `S` above 0, it makes as many reads as give bytes, and
 /// one more, that gives none.
 ///
-/// `S` is from 0 to 2^63 - 1. With `S` 0 nothing is copied and the answer is 0, or the reader's
-/// fault where it answers one.
+/// `S` is from 0 to 2^63 - 1. With `S` 0 nothing is copied and the result is 0, or the reader's
+/// fault where it returns one.
 ///
 /// # Errors
 /// The reader's first fault: the writer has accepted all bytes before it. Or the writer's fault:

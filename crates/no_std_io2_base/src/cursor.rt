@@ -178,7 +178,7 @@ impl<T> Cursor<T> {
     }
 
     /// Makes a cursor on a clone of the content, at the same position. It stands where Rust derives
-    /// `Clone`, which has no answer for want of memory.
+    /// `Clone`, which can't report refused memory.
     ///
     /// # Errors
     /// `OutOfMemory` where the content's clone was refused.

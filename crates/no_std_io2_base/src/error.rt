@@ -1,4 +1,4 @@
-//! What a stream's call answers and fails with: [`Result`], and in it an [`Error`], which is an
+//! What a stream's call returns: a [`Result`], and in it perhaps an [`Error`], which is an
 //! [`ErrorKind`] and perhaps a static text.
 ghost use Rattle.std.specs.Prelude.{◌≡◌, Some, None};
 ghost use Rattle.std.specs.Option.{option_map};
@@ -110,7 +110,7 @@ pub struct Error {
     text: Option<&'static str>,
 }
 
-/// What calls on streams answer, as `std::io::Result`.
+/// The result of a stream's call. Follows `std::io::Result`.
 ///
 /// ```rust
 /// fn read(&mut self, _buf: &mut [u8]) -> Result<usize> {

@@ -1,5 +1,5 @@
 //! The traits at streams in memory (slices, vectors), and at what stands for another stream
-//! (references, boxes, boxed objects). There is nothing here to be named.
+//! (references, boxes, boxed trait objects). There is nothing here to be named.
 mod boxed;
 mod copying;
 mod lending_objects;

@@ -1,4 +1,4 @@
-//! What kinds, vectors, references, boxes and boxed objects tell, one function a type: so no
+//! What kinds, vectors, references, boxes and boxed trait objects tell, one function a type: so no
 //! implementation can tell less, which would make every promise over it empty. The functions have
 //! no body of their own; their contracts are proved.
 ghost use Rattle.std.specs.Prelude.{◌≡◌, ◌<◌, ◌↔◌, IsTrue, Ok, Some};

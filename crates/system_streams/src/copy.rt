@@ -53,9 +53,12 @@ fn through_lines<R: Read, W: Write + Drop>(
     Ok((count, output))
 }
 
-/// Copies all of `input` to `output` through a buffer of 64 bytes, sends and flushes it, and answers
+/// Copies all of `input` to `output` through a buffer of 64 bytes, sends and flushes it, and returns
 /// how many bytes these were, at most the greatest `u64`, with the output. With `line`, each line is
 /// sent as it ends. The reader's interruptions are passed over. As `std::io::copy`, with a buffer at each end.
+///
+/// Of an input that tells nothing, as a [`Patient`](crate::Patient), contracts know how many bytes the output
+/// accepted, and not that they are the device's.
 ///
 /// # Errors
 /// The first fault of `input`, or the first failure of `output`, an interruption of its flush too. An output that tells

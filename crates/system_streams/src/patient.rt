@@ -15,7 +15,7 @@ use std::io::ErrorKind as SystemKind;
 /// A reader or writer of Rust's `std::io` as one of this library's.
 ///
 /// What such a device does is not known, so a number of turns bounds how often it is asked again: a
-/// reader spends one with each answer but its end, a writer one with each interruption. As a
+/// reader spends one with each result but its end, a writer one with each interruption. As a
 /// writer, the bytes that the device answered for are out, as contracts see it.
 ///
 /// # Errors
@@ -41,8 +41,8 @@ pub struct Patient<D> {
 impl<D> Patient<D> {
     ghost use Rattle.system_streams.specs.Patient.{patient_device, patient_turns, patient_taken};
 
-    /// The device with this many turns, from 0 up. A reader's last turn is its last answer: that no
-    /// turns are left.
+    /// The device with this many turns, from 0 up. A reader's last turn is the error that no turns
+    /// are left.
     ///
     /// ```rust
     /// let mut p = Patient::new(&b"abcdef"[..], 3);

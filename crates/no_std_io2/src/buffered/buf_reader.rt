@@ -24,7 +24,7 @@ mod seeks;
 ///
 /// A call of `read` or `fill_buf` makes one inner read at most, and none while bytes are held.
 /// A read into at least `S` bytes with none held goes straight to the inner reader. An empty read
-/// with none held fills the buffer, and may answer the inner reader's error.
+/// with none held fills the buffer, and may return the inner reader's error.
 ///
 /// ```rust
 /// let mut r = BufReader::<_, 4>::new(Cursor::new(*b"abcdefgh"));
@@ -116,7 +116,7 @@ impl<R, const S: usize> BufReader<R, S> {
 
     /// Returns the bytes given since the last inner read that lie right before those held: as far
     /// back as [`seek_relative`](BufReader::seek_relative) goes without a seek of the inner reader.
-    /// They are no more there after an inner read, whatever it answers, after a `read_to_end`, and
+    /// They are no more there after an inner read, whatever it returns, after a `read_to_end`, and
     /// after a seek that drops the buffer. Rust's `BufReader` keeps them and doesn't show them.
     ///
     /// ```rust

@@ -1,4 +1,4 @@
-//! What a buffered writer answers that could not be emptied.
+//! The error of `into_inner` of a buffered writer.
 ghost use Rattle.std.specs.Prelude.{Some, ◌≡◌};
 ghost use Rattle.no_std_io2_base.specs.Errors.{error_display};
 ghost use Rattle.no_std_io2.specs.Buffered.{into_inner_error_writer, into_inner_error_cause};

@@ -65,7 +65,7 @@ impl<W: Write + Drop, const S: usize> Sender<W, S> {
     }
 
     /// Sends the held bytes: repeats the inner `write` with all that is held, and passes over
-    /// interruptions. What was taken is no longer held, whatever the answer, and no byte moves.
+    /// interruptions. What was taken is no longer held, whatever the result, and no byte moves.
     ///
     /// # Errors
     /// `WriteZero` where the inner writer took no byte of some, else its first fault.

@@ -25,7 +25,7 @@ fn write_fitting(content: &mut [u8], pos: &mut u64, buf: &[u8]) -> usize
 /// `std::io::Write for Cursor<&mut [u8]>`.
 ///
 /// # Errors
-/// None of `write` and `flush`. `write_all` answers `WriteZero` where the buffer doesn't fit: the
+/// None of `write` and `flush`. `write_all` returns `WriteZero` where the buffer doesn't fit: the
 /// front that fits was written.
 impl Write for Cursor<&mut [u8]> {
     ghost told = { λ c. told_out (cursor_out (λ s. s.now) c) };

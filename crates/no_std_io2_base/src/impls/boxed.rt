@@ -2,7 +2,7 @@ use crate::error::Result;
 use crate::traits::{BufRead, Read, Seek, SeekFrom, Stored, Write};
 use std::alloc::Allocator;
 
-/// A boxed writer is what is in the box.
+/// A box writes as what is in it does.
 impl<W: Write, A: Allocator> Write for Box<W, A> {
     ghost told = { λ b. W.told b.value };
 
@@ -39,7 +39,7 @@ impl<T: Stored, A: Allocator> Stored for Box<T, A> {
     ghost position = { λ b. T.position b.value };
 }
 
-/// A boxed reader is what is in the box.
+/// A box reads as what is in it does.
 impl<T: Read, A: Allocator> Read for Box<T, A> {
     ghost tells = { λ b. T.tells b.value };
 
@@ -98,7 +98,7 @@ impl<T: BufRead, A: Allocator> BufRead for Box<T, A> {
     }
 }
 
-/// A boxed seeker is what is in the box.
+/// A box seeks as what is in it does.
 impl<T: Seek, A: Allocator> Seek for Box<T, A> {
     fn seek(&mut self, pos: SeekFrom) -> Result<u64> {
         self.as_mut().seek(pos)

@@ -6,8 +6,8 @@ use crate::traits::{
 };
 use std::alloc::Allocator;
 
-// A boxed object tells no store. The bodies of `read_to_end` and `read_until` are the traits',
-// written again: a method with a bound of its own is not left to its trait at a boxed object.
+// A boxed trait object tells no store. The bodies of `read_to_end` and `read_until` are the traits',
+// written again: a method with a bound of its own is not left to its trait at a boxed trait object.
 impl<A: Allocator> Stored for Box<dyn BufRead + Drop, A> {
     ghost has_store = { λ _. ⊥ };
 
@@ -16,7 +16,7 @@ impl<A: Allocator> Stored for Box<dyn BufRead + Drop, A> {
     ghost position = { λ _. 0 };
 }
 
-/// A boxed object reads as what is in the box does, and tells the same, but for counts.
+/// A boxed trait object reads as what is in the box does, and tells the same, but for counts.
 impl<A: Allocator> Read for Box<dyn BufRead + Drop, A> {
     ghost tells = { λ b. (BufRead-box b).Read.tells b.value };
 

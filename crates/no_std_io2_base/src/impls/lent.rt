@@ -2,7 +2,7 @@ use crate::error::Result;
 use crate::traits::{BufRead, Read, Seek, SeekFrom, Stored, Write};
 use std::alloc::Allocator;
 
-/// A lent writer is its target.
+/// `&mut W` writes as its target does.
 impl<W: Write> Write for &mut W {
     ghost told = { λ w. W.told w.now };
 
@@ -39,7 +39,7 @@ impl<T: Stored> Stored for &mut T {
     ghost position = { λ r. T.position r.now };
 }
 
-/// A lent reader is its target.
+/// `&mut T` reads as its target does.
 impl<T: Read> Read for &mut T {
     ghost tells = { λ r. T.tells r.now };
 
@@ -98,7 +98,7 @@ impl<T: BufRead> BufRead for &mut T {
     }
 }
 
-/// A lent seeker is its target.
+/// `&mut T` seeks as its target does.
 impl<T: Seek> Seek for &mut T {
     fn seek(&mut self, pos: SeekFrom) -> Result<u64> {
         Seek::seek(&mut **self, pos)

@@ -4,7 +4,7 @@ use crate::error::Result;
 use crate::traits::{Seek, SeekFrom, Stored, Write};
 use std::alloc::Allocator;
 
-/// A boxed object tells what is in the box tells, but for counts, and that it takes all.
+/// A boxed trait object tells what is in the box tells, but for counts, and that it takes all.
 impl<A: Allocator> Write for Box<dyn Write + Drop, A> {
     ghost told = { λ b. (Write-box b).told b.value };
 

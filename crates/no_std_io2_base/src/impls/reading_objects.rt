@@ -4,8 +4,8 @@ use crate::error::Result;
 use crate::traits::{LEAST_ROOM, Read, Stored, open_room, reserve_room};
 use std::alloc::Allocator;
 
-// A boxed object tells no store. The body of `read_to_end` is the trait's, written again: a method
-// with a bound of its own is not left to its trait at a boxed object.
+// A boxed trait object tells no store. The body of `read_to_end` is the trait's, written again: a method
+// with a bound of its own is not left to its trait at a boxed trait object.
 impl<A: Allocator> Stored for Box<dyn Read + Drop, A> {
     ghost has_store = { λ _. ⊥ };
 
@@ -14,7 +14,7 @@ impl<A: Allocator> Stored for Box<dyn Read + Drop, A> {
     ghost position = { λ _. 0 };
 }
 
-/// A boxed object reads as what is in the box does, and tells the same, but for counts.
+/// A boxed trait object reads as what is in the box does, and tells the same, but for counts.
 impl<A: Allocator> Read for Box<dyn Read + Drop, A> {
     ghost tells = { λ b. (Read-box b).Read.tells b.value };
 

@@ -7,7 +7,7 @@ use crate::error::{Error, ErrorKind, Result};
 use crate::traits::Write;
 use std::alloc::Allocator;
 
-/// A vector takes a buffer whole, at its end, or answers `OutOfMemory` and is as it was. Nothing is
+/// A vector takes a buffer whole, at its end, or returns `OutOfMemory` and is as it was. Nothing is
 /// held. Follows `std::io::Write for Vec<u8>`.
 impl<A: Allocator> Write for Vec<u8, A> {
     ghost told = { λ v. told_out v.items };

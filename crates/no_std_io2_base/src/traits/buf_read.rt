@@ -15,7 +15,7 @@ use super::split::Split;
 use crate::error::Result;
 use std::alloc::{Allocator, Global};
 
-/// A reader that lends the bytes it holds. Follows Rust's `std::io::BufRead`.
+/// A reader with a buffer, whose bytes it lends. Follows Rust's `std::io::BufRead`.
 ///
 /// ```rust
 /// let mut r = Cursor::new(*b"abc");
@@ -100,7 +100,7 @@ pub trait BufRead: Read {
             × (Self.position self.new ≡ Self.position self.old + amount) };
 
     /// Appends the bytes up to and with the first `delim`, or all that are left where there is none,
-    /// and answers their number: 0 means the end. It passes over interruptions. Where `buf` has room
+    /// and returns their number: 0 means the end. It passes over interruptions. Where `buf` has room
     /// for these bytes, it is never refused any. Follows `std::io::BufRead::read_until`.
     ///
     /// # Errors
@@ -151,7 +151,7 @@ pub trait BufRead: Read {
             }
         }
     }
-    /// Appends the next line to `buf`, with its newline, and answers the number of its bytes: 0 means
+    /// Appends the next line to `buf`, with its newline, and returns the number of its bytes: 0 means
     /// the end. The last line may have no newline. It passes over interruptions. The bytes are
     /// gathered in a vector of their own, by `alloc`. Follows `std::io::BufRead::read_line`.
     ///

@@ -114,11 +114,11 @@ pub trait Read: Stored {
         Ok(())
     }
 
-    /// Appends all bytes to come to `buf`, passing over interruptions, and answers their number.
+    /// Appends all bytes to come to `buf`, passing over interruptions, and returns their number.
     /// Before its first read, and whenever no room is left, it makes room for at least 32 bytes; a
-    /// slice and a cursor make room for all of their rest once these are full. Where `buf` has room
-    /// for all that is to come and for 32 bytes more, it is never refused any. Follows
-    /// `std::io::Read::read_to_end`.
+    /// slice and a cursor make room for all of their rest once these are full. Where no fault is to
+    /// come, and `buf` has room for all that is and for 32 bytes more, it is never refused any.
+    /// Follows `std::io::Read::read_to_end`.
     ///
     /// # Errors
     /// The first fault: the reader stands right after it. `OutOfMemory` where a growth was refused,

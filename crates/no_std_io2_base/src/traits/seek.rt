@@ -38,7 +38,7 @@ pub trait Seek: Stored {
     // What one `seek` of this type may do: the state before, the target, the state after, the answer. Left out, anything.
     ghost may_seek: { Self → SeekFrom → Self → Result ℕ Error → Type 0 } = { λ old pos new reply. ⊤ };
 
-    /// Moves to `pos`, past the end too, and answers the new position from the start. A told store
+    /// Moves to `pos`, past the end too, and returns the new position from the start. A told store
     /// keeps its content. Follows `std::io::Seek::seek`.
     ///
     /// # Errors

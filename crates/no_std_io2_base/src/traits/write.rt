@@ -10,8 +10,8 @@ use crate::error::{Result, failed_to_write};
 /// and not yet out), the *mishaps* to come where it knows them, and a number of *turns*. A mishap is
 /// an `Err`, of its error's kind, or an `Ok(0)` to a `write` of some bytes, of kind `WriteZero`.
 ///
-/// The law of each call: `out` then `held` becomes what it was, followed by exactly what the answer
-/// accepted; what is out stays out; told mishaps stay told and lose each one that happened; and an
+/// The law of each call: `out` then `held` becomes what it was, followed by exactly what the result
+/// says was accepted; what is out stays out; told mishaps stay told and lose each one that happened; and an
 /// interruption spends a turn, so that a retry ends.
 ///
 /// ```rust
