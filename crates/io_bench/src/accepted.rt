@@ -42,7 +42,7 @@ fn are_clear(ops: &[Op<'_>], replies: &[Reply]) -> bool
 ///
 /// `None` where the replies leave it open: the lists differ in length, a reply is none that such a call gives (a
 /// `write` that took more than it had, say), or a `write_all` failed, of whose bytes any front may be accepted.
-/// Nothing is allocated for that answer.
+/// Nothing is allocated for that result.
 ///
 /// # Errors
 /// `OutOfMemory` where there is no room for the bytes.

@@ -23,7 +23,7 @@ pub enum Ask {
 #[derive(Clone, Copy, Debug, PartialEq, Eq, Drop)]
 pub struct ReadTotals {
     /// How many asks met the end: a `read` gave no byte and nothing was held afterwards, a
-    /// `read_exact` answered `UnexpectedEof`, or `fill_buf` lent nothing.
+    /// `read_exact` returned `UnexpectedEof`, or `fill_buf` lent nothing.
     pub at_end: u64,
     /// How many asks failed otherwise.
     pub failed: u64,

@@ -12,12 +12,12 @@ use no_std_io2_base::error::failed_to_write;
 /// What a [`Faulty`] does with its next call.
 #[derive(Clone, Copy, Debug, PartialEq, Eq)]
 pub enum Act {
-    /// A `write` hands on at most this many bytes, and for 0 it answers `Ok(0)` by itself. A `flush`
+    /// A `write` hands on at most this many bytes, and for 0 it returns `Ok(0)` by itself. A `flush`
     /// is handed on.
     Take(usize),
-    /// A `write` answers `Ok(0)` by itself. A `flush` is handed on.
+    /// A `write` returns `Ok(0)` by itself. A `flush` is handed on.
     Zero,
-    /// The call answers an error of this kind, and does nothing else.
+    /// The call returns an error of this kind, and does nothing else.
     Fail(ErrorKind),
 }
 

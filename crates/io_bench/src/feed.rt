@@ -12,7 +12,7 @@ use no_std_io2::io::{Error, ErrorKind, Read, Result, Stored};
 pub enum Event {
     /// A byte.
     Byte(u8),
-    /// A read answers an error of this kind.
+    /// A read returns an error of this kind.
     Fail(ErrorKind),
 }
 

@@ -19,7 +19,7 @@ pub enum Op<'a> {
     Flush,
 }
 
-/// What a call answered.
+/// What a call returned.
 #[derive(Debug, Drop)]
 pub enum Reply {
     /// `write` took this many bytes.

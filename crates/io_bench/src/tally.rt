@@ -14,7 +14,7 @@ use std::alloc::Allocator;
 use std::fmt;
 
 /// Hands each call on to an inner stream, and counts the calls of `write`, and those of `read` with
-/// some room, whatever they answer.
+/// some room, whatever they return.
 ///
 /// The exact counts are seen by contracts alone. The numbers that [`writes`](Tally::writes) and
 /// [`reads`](Tally::reads) give stay at the greatest `u64` once reached.
