@@ -40,7 +40,7 @@ pub struct BufReader<R, const S: usize> {
 
 impl<R: Read, const S: usize> BufReader<R, S> {
     /// Puts an empty buffer of `S` bytes in front of `inner`. `S` is from 1 to 2^63 - 1. Follows
-    /// `std::io::BufReader::new`.
+    /// `std::io::BufReader::with_capacity`.
     ///
     /// ```rust
     /// let mut r = BufReader::<_, 4>::new(Cursor::new(*b"abcdefgh"));

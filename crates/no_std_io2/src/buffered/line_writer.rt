@@ -45,8 +45,8 @@ pub struct LineWriter<W: Write + Drop, const S: usize> {
 }
 
 impl<W: Write + Drop, const S: usize> LineWriter<W, S> {
-    /// Puts an empty buffer of `S` bytes in front of `inner`.
-    /// Follows `std::io::LineWriter::new`.
+    /// Puts an empty buffer of `S` bytes in front of `inner`. Follows
+    /// `std::io::LineWriter::with_capacity`.
     ///
     /// ```rust
     /// let mut w = LineWriter::<Vec<u8>, 16>::new(Vec::new(rt.alloc()));

@@ -104,8 +104,8 @@ pub trait Seek: Stored {
         Ok(())
     }
 
-    /// Returns the length of the content in bytes, by a seek to its end and one back, where that is
-    /// elsewhere. Follows `std::io::Seek::stream_len`.
+    /// Returns the length of the content in bytes, by `stream_position`, a seek to the end, and one
+    /// back where that is elsewhere. Follows `std::io::Seek::stream_len`.
     ///
     /// # Errors
     /// The first error of these seeks, after which the position may be the end: none over a told
