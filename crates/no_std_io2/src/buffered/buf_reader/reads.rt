@@ -7,7 +7,7 @@ ghost use Rattle.no_std_io2_base.specs.Lending.{IsNotEmpty, reads_needed};
 ghost use Rattle.no_std_io2.specs.Reading.{reader_held, reader_behind, reader_inner, reader_events, reader_turns};
 ghost use Rattle.no_std_io2.specs.Reading.{reader_has_store, reader_is_sound, reader_position, behind_anew};
 ghost use Rattle.no_std_io2.specs.Reading.{held_or_to_come, exact_reads, exact_left, EmptiesInto};
-ghost use Rattle.no_std_io2.specs.ReaderCalls.{ReadsAnew, ReadsExactAnew};
+ghost use Rattle.no_std_io2.specs.ReaderCalls.{FillsBuffer, ReadsAnew, ReadsExactAnew};
 ghost use Rattle.no_std_io2.specs.Sound.{sound_tells, sound_fits};
 
 use super::BufReader;
@@ -52,6 +52,44 @@ impl<R: Read, const S: usize> BufReader<R, S> {
         self.read_through(buf)
     }
 
+    // Fills the buffer, as a call.
+    #[cold]
+    #[inline(never)]
+    fn fill_cold(&mut self) -> Result<()>
+        requires { length (reader_held self.old) ≡ 0 }
+        ensures { FillsBuffer R.tells R.events R.turns R.has_store R.position R.content R.is_metered
+            R.cost R.is_filling self.old result self.new }
+    {
+        self.fill_empty()
+    }
+
+    // A read of one byte where nothing is held. The byte's place is no part of the call, so that who reads byte by byte needs
+    // none in memory.
+    #[inline(always)]
+    fn read_one(&mut self, buf: &mut [u8]) -> Result<usize>
+        requires none { length (reader_held self.old) ≡ 0 }
+        requires short { length buf.old < S }
+        ensures { ReadsAnew R.tells R.events R.turns R.has_store R.position R.content R.is_metered
+            R.cost R.is_filling self.old (length buf.old) result buf.new self.new }
+    {
+        self.fill_cold()?;
+        Ok(self.give(buf))
+    }
+
+    // A read where nothing is held, through the buffer, by either way.
+    #[inline(always)]
+    fn read_short(&mut self, buf: &mut [u8]) -> Result<usize>
+        requires none { length (reader_held self.old) ≡ 0 }
+        requires short { length buf.old < S }
+        ensures { ReadsAnew R.tells R.events R.turns R.has_store R.position R.content R.is_metered
+            R.cost R.is_filling self.old (length buf.old) result buf.new self.new }
+    {
+        if buf.len() == 1 {
+            return self.read_one(buf);
+        }
+        self.call_through(buf)
+    }
+
     // A read where nothing is held: one inner read. It is a function, so that the room for the answer
     // is made on this way alone.
     #[inline(always)]
@@ -61,7 +99,7 @@ impl<R: Read, const S: usize> BufReader<R, S> {
             R.cost R.is_filling self.old (length buf.old) result buf.new self.new }
     {
         if buf.len() < S {
-            return self.call_through(buf);
+            return self.read_short(buf);
         }
         self.read_past(buf)
     }
@@ -125,7 +163,7 @@ impl<R: Read, const S: usize> Read for BufReader<R, S> {
 
     ghost may_take_none = { λ _. ⊥ };
 
-    #[inline]
+    #[inline(always)]
     fn read(&mut self, buf: &mut [u8]) -> Result<usize>
         // The trait's.
         ensures bound { IfOk result (λ n. n ≤ length buf.new) }
