@@ -134,12 +134,15 @@ class Crate:
                     it.write(text)
         self.others = others
 
-    def place_of(self, path, old):
+    def place_of(self, path, old, new):
         """Says in what a change stands, and whether that is a function's body or an import."""
         at, (functions, items) = self.texts[path].find(old), self.items[path]
+        end = at + len(old)
+        # what the two begin with is no change
+        at += len(os.path.commonprefix([old, new]))
         for it in functions:
             if it.head <= at < it.end:
-                return it.name, it.body < at and at + len(old) < it.end
+                return it.name, it.body < at and end < it.end
         for first, end in items:
             if first <= at < end:
                 return f"{path}, {first}", False
@@ -175,7 +178,7 @@ class Crate:
             elif word == "refused by":
                 judged.add(self.named(rest.strip()))
         planted(self.texts, changes)
-        found = [self.place_of(path, old) for path, old, _ in changes if old in self.texts[path]]
+        found = [self.place_of(*it) for it in changes if it[1] in self.texts[it[0]]]
         places = {it for it, _ in found if it}
         if not judged and (len(places) != 1 or not places <= set(self.names)):
             raise Fault("it changes no one function, so it needs a line 'refused by: FUNCTION'")
@@ -183,7 +186,9 @@ class Crate:
         in_bodies = judged <= places and all(it for _, it in found)
         goals = {it: self.listed.goals.get(name, {}).get(it) for it in judged}
         goals = goals if all(goals.values()) else {}
-        is_open = in_bodies and len(judged) == 1 and places == judged and bool(goals) and self.listed.is_fresh(name, *judged)
+        # of an edit outside of bodies a function of its own tells: the one that says what a type tells
+        is_one = len(judged) == 1 and (places == judged or not in_bodies)
+        is_open = is_one and bool(goals) and self.listed.is_fresh(name, *judged)
         return Edit(name, changes, frozenset(places | judged), judged, in_bodies, frozenset(), goals, is_open)
 
     def spans(self, edit):
@@ -192,8 +197,9 @@ class Crate:
         return [(path, at, at + length) for path, at, length in found]
 
     def can_stand(self, edit, other):
-        """Says whether two bodies of one function can be judged in one check: each by its goal, which the other leaves proved."""
-        if not (edit.is_open and other.is_open and edit.judged == other.judged):
+        """Says whether two edits can be judged by one function in one check: each by its goal, which the other leaves proved."""
+        is_alike = edit.judged == other.judged and edit.in_bodies == other.in_bodies
+        if not (edit.is_open and other.is_open and is_alike):
             return False
         (own,), (others,) = edit.goals.values(), other.goals.values()
         if own[0] in others or others[0] in own:

@@ -6,7 +6,8 @@
 # an answer by five tactics, one after another. 'GOAL=WORD' names the first of TACTICS by which the right body's goal is
 # proved, and a wrong body is tried by that one alone; a goal that only wrong bodies have is tried by two in turn. MARK
 # is a sum of the function and of the crate's definitions as they were when the word was found: where it is another one, the
-# word is not used. The file saves time and no more: a body whose goal is not listed, or is not refused any more, is tried whole.
+# word is not used. '!' before it says that the body was not refused beside others of its function, and stands without them.
+# The file saves time and no more: a body whose goal is not listed, or is not refused any more, is tried whole.
 import hashlib
 import os
 import re
@@ -29,10 +30,10 @@ IMPORTS = {
 SIGNATURE = re.compile(r"pub (\S+) : goal\.(\S+)$")
 
 # What is listed: the goals of each function that an edit changes, by the edits' names, the words of goals, and the edits with
-# the functions that are still as they were when it was listed.
-class Listed(namedtuple("Listed", "goals words fresh")):
+# the functions that are still as they were when it was listed, and the edits that stand without others of their function.
+class Listed(namedtuple("Listed", "goals words fresh alone")):
     def is_fresh(self, edit, function):
-        """Says whether what is listed of an edit's function was found of the function as it is."""
+        """Says whether what is listed of an edit's function was found of the function as it is, and beside others."""
         return (edit, function) in self.fresh
 
 
@@ -48,26 +49,28 @@ def mark_of(*texts):
 
 def read(folder, marks):
     """Reads a crate's list, with the words of the functions whose marks are these."""
-    listed = Listed({}, {}, set())
+    listed = Listed({}, {}, set(), set())
     if os.path.isfile(file_of(folder)):
         with open(file_of(folder), encoding="utf-8") as it:
             for line in it:
                 edit, function, mark, *found = line.split()
                 goals = [name.partition("=")[::2] for name in found]
                 listed.goals.setdefault(edit, {})[function] = [goal for goal, _ in goals]
-                if mark == marks.get(function):
-                    listed.fresh.add((edit, function))
+                listed.alone.update([edit] if mark.startswith("!") else [])
+                if mark.lstrip("!") == marks.get(function):
+                    listed.fresh.update([(edit, function)] if edit not in listed.alone else [])
                     listed.words.update({(function, goal): word for goal, word in goals if word})
     return listed
 
 
-def write(folder, goals, words, marks):
-    """Writes a crate's list."""
+def write(folder, goals, words, marks, alone):
+    """Writes a crate's list, where some edits stand without others of their function."""
     rows = []
     for edit in sorted(goals):
         for name, found in sorted(goals[edit].items()):
             given = [f"{goal}={words[name, goal]}" if (name, goal) in words else goal for goal in found]
-            rows.append(" ".join([edit, name, marks.get(name, "-"), *given]))
+            mark = f"{'!' if edit in alone else ''}{marks.get(name, '-')}"
+            rows.append(" ".join([edit, name, mark, *given]))
     with open(file_of(folder), "w", encoding="utf-8") as it:
         it.write("".join(f"{row}\n" for row in rows))
 
