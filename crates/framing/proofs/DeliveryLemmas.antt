@@ -77,6 +77,7 @@ spent_all n (Some old) (Some mid) None k f g most = g
 spent_all n (Some old) (Some mid) (Some new) k f g most = omega (arith, f, g (λ _. true), count_all mid, count_all new, most)
 
 -- a flush without an error did all
-pub flush_done : (reply : Result (Unit {0}) Error) (A B C : Type 0) → result_err reply ≡ None → OnOk reply (A × B × C) → A × B × C
-flush_done (Ok u) A B C is h = h
-flush_done (Err e) A B C is h = let no : ⊥ = cc in absurd no
+pub flush_done : (reply : Result (Unit {0}) Error) {A B C : Type 0}
+    → result_err reply ≡ None → OnOk reply (A × B × C) → A × B × C
+flush_done (Ok u) {A = A} {B = B} {C = C} is h = h
+flush_done (Err e) {A = A} {B = B} {C = C} is h = let no : ⊥ = cc in absurd no

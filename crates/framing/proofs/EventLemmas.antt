@@ -35,9 +35,9 @@ pub bytes-behind : (bs : List ℕ) (E : List Event) → bytes (events_of bs ++ E
 bytes-behind bs E = bytes-append (events_of bs) E ∙ ap (λ l. l ++ bytes E) (bytes-events_of bs)
 
 -- what was lent, and then dropped, is gone
-pub part_taken : (reply : Result (Bor (List ℕ)) Error) (s : Bor (List ℕ)) (held : List ℕ) (E E' rest : List Event) (n : ℕ)
+pub part_taken : {reply : Result (Bor (List ℕ)) Error} (s : Bor (List ℕ)) (held : List ℕ) {E E' : List Event} (rest : List Event) (n : ℕ)
     → reply ≡ Ok s → Lends reply held → LendsFrom E reply E' → E' ≡ events_of (take n held) ++ rest → E ≡ events_of (take n s.now) ++ rest
-part_taken reply s held E E' rest n is lends same read =
+part_taken s held {E = E} {E' = E'} rest n is lends same read =
     let lent : held ≡ s.now = subst (λ r. Lends r held) is lends in
     sym (subst (λ r. LendsFrom E r E') is same) ∙ read ∙ ap (λ l. events_of (take n l) ++ rest) lent
 
@@ -46,9 +46,9 @@ pub none_taken : (reply : Result (Bor (List ℕ)) Error) (s : Bor (List ℕ)) (E
 none_taken reply s E E' is same = subst (λ r. LendsFrom E r E') is same
 
 -- an error stood first
-pub error_taken : (reply : Result (Bor (List ℕ)) Error) (e : Error) (E E' : List Event) → reply ≡ Err e
+pub error_taken : {reply : Result (Bor (List ℕ)) Error} {e : Error} {E E' : List Event} → reply ≡ Err e
     → LendsFrom E reply E' → E ≡ fails e ∷ E'
-error_taken reply e E E' is gone = subst (λ r. LendsFrom E r E') is gone
+error_taken {E = E} {E' = E'} is gone = subst (λ r. LendsFrom E r E') is gone
 
 -- an error that was answered has spent a turn
 pub error_turn : (reply : Result (Bor (List ℕ)) Error) (e : Error) (old new : ℕ) → reply ≡ Err e → LendingTurn reply old new → new < old

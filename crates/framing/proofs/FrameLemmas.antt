@@ -18,10 +18,11 @@ told_behind header payload four =
     ap (from_le_bytes w32) (ap (λ n. take n (header ++ payload)) (sym four) ∙ take-append_seam header payload)
 
 -- an error came, of the reader's or for want of memory
-pub stopped : (limit want : ℕ) (I mid after : List Event) (was part new : List ℕ) (e : Error) → Gathered I was part mid
+pub stopped : (limit want : ℕ) {I mid after : List Event} {was part new : List ℕ} (e : Error)
+    → Gathered I was part mid
     → Gathers want mid (Err e) part new after → (length new < want → IsPart new)
     → TakesNone limit (events_of was ++ I) e (events_of new ++ after)
-stopped limit want I mid after was part new e g (inl h) short =
+stopped limit want {I = I} {after = after} {part = part} {new = new} e g (inl h) short =
     inl
     (inl
     (record {
@@ -32,16 +33,17 @@ stopped limit want I mid after was part new e g (inl h) short =
       part = short h.1;
       fault = h.2;
     }))
-stopped limit want I mid after was part new e g (inr h) short =
+stopped limit want {I = I} {after = after} {new = new} e g (inr h) short =
     inr (inr (record { seen = new; rest = after; passes = gathered_passes (gathered_then g h.0); kept = refl; memory = h.1 }))
 
 -- the bytes ended inside the frame
-pub ended : (limit want : ℕ) (I mid after : List Event) (was part new : List ℕ) (b : Bool) (e : Error) → b ≡ false
+pub ended : (limit want : ℕ) {I mid : List Event} (after : List Event) {was part : List ℕ} (new : List ℕ) (b : Bool) (e : Error)
+    → b ≡ false
     → Gathered I was part mid → Gathers want mid (Ok b) part new after → (length new < want → IsPart new)
     → 0 < length new
     → error_kind e ≡ UnexpectedEof → TakesNone limit (events_of was ++ I) e (events_of new ++ after)
-ended limit want I mid after was part new true e is g h short some kind = let no : ⊥ = cc in absurd no
-ended limit want I mid after was part new false e is g h short some kind = inl (inr (record {
+ended limit want {I = I} after new true e is g h short some kind = let no : ⊥ = cc in absurd no
+ended limit want {I = I} after {was = was} {part = part} new false e is g h short some kind = inl (inr (record {
   seen = new;
   passes = subst (λ l. Passes (events_of was ++ I) new l) h.2 (gathered_passes (gathered_then g h.0));
   kept = ap (λ l. events_of new ++ l) h.2 ∙ append-nil (events_of new);
@@ -58,10 +60,10 @@ no_frame want I was true is h none = let no : ⊥ = cc in absurd no
 no_frame want I {after} was false is h none = (subst (λ l. Passes (events_of was ++ I) l after) none (gathered_passes h.0), h.2, none)
 
 -- the part that was asked for is there
-pub whole_part : (want : ℕ) (I after : List Event) (was new : List ℕ) (b : Bool) → b ≡ true
+pub whole_part : (want : ℕ) {I after : List Event} {was new : List ℕ} (b : Bool) → b ≡ true
     → Gathers want I (Ok b) was new after → Gathered I was new after × (want ≤ length new)
-whole_part want I after was new true is h = h
-whole_part want I after was new false is h = let no : ⊥ = cc in absurd no
+whole_part want {I = I} true is h = h
+whole_part want {I = I} false is h = let no : ⊥ = cc in absurd no
 
 -- the frame is longer than the limit
 pub too_long : (limit : ℕ) {I after : List Event} {was new : List ℕ} (e : Error) → Gathered I was new after
@@ -98,10 +100,10 @@ pub part_short : (header payload : List ℕ) (len : ℕ) → length header ≡ 4
 part_short header payload len four is short = inr (omega (arith, told_behind header payload four))
 
 -- some of a frame was gathered, now or before
-pub turn_spent : (was new old mid after : ℕ) → (was < new) ⊎ (0 < was) → (was < new → mid < old) → mid ≤ old
+pub turn_spent : (was new : ℕ) {old mid after : ℕ} → (was < new) ⊎ (0 < was) → (was < new → mid < old) → mid ≤ old
     → after ≤ mid → after < old + min 1 was
-turn_spent was new old mid after (inl grew) turn turns later = let less : mid < old = turn grew in omega arith
-turn_spent was new old mid after (inr some) turn turns later = omega arith
+turn_spent was new {old = old} {mid = mid} (inl grew) turn turns later = let less : mid < old = turn grew in omega arith
+turn_spent was new (inr some) turn turns later = omega arith
 
 -- the bytes of what was passed and of what follows
 pub bytes_passed : {E after : List Event} {taken : List ℕ} → Passes E taken after → bytes E ≡ taken ++ bytes after

@@ -103,11 +103,10 @@ no_long limit seen left (p ∷ ps) small e within four above =
     omega arith
 
 -- Over the bytes of the frames of `sent`, a run gives a front of `sent`, and the others are still to come.
-pub comes_back : (limit : ℕ) (sent : List (List ℕ)) (E : List Event) (reply : Result (Unit {0}) Error)
-    (given : List (List ℕ)) (after : List Event)
-    → limit < 2 ^ 32 → TakesFrames limit E reply given after
+pub comes_back : (limit : ℕ) (sent : List (List ℕ)) {E : List Event}
+    (reply : Result (Unit {0}) Error) {given : List (List ℕ)} (after : List Event) → limit < 2 ^ 32 → TakesFrames limit E reply given after
     → bytes E ≡ frames sent → All (λ p. length p ≤ limit) sent → ComesBack sent E reply given (bytes after)
-comes_back limit sent E (Ok u) given after small h is within =
+comes_back limit sent {E = E} (Ok u) {given = given} after small h is within =
     let m =
     front_frames given sent (bytes after) (sym is ∙ bytes_passed h.0.passes)
     (all_within limit (2 ^ 32) small sent within) (all_within limit (2 ^ 32) small given h.0.each) in
@@ -116,7 +115,7 @@ comes_back limit sent E (Ok u) given after small h is within =
     no_frames : (more : List (List ℕ)) → frames more ≡ [] → more ≡ []
     no_frames [] e = refl
     no_frames (p ∷ ps) e = absurd (omega (arith, ap length e, long_frame p (frames ps)))
-comes_back limit sent E (Err e) given after small (mid, run, none) is within =
+comes_back limit sent {E = E} (Err e) {given = given} after small (mid, run, none) is within =
     let m =
     front_frames given sent (bytes mid) (sym is ∙ bytes_passed run.passes)
     (all_within limit (2 ^ 32) small sent within) (all_within limit (2 ^ 32) small given run.each) in

@@ -34,11 +34,11 @@ appends_push old mid new x e is =
     ∙ ap (λ l. old ++ l) (sym (appended_push old mid new x e is))
 
 -- one frame more
-pub run_more : {X : Type 0} (f : X → List ℕ) (limit : ℕ) (E mid after : List Event) (old had new : List X) (x : X)
+pub run_more : {X : Type 0} (f : X → List ℕ) (limit : ℕ) {E mid after : List Event} (old had new : List X) (x : X)
     → had ≡ old ++ appended old had → new ≡ had ++ x ∷ []
     → PassesFrames limit E (map f (appended old had)) mid → Passes mid (frame (f x)) after × (length (f x) ≤ limit)
     → PassesFrames limit E (map f (appended old new)) after
-run_more f limit E mid after old had new x e is run h =
+run_more f limit {E = E} {after = after} old had new x e is run h =
     let all : map f (appended old new) ≡ map f (appended old had) ++ f x ∷ [] =
     ap (map f) (appended_push old had new x e is) ∙ map-append f (appended old had) (x ∷ []) in
     subst (λ ps. PassesFrames limit E ps after) (sym all) (record {
@@ -53,15 +53,15 @@ pub run_same : {X : Type 0} (f : X → List ℕ) {limit : ℕ} {E after : List E
 run_same f {limit} {E} {after} old new run is = subst (λ l. PassesFrames limit E (map f (appended old l)) after) (sym is) run
 
 -- the end after the frames
-pub run_ends : (limit : ℕ) (E mid after : List Event) (ps : List (List ℕ)) → PassesFrames limit E ps mid
+pub run_ends : (limit : ℕ) {E mid after : List Event} {ps : List (List ℕ)} → PassesFrames limit E ps mid
     → Passes mid [] after × (after ≡ []) → TakesFrames limit E (Ok tt) ps after
-run_ends limit E mid after ps run h =
+run_ends limit {E = E} {ps = ps} run h =
     (record { passes = passes_as (passes_then run.passes h.0) (append-nil (frames ps)); each = run.each }, h.1)
 
 -- want of memory after the frames
-pub run_refused : (limit : ℕ) (E after : List Event) (ps : List (List ℕ)) (e : Error) → PassesFrames limit E ps after
+pub run_refused : (limit : ℕ) {E after : List Event} {ps : List (List ℕ)} (e : Error) → PassesFrames limit E ps after
     → IsOutOfMemory e → TakesFrames limit E (Err e) ps after
-run_refused limit E after ps e run memory = (
+run_refused limit {E = E} {after = after} e run memory = (
   after,
   run,
   inr (inr (record { seen = []; rest = after; passes = passes_none after; kept = refl; memory = memory })),
@@ -73,6 +73,6 @@ pub run_stops : (limit most : ℕ) {E mid after : List Event} {ps : List (List �
 run_stops limit most {mid} {after} e run same none = (mid, run, subst (λ n. TakesNone n mid e after) same none)
 
 -- a frame within the limit
-pub frame_within : (limit most : ℕ) (mid after : List Event) (p : List ℕ) → most ≡ limit
+pub frame_within : {limit : ℕ} (most : ℕ) {mid after : List Event} (p : List ℕ) → most ≡ limit
     → Passes mid (frame p) after × (length p ≤ most) → Passes mid (frame p) after × (length p ≤ limit)
-frame_within limit most mid after p same h = subst (λ n. Passes mid (frame p) after × (length p ≤ n)) same h
+frame_within most {mid = mid} {after = after} p same h = subst (λ n. Passes mid (frame p) after × (length p ≤ n)) same h

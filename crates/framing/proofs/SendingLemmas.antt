@@ -66,12 +66,12 @@ pub goes_shown : {a b : Told} {whole left : List ℕ} (shown : List ℕ) → Goe
 goes_shown shown f is = record { sent = f.sent; split = f.split ∙ ap (λ l. f.sent ++ l) is; moves = f.moves }
 
 -- a frame that was staged went as far as it did
-pub sends_frame : (reply : Result (Unit {0}) Error) {old new : Told} {rest left : List ℕ} (payload was under_way : List ℕ)
+pub sends_frame : (reply : Result (Unit {0}) Error) {old new : Told} {rest left payload was : List ℕ} (under_way : List ℕ)
     → Sends old rest reply new left → rest ≡ frame payload → was ≡ frame payload → OnOk reply (under_way ≡ [])
     → OnOk reply (left ≡ []) → OnErr reply (under_way ≡ was) → SendsFrame old payload reply under_way left new
-sends_frame (Ok u) {old} {new} payload was under_way s is staged idle none err =
+sends_frame (Ok u) {old} {new} under_way s is staged idle none err =
     (subst (λ l. Moves old l [] new) (sym (append-nil s.sent) ∙ ap (λ l. s.sent ++ l) (sym none) ∙ sym s.split ∙ is) s.moves, idle)
-sends_frame (Err e) payload was under_way s is staged idle none err =
+sends_frame (Err e) under_way s is staged idle none err =
     inr (record { is = err ∙ staged; went = s.sent; split = sym is ∙ s.split; moves = s.moves })
 
 -- a flush behind what went

@@ -65,10 +65,9 @@ no_fault bs E front rest e is split = at bs front (sym is ∙ split)
     at (c ∷ cs) (q ∷ Q) h = at cs Q (let t : events_of cs ≡ Q ++ fails e ∷ rest = cc in t)
 
 -- over bytes alone an error is want of memory
-pub memory_alone : (sent : List (List ℕ)) (bs : List ℕ) (E : List Event) (e : Error) (given : List (List ℕ))
-    (left : List ℕ)
+pub memory_alone : (sent : List (List ℕ)) (bs : List ℕ) {E : List Event} (e : Error) {given : List (List ℕ)} {left : List ℕ}
     → E ≡ events_of bs → ComesBack sent E (Err e) given left → IsOutOfMemory e
-memory_alone sent bs E e given left is back = why back.err
+memory_alone sent bs {E = E} e is back = why back.err
   where
     why : IsFirstFault E e ⊎ IsOutOfMemory e → IsOutOfMemory e
     why (inl f) = absurd (no_fault bs E f.passes.front f.rest e is f.passes.split)

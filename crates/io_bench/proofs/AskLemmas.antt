@@ -65,8 +65,8 @@ pub front_none : (E : List Event) → TakesFront E E
 front_none E = ([], refl)
 
 -- where a front is gone, and then a front of what was left, both together are a front that is gone
-pub front_more : (E mid after : List Event) → TakesFront E mid → TakesFront mid after → TakesFront E after
-front_more E mid after s t = (s.0 ++ t.0, s.1 ∙ ap (λ l. s.0 ++ l) t.1 ∙ sym (append_assoc s.0 t.0 after))
+pub front_more : {E mid after : List Event} → TakesFront E mid → TakesFront mid after → TakesFront E after
+front_more {E = E} {after = after} s t = (s.0 ++ t.0, s.1 ∙ ap (λ l. s.0 ++ l) t.1 ∙ sym (append_assoc s.0 t.0 after))
 
 -- what is left behind a front, by its length
 pub front_gone : (E after : List Event) (k : ℕ) → TakesFront E after → length E ≡ k + length after → after ≡ drop k E
@@ -168,24 +168,24 @@ pub bytes_behind : (held bs : List ℕ) (E : List Event) → E ≡ events_of bs 
 bytes_behind held bs E is = ap (λ l. events_of held ++ l) is ∙ sym (events_of-append held bs)
 
 -- an error that `fill_buf` answered is gone
-pub lent_error : (reply : Result (Bor (List ℕ)) Error) (e : Error) (E E' : List Event) → reply ≡ Err e
+pub lent_error : {reply : Result (Bor (List ℕ)) Error} (e : Error) {E E' : List Event} → reply ≡ Err e
     → LendsFrom E reply E' → TakesFront E E'
-lent_error reply e E E' is lends = (fails e ∷ [], subst (λ r. LendsFrom E r E') is lends)
+lent_error e {E = E} {E' = E'} is lends = (fails e ∷ [], subst (λ r. LendsFrom E r E') is lends)
 
 -- what it lent is held, and still to come
 pub lent_held : (reply : Result (Bor (List ℕ)) Error) (s : Bor (List ℕ)) (held : List ℕ) → reply ≡ Ok s → Lends reply held → held ≡ s.now
 lent_held reply s held is lends = subst (λ r. Lends r held) is lends
 
 -- where `fill_buf` answered `Ok`, nothing is gone of what was to come
-pub lent_to_come : (reply : Result (Bor (List ℕ)) Error) (s : Bor (List ℕ)) (E E' : List Event) → reply ≡ Ok s
+pub lent_to_come : {reply : Result (Bor (List ℕ)) Error} (s : Bor (List ℕ)) {E E' : List Event} → reply ≡ Ok s
     → LendsFrom E reply E' → E' ≡ E
-lent_to_come reply s E E' is lends = subst (λ r. LendsFrom E r E') is lends
+lent_to_come s {E = E} {E' = E'} is lends = subst (λ r. LendsFrom E r E') is lends
 
 -- an exact read takes a front, whatever its fault
-pub failed_front : (E : List Event) (e : Error) (room : List ℕ) (E' : List Event)
+pub failed_front : {E : List Event} (e : Error) (room : List ℕ) {E' : List Event}
     → ReadsExact {A = Unit {0}} ⊥ E (Err e) room E' → TakesFront E E'
-failed_front E e buf E' (inl stops) = (stops.taken, stops.split)
-failed_front E e buf E' (inr short) = taken_whole E E' short.left
+failed_front {E = E} e buf {E' = E'} (inl stops) = (stops.taken, stops.split)
+failed_front {E = E} e buf {E' = E'} (inr short) = taken_whole E E' short.left
 
 -- the step that an ask took
 pub asked_step : (S : ℕ) (ask : Ask) (h r h' r' : ℕ) (E E' : List Event) (is_end : Bool) → 0 < S → h ≤ length E

@@ -104,7 +104,8 @@ Paid-all S c ops i h e p = let bound = Paid-bound S c _ _ h p in
     subst (λ l. c + min h 1 ≤ 2 * (length (given_bytes l) / (S + 1)) + flushes l + 1) (take_all i ops e) bound
 
 -- the writes of a whole run, with those of its last sending
-pub paid_bound : (last before first start calls sent left most : ℕ) → last ≡ before + sent → before ≡ first + calls → first ≡ start
+pub paid_bound : {last before first start : ℕ} (calls : ℕ) {sent left most : ℕ}
+    → last ≡ before + sent → before ≡ first + calls → first ≡ start
     → sent ≡ left → calls + left ≤ most
     → last ≤ start + most
-paid_bound last before first start calls sent left most e f g h bound = omega arith
+paid_bound calls e f g h bound = omega arith

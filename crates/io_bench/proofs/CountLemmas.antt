@@ -38,8 +38,8 @@ pub part_room : (at : ℕ) (xs : List ℕ) → at < length xs → 0 < length (ta
 part_room at xs below = omega (arith, below, length-take (length xs - at) (drop at xs), length-drop at xs)
 
 -- a read into some room counts once
-pub one_read : (room was now : ℕ) → 0 < room → now ≡ was + min 1 room → now ≡ was + 1
-one_read room was now some counts = omega (arith, some, counts)
+pub one_read : {room : ℕ} (was : ℕ) {now : ℕ} → 0 < room → now ≡ was + min 1 room → now ≡ was + 1
+one_read was some counts = omega (arith, some, counts)
 
 -- the inner reader counted what is counted
 pub handed_once : {P Q : Type 0} (cost0 was cost now : ℕ) {cost' now' : ℕ} (room : ℕ) → P × (cost + was ≡ cost0 + now)

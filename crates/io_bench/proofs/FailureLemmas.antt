@@ -54,9 +54,9 @@ none_left n None h = absurd h
 none_left n (Some new) h = omega (arith, h)
 
 -- over no mishap to come no call fails
-pub failures_none : (ops : List Op) (replies : List Reply) (old new : Option (List ErrorKind))
+pub failures_none : (ops : List Op) (replies : List Reply) {old : Option (List ErrorKind)} (new : Option (List ErrorKind))
     → HasSpent old (mishaps_of ops replies) new → old ≡ Some [] → failures ops replies ≡ 0
-failures_none ops replies old new h e =
+failures_none ops replies {old = old} new h e =
     none_left _ new (subst (λ o. IsShorterBy (failures ops replies) o new) e (failures_told ops replies old new h))
 
 -- and of each kind there are fewer to come by those that failed with it

@@ -90,10 +90,11 @@ clear_more [] (q ∷ replies) op reply c d = absurd c
 clear_more (o ∷ ops) [] op reply c d = absurd c
 
 -- the next of a list of calls says it too
-pub clear_next : (ops : List Op) (replies : List Reply) (i : ℕ) (p : Op) (q : Reply) → i < length ops → length ops ≡ length replies
+pub clear_next : (ops : List Op) (replies : List Reply) {i : ℕ} (p : Op) (q : Reply)
+    → i < length ops → length ops ≡ length replies
     → AreClear (take i ops) (take i replies) → IsClear (get_or ops i p) (get_or replies i q)
     → AreClear (take (i + 1) ops) (take (i + 1) replies)
-clear_next ops replies i p q h e c d =
+clear_next ops replies {i = i} p q h e c d =
     subst (λ made. AreClear made (take (i + 1) replies)) (sym (take_more ops i p h))
     (subst (λ made. AreClear (take i ops ++ get_or ops i p ∷ []) made) (sym (take_more replies i q (subst (λ n. i < n) e h)))
     (clear_more (take i ops) (take i replies) (get_or ops i p) (get_or replies i q) c d))

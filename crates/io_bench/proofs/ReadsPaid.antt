@@ -15,8 +15,8 @@ pub data ReadsPaid (S c n z h all : ℕ) : Type 0 where
   last : (f : ℕ) → c ≤ f + 1 + z → f * S ≤ n → all ≡ h → ReadsPaid S c n z h all
 
 -- the count holds at the start: no read was made, no byte was given, and none is held
-pub paid_none : (S n h all : ℕ) → n ≡ 0 → h ≡ 0 → ReadsPaid S 0 n 0 h all
-paid_none S n h all gone none = full 0 (omega arith) (omega arith)
+pub paid_none : (S : ℕ) {n h all : ℕ} → n ≡ 0 → h ≡ 0 → ReadsPaid S 0 n 0 h all
+paid_none S gone none = full 0 (omega arith) (omega arith)
 
 -- k of the held bytes are given
 paid_given : (S c n z h all k h' all' : ℕ) → h ≡ h' + k → all ≡ all' + k → ReadsPaid S c n z h all → ReadsPaid S c (n + k) z h' all'
@@ -59,10 +59,10 @@ quotient : (S n f : ℕ) → 0 < S → f * S ≤ n → f ≤ n / S
 quotient S n f some h = (le-div_iff_mul-le {k = S} {x = f} {y = n} some).1 h
 
 -- the bound
-pub paid_bound : (S c n z h all : ℕ) → 0 < S → h ≤ S → ReadsPaid S c n z h all → c ≤ n / S + 1 + z
-paid_bound S c n z h all some fits (full zero a b) = omega arith
-paid_bound S c n z h all some fits (full (suc f) a b) = let q = quotient S n f some (omega arith) in omega arith
-paid_bound S c n z h all some fits (last f a b e) = let q = quotient S n f some b in omega arith
+pub paid_bound : (S c : ℕ) {n z h all : ℕ} → 0 < S → h ≤ S → ReadsPaid S c n z h all → c ≤ n / S + 1 + z
+paid_bound S c some fits (full zero a b) = omega arith
+paid_bound S c {n = n} some fits (full (suc f) a b) = let q = quotient S n f some (omega arith) in omega arith
+paid_bound S c {n = n} some fits (last f a b e) = let q = quotient S n f some b in omega arith
 
 -- an ask goes on
 abbrev After : (S c n z : ℕ) (ask : Ask) (h all : ℕ) → Type 0

@@ -90,9 +90,10 @@ EndsFlushed-next {reply} ops i d replies h r s e =
     (subst (λ made. EndsFlushed made (replies ++ reply ∷ [])) (take_more ops i d h) e))
 
 -- what holds of the calls made holds of all, once all are made
-pub all_made : (P : List Op → List Reply → Type 0) (ops : List Op) (i : ℕ) (old new more : List Reply) → length ops ≤ i
+pub all_made : (P : List Op → List Reply → Type 0) {ops : List Op} (i : ℕ) (old : List Reply) {new : List Reply} (more : List Reply)
+    → length ops ≤ i
     → new ≡ old ++ more → P (take i ops) more → P ops (appended old new)
-all_made P ops i old new more h e p =
+all_made P {ops = ops} i old {new = new} more h e p =
     subst (λ made. P made (appended old new)) (take_all i ops h)
     (subst (P (take i ops)) (sym (ap (drop (length old)) e ∙ drop-append_seam old more)) p)
 

@@ -21,8 +21,8 @@ pub record ActsSoFar (acts : List Act) (wanted turns left turns' : ℕ) (acts' :
   pub on : AllGoOn spent
 
 -- at the start none is
-pub spent_none : (acts : List Act) (wanted turns : ℕ) → ActsSoFar acts wanted turns wanted turns acts
-spent_none acts wanted turns = record {
+pub spent_none : {acts : List Act} {wanted turns : ℕ} → ActsSoFar acts wanted turns wanted turns acts
+spent_none = record {
   spent = [];
   split = refl;
   least = omega arith;
@@ -52,11 +52,11 @@ spent_one acts spent now now' split is =
     ∙ sym (append_assoc spent (take 1 now) now')
 
 -- one call more, which took n bytes or was interrupted
-pub spent_more : (acts : List Act) (wanted turns left turns' left' turns'' n : ℕ) (now now' : List Act)
+pub spent_more : {acts : List Act} {wanted turns left turns' left' turns'' : ℕ} (n : ℕ) {now now' : List Act}
     → ActsSoFar acts wanted turns left turns' now
     → WentOn now n → now' ≡ drop 1 now → left ≡ left' + n → left' + turns'' < left + turns'
     → ActsSoFar acts wanted turns left' turns'' now'
-spent_more acts wanted turns left turns' left' turns'' n now now' so_far went is moved fewer =
+spent_more {acts = acts} n {now = now} {now' = now'} so_far went is moved fewer =
     let one : length (take 1 now) ≤ 1 = omega (arith, length-take 1 now) in
     let gone : length now' ≡ length now - 1 = ap length is ∙ length-drop 1 now in
     let all : length acts ≡ length so_far.spent + length now = ap length so_far.split ∙ length-append so_far.spent now in

@@ -77,12 +77,12 @@ pub some_line : (text line : List ℕ) → line ≡ line_of text → 0 < length 
 some_line text line is = omega (arith, ap length is, length-append text (10 ∷ []))
 
 -- a line that was staged went as far as it did
-pub logs_line : (reply : Result (Unit {0}) Error) {old new : Told} {rest left : List ℕ} (text was under_way : List ℕ)
+pub logs_line : (reply : Result (Unit {0}) Error) {old new : Told} {rest left : List ℕ} (text : List ℕ) {was : List ℕ} (under_way : List ℕ)
     → Sends old rest reply new left → rest ≡ line_of text → was ≡ line_of text → OnOk reply (under_way ≡ [])
     → OnOk reply (left ≡ []) → OnErr reply (under_way ≡ was) → LogsLine old text reply under_way left new
-logs_line (Ok u) {old} {new} text was under_way s is staged idle none err =
+logs_line (Ok u) {old} {new} text under_way s is staged idle none err =
     (subst (λ l. Moves old l [] new) (sym (append-nil s.sent) ∙ ap (λ l. s.sent ++ l) (sym none) ∙ sym s.split ∙ is) s.moves, idle)
-logs_line (Err e) text was under_way s is staged idle none err =
+logs_line (Err e) text under_way s is staged idle none err =
     inr (record { is = err ∙ staged; went = s.sent; split = sym is ∙ s.split; moves = s.moves })
 
 -- a flush behind what went
@@ -173,10 +173,10 @@ staged f xs x others left to_go text first none same is =
     ∙ ap (λ l. line_of l ++ lines_of (map f others)) (sym same) ∙ ap (λ l. l ++ lines_of (map f others)) (sym is)
 
 -- what is left is what is kept
-pub kept : {a b : Told} {left : List ℕ} (reply : Result (Unit {0}) Error) (shown rest to_go : List ℕ)
+pub kept : {a b : Told} {left : List ℕ} (reply : Result (Unit {0}) Error) {shown rest to_go : List ℕ}
     → Sends a shown reply b left → shown ≡ rest → to_go ≡ drop (length rest - length left) rest
     → Sends a rest reply b to_go
-kept {left = left} reply shown rest to_go s same is =
+kept {left = left} reply {shown = shown} {rest = rest} {to_go = to_go} s same is =
     let split : rest ≡ s.sent ++ left = sym same ∙ s.split in
     record { sent = s.sent; split = split ∙ ap (λ l. s.sent ++ l) (sym (left_is rest s.sent left split) ∙ sym is); moves = s.moves }
 

@@ -57,10 +57,10 @@ moved_whole behind held behind' held' got n after front rest =
     ∙ ap (λ l. behind ++ (take n held ++ l)) rest ∙ ap (λ l. behind ++ l) (take-append-drop n held)
 
 -- so it is as sound as it was
-pub sound_moved : (behind held behind' held' got : List ℕ) (position : ℕ) (content : List ℕ) (n : ℕ)
+pub sound_moved : (behind held behind' held' : List ℕ) {got : List ℕ} {position : ℕ} (content : List ℕ) (n : ℕ)
     → behind' ≡ behind ++ got → got ≡ take n held → held' ≡ drop n held
     → IsSound (behind ++ held) position content → IsSound (behind' ++ held') position content
-sound_moved behind held behind' held' got position content n after front rest s =
+sound_moved behind held behind' held' {got = got} {position = position} content n after front rest s =
     subst (λ l. IsSound l position content) (sym (moved_whole behind held behind' held' got n after front rest)) s
 
 -- the same list at the same position of the same content

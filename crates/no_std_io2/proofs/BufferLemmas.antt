@@ -111,8 +111,10 @@ pub IsEnd-either : (old mid x new : List ℕ) → IsEnd old mid → IsEnd (mid +
 IsEnd-either old mid x new f r = ⊎_elim (λ g. inl (IsEnd-through old mid x new f g)) (λ g. inr (IsEnd-trans old mid new f g)) r
 
 -- the same, to an end of what was held then
-pub IsEnd-sent : (old x mid new : List ℕ) → IsEnd (old ++ x) mid ⊎ IsEnd old mid → IsEnd mid new → IsEnd (old ++ x) new ⊎ IsEnd old new
-IsEnd-sent old x mid new r g = ⊎_elim (λ f. inl (IsEnd-trans (old ++ x) mid new f g)) (λ f. inr (IsEnd-trans old mid new f g)) r
+pub IsEnd-sent : {old : List ℕ} (x : List ℕ) {mid new : List ℕ}
+    → IsEnd (old ++ x) mid ⊎ IsEnd old mid → IsEnd mid new → IsEnd (old ++ x) new ⊎ IsEnd old new
+IsEnd-sent {old = old} x {mid = mid} {new = new} r g =
+    ⊎_elim (λ f. inl (IsEnd-trans (old ++ x) mid new f g)) (λ f. inr (IsEnd-trans old mid new f g)) r
 
 -- an end of what was held is one of that and some front of x: the empty one
 pub HoldsEnd-none : (held x end : List ℕ) → IsEnd held end → HoldsEnd held x end

@@ -182,6 +182,7 @@ stays_steady {a} {c} {x} steady m = none_left c.mishaps (subst (λ k. HasSpent k
     none_left (Some (k ∷ ks)) h = absurd (omega (arith, h (λ _. true), sum_by-cons (λ _. 1) k ks))
 
 -- what is out after a flush
-pub flushed : (a b c : Told) (x : List ℕ) → Moves a x [] b → Moves b [] [] c → c.held ≡ [] → c.out ≡ a.out ++ a.held ++ x
-flushed a b c x m n empty =
+pub flushed : (a : Told) {b c : Told} {x : List ℕ}
+    → Moves a x [] b → Moves b [] [] c → c.held ≡ [] → c.out ≡ a.out ++ a.held ++ x
+flushed a {b = b} {c = c} m n empty =
     sym (append-nil c.out) ∙ ap (λ l. c.out ++ l) (sym empty) ∙ n.bytes ∙ append-nil (b.out ++ b.held) ∙ m.bytes

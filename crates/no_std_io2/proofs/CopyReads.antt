@@ -55,10 +55,10 @@ read_length E E' n buf fits read =
     ∙ ap (λ m. m + length E') (length-events_of (take n buf) ∙ length-take-le n buf fits)
 
 -- a read into the whole room that gave bytes
-pub one_read : (room size n left left' cost cost' all : ℕ) → 0 < room → size ≡ room
+pub one_read : (room : ℕ) {size : ℕ} (n : ℕ) {left : ℕ} (left' cost : ℕ) {cost' all : ℕ} → 0 < room → size ≡ room
     → n ≡ min size left → 0 < n → left ≡ n + left' → cost' ≡ cost + min 1 size
     → cost + div_ceil left room ≡ all → cost' + div_ceil left' room ≡ all
-one_read room size n left left' cost cost' all some whole gave more fewer paid before =
+one_read room n {left = left} left' cost some whole gave more fewer paid before =
     let piece = one_piece room n left' some more (gave ∙ ap (λ k. min k left) whole ∙ ap (min room) fewer) in
     omega (arith, some, whole, paid, before, ap (λ k. div_ceil k room) fewer, piece)
 

@@ -57,7 +57,7 @@ pub emptied_all : (held held' old : List ℕ) {mid then new : List ℕ} {E E' af
     → ReadsToEnd (events_of held ++ E) (Ok k) old new (events_of held' ++ E')
 emptied_all held held' old {mid} {new} {E} {E'} {n} {k} is none more read count =
     subst (λ l. ReadsToEnd (events_of held ++ E) (Ok k) old new (events_of l ++ E')) (sym none)
-    (gathered_all n k (gathered_then _ _ _ _ _ _ _ (emptied held old mid E is) more) read count)
+    (gathered_all n k (gathered_then (emptied held old mid E is) more) read count)
 
 -- or in the first of them
 pub emptied_done : (held held' old : List ℕ) {mid new : List ℕ} {E E' : List Event} {at_end : Bool} {k : ℕ} → mid ≡ old ++ held → held' ≡ []
@@ -66,7 +66,7 @@ pub emptied_done : (held held' old : List ℕ) {mid new : List ℕ} {E E' : List
 emptied_done held held' old {mid} {new} {E} {E'} {k} is none more end count =
     let left = more.4 end in
     subst (λ l. ReadsToEnd (events_of held ++ E) (Ok k) old new (events_of l ++ E')) (sym none)
-    (gathered_done k (gathered_then _ _ _ _ _ _ _ (emptied held old mid E is) more) left left count)
+    (gathered_done k (gathered_then (emptied held old mid E is) more) left left count)
 
 -- or what came before an error in the second
 pub emptied_stop : (held held' old : List ℕ) {mid then new : List ℕ} {E E' after : List Event} {at_end : Bool} {e : Error}
@@ -75,7 +75,7 @@ pub emptied_stop : (held held' old : List ℕ) {mid then new : List ℕ} {E E' a
     → ReadsToEnd (events_of held ++ E) (Err e) old new (events_of held' ++ E')
 emptied_stop held held' old {mid} {new} {E} {E'} {e} is none more read =
     subst (λ l. ReadsToEnd (events_of held ++ E) (Err e) old new (events_of l ++ E')) (sym none)
-    (gathered_stop e (gathered_then _ _ _ _ _ _ _ (emptied held old mid E is) more) read)
+    (gathered_stop e (gathered_then (emptied held old mid E is) more) read)
 
 -- or in the first
 pub emptied_failed : (held held' old : List ℕ) {mid new : List ℕ} {E E' : List Event} {e : Error} → mid ≡ old ++ held → held' ≡ []
@@ -107,21 +107,23 @@ pub emptied_again : (held old : List ℕ) {mid : List ℕ} {len n : ℕ} → len
 emptied_again held old long more is = omega (arith, long, more, ap length is, length-append old held)
 
 -- the position moves by what is gone of the events
-pub emptied_moved : (held held' : List ℕ) (E E' : List Event) (p p' : ℕ) → length held ≤ p → held' ≡ [] → p' + length E' ≡ p + length E
+pub emptied_moved : (held held' : List ℕ) (E E' : List Event) {p : ℕ} (p' : ℕ)
+    → length held ≤ p → held' ≡ [] → p' + length E' ≡ p + length E
     → (p' - length held') + length (events_of held' ++ E') ≡ (p - length held) + length (events_of held ++ E)
-emptied_moved held held' E E' p p' within none moved =
+emptied_moved held held' E E' p' within none moved =
     omega (arith, ap length none, length-events held E, length-events held' E', within, moved)
 
 -- room for all is room for what is held
-pub room_held : (held : List ℕ) (E : List Event) (len capacity : ℕ) → HasRoom (events_of held ++ E) len capacity
+pub room_held : (held : List ℕ) (E : List Event) (len : ℕ) {capacity : ℕ} → HasRoom (events_of held ++ E) len capacity
     → capacity < len + length held + 32 → ⊥
-room_held held E len capacity enough full =
+room_held held E len enough full =
     let all = ap length (bytes-append (events_of held) E) ∙ length-append (bytes (events_of held)) (bytes E) in
     omega (arith, enough.1, full, all, ap length (bytes-events_of held))
 
 -- and for what comes behind it, which has no fault
-pub room_behind : (held : List ℕ) (E : List Event) (len capacity : ℕ) → HasRoom (events_of held ++ E) len capacity → HasNoFault E
-room_behind held E len capacity enough = HasNoFault-behind (events_of held) E enough.0
+pub room_behind : (held : List ℕ) (E : List Event) (len : ℕ) {capacity : ℕ}
+    → HasRoom (events_of held ++ E) len capacity → HasNoFault E
+room_behind held E len enough = HasNoFault-behind (events_of held) E enough.0
 
 -- and once what was held is appended, with no less capacity, there is room for all that comes behind it
 pub emptied_on : (held old : List ℕ) {mid : List ℕ} (E : List Event) {len capacity n capacity' : ℕ}
@@ -139,14 +141,15 @@ part_refused held held' old {new} E {e} moved refused =
     (moved_part old moved refused)
 
 -- what the vector had stays at its front, where a front of what is held was appended
-pub part_front : (held held' old new : List ℕ) (len : ℕ) → len ≡ length old → HasMoved held held' old new → take len new ≡ old
-part_front held held' old new len long moved =
+pub part_front : (held held' : List ℕ) {old new : List ℕ} {len : ℕ}
+    → len ≡ length old → HasMoved held held' old new → take len new ≡ old
+part_front held held' {old = old} {len = len} long moved =
     ap (take len) moved.2 ∙ take-append-le len old moved.0 (omega (arith, long)) ∙ take_all len old (omega (arith, long))
 
 -- where held bytes go to a vector and the inner reader's turns stay, the reader has no more turns than before
-pub part_turns : (held held' old new : List ℕ) (room turns : ℕ) → HasMoved held held' old new
+pub part_turns : (held held' old : List ℕ) {new : List ℕ} (room turns : ℕ) → HasMoved held held' old new
     → length held' + (room + 1) * turns ≤ length held + (room + 1) * turns
-part_turns held held' old new room turns moved = omega (arith, ap length moved.1, length-append moved.0 held')
+part_turns held held' old room turns moved = omega (arith, ap length moved.1, length-append moved.0 held')
 
 -- where the held bytes are the content's that end at the position, so are those that are left of them
 pub part_sound : (held held' old : List ℕ) {new : List ℕ} {position : ℕ} (content : List ℕ) → HasMoved held held' old new

@@ -71,9 +71,9 @@ exact_end {len} {all} {at} t done short =
     grind (arith, nat_tests)
 
 -- where the end came before the buffer was full, it took one inner read more, which met the end
-pub exact_short : (room len held all at now_held now_inner : ℕ) → Exact room len held all at now_held now_inner
+pub exact_short : {room len held all at now_held now_inner : ℕ} → Exact room len held all at now_held now_inner
     → at < len → now_inner ≡ 0 → held < len → exact_reads len held all ≡ min 1 (at - held) + 1
-exact_short room len held all at now_held now_inner t more end short =
+exact_short {room = room} {len = len} {held = held} {all = all} {at = at} {now_held = now_held} {now_inner = now_inner} t more end short =
     let zero : now_held ≡ 0 = exact_none room len held all at now_held now_inner t more in
     let whole : at ≡ all = omega (arith, t.total) in
     let begun = t.begun in
@@ -84,9 +84,9 @@ pub exact_left-short : (room len held all : ℕ) → all < len → held ≤ all 
 exact_left-short room len held all short within = grind (arith, nat_tests)
 
 -- the first bytes that were taken, fewer than there is room
-pub taken_first : (E : List Event) (room : ℕ) (more : List ℕ) (rest : List Event) → E ≡ events_of more ++ rest
+pub taken_first : {E : List Event} {room : ℕ} (more : List ℕ) {rest : List Event} → E ≡ events_of more ++ rest
     → length more < room → Taken E room more rest
-taken_first E room more rest is short = record {
+taken_first {E = E} more is short = record {
   front = events_of more;
   split = is;
   no_fault = HasNoFault-events_of more;
@@ -145,9 +145,10 @@ taken_end {E} {most} {after} e rest n buf t read zero some kind short =
     }
 
 -- the whole buffer was filled
-pub taken_whole : (E : List Event) (room at : ℕ) (buf : List ℕ) (after : List Event) → Taken E room (take at buf) after
+pub taken_whole : {E : List Event} {room : ℕ} (at : ℕ) (buf : List ℕ) {after : List Event}
+    → Taken E room (take at buf) after
     → length buf ≤ at → length buf ≡ room → Fills E buf after
-taken_whole E room at buf after t full long =
+taken_whole {E = E} {room = room} at buf {after = after} t full long =
     let whole : take at buf ≡ buf = take_all at buf full in
     subst (λ l. Fills E l after) whole (taken_fills E room (take at buf) after t (ap length whole ∙ long))
 

@@ -58,9 +58,9 @@ HasNoNewline-end whole end f plain k h e =
     plain (length f.0 + k) (omega (arith, ap length f.1)) (ap (λ l. get_or l (length f.0 + k) 0) f.1 ∙ get_or-append-add f.0 end k 0 ∙ e)
 
 -- where neither old nor x has a newline, an end of both joined, or of old alone, has none
-pub HasNoNewline-after : (old x new : List ℕ) → HasNoNewline old → HasNoNewline x
+pub HasNoNewline-after : {old : List ℕ} (x : List ℕ) {new : List ℕ} → HasNoNewline old → HasNoNewline x
     → (IsEnd (old ++ x) new) ⊎ (IsEnd old new) → HasNoNewline new
-HasNoNewline-after old x new p q r =
+HasNoNewline-after {old = old} x {new = new} p q r =
     ⊎_elim (λ f. HasNoNewline-end _ new f (HasNoNewline-append old x p q)) (λ f. HasNoNewline-end _ new f p) r
 
 -- where some bytes have no newline, what a write accepted of them has none
@@ -86,9 +86,10 @@ zero_write-some x n h = grind (arith, nat_tests)
 
 -- where a buffer was empty, and then only what follows a front of the text was put into it:
 -- what was held and the text are together the front and what is held now
-pub held_after : (mid passed new more front whole : List ℕ) → mid ≡ [] → passed ≡ mid → new ≡ passed ++ more
+pub held_after : {mid : List ℕ} (passed : List ℕ) {new : List ℕ} (more front : List ℕ) {whole : List ℕ}
+    → mid ≡ [] → passed ≡ mid → new ≡ passed ++ more
     → whole ≡ front ++ more → mid ++ whole ≡ front ++ new
-held_after mid passed new more front whole e f g h =
+held_after passed more front {whole = whole} e f g h =
     ap (λ l. l ++ whole) e ∙ h ∙ ap (λ l. front ++ l) (sym (g ∙ ap (λ l. l ++ more) (f ∙ e)))
 
 -- what ends in a newline

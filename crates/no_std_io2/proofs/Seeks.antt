@@ -135,12 +135,13 @@ elsewhere (End o) is len at at' n h = h
 elsewhere (Current o) is len at at' n h = absurd (is_current o is)
 
 -- one of these is one seek of the inner reader
-pub one_inner : {R : Type 0} (may_seek : R → SeekFrom → R → Result ℕ Error → Type 0) (held : ℕ) (old new : R) (reply : Result ℕ Error)
-    (target : SeekFrom) → ((k : ℕ) × (target ≡ Start k)) ⊎ ((o : ℤ) × (target ≡ End o)) → may_seek old target new reply
+pub one_inner : {R : Type 0} (may_seek : R → SeekFrom → R → Result ℕ Error → Type 0) (held : ℕ) {old new : R}
+    (reply : Result ℕ Error) (target : SeekFrom)
+    → ((k : ℕ) × (target ≡ Start k)) ⊎ ((o : ℤ) × (target ≡ End o)) → may_seek old target new reply
     → SeeksInner may_seek held old target new reply
-one_inner may_seek held old new reply (Start k) is h = h
-one_inner may_seek held old new reply (End o) is h = h
-one_inner may_seek held old new reply (Current o) is h = absurd (is_current o is)
+one_inner may_seek held reply (Start k) is h = h
+one_inner may_seek held reply (End o) is h = h
+one_inner may_seek held reply (Current o) is h = absurd (is_current o is)
 
 -- a seek from the start or from the end is never too far back
 pub not_far : (target : SeekFrom) (held : ℕ) → ((k : ℕ) × (target ≡ Start k)) ⊎ ((o : ℤ) × (target ≡ End o)) → IsTooFarBack target held → ⊥

@@ -143,10 +143,10 @@ sending_stuck {told} old mid inner x r n e before some given is zero kind moves 
     (λ t. omega (arith, long, ok_same (sym answer ∙ (all t).1)))
 
 -- fewer turns and bytes are left after a write that took some
-pub fewer_left : {a b : Told} {y : List ℕ} {k : List ErrorKind} (x held next : List ℕ) (n : ℕ)
+pub fewer_left : {a b : Told} {y : List ℕ} {k : List ErrorKind} (x : List ℕ) {held next : List ℕ} {n : ℕ}
     → Moves a y k b → (n ≡ 0 → ⊥) → n ≤ length x → x ≡ held → next ≡ drop n held
     → b.turns + length next < a.turns + length held
-fewer_left x held next n moves some within given rest =
+fewer_left x {held = held} {n = n} moves some within given rest =
     omega (arith, moves.turns, some, within, ap length given, ap length rest, length-drop n held)
 
 -- and fewer turns after an interruption

@@ -21,5 +21,6 @@ read_held n buf E E' room fits long some read = (
 )
 
 -- a fill spends a turn for what it holds, at most a full buffer
-pub turns_read : (room held held' t t' : ℕ) → held' ≤ room → t' ≤ t → (0 < held' → t' < t) → held' + (room + 1) * t' ≤ held + (room + 1) * t
-turns_read room held held' t t' fits less spent = grind (arith, mul-le-mul_left)
+pub turns_read : (room held held' : ℕ) {t t' : ℕ}
+    → held' ≤ room → t' ≤ t → (0 < held' → t' < t) → held' + (room + 1) * t' ≤ held + (room + 1) * t
+turns_read room held held' fits less spent = grind (arith, mul-le-mul_left)

@@ -58,8 +58,9 @@ second_turn (Ok n) second second' stays spent = λ some. let now = spent some in
 second_turn (Err e) second second' stays spent = omega (arith, stays, spent)
 
 -- and one of the first too
-pub first_turn : (n first first' second : ℕ) → (0 < n → first' < first) → 0 < n → first' + second < first + second
-first_turn n first first' second spent some = let now = spent some in omega arith
+pub first_turn : (n : ℕ) {first first' : ℕ} (second : ℕ)
+    → (0 < n → first' < first) → 0 < n → first' + second < first + second
+first_turn n second spent some = let now = spent some in omega arith
 
 -- so a call that went on with the second used one after the other
 pub turn_past : {T U : Type 0} {tells : T → Type 0} {tells_second : U → Type 0} {turns : T → ℕ} {events : T → List Event}
@@ -109,14 +110,14 @@ room_left {after} old read enough was is more =
     )
 
 -- the second is all that is left of a chain whose first is done, and both are while it is not
-pub room_when_done : (done : Bool) (E F : List Event) (len capacity : ℕ) → done ≡ true
+pub room_when_done : {done : Bool} (E F : List Event) (len : ℕ) {capacity : ℕ} → done ≡ true
     → HasRoom ((if done then [] else E) ++ F) len capacity → HasRoom F len capacity
-room_when_done done E F len capacity is enough = subst (λ b. HasRoom ((if b then [] else E) ++ F) len capacity) is enough
+room_when_done E F len {capacity = capacity} is enough = subst (λ b. HasRoom ((if b then [] else E) ++ F) len capacity) is enough
 
 -- while the first is not done, room for what the chain has left is room for what both have
-pub room_while_going : (done : Bool) (E F : List Event) (len capacity : ℕ) → done ≡ false
+pub room_while_going : {done : Bool} (E F : List Event) (len : ℕ) {capacity : ℕ} → done ≡ false
     → HasRoom ((if done then [] else E) ++ F) len capacity → HasRoom (E ++ F) len capacity
-room_while_going done E F len capacity is enough = subst (λ b. HasRoom ((if b then [] else E) ++ F) len capacity) is enough
+room_while_going E F len {capacity = capacity} is enough = subst (λ b. HasRoom ((if b then [] else E) ++ F) len capacity) is enough
 
 -- what holds, holds after an `Ok`
 pub after_ok : {A E : Type 0} {P : Type 0} (reply : Result A E) → P → OnOk reply P

@@ -16,8 +16,8 @@ pub record Gathered (E : List Event) (old new : List ℕ) (after : List Event) :
   pub gave : new ≡ old ++ bytes front
 
 -- before the first read nothing is gone, and nothing was appended
-pub gathered_none : (E : List Event) (old new : List ℕ) → new ≡ old → Gathered E old new E
-gathered_none E old new is = record { front = []; split = refl; no_fault = tt; gave = is ∙ sym (append-nil old) }
+pub gathered_none : {E : List Event} {old new : List ℕ} → new ≡ old → Gathered E old new E
+gathered_none {E = E} {old = old} is = record { front = []; split = refl; no_fault = tt; gave = is ∙ sym (append-nil old) }
 
 -- the same is gathered in a list that is equal to the new one
 pub gathered_same : {E : List Event} {old new shown : List ℕ} {after : List Event} → Gathered E old new after
@@ -39,9 +39,9 @@ gathered_read {old} {rest} {n} buf t read is = record {
 }
 
 -- an interruption is gone too, and nothing was appended for it
-pub gathered_interruption : (E : List Event) (old new : List ℕ) (after : List Event) (e : Error) (rest : List Event)
+pub gathered_interruption : {E : List Event} {old new : List ℕ} {after : List Event} {e : Error} {rest : List Event}
     → Gathered E old new after → after ≡ fails e ∷ rest → IsInterruption e → Gathered E old new rest
-gathered_interruption E old new after e rest t read again = record {
+gathered_interruption {E = E} {old = old} {e = e} {rest = rest} t read again = record {
   front = t.front ++ fails e ∷ [];
   split = t.split ∙ ap (λ l. t.front ++ l) read ∙ sym (append_assoc t.front (fails e ∷ []) rest);
   no_fault = HasNoFault-append t.front (fails e ∷ []) t.no_fault (again, tt);
@@ -99,9 +99,9 @@ gathered_failed {old} {e} {rest} t read fault = (
 )
 
 -- a reader went on where another one, or it itself, had stopped
-pub gathered_then : (E : List Event) (old mid new : List ℕ) (after rest : List Event) (at_end : Bool)
+pub gathered_then : {E : List Event} {old mid new : List ℕ} {after rest : List Event} {at_end : Bool}
     → Gathered E old mid after → FillsRoom after (Ok at_end) mid new rest → Gathered E old new rest
-gathered_then E old mid new after rest at_end t more = record {
+gathered_then {E = E} {old = old} {rest = rest} t more = record {
   front = t.front ++ more.0;
   split = t.split ∙ ap (λ l. t.front ++ l) more.1 ∙ sym (append_assoc t.front more.0 rest);
   no_fault = HasNoFault-append t.front more.0 t.no_fault more.2;

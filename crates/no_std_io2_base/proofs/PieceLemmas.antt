@@ -150,24 +150,26 @@ found_none {d} {bs} is none = record {
 }
 
 -- what was lent, and then dropped, is gone
-pub part_taken : (reply : Result (Bor (List ℕ)) Error) (s : Bor (List ℕ)) (held : List ℕ) (E E' rest : List Event) (n : ℕ)
+pub part_taken : {reply : Result (Bor (List ℕ)) Error} (s : Bor (List ℕ)) (held : List ℕ) {E E' : List Event} (rest : List Event) (n : ℕ)
     → reply ≡ Ok s → Lends reply held → LendsFrom E reply E' → E' ≡ events_of (take n held) ++ rest → E ≡ events_of (take n s.now) ++ rest
-part_taken reply s held E E' rest n is lends same read =
+part_taken s held {E = E} {E' = E'} rest n is lends same read =
     let lent : held ≡ s.now = subst (λ r. Lends r held) is lends in
     sym (subst (λ r. LendsFrom E r E') is same) ∙ read ∙ ap (λ l. events_of (take n l) ++ rest) lent
 
 -- what was lent, and not dropped, is to come
-pub none_taken : (reply : Result (Bor (List ℕ)) Error) (s : Bor (List ℕ)) (E E' : List Event) → reply ≡ Ok s → LendsFrom E reply E' → E' ≡ E
-none_taken reply s E E' is same = subst (λ r. LendsFrom E r E') is same
+pub none_taken : {reply : Result (Bor (List ℕ)) Error} (s : Bor (List ℕ)) {E E' : List Event}
+    → reply ≡ Ok s → LendsFrom E reply E' → E' ≡ E
+none_taken s {E = E} {E' = E'} is same = subst (λ r. LendsFrom E r E') is same
 
 -- an error stood first
-pub error_taken : (reply : Result (Bor (List ℕ)) Error) (e : Error) (E E' : List Event) → reply ≡ Err e
+pub error_taken : {reply : Result (Bor (List ℕ)) Error} {e : Error} {E E' : List Event} → reply ≡ Err e
     → LendsFrom E reply E' → E ≡ fails e ∷ E'
-error_taken reply e E E' is gone = subst (λ r. LendsFrom E r E') is gone
+error_taken {E = E} {E' = E'} is gone = subst (λ r. LendsFrom E r E') is gone
 
 -- an error that `fill_buf` answered has spent a turn
-pub error_turn : (reply : Result (Bor (List ℕ)) Error) (e : Error) (old new : ℕ) → reply ≡ Err e → LendingTurn reply old new → new < old
-error_turn reply e old new is turn = subst (λ r. LendingTurn r old new) is turn
+pub error_turn : {reply : Result (Bor (List ℕ)) Error} {e : Error} {old new : ℕ}
+    → reply ≡ Err e → LendingTurn reply old new → new < old
+error_turn {old = old} {new = new} is turn = subst (λ r. LendingTurn r old new) is turn
 
 -- nothing is a part of what is lent where that is nothing
 take-none : (n : ℕ) → take {A = ℕ} n [] ≡ []
@@ -175,24 +177,25 @@ take-none zero = refl
 take-none (suc n) = refl
 
 -- the part that makes the piece whole, or nothing at the end
-pub whole_part : (d : ℕ) (E : List Event) (lent : List ℕ) (n : ℕ) (is_whole : Bool) → FindsPiece d lent n is_whole
+pub whole_part : {d : ℕ} {E : List Event} {lent : List ℕ} {n : ℕ} {is_whole : Bool} → FindsPiece d lent n is_whole
     → is_whole ≡ true → (lent ≡ [] → E ≡ [])
     → EndsPiece d (take n lent) ⊎ ((take n lent ≡ []) × (E ≡ []))
-whole_part d E lent n is_whole found whole end = ⊎_elim (λ e. inl e) (λ e. inr (ap (take n) e ∙ take-none n, end e)) (found.whole whole)
+whole_part {E = E} {n = n} found whole end = ⊎_elim (λ e. inl e) (λ e. inr (ap (take n) e ∙ take-none n, end e)) (found.whole whole)
 
 -- more is appended
-pub front_more : (old mid new more : List ℕ) → IsFront old mid → new ≡ mid ++ more → IsFront old new
-front_more old mid new more front is = (front.0 ++ more, is ∙ ap (λ l. l ++ more) front.1 ∙ append_assoc old front.0 more)
+pub front_more : (old : List ℕ) {mid new : List ℕ} (more : List ℕ)
+    → IsFront old mid → new ≡ mid ++ more → IsFront old new
+front_more old more front is = (front.0 ++ more, is ∙ ap (λ l. l ++ more) front.1 ∙ append_assoc old front.0 more)
 
 -- where nothing more is appended, the old bytes still stand in front
 pub front_same : (old : List ℕ) {mid new : List ℕ} → IsFront old mid → new ≡ mid → IsFront old new
 front_same old front is = (front.0, is ∙ front.1)
 
 -- a turn was spent where anything was appended
-pub spent_more : (old mid new n t r s u : ℕ) → (old < mid → r < t) → r ≤ t → s ≤ r → u ≤ s → (0 < n → u < s)
+pub spent_more : {old mid new n t r s u : ℕ} → (old < mid → r < t) → r ≤ t → s ≤ r → u ≤ s → (0 < n → u < s)
     → new ≤ mid + n → old < new → u < t
-spent_more old mid new zero t r s u before a b c now within grown = let early : r < t = before (omega arith) in omega arith
-spent_more old mid new (suc n) t r s u before a b c now within grown = let late : u < s = now (omega arith) in omega arith
+spent_more {n = zero} {t = t} {r = r} before a b c now within grown = let early : r < t = before (omega arith) in omega arith
+spent_more {n = suc n} {s = s} {u = u} before a b c now within grown = let late : u < s = now (omega arith) in omega arith
 
 -- no more bytes than asked for
 pub part_fits : {n : ℕ} (mid : ℕ) {new : ℕ} (lent : List ℕ) → new ≡ mid + length (take n lent) → n ≤ length lent → new ≤ mid + n

@@ -36,12 +36,13 @@ pub some_bytes : (n : ℕ) → (n ≡ 0 → ⊥) → 0 < n
 some_bytes n none = omega (arith, none)
 
 -- the bytes ended too early
-pub exact_short : (may_take_none : Type 0) (E : List Event) (room whole : ℕ) (got : List ℕ) (after rest : List Event)
-    (reply : Result ℕ Error) (n : ℕ) (buf : List ℕ) (e : Error)
+pub exact_short : {may_take_none : Type 0} {E : List Event} {room whole : ℕ} {got : List ℕ} {after rest : List Event}
+    {reply : Result ℕ Error} {n : ℕ} (buf : List ℕ) {e : Error}
     → Taken E room got after → Reads after reply buf rest → reply ≡ Ok n → n ≡ 0 → 0 < length buf → IsUnexpectedEnd e → room ≡ whole
     → length got < whole
     → FallsShort may_take_none E whole e rest
-exact_short may_take_none E room whole got after rest reply n buf e t read is none some kind same short =
+exact_short {may_take_none = may_take_none} {E = E} {room = room} {got = got} {after = after}
+    {rest = rest} {reply = reply} {n = n} buf {e = e} t read is none some kind same short =
     let empty = nothing_read after rest reply n buf read is none some in
     subst (λ m. FallsShort may_take_none E m e rest) same
     (taken_short may_take_none E room got after e rest t empty.0 (empty.0 ∙ sym empty.1) kind (omega (arith, short, same)))

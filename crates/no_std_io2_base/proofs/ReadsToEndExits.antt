@@ -12,9 +12,10 @@ pub front_whole : {n : ℕ} {old new : List ℕ} → n ≡ length old → new �
 front_whole {n} {old} long is = ap (take n) is ∙ take_all n old (omega (arith, long))
 
 -- the bytes behind the filled ones were cut off
-pub front_cut : (start filled : ℕ) (new mid old : List ℕ) → start ≤ filled → new ≡ take filled mid → take start mid ≡ old
+pub front_cut : (start filled : ℕ) {new : List ℕ} (mid : List ℕ) {old : List ℕ}
+    → start ≤ filled → new ≡ take filled mid → take start mid ≡ old
     → take start new ≡ old
-front_cut start filled new mid old below is front = ap (take start) is ∙ take-take start filled mid below ∙ front
+front_cut start filled mid below is front = ap (take start) is ∙ take-take start filled mid below ∙ front
 
 -- no room was opened behind the filled bytes
 pub none_opened : (filled len : ℕ) (new mid : List ℕ) → len ≡ filled → len ≡ length new → take filled new ≡ take filled mid

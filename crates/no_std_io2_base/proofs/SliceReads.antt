@@ -11,10 +11,10 @@ use Rattle.no_std_io2_base.proofs.CursorLemmas.{left_after}
 use Rattle.no_std_io2_base.proofs.Events.{HasNoFault-events_of, bytes-events_of, events_of-append, length-events_of}
 
 -- all of it was appended
-pub moved_whole : (all rest old new : List ℕ) → HasMoved all rest old new → rest ≡ []
+pub moved_whole : {all rest : List ℕ} (old : List ℕ) {new : List ℕ} → HasMoved all rest old new → rest ≡ []
     → HasNoFault (events_of all) × (new ≡ old ++ bytes (events_of all)) × (length all ≡ length (bytes (events_of all)))
     × (events_of rest ≡ [])
-moved_whole all rest old new moved none =
+moved_whole {all = all} old moved none =
     let whole : all ≡ moved.0 = moved.1 ∙ ap (λ l. moved.0 ++ l) none ∙ append-nil moved.0 in (
       HasNoFault-events_of all,
       moved.2 ∙ ap (λ l. old ++ l) (sym whole) ∙ ap (λ l. old ++ l) (sym (bytes-events_of all)),
@@ -33,12 +33,13 @@ moved_part {rest} old moved refused = (
 )
 
 -- nothing of it was appended
-pub moved_none : (all old new : List ℕ) → new ≡ old → HasMoved all all old new
-moved_none all old new same = ([], refl, same ∙ sym (append-nil old))
+pub moved_none : (all : List ℕ) {old new : List ℕ} → new ≡ old → HasMoved all all old new
+moved_none all {old = old} same = ([], refl, same ∙ sym (append-nil old))
 
 -- and then nothing more
-pub moved_on : (all rest old mid new : List ℕ) → HasMoved all rest old mid → new ≡ mid → HasMoved all rest old new
-moved_on all rest old mid new moved same = (moved.0, moved.1, same ∙ moved.2)
+pub moved_on : {all rest : List ℕ} (old : List ℕ) {mid new : List ℕ}
+    → HasMoved all rest old mid → new ≡ mid → HasMoved all rest old new
+moved_on old moved same = (moved.0, moved.1, same ∙ moved.2)
 
 -- its first n bytes were appended
 pub moved_first : (n : ℕ) (all rest : List ℕ) {old mid new : List ℕ} → mid ≡ old → new ≡ mid ++ take n all → rest ≡ drop n all
@@ -57,10 +58,11 @@ moved_second {all} {rest} old moved same is none = (
 )
 
 -- and there was no room for all of it and 32 bytes more, where there was none for what was wanted next
-pub no_room : (all rest old first : List ℕ) (was is capacity capacity' wanted : ℕ) → HasMoved all rest old first → was ≡ length old
+pub no_room : {all rest : List ℕ} (old : List ℕ) {first : List ℕ} {was is capacity capacity' wanted : ℕ}
+    → HasMoved all rest old first → was ≡ length old
     → is ≡ length first → capacity ≤ capacity'
     → capacity' < is + wanted → wanted ≤ length rest + 32 → capacity < was + length all + 32
-no_room all rest old first was is capacity capacity' wanted moved before now grown full within =
+no_room {rest = rest} old moved before now grown full within =
     let first_is = ap length moved.2 ∙ length-append old moved.0 in
     omega (arith, before, now, grown, full, within, first_is, ap length moved.1, length-append moved.0 rest)
 
@@ -99,8 +101,9 @@ pub fewer_behind : (place n : ℕ) (content : List ℕ) → length (drop (place 
 fewer_behind place n content = omega (arith, length-drop (place + n) content, length-drop place content)
 
 -- where there is room for all of it, and for 32 bytes more, memory is never refused
-pub never_refused : (all : List ℕ) (len capacity : ℕ) → HasRoom (events_of all) len capacity → capacity < len + length all + 32 → ⊥
-never_refused all len capacity enough full = omega (arith, enough.1, full, ap length (bytes-events_of all))
+pub never_refused : (all : List ℕ) (len : ℕ) {capacity : ℕ}
+    → HasRoom (events_of all) len capacity → capacity < len + length all + 32 → ⊥
+never_refused all len enough full = omega (arith, enough.1, full, ap length (bytes-events_of all))
 
 -- the rest is no longer than the whole was
 pub rest_within : (all rest old new : List ℕ) → HasMoved all rest old new → length all ≡ length rest + (length all - length rest)

@@ -48,8 +48,8 @@ ended_at_limit {tells} {fills} {turns} {events} {was} same zero =
     })
 
 -- no loop turns at the limit
-pub no_turn : (k filled first start : ℕ) → k + filled ≡ first + start → start ≤ filled → first ≡ 0 → 0 < k → ⊥
-no_turn k filled first start falls grows none some = omega (arith, falls, grows, none, some)
+pub no_turn : {k filled first start : ℕ} → k + filled ≡ first + start → start ≤ filled → first ≡ 0 → 0 < k → ⊥
+no_turn falls grows none some = omega (arith, falls, grows, none, some)
 
 -- the limit stays where nothing was given
 pub limit_same : {k k' n : ℕ} → k' + n ≡ k → n ≡ 0 → k' ≡ k

@@ -35,9 +35,9 @@ pub kept_last : (d : ℕ) (bs : List ℕ) → ends_in d bs ≡ false → bs ≡ 
 kept_last d bs other = sym (ap (λ t. if t then but_last bs else bs) other)
 
 -- of n bytes that end in d the first n - 1 are what stays without it
-pub dropped_last : (d n : ℕ) (bs new : List ℕ) → n ≡ length bs → (n ≡ 0 → ⊥) → ends_in d bs ≡ true
+pub dropped_last : (d n : ℕ) (bs : List ℕ) {new : List ℕ} → n ≡ length bs → (n ≡ 0 → ⊥) → ends_in d bs ≡ true
     → new ≡ take (n - 1) bs → new ≡ without d bs
-dropped_last d n bs new long some last is =
+dropped_last d n bs long some last is =
     is ∙ sym (but_last-at bs (n - 1) (omega (arith, long, some))) ∙ sym (ap (λ t. if t then but_last bs else bs) last)
 
 -- a line is its text, or refused

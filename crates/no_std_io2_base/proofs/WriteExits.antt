@@ -73,9 +73,10 @@ sent_more left k n so_far moves = (
 )
 
 -- some bytes fewer are left, or a turn fewer is
-pub fewer_left : (n turns turns' k : ℕ) (left : List ℕ) → (n ≡ 0 → ⊥) → n ≤ length left → turns' + k ≤ turns
+pub fewer_left : (n : ℕ) {turns : ℕ} (turns' k : ℕ) (left : List ℕ)
+    → (n ≡ 0 → ⊥) → n ≤ length left → turns' + k ≤ turns
     → turns' + length (take (length left - n) (drop n left)) < turns + length left
-fewer_left n turns turns' k left some fits spent = omega (arith, some, fits, spent, ap length (rest_is n left), length-drop n left)
+fewer_left n turns' k left some fits spent = omega (arith, some, fits, spent, ap length (rest_is n left), length-drop n left)
 
 -- an interruption spends a turn
 pub fewer_turns : (e : Error) (turns turns' len : ℕ) → turns' + count_by is_interruption (error_kind e ∷ []) ≤ turns → IsInterruption e
@@ -99,10 +100,11 @@ takes_some {n} left all is none some =
     omega (arith, same, none, some)
 
 -- and counts one call for them
-pub one_call : (n : ℕ) (left : List ℕ) (cost cost' was for_all : ℕ) → n ≡ length left → 0 < length left → cost' ≡ cost + 1
+pub one_call : (n : ℕ) (left : List ℕ) (cost : ℕ) {cost' : ℕ} (was for_all : ℕ)
+    → n ≡ length left → 0 < length left → cost' ≡ cost + 1
     → cost + calls_for left ≡ was + for_all
     → cost' + calls_for (take (length left - n) (drop n left)) ≡ was + for_all
-one_call n left cost cost' was for_all whole some counted so_far =
+one_call n left cost was for_all whole some counted so_far =
     let none : take (length left - n) (drop n left) ≡ [] = rest_is n left ∙ drop_of_length-le left {i = n} (omega (arith, whole)) in
     let no_more : calls_for (take (length left - n) (drop n left)) ≡ 0 = ap calls_for none in
     let one : calls_for left ≡ 1 = grind (arith, nat_tests) in

@@ -98,8 +98,8 @@ may_fail {old} {e} f = record {
 }
 
 -- an answer that was a fault of the reader's, or a failure of the writer's
-pub either_failed : {R : Type 0} (E E' : List Event) (old : Told) (reply : Result R Error) → E ≡ E'
+pub either_failed : {R : Type 0} {E E' : List Event} (old : Told) (reply : Result R Error) → E ≡ E'
     → IfErr reply (λ e. HasFirstFault E e ⊎ HasFailed old e) → IfErr reply (λ e. HasFirstFault E' e ⊎ MayFail old e)
-either_failed E E' old (Ok x) same said = tt
-either_failed E E' old (Err e) same (inl fault) = inl (subst (λ l. HasFirstFault l e) same fault)
-either_failed E E' old (Err e) same (inr failed) = inr (may_fail failed)
+either_failed {E = E} {E' = E'} old (Ok x) same said = tt
+either_failed {E = E} {E' = E'} old (Err e) same (inl fault) = inl (subst (λ l. HasFirstFault l e) same fault)
+either_failed {E = E} {E' = E'} old (Err e) same (inr failed) = inr (may_fail failed)

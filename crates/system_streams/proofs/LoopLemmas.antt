@@ -87,11 +87,11 @@ ends_zero e {old} {new} kind fewer is asked =
     (omega (arith, fewer, same), inr (inr kind))
 
 -- what a patient tells of such a loop
-pub gives_sends : {text left out out' : List ℕ} {known known' : Option (List ℕ)} (reply : Result (Unit {0}) Error) (turns turns' : ℕ)
+pub gives_sends : {text left out out' : List ℕ} {known known' : Option (List ℕ)} (reply : Result (Unit {0}) Error) {turns turns' : ℕ}
     → Gives text left out out' known known' → turns' + count_by is_interruption (call_mishap reply) ≤ turns
     → Sends (record { out = out; held = []; mishaps = None; turns = turns }) text reply
     (record { out = out'; held = []; mishaps = None; turns = turns' }) left
-gives_sends {out} {out'} reply turns turns' so_far spent = record {
+gives_sends {out} {out'} reply {turns = turns} so_far spent = record {
   sent = so_far.given;
   split = so_far.split;
   moves = record {
@@ -143,11 +143,11 @@ turn_spent e old new again (inr (inl out)) = let kind = out.0.0 in let no = ap i
 turn_spent e old new again (inr (inr fault)) = let kind = fault.0.0 in let no = ap is_interruption kind in absurd cc
 
 -- another error ends a loop of writes
-pub ends_writes : (e : Error) (first old new : ℕ) → IsFault e → old ≤ first → AnswersWrite {T = ℕ} (Err e) old new
+pub ends_writes : (e : Error) {first old new : ℕ} → IsFault e → old ≤ first → AnswersWrite {T = ℕ} (Err e) old new
     → EndsWrites {T = Unit {0}} (Err e) first new
-ends_writes e first old new fault fewer (inl plain) = let no = ap is_interruption plain.0.0 in absurd cc
-ends_writes e first old new fault fewer (inr (inl out)) = (omega (arith, out.2), inl (out.0, out.2))
-ends_writes e first old new fault fewer (inr (inr device)) = (omega (arith, fewer, device.1), inr (inl device.0))
+ends_writes e fault fewer (inl plain) = let no = ap is_interruption plain.0.0 in absurd cc
+ends_writes e fault fewer (inr (inl out)) = (omega (arith, out.2), inl (out.0, out.2))
+ends_writes e fault fewer (inr (inr device)) = (omega (arith, fewer, device.1), inr (inl device.0))
 
 -- what the test of the loop says
 pub not_empty : (b : Bool) (left : List ℕ) → b ≡ (length left == 0) → b ≡ false → 0 < length left
@@ -165,19 +165,19 @@ fewer_left n turns turns' left some fits same =
     omega (arith, some, fits, same, length-take (length left - n) (drop n left), length-drop n left)
 
 -- what a read that gave bytes consumed: the device was asked then
-pub consumed_some : {A C : Type 0} (old n : ℕ) (known known' : Option (List ℕ)) (buf : List ℕ) → (n ≡ 0 → ⊥)
+pub consumed_some : {A C : Type 0} {old : ℕ} (n : ℕ) (known known' : Option (List ℕ)) (buf : List ℕ) → (n ≡ 0 → ⊥)
     → (old ≡ 0 → GaveNone (Ok n) × A) → (old ≡ 1 → ⊥) → (1 < old → Consumes known known' (take n buf) × C)
     → Consumes known known' (take n buf)
-consumed_some zero n known known' buf some over last bytes = let none = (over refl).0 in absurd (some cc)
-consumed_some (suc zero) n known known' buf some over last bytes = absurd (last refl)
-consumed_some (suc (suc old)) n known known' buf some over last bytes = (bytes (omega arith)).0
+consumed_some {old = zero} n known known' buf some over last bytes = let none = (over refl).0 in absurd (some cc)
+consumed_some {old = suc zero} n known known' buf some over last bytes = absurd (last refl)
+consumed_some {old = suc (suc old)} n known known' buf some over last bytes = (bytes (omega arith)).0
 
 -- a read that failed consumed nothing
-pub consumed_none : {A B C : Type 0} (old : ℕ) (e : Error) (known known' : Option (List ℕ))
+pub consumed_none : {A B C : Type 0} {old : ℕ} (e : Error) {known known' : Option (List ℕ)}
     → (old ≡ 0 → GaveNone (Err e) × A) → (old ≡ 1 → B × C × (known' ≡ known)) → (1 < old → Keeps known known') → Keeps known known'
-consumed_none zero e known known' over last bytes = let none = (over refl).0 in absurd cc
-consumed_none (suc zero) e known known' over last bytes = subst (Keeps known) (sym (last refl).2) (keeps_refl known)
-consumed_none (suc (suc old)) e known known' over last bytes = bytes (omega arith)
+consumed_none {old = zero} e over last bytes = let none = (over refl).0 in absurd cc
+consumed_none {old = suc zero} e {known = known} over last bytes = subst (Keeps known) (sym (last refl).2) (keeps_refl known)
+consumed_none {old = suc (suc old)} e over last bytes = bytes (omega arith)
 
 -- nor did one that gave no byte
 pub consumed_end : {old n : ℕ} (reply : Result ℕ Error) {known known' : Option (List ℕ)} (buf : List ℕ) → reply ≡ Ok n → n ≡ 0
@@ -191,14 +191,14 @@ consumed_end {old = suc (suc old)} reply {known} {known'} buf is none over last 
     (subst (λ r. ReadConsumes known known' r buf) (is ∙ ap Ok none) (bytes (omega arith))).0
 
 -- an error but an interruption ends a loop of reads
-pub ends_reads : {A : Type 0} (room : ℕ) (e : Error) (first old new : ℕ) → IsFault e → old ≤ first → new < old
+pub ends_reads : {A : Type 0} (room : ℕ) (e : Error) {first old new : ℕ} → IsFault e → old ≤ first → new < old
     → (old ≡ 1 → IsOutOfTurns e × (new ≡ 0) × A)
     → (1 < old → AnswersRead (Err e) old new) → EndsReads {T = Unit {0}} room (Err e) first new
-ends_reads room e first zero new fault fewer spent last asked = absurd (omega (arith, spent))
-ends_reads room e first (suc zero) new fault fewer spent last asked =
+ends_reads room e {old = zero} fault fewer spent last asked = absurd (omega (arith, spent))
+ends_reads room e {old = suc zero} fault fewer spent last asked =
     let out = last refl in
     (omega (arith, fewer, spent), inl (out.0, out.1, omega (arith, fewer)))
-ends_reads room e first (suc (suc old)) new fault fewer spent last asked = device (asked (omega arith)).1
+ends_reads room e {first = first} {old = suc (suc old)} {new = new} fault fewer spent last asked = device (asked (omega arith)).1
   where
     device : IsPlainInterruption e ⊎ IsDeviceFault e → EndsReads {T = Unit {0}} room (Err e) first new
     device (inl plain) = let no = ap is_interruption plain.0 in absurd cc

@@ -31,7 +31,7 @@ returns-in_err-read_all-clause-enough g c = λ few short.
     all_short (most c.new-reader.result) payloads left said.rest none c.new-reader.ensures.limit in
     let events = c.new-reader.ensures.events ∙ ap events_of (slice_from (length before) after) in
     let back = c.in_err-read_all.ensures.back payloads tt (come_frames _ (drop (length before) after) payloads events out) within in
-    rw (p.1, p.2) (memory_alone payloads (drop (length before) after) _ c.in_err-read_all.field-0.0 _ _ events back)
+    rw (p.1, p.2) (memory_alone payloads (drop (length before) after) c.in_err-read_all.field-0.0 events back)
 
 pub returns-clause-came : goal.returns-clause-came
 returns-clause-came g c =

@@ -11,7 +11,7 @@ loop-i-init c = tt
 
 pub loop-i-preserved : goal.loop-i-preserved
 loop-i-preserved c =
-    clear_next _ _ _ _ _ c.loop-i-test.true (omega (arith, c.if-ops-replies.false)) c.loop-i.invariant c.in-Some.ensures.some.0
+    clear_next _ _ _ _ c.loop-i-test.true (omega (arith, c.if-ops-replies.false)) c.loop-i.invariant c.in-Some.ensures.some.0
 
 pub returns-in_default-clause-no : goal.returns-in_default-clause-no
 returns-in_default-clause-no c e clear = absurd (c.in_default.ensures.none refl (clear_at _ _ _ _ _ c.loop-i-test.true clear))

@@ -19,7 +19,7 @@ returns-in-Ok-clause-asked g c = λ m f.
     )
 
 pub returns-in-UnexpectedEof-clause-told : goal.returns-in-UnexpectedEof-clause-told
-returns-in-UnexpectedEof-clause-told g c = λ t. let failed = c.in-Err.ensures.told t in (failed.0, failed_front _ c.in-Err.e _ _ failed.1)
+returns-in-UnexpectedEof-clause-told g c = λ t. let failed = c.in-Err.ensures.told t in (failed.0, failed_front c.in-Err.e _ failed.1)
 
 pub returns-in-UnexpectedEof-clause-asked : goal.returns-in-UnexpectedEof-clause-asked
 returns-in-UnexpectedEof-clause-asked g c = λ m f.
@@ -41,7 +41,7 @@ returns-in_default g c =
     let r = c.args.r.now in
     let failed = c.in-Err.ensures.told in
     record {
-      told = λ t. ((failed t).0, failed_front _ c.in-Err.e _ _ (failed t).1);
+      told = λ t. ((failed t).0, failed_front c.in-Err.e _ (failed t).1);
       asked = λ m f.
           let tells = g.met.R.Read.filling_tells _ f in
           let short = falls_short _ c.in-Err.e _ (bytes_behind (reader_held r) _ _ tells.1) (failed tells.0).1 in

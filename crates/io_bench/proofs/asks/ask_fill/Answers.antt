@@ -9,7 +9,7 @@ use Rattle.io_bench.proofs.asks.ask_fill.Goals as goal
 pub returns-in_err-lent-clause-told : goal.returns-in_err-lent-clause-told
 returns-in_err-lent-clause-told g c = λ t.
     let after = c.fill_buf.follows.holds-at-none.told t in
-    (after.0, lent_error _ c.in_err-lent.field-0.0 _ _ c.in_err-lent.was after.1)
+    (after.0, lent_error c.in_err-lent.field-0.0 c.in_err-lent.was after.1)
 
 pub returns-clause-asked : goal.returns-clause-asked
 returns-clause-asked g c = λ m f.
@@ -24,7 +24,7 @@ returns-clause-asked g c = λ m f.
     let told = after.told tells.0 in
     let rest = dropped.told told.0 in
     let held = lent_held _ c.in_ok-lent.field-0 _ c.in_ok-lent.was after.lends in
-    let same = lent_to_come _ c.in_ok-lent.field-0 _ _ c.in_ok-lent.was told.1 in
+    let same = lent_to_come c.in_ok-lent.field-0 c.in_ok-lent.was told.1 in
     let counted = after.counts m in
     let last = dropped.counts counted.0 in
     let within = length-take-le n (reader_held mid) (omega (arith, ap length held, c.min.ensures)) in

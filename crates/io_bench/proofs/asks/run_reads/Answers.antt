@@ -29,7 +29,7 @@ asks-init g c = record {
   failed = omega arith;
   told = λ t. (t, front_none _);
   steps = λ f. (f, refl, Steps-none c.args.asks.now _);
-  paid = λ f none. (0, omega arith, paid_none g.row.S _ _ _ (omega arith) (ap length none));
+  paid = λ f none. (0, omega arith, paid_none g.row.S (omega arith) (ap length none));
 }
 
 pub asks-preserved : goal.asks-preserved
@@ -49,7 +49,7 @@ asks-preserved g c =
       long = omega (arith, call.len, before.long);
       at_end = grind (arith, before.at_end, ends);
       failed = omega (arith, before.failed);
-      told = λ t. let so_far = before.told t in let now = call.told so_far.0 in (now.0, front_more _ _ _ so_far.1 now.1);
+      told = λ t. let so_far = before.told t in let now = call.told so_far.0 in (now.0, front_more so_far.1 now.1);
       steps = λ f.
           let so_far = before.steps f in
           let asked = call.asked tt so_far.0 in
@@ -75,7 +75,7 @@ asks-preserved-in_default g c =
       long = omega (arith, call.len, before.long);
       at_end = omega (arith, before.at_end);
       failed = omega (arith, before.failed);
-      told = λ t. let so_far = before.told t in let now = call.told so_far.0 in (now.0, front_more _ _ _ so_far.1 now.1);
+      told = λ t. let so_far = before.told t in let now = call.told so_far.0 in (now.0, front_more so_far.1 now.1);
       steps = λ f. absurd (call.asked tt (before.steps f).0).2;
       paid = λ f none. absurd (call.asked tt (before.steps f).0).2;
     }
@@ -88,5 +88,5 @@ returns-clause-steps g c = λ f.
 pub returns-clause-bound : goal.returns-clause-bound
 returns-clause-bound g c = λ f none.
     let paid = c.asks.invariant.paid f none in
-    let bound = paid_bound g.row.S paid.0 _ _ _ _ (some_room c.asks.r) (held-le c.asks.r) paid.2 in
+    let bound = paid_bound g.row.S paid.0 (some_room c.asks.r) (held-le c.asks.r) paid.2 in
     omega (arith, paid.1, bound)

@@ -60,7 +60,7 @@ returns-in-Ok-clause-bound g c =
     let before = c.calls.invariant in
     let last = c.in-Ok.ensures.calls tt before.all in
     let bound = Paid-all g.row.S before.paid.0 c.args.ops.now c.calls.op-index _ (omega arith) before.paid.2 in
-    paid_bound _ _ _ _ _ _ _ _ last.1 before.paid.1 (ap tally_writes c.new-buffered.ensures.inner)
+    paid_bound _ last.1 before.paid.1 (ap tally_writes c.new-buffered.ensures.inner)
     (calls_for-min (writer_buffer c.calls.buffered)) bound
 
 pub returns-in-Ok-clause-all : goal.returns-in-Ok-clause-all
@@ -72,7 +72,7 @@ returns-in-Ok-clause-appends g c = appended_back _ _ c.calls.invariant.ran.0 c.c
 pub returns-in-Ok-clause-whole : goal.returns-in-Ok-clause-whole
 returns-in-Ok-clause-whole g c =
     let ran = c.calls.invariant.ran in
-    all_made AreWhole _ c.calls.op-index _ _ ran.0 (omega arith) ran.1 ran.3
+    all_made AreWhole c.calls.op-index _ ran.0 (omega arith) ran.1 ran.3
 
 -- the base takes all, so the sending does not fail
 pub returns-in-Err-clause-kind : goal.returns-in-Err-clause-kind

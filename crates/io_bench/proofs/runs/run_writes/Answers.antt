@@ -39,46 +39,46 @@ pub returns-clause-ran : goal.returns-clause-ran
 returns-clause-ran g c =
     let ran = c.calls.invariant.ran in
     let told = g.W.Write.told in
-    all_made (λ o r. Ran (told c.args.w.now) o r (told c.calls.w)) _ c.calls.op-index _ _ ran.0 (omega arith) ran.1
+    all_made (λ o r. Ran (told c.args.w.now) o r (told c.calls.w)) c.calls.op-index _ ran.0 (omega arith) ran.1
     ran.2
 
 pub returns-clause-flushed : goal.returns-clause-flushed
 returns-clause-flushed g c =
     let ran = c.calls.invariant.ran in
     let told = g.W.Write.told in
-    all_made (λ o r. EndsFlushed o r → (told c.calls.w).held ≡ []) _ c.calls.op-index _ _ ran.0 (omega arith) ran.1
+    all_made (λ o r. EndsFlushed o r → (told c.calls.w).held ≡ []) c.calls.op-index _ ran.0 (omega arith) ran.1
     ran.3
 
 pub returns-clause-failures : goal.returns-clause-failures
 returns-clause-failures g c =
     let ran = c.calls.invariant.ran in
     let told = g.W.Write.told in
-    all_made (λ o r. IsShorterBy (failures o r) (told c.args.w.now).mishaps (told c.calls.w).mishaps) _ c.calls.op-index
-    _ _ ran.0 (omega arith) ran.1
+    all_made (λ o r. IsShorterBy (failures o r) (told c.args.w.now).mishaps (told c.calls.w).mishaps) c.calls.op-index
+    _ ran.0 (omega arith) ran.1
     (failures_told _ ran.0 _ _ ran.2.moves.mishaps)
 
 pub returns-clause-kinds : goal.returns-clause-kinds
 returns-clause-kinds g c = λ kind.
     let ran = c.calls.invariant.ran in
     let told = g.W.Write.told in
-    all_made (λ o r. HasFewer kind (failures_of kind o r) (told c.args.w.now).mishaps (told c.calls.w).mishaps) _ c.calls.op-index _ _
+    all_made (λ o r. HasFewer kind (failures_of kind o r) (told c.args.w.now).mishaps (told c.calls.w).mishaps) c.calls.op-index _
     ran.0 (omega arith) ran.1
     (fewer_of kind _ ran.0 _ _ ran.2.moves.mishaps)
 
 pub returns-clause-steady : goal.returns-clause-steady
 returns-clause-steady g c = λ none.
     let ran = c.calls.invariant.ran in
-    all_made (λ o r. failures o r ≡ 0) _ c.calls.op-index _ _ ran.0 (omega arith) ran.1
-    (failures_none _ ran.0 _ _ ran.2.moves.mishaps none)
+    all_made (λ o r. failures o r ≡ 0) c.calls.op-index _ ran.0 (omega arith) ran.1
+    (failures_none _ ran.0 _ ran.2.moves.mishaps none)
 
 pub returns-clause-all : goal.returns-clause-all
 returns-clause-all g c =
     let ran = c.calls.invariant.ran in
-    all_made (λ o r. g.W.Write.takes_all c.args.w.now → g.W.Write.takes_all c.calls.w × AreWhole o r) _ c.calls.op-index _ _ ran.0
+    all_made (λ o r. g.W.Write.takes_all c.args.w.now → g.W.Write.takes_all c.calls.w × AreWhole o r) c.calls.op-index _ ran.0
     (omega arith) ran.1
     ran.4
 
 pub returns-clause-passes : goal.returns-clause-passes
 returns-clause-passes g c =
     let ran = c.calls.invariant.ran in
-    all_made AllPassOver _ c.calls.op-index _ _ ran.0 (omega arith) ran.1 ran.5
+    all_made AllPassOver c.calls.op-index _ ran.0 (omega arith) ran.1 ran.5

@@ -5,7 +5,7 @@ use Rattle.line_log.proofs.LineLog.log.Goals as goal
 
 pub returns-clause-sends : goal.returns-clause-sends
 returns-clause-sends g c =
-    logs_line c.retry.result _ _ _ c.retry.ensures.sends c.in_ok-stage.ensures.rest c.in_ok-stage.ensures.line
+    logs_line c.retry.result _ _ c.retry.ensures.sends c.in_ok-stage.ensures.rest c.in_ok-stage.ensures.line
     c.retry.ensures.done c.retry.ensures.none c.retry.ensures.err
 
 pub returns-clause-passed : goal.returns-clause-passed

@@ -49,7 +49,7 @@ reads-preserved-in-Ok g c =
           let gave = (read.fills (before.filling f)).1 in
           let tells = g.met.R.Read.filling_tells _ (before.filling f) in
           let fewer = read_length _ _ c.in-Ok.n c.read.new.buf read.bound (read.told tells.0).1.0 in
-          one_read g.row.S _ c.in-Ok.n _ _ _ _ _ some before.long gave (search rules) fewer paid (before.reads some m f);
+          one_read g.row.S c.in-Ok.n _ _ some before.long gave (search rules) fewer paid (before.reads some m f);
       filling = λ f. (read.fills (before.filling f)).0;
       store = λ s.
           let so_far = before.store s in

@@ -16,9 +16,9 @@ returns-clause-steady g c = λ t none steady.
 pub returns-then-line-clause-err : goal.returns-then-line-clause-err
 returns-then-line-clause-err g c = λ t.
     let tells = subst g.R.Read.tells (sym c.new-input.ensures.inner) t in
-    either_failed _ _ _ c.through_lines.result c.new-input.ensures.events (c.through_lines.ensures.err tells)
+    either_failed _ c.through_lines.result c.new-input.ensures.events (c.through_lines.ensures.err tells)
 
 pub returns-clause-err : goal.returns-clause-err
 returns-clause-err g c = λ t.
     let tells = subst g.R.Read.tells (sym c.new-input.ensures.inner) t in
-    either_failed _ _ _ c.through_buffer.result c.new-input.ensures.events (c.through_buffer.ensures.err tells)
+    either_failed _ c.through_buffer.result c.new-input.ensures.events (c.through_buffer.ensures.err tells)

@@ -14,7 +14,7 @@ returns-in_err-fill_header-clause-told g c = λ t.
     let said = c.in_err-fill_header.ensures.told t in (
       said.0,
       rw (p.1, p.2)
-          (stopped (most c.args.self.now) 4 _ _ _ _ _ _ c.in_err-fill_header.field-0.0 (gathered_none _ _) said.1
+          (stopped (most c.args.self.now) 4 c.in_err-fill_header.field-0.0 (gathered_none _ _) said.1
           (λ h. inl h)),
     )
 
@@ -29,7 +29,7 @@ returns-then-not-branch-clause-told g c = λ t.
     let said = c.in_ok-fill_header.ensures.told t in
     let some : 0 < length (part_bytes c.fill_header.new.self) = some_lent _ _ c.is_empty.ensures c.if-is_empty.false in (
       said.0,
-      ended (most c.args.self.now) 4 _ _ _ _ _ _ c.in_ok-fill_header.field-0 c.ended_inside.result c.if-not-branch.true
+      ended (most c.args.self.now) 4 _ _ c.in_ok-fill_header.field-0 c.ended_inside.result c.if-not-branch.true
           (gathered_none _ _) said.1 (λ h. inl h) some c.ended_inside.ensures,
     )
 
@@ -40,7 +40,7 @@ pub returns-then-len-self-clause-told : goal.returns-then-len-self-clause-told
 returns-then-len-self-clause-told g c = λ t.
     let said = c.in_ok-fill_header.ensures.told t in
     let b = c.if-not-branch.false in
-    let whole = whole_part 4 _ _ _ _ c.in_ok-fill_header.field-0 b said.1 in
+    let whole = whole_part 4 c.in_ok-fill_header.field-0 b said.1 in
     let part = c.fill_header.new.self in
     let told = told_behind (part_header part) (part_payload part) (c.in_ok-fill_header.ensures.whole b) in (
       said.0,
@@ -54,7 +54,7 @@ returns-in_err-fill_payload-clause-told g c = λ t.
     let header = c.in_ok-fill_header.ensures.told t in
     let said = c.in_err-fill_payload.ensures.told header.0 in
     let b = c.if-not-branch.false in
-    let whole = whole_part 4 _ _ _ _ c.in_ok-fill_header.field-0 b header.1 in
+    let whole = whole_part 4 c.in_ok-fill_header.field-0 b header.1 in
     let len = c.told_len-len.result in
     let part = c.fill_payload.new.self in
     let same = c.in_err-fill_payload.ensures.header in
@@ -62,7 +62,7 @@ returns-in_err-fill_payload-clause-told g c = λ t.
     let told = c.told_len-len.ensures.value ∙ ap (from_le_bytes w32) (sym same) in (
       said.0,
       rw (p.1, p.2)
-          (stopped (most c.args.self.now) (4 + len) _ _ _ _ _ _ c.in_err-fill_payload.field-0.0 whole.0 said.1
+          (stopped (most c.args.self.now) (4 + len) c.in_err-fill_payload.field-0.0 whole.0 said.1
           (part_short (part_header part) (part_payload part) len four told)),
     )
 
@@ -71,7 +71,7 @@ returns-then-not-branch-2-clause-told g c = λ t.
     let header = c.in_ok-fill_header.ensures.told t in
     let said = c.in_ok-fill_payload.ensures.told header.0 in
     let b = c.if-not-branch.false in
-    let whole = whole_part 4 _ _ _ _ c.in_ok-fill_header.field-0 b header.1 in
+    let whole = whole_part 4 c.in_ok-fill_header.field-0 b header.1 in
     let len = c.told_len-len.result in
     let part = c.fill_payload.new.self in
     let same = c.in_ok-fill_payload.ensures.header in
@@ -79,7 +79,7 @@ returns-then-not-branch-2-clause-told g c = λ t.
     let told = c.told_len-len.ensures.value ∙ ap (from_le_bytes w32) (sym same) in
     let some : 0 < length (part_bytes part) = omega (arith, four, length-append (part_header part) (part_payload part)) in (
       said.0,
-      ended (most c.args.self.now) (4 + len) _ _ _ _ _ _ c.in_ok-fill_payload.field-0
+      ended (most c.args.self.now) (4 + len) _ _ c.in_ok-fill_payload.field-0
           c.ended_inside-then-not-branch-2.result c.if-not-branch-2.true whole.0 said.1
           (part_short (part_header part) (part_payload part) len four told) some c.ended_inside-then-not-branch-2.ensures,
     )
@@ -90,8 +90,8 @@ returns-clause-told g c = λ t.
     let said = c.in_ok-fill_payload.ensures.told header.0 in
     let b = c.if-not-branch.false in
     let b2 = c.if-not-branch-2.false in
-    let first = whole_part 4 _ _ _ _ c.in_ok-fill_header.field-0 b header.1 in
-    let whole = whole_part (4 + c.told_len-len.result) _ _ _ _ c.in_ok-fill_payload.field-0 b2 said.1 in
+    let first = whole_part 4 c.in_ok-fill_header.field-0 b header.1 in
+    let whole = whole_part (4 + c.told_len-len.result) c.in_ok-fill_payload.field-0 b2 said.1 in
     let part = c.fill_payload.new.self in
     let long = c.in_ok-fill_payload.ensures.whole b2 in
     let is =
@@ -102,5 +102,5 @@ returns-clause-told g c = λ t.
 pub returns-clause-turn : goal.returns-clause-turn
 returns-clause-turn g c = λ h.
     let said = c.in_ok-fill_header.ensures in
-    turn_spent (length (part_bytes c.args.self.now.part)) (length (part_bytes c.fill_header.new.self)) _ _ _
+    turn_spent (length (part_bytes c.args.self.now.part)) (length (part_bytes c.fill_header.new.self))
     (said.some c.if-not-branch.false) said.turn said.turns c.in_ok-fill_payload.ensures.turns

@@ -10,13 +10,13 @@ returns-in_err-reserve-clause-told g c = λ t.
     let p = err_from_is_err_and c.from_residual.result c.from_residual.ensures.1 in
     let run = c.frames.invariant.told t in
     let same = run_same (λ v. v.items) c.args.payloads.now.items c.reserve.new.self.items run.1 c.reserve.ensures.items in
-    (run.0, rw p.1 (run_refused (most c.args.self.now) _ _ _ p.0 same p.2))
+    (run.0, rw p.1 (run_refused (most c.args.self.now) p.0 same p.2))
 
 pub returns-in_err-reserve-clause-back : goal.returns-in_err-reserve-clause-back
 returns-in_err-reserve-clause-back g c = λ sent t is within.
     let limit = most c.args.self.now in
     let small : limit < 2 ^ 32 = search rules in
-    comes_back limit sent _ c.from_residual.result _ _ small (returns-in_err-reserve-clause-told g c t).1 is within
+    comes_back limit sent c.from_residual.result _ small (returns-in_err-reserve-clause-told g c t).1 is within
 
 pub returns-in_err-next-clause-told : goal.returns-in_err-next-clause-told
 returns-in_err-next-clause-told g c = λ t.
@@ -34,20 +34,20 @@ pub returns-in_err-next-clause-back : goal.returns-in_err-next-clause-back
 returns-in_err-next-clause-back g c = λ sent t is within.
     let limit = most c.args.self.now in
     let small : limit < 2 ^ 32 = search rules in
-    comes_back limit sent _ c.from_residual-in_err-next.result _ _ small (returns-in_err-next-clause-told g c t).1 is within
+    comes_back limit sent c.from_residual-in_err-next.result _ small (returns-in_err-next-clause-told g c t).1 is within
 
 pub returns-in-None-clause-told : goal.returns-in-None-clause-told
 returns-in-None-clause-told g c = λ t.
     let run = c.frames.invariant.told t in
     let same = run_same (λ v. v.items) c.args.payloads.now.items c.reserve.new.self.items run.1 c.reserve.ensures.items in
     let said = (rw c.in-None.is at c.in_ok-next.ensures.told) run.0 in
-    (said.0, run_ends (most c.args.self.now) _ _ _ _ same said.1)
+    (said.0, run_ends (most c.args.self.now) same said.1)
 
 pub returns-in-None-clause-back : goal.returns-in-None-clause-back
 returns-in-None-clause-back g c = λ sent t is within.
     let limit = most c.args.self.now in
     let small : limit < 2 ^ 32 = search rules in
-    comes_back limit sent _ (Ok tt) _ _ small (returns-in-None-clause-told g c t).1 is within
+    comes_back limit sent (Ok tt) _ small (returns-in-None-clause-told g c t).1 is within
 
 pub frames-preserved : goal.frames-preserved
 frames-preserved g c =
@@ -63,8 +63,8 @@ frames-preserved g c =
           let run = before.told t in
           let said = (rw c.in-Some.is at c.in_ok-next.ensures.told) run.0 in (
             said.0,
-            run_more (λ v. v.items) (most c.args.self.now) _ _ _ old had new payload before.appends pushed run.1
-                (frame_within _ (most c.frames.self) _ _ payload.items before.limit said.1),
+            run_more (λ v. v.items) (most c.args.self.now) old had new payload before.appends pushed run.1
+                (frame_within (most c.frames.self) payload.items before.limit said.1),
           );
       limit = c.next.ensures.limit ∙ before.limit;
     }

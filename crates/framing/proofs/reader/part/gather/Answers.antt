@@ -20,7 +20,7 @@ pieces-preserved-in-Ok g c =
           let so_far = before.told t in
           let loan = filled.told so_far.0 in
           let rest = dropped.told loan.0 in
-          let part = part_taken _ c.in-Ok.lent _ _ _ (events c.consume.new.self) len c.in-Ok.is filled.lends loan.1 rest.1 in (
+          let part = part_taken c.in-Ok.lent _ (events c.consume.new.self) len c.in-Ok.is filled.lends loan.1 rest.1 in (
             rest.0,
             gathered_bytes (take len lent) c.extend_from_slice.new.self.items (events c.consume.new.self) so_far.1 part
                 appended.items,
@@ -42,7 +42,7 @@ pieces-preserved g c =
           let so_far = before.told t in
           let loan = filled.told so_far.0 in (
             loan.0,
-            gathered_interruption c.in-Err.e _ so_far.1 (error_taken _ _ _ _ c.in-Err.is loan.1)
+            gathered_interruption c.in-Err.e _ so_far.1 (error_taken c.in-Err.is loan.1)
                 (sym c.is_interrupted.ensures ∙ c.if-is_interrupted.true),
           );
       grows = before.grows;

@@ -11,5 +11,5 @@ returns-in-Ok-clause-sends g c =
 
 pub returns-in-Ok-clause-done : goal.returns-in-Ok-clause-done
 returns-in-Ok-clause-done g c = λ none.
-    let done = flush_done c.flush.result _ _ _ (sym c.err.ensures.value ∙ none) c.flush.ensures.done in
+    let done = flush_done c.flush.result (sym c.err.ensures.value ∙ none) c.flush.ensures.done in
     (done.0, done.1, c.in-Ok.ensures.done.2, done.2)

@@ -11,7 +11,7 @@ pub writes-init : goal.writes-init
 writes-init g c = record {
   sent = sent_none _ _;
   all = λ a. a;
-  acts = spent_none _ _ _;
+  acts = spent_none;
 }
 
 pub returns-in-Ok-eq0 : goal.returns-in-Ok-eq0
@@ -29,7 +29,7 @@ returns-in-Ok-eq0 g c =
     }
 
 pub writes-smaller-in-Ok : goal.writes-smaller-in-Ok
-writes-smaller-in-Ok g c = fewer_left c.in-Ok.n _ _ _ c.writes.rest.now c.in-Ok.n-test.1 c.in-Ok.ensures.bound c.in-Ok.ensures.moves.turns
+writes-smaller-in-Ok g c = fewer_left c.in-Ok.n _ _ c.writes.rest.now c.in-Ok.n-test.1 c.in-Ok.ensures.bound c.in-Ok.ensures.moves.turns
 
 pub writes-preserved-in-Ok : goal.writes-preserved-in-Ok
 writes-preserved-in-Ok g c =
@@ -37,14 +37,14 @@ writes-preserved-in-Ok g c =
     let wrote = c.in-Ok.ensures in
     let left = c.writes.rest.now in
     let n = c.in-Ok.n in
-    let fewer = fewer_left n _ _ _ left c.in-Ok.n-test.1 wrote.bound wrote.moves.turns in
+    let fewer = fewer_left n _ _ left c.in-Ok.n-test.1 wrote.bound wrote.moves.turns in
     let went = went_on_by (acts_left c.writes.self) n left c.in-Ok.n-test.1
     (λ kind is. (wrote.fail kind is).0) (λ is. (wrote.zero is).0) (λ is. (wrote.take_none is).0)
     (λ m some is. (wrote.take m some is).bound) in
     record {
       sent = sent_more left _ n before.sent wrote.moves;
       all = λ a. (wrote.all (before.all a)).0;
-      acts = spent_more _ _ _ _ _ _ _ n _ _ before.acts went wrote.acts (left_of n left wrote.bound) (omega (arith, fewer));
+      acts = spent_more n before.acts went wrote.acts (left_of n left wrote.bound) (omega (arith, fewer));
     }
 
 -- how the test of an interruption is written is not named here
@@ -63,7 +63,7 @@ writes-preserved g c =
     record {
       sent = sent_interruption before.sent wrote.moves;
       all = λ a. (wrote.all (before.all a)).0;
-      acts = spent_more _ _ _ _ _ _ _ 0 _ _ before.acts went wrote.acts (omega arith) (omega (arith, fewer));
+      acts = spent_more 0 before.acts went wrote.acts (omega arith) (omega (arith, fewer));
     }
 
 pub returns-in-Err-2 : goal.returns-in-Err-2

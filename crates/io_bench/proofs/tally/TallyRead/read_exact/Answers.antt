@@ -38,7 +38,7 @@ returns-in-Ok-eq0 g c =
           let so_far = before.told t in
           let now = read.told so_far.0 in (
             now.0,
-            inr (exact_short _ _ _ _ _ _ _ _ _ _ _ so_far.1 now.1 is none some (search rules) (sym before.long ∙ sym stays)
+            inr (exact_short _ so_far.1 now.1 is none some (search rules) (sym before.long ∙ sym stays)
                 (short_before at _ old below stays)),
           );
       fault = search rules;
@@ -49,7 +49,7 @@ returns-in-Ok-eq0 g c =
           let now = read.store so_far.0 in
           let tells = g.met.T.Read.store_tells _ so_far.0 in
           (now.0, now.1 ∙ so_far.1, stays_at_end _ _ _ _ (read.told tells.0).1 is none now.2 so_far.2);
-      counts = counted_stop before.counts (one_read _ _ _ (part_room at old c.reads-test.true) read.reads) read.turns;
+      counts = counted_stop before.counts (one_read _ (part_room at old c.reads-test.true) read.reads) read.turns;
       handed = λ m. handed_once _ _ _ _ _ (before.handed m) (read.handed.counted (before.handed m).0) read.reads;
       empty = λ e. absurd (omega (arith, e, before.long, c.reads-test.true));
       writes = read.writes ∙ before.writes;
@@ -100,7 +100,7 @@ reads-preserved-in-Ok g c =
           let now = read.store so_far.0 in
           let tells = g.met.T.Read.store_tells _ so_far.0 in
           (now.0, now.1 ∙ so_far.1, moved_read _ _ _ _ read.bound (read.told tells.0).1.0 now.2 so_far.2);
-      counts = counted_more before.counts (one_read _ _ _ (part_room at old c.reads-test.true) read.reads)
+      counts = counted_more before.counts (one_read _ (part_room at old c.reads-test.true) read.reads)
           (c.in-Ok.ensures.turn (some_bytes c.in-Ok.n c.in-Ok.n-test.1));
       handed = λ m. handed_once _ _ _ _ _ (before.handed m) (read.handed.counted (before.handed m).0) read.reads;
       none = λ e. absurd (omega (arith, e, before.long, c.reads-test.true));
@@ -129,7 +129,7 @@ returns-in-Err-2 g c =
           let so_far = before.store s in
           let tells = g.met.T.Read.store_tells _ so_far.0 in
           absurd (no_error _ tells.1 (read.told tells.0).1);
-      counts = counted_stop before.counts (one_read _ _ _ (part_room at old c.reads-test.true) read.reads) read.turns;
+      counts = counted_stop before.counts (one_read _ (part_room at old c.reads-test.true) read.reads) read.turns;
       handed = λ m. handed_once _ _ _ _ _ (before.handed m) (read.handed.counted (before.handed m).0) read.reads;
       empty = λ e. absurd (omega (arith, e, before.long, c.reads-test.true));
       writes = read.writes ∙ before.writes;
@@ -157,7 +157,7 @@ reads-preserved g c =
           let so_far = before.store s in
           let tells = g.met.T.Read.store_tells _ so_far.0 in
           absurd (no_error _ tells.1 (read.told tells.0).1);
-      counts = counted_more before.counts (one_read _ _ _ (part_room at old c.reads-test.true) read.reads)
+      counts = counted_more before.counts (one_read _ (part_room at old c.reads-test.true) read.reads)
           c.in-Err.ensures.turn;
       handed = λ m. handed_once _ _ _ _ _ (before.handed m) (read.handed.counted (before.handed m).0) read.reads;
       none = λ e. absurd (omega (arith, e, before.long, c.reads-test.true));

@@ -17,7 +17,7 @@ returns-in_err-reserve_room g c =
     let refused = c.in_err-reserve_room.ensures.refused in
     let same = c.reserve_room.ensures.items in
     rw (p.1, p.2) (record {
-      told = λ t. (t, gathered_memory (gathered_none _ _ _ same) refused);
+      told = λ t. (t, gathered_memory (gathered_none same) refused);
       appends = front_whole c.args.buf.now.ok.0 same;
       count = tt;
       capacity = c.reserve_room.ensures.grows;
@@ -41,7 +41,7 @@ reads-init g c =
       capacity = c.reserve_room.ensures.grows;
       front = front_whole c.args.buf.now.ok.0 same;
       turns = le_refl _;
-      told = λ t. (t, gathered_none _ _ _ (front_whole (start ∙ c.args.buf.now.ok.0) same));
+      told = λ t. (t, gathered_none (front_whole (start ∙ c.args.buf.now.ok.0) same));
       counts = counted_none refl;
       handed = λ m. (m, refl);
       writes = refl;
@@ -62,7 +62,7 @@ returns-in_err-open_room g c =
       told = λ t.
           let so_far = before.told t in
           (so_far.0, gathered_memory (gathered_same so_far.1 same) refused);
-      appends = front_cut _ filled _ c.reads.buf.items _ before.grows same before.front;
+      appends = front_cut _ filled c.reads.buf.items before.grows same before.front;
       count = tt;
       capacity = le_trans before.capacity c.open_room.ensures.grows;
       room = λ t enough.
@@ -98,7 +98,7 @@ returns-in-Ok-eq0 g c =
           let so_far = before.told t in
           let now = read.told so_far.0 in
           (now.0, gathered_stops _ (gathered_same so_far.1 same) now.1 is none some count);
-      appends = front_cut _ filled _ mid _ before.grows same before.front;
+      appends = front_cut _ filled mid before.grows same before.front;
       count = len_cut c.len-start.result filled new.len _ _ mid c.len-start.ensures before.grows new.ok.0 same within;
       capacity = omega (arith, before.capacity, c.open_room.ensures.grows, c.truncate.ensures.capacity);
       room = λ t enough. refl;
@@ -106,7 +106,7 @@ returns-in-Ok-eq0 g c =
       turns = le_trans read.turns before.turns;
       counts =
           counted_end before.counts
-          (one_read _ _ _
+          (one_read _
           (part_room filled c.deref_mut.result.now
           (omega (arith, c.in_ok-open_room.ensures.room, c.deref_mut.ensures.len)))
           read.reads)
@@ -143,7 +143,7 @@ returns-in-Err-2 g c =
           let so_far = before.told t in
           let now = read.told so_far.0 in
           (now.0, gathered_fault (gathered_same so_far.1 same) now.1 fault);
-      appends = front_cut start filled _ c.reads.buf.items _ before.grows same before.front;
+      appends = front_cut start filled c.reads.buf.items before.grows same before.front;
       count = tt;
       capacity = omega (arith, before.capacity, c.open_room.ensures.grows, c.truncate-in-Err-2.ensures.capacity);
       room = λ t enough.
@@ -153,7 +153,7 @@ returns-in-Err-2 g c =
       turns = le_trans read.turns before.turns;
       counts =
           counted_fault before.counts
-          (one_read _ _ _
+          (one_read _
           (part_room filled c.deref_mut.result.now
           (omega (arith, c.in_ok-open_room.ensures.room, c.deref_mut.ensures.len)))
           read.reads)
@@ -193,7 +193,7 @@ reads-preserved-in-Ok g c =
           (now.0, gathered_read _ so_far.1 now.1 (shown ∙ ap (λ l. l ++ take n c.read.new.buf) c.open_room.ensures.front));
       counts =
           counted_more before.counts
-          (one_read _ _ _
+          (one_read _
           (part_room filled c.deref_mut.result.now
           (omega (arith, c.in_ok-open_room.ensures.room, c.deref_mut.ensures.len)))
           read.reads)
@@ -230,12 +230,12 @@ reads-preserved g c =
           let so_far = before.told t in
           let now = read.told so_far.0 in (
             now.0,
-            gathered_interruption _ _ _ _ _ _ (gathered_same so_far.1 (kept ∙ c.open_room.ensures.front)) now.1
+            gathered_interruption (gathered_same so_far.1 (kept ∙ c.open_room.ensures.front)) now.1
                 (sym c.is_interrupted.ensures ∙ c.if-is_interrupted.true),
           );
       counts =
           counted_more before.counts
-          (one_read _ _ _
+          (one_read _
           (part_room filled c.deref_mut.result.now
           (omega (arith, c.in_ok-open_room.ensures.room, c.deref_mut.ensures.len)))
           read.reads)

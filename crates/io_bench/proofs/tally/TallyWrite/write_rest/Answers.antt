@@ -33,7 +33,7 @@ returns-in-Ok-eq0 g c =
     }
 
 pub writes-smaller-in-Ok : goal.writes-smaller-in-Ok
-writes-smaller-in-Ok g c = fewer_left c.in-Ok.n _ _ _ c.writes.rest.now c.in-Ok.n-test.1 c.in-Ok.ensures.bound c.in-Ok.ensures.moves.turns
+writes-smaller-in-Ok g c = fewer_left c.in-Ok.n _ _ c.writes.rest.now c.in-Ok.n-test.1 c.in-Ok.ensures.bound c.in-Ok.ensures.moves.turns
 
 pub writes-preserved-in-Ok : goal.writes-preserved-in-Ok
 writes-preserved-in-Ok g c =
@@ -42,11 +42,11 @@ writes-preserved-in-Ok g c =
     let left = c.writes.rest.now in
     let n = c.in-Ok.n in
     let some = not_empty _ left c.is_empty.ensures c.writes-test.true in
-    let fewer = fewer_left n _ _ _ left c.in-Ok.n-test.1 wrote.bound wrote.moves.turns in
+    let fewer = fewer_left n _ _ left c.in-Ok.n-test.1 wrote.bound wrote.moves.turns in
     record {
       sent = sent_more left _ n before.sent wrote.moves;
       all = λ a. (wrote.all (before.all a)).0;
-      cost = λ a. one_call n left _ _ _ _ (same_count refl (wrote.all (before.all a)).1) some wrote.writes (before.cost a);
+      cost = λ a. one_call n left _ _ _ (same_count refl (wrote.all (before.all a)).1) some wrote.writes (before.cost a);
       counts = counted_more before.counts wrote.writes (omega (arith, fewer));
       none = λ e. absurd (omega (arith, some, ap length (before.none e).1));
       reads = wrote.reads ∙ before.reads;

@@ -19,7 +19,7 @@ returns g c = λ some t whole steady.
       done.3.1 some,
       stays_steady (stays_steady steady moved) flush.moves,
       flush.empty,
-      flushed (g.W.Write.told c.args.writer.now) _ _ _ moved flush.moves flush.empty,
+      flushed (g.W.Write.told c.args.writer.now) moved flush.moves flush.empty,
     )
 
 pub returns-in_err-n : goal.returns-in_err-n

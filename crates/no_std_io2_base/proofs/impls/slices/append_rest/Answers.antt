@@ -12,11 +12,11 @@ returns-in_err-reserve_room g c =
     let room = c.in_err-reserve_room.ensures in
     let was = c.args.buf.now.ok.0 in
     rw (p.1, p.2) (record {
-      moved = moved_none _ _ _ room.items;
+      moved = moved_none _ room.items;
       done = tt;
       grows = room.grows;
       refused = room.refused;
-      full = no_room _ _ _ _ _ _ _ _ _ (moved_none c.args.rest.now.now _ _ refl) was was (le_refl _) room.full (wants_least _);
+      full = no_room _ (moved_none c.args.rest.now.now refl) was was (le_refl _) room.full (wants_least _);
     })
 
 pub returns-in_err-extend_from_slice : goal.returns-in_err-extend_from_slice
@@ -24,13 +24,13 @@ returns-in_err-extend_from_slice g c =
     let p = err_from_is_err_and c.from_residual-in_err-extend_from_slice.result c.from_residual-in_err-extend_from_slice.ensures.1 in
     let room = c.in_ok-reserve_room.ensures in
     let same = c.in_err-extend_from_slice.ensures in
-    let moved = moved_none c.args.rest.now.now _ _ room.items in
+    let moved = moved_none c.args.rest.now.now room.items in
     rw p.1 (record {
-      moved = moved_on _ _ _ _ _ moved same.items;
+      moved = moved_on _ moved same.items;
       done = tt;
       grows = le_trans room.grows same.capacity;
       refused = p.2;
-      full = no_room _ _ _ _ _ _ _ _ _ moved c.args.buf.now.ok.0 c.reserve_room.new.buf.ok.0 room.grows same.full (wants_part _ _);
+      full = no_room _ moved c.args.buf.now.ok.0 c.reserve_room.new.buf.ok.0 room.grows same.full (wants_part _ _);
     })
 
 pub returns-then-n-room : goal.returns-then-n-room
@@ -60,12 +60,12 @@ returns-in_err-reserve_room-2 g c =
     let rest = take (length all - n) (drop n all) in
     let moved = moved_first n all rest room.items first.items (take_rest all n) in
     rw (p.1, p.2) (record {
-      moved = moved_on _ _ _ _ _ moved more.items;
+      moved = moved_on _ moved more.items;
       done = tt;
       grows = le_trans room.grows (le_trans first.capacity more.grows);
       refused = more.refused;
       full =
-          no_room _ _ _ _ _ _ _ _ _ moved c.args.buf.now.ok.0 is (le_trans room.grows first.capacity) more.full
+          no_room _ moved c.args.buf.now.ok.0 is (le_trans room.grows first.capacity) more.full
           (wants_bounded _ c.saturating_add.ensures);
     })
 
@@ -81,13 +81,13 @@ returns-in_err-extend_from_slice-2 g c =
     let is = c.reserve_room-2.new.buf.ok.0 in
     let grown = le_trans room.grows (le_trans first.capacity more.grows) in
     let rest = take (length all - n) (drop n all) in
-    let moved = moved_on _ _ _ _ _ (moved_first n all rest room.items first.items (take_rest all n)) more.items in
+    let moved = moved_on _ (moved_first n all rest room.items first.items (take_rest all n)) more.items in
     rw p.1 (record {
-      moved = moved_on _ _ _ _ _ moved same.items;
+      moved = moved_on _ moved same.items;
       done = tt;
       grows = le_trans grown same.capacity;
       refused = p.2;
-      full = no_room _ _ _ _ _ _ _ _ _ moved c.args.buf.now.ok.0 is grown same.full (wants_rest _);
+      full = no_room _ moved c.args.buf.now.ok.0 is grown same.full (wants_rest _);
     })
 
 pub returns : goal.returns

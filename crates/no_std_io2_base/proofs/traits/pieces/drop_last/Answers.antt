@@ -13,4 +13,4 @@ pub returns : goal.returns
 returns c =
     let long = c.len-len.ensures ∙ c.args.bytes.now.ok.0 in
     let last = is_last c.args.last _ c.len-len.result _ long c.if-len-eq0.false c.index.ensures c.if-index-last.false in
-    record { dropped = sym last; items = dropped_last _ c.len-len.result _ _ long c.if-len-eq0.false last c.truncate.ensures.items }
+    record { dropped = sym last; items = dropped_last _ c.len-len.result _ long c.if-len-eq0.false last c.truncate.ensures.items }

@@ -17,7 +17,7 @@ reads-init g c =
       capacity = le_refl _;
       front = front_whole c.args.buf.now.ok.0 refl;
       turns = le_refl _;
-      told = λ t. (t, gathered_none _ _ _ (front_whole (start ∙ c.args.buf.now.ok.0) refl));
+      told = λ t. (t, gathered_none (front_whole (start ∙ c.args.buf.now.ok.0) refl));
       store = λ s. (s, refl, refl);
     }
 
@@ -48,7 +48,7 @@ returns-in-Ok-eq0 g c =
           let none_was = (nothing_read _ _ _ _ _ now.1 is none some).0 in
           let shown = gathered_same so_far.1 same in
           (now.0, gathered_room true (gathered_over shown (none_was ∙ sym none_left)) (λ _. none_left));
-      appends = front_cut _ filled _ mid _ before.grows same before.front;
+      appends = front_cut _ filled mid before.grows same before.front;
       grows = omega (arith, before.grows, filled_length filled new.len _ mid new.ok.0 same within);
       capacity = omega (arith, before.capacity, c.open_room.ensures.grows, c.truncate.ensures.capacity);
       full = λ going. absurd (true≢false going);
@@ -86,7 +86,7 @@ returns-in-Err-2 g c =
           let so_far = before.told t in
           let now = read.told so_far.0 in
           (now.0, gathered_failed (gathered_same so_far.1 same) now.1 fault);
-      appends = front_cut start filled _ mid _ before.grows same before.front;
+      appends = front_cut start filled mid before.grows same before.front;
       grows = omega (arith, before.grows, filled_length filled new.len _ mid new.ok.0 same within);
       capacity = omega (arith, before.capacity, c.open_room.ensures.grows, c.truncate-in-Err-2.ensures.capacity);
       full = tt;
@@ -151,7 +151,7 @@ reads-preserved g c =
           let so_far = before.told t in
           let now = read.told so_far.0 in (
             now.0,
-            gathered_interruption _ _ _ _ _ _ (gathered_same so_far.1 (kept ∙ c.open_room.ensures.front)) now.1
+            gathered_interruption (gathered_same so_far.1 (kept ∙ c.open_room.ensures.front)) now.1
                 (sym c.is_interrupted.ensures ∙ c.if-is_interrupted.true),
           );
       store = λ s.

@@ -58,7 +58,7 @@ reads-preserved-in-Ok g c =
     let room = part_room at old c.reads-test.true in
     let stays = length_stays at old c.read.new.buf c.read.auto.buf in
     let spent = read.turn (omega (arith, c.in-Ok.n-test.1)) in
-    let gave = consumed_some _ n _ _ _ c.in-Ok.n-test.1 read.over (λ e. (read.last room e).0) read.bytes in
+    let gave = consumed_some n _ _ _ c.in-Ok.n-test.1 read.over (λ e. (read.last room e).0) read.bytes in
     record {
       long = stays ∙ before.long;
       within = within_part at n old _ _ before.within read.bound c.read.auto.buf stays;
@@ -78,7 +78,7 @@ reads-preserved g c =
     let room = part_room at old c.reads-test.true in
     let stays = length_stays at old c.read.new.buf c.read.auto.buf in
     let known = g.D.Read.remaining in
-    let kept = consumed_none _ c.in-Err.e _ _ read.over (λ e. let l = read.last room e in (l.0, l.1, ap known l.2)) read.bytes in
+    let kept = consumed_none c.in-Err.e read.over (λ e. let l = read.last room e in (l.0, l.1, ap known l.2)) read.bytes in
     record {
       long = stays ∙ before.long;
       within = omega (arith, stays, before.within);
@@ -98,7 +98,7 @@ returns-in-Err-2 g c =
     let room = part_room at old c.reads-test.true in
     let stays = length_stays at old c.read.new.buf c.read.auto.buf in
     let known = g.D.Read.remaining in
-    let kept = consumed_none _ c.in-Err.e _ _ read.over (λ e. let l = read.last room e in (l.0, l.1, ap known l.2)) read.bytes in
+    let kept = consumed_none c.in-Err.e read.over (λ e. let l = read.last room e in (l.0, l.1, ap known l.2)) read.bytes in
     let fault : IsFault c.in-Err.e = cc in
     record {
       fault = fault;
@@ -109,7 +109,7 @@ returns-in-Err-2 g c =
         whole = tt;
         device = got_same at (length old - at) old c.read.new.buf _ _ _ before.within before.got kept;
       };
-      ends = ends_reads (length c.args.buf.now) c.in-Err.e _ _ _ fault before.turns read.turn (read.last room) (read.asked room);
+      ends = ends_reads (length c.args.buf.now) c.in-Err.e fault before.turns read.turn (read.last room) (read.asked room);
       empty = λ e. absurd (omega (arith, e, before.long, c.reads-test.true));
       taken = read.taken ∙ before.taken;
     }

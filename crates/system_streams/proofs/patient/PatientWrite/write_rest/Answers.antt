@@ -17,7 +17,7 @@ returns-in-Ok-eq0 g c =
     let ends = ends_zero c.took_nothing.result c.took_nothing.ensures before.turns is wrote.asked in
     record {
       fault = fault;
-      sends = gives_sends (Err c.took_nothing.result) _ _ gives (no_turn c.took_nothing.result _ _ fault ends.0);
+      sends = gives_sends (Err c.took_nothing.result) gives (no_turn c.took_nothing.result _ _ fault ends.0);
       done = tt;
       bytes = gives;
       ends = ends;
@@ -57,10 +57,10 @@ returns-in-Err-2 g c =
     let wrote = c.in-Err.ensures in
     let fault : IsFault c.in-Err.e = cc in
     let gives = gives_same before.gives wrote.taken wrote.bytes in
-    let ends = ends_writes c.in-Err.e _ _ _ fault before.turns wrote.asked in
+    let ends = ends_writes c.in-Err.e fault before.turns wrote.asked in
     record {
       fault = fault;
-      sends = gives_sends (Err c.in-Err.e) _ _ gives (no_turn c.in-Err.e _ _ fault ends.0);
+      sends = gives_sends (Err c.in-Err.e) gives (no_turn c.in-Err.e _ _ fault ends.0);
       done = tt;
       bytes = gives;
       ends = ends;
@@ -71,7 +71,7 @@ returns g c =
     let before = c.writes.invariant in
     record {
       fault = tt;
-      sends = gives_sends _ _ _ before.gives (omega (arith, before.turns));
+      sends = gives_sends _ before.gives (omega (arith, before.turns));
       done = is_empty _ c.writes.rest.now c.is_empty.ensures c.writes-test.false;
       bytes = before.gives;
       ends = before.turns;

@@ -20,5 +20,5 @@ returns-clause-sound g c = λ s.
     let gave = c.give.ensures in (
       s.0,
       sound_moved (reader_behind c.args.self.now) (reader_held c.args.self.now) (ahead_behind c.give.new.self)
-          (ahead_held c.give.new.self) _ _ _ c.give.result gave.behind gave.gave gave.held s.1,
+          (ahead_held c.give.new.self) _ c.give.result gave.behind gave.gave gave.held s.1,
     )

@@ -31,7 +31,7 @@ reads-init g c =
       within = most;
       none = λ more. left;
       turns = omega (arith, gave.turns);
-      told = λ t. (subst g.R.Read.tells same t, taken_first _ _ got _ gave.told (omega arith));
+      told = λ t. (subst g.R.Read.tells same t, taken_first got gave.told (omega arith));
       store = λ s.
           let now = gave.store s in
           (now.0, ap g.R.Stored.content gave.inner, omega (arith, now.1, moved, before, after));
@@ -163,7 +163,7 @@ returns-in-Ok-eq0 g c =
           let so_far = c.reads.invariant.filling f in
           let now = read.asks before.0 in
           let gives = read.gives so_far.0 in
-          let short = exact_short _ _ _ _ _ _ _ so_far.1 (omega arith) (omega (arith, gives.1, zero)) (omega (arith, c.requires)) in
+          let short = exact_short so_far.1 (omega arith) (omega (arith, gives.1, zero)) (omega (arith, c.requires)) in
           (now.0, omega (arith, before.1, now.1, short));
       left = λ f.
           let so_far = c.reads.invariant.filling f in
@@ -182,7 +182,7 @@ pub returns : goal.returns
 returns g c =
     let all = c.reads.invariant in
     record {
-      told = λ t. let now = all.told t in (now.0, taken_whole _ _ c.reads.at c.reads.buf _ now.1 (omega arith) (omega arith));
+      told = λ t. let now = all.told t in (now.0, taken_whole c.reads.at c.reads.buf now.1 (omega arith) (omega arith));
       fault = tt;
       no_later = all.turns;
       store = all.store;

@@ -20,7 +20,7 @@ returns g c =
       bound = read.bound;
       rest = λ short. empty;
       told = λ t. let now = read.told t in (now.0, through_told c.read.result c.read.new.buf held new _ _ none empty now.1);
-      no_later = turns_read g.row.S (length held) (length new) _ _ few read.turns (λ some. absurd (omega (arith, some, ap length empty)));
+      no_later = turns_read g.row.S (length held) (length new) few read.turns (λ some. absurd (omega (arith, some, ap length empty)));
       turn = through_turn c.read.result g.row.S (length held) (length new) _ _ few read.turn;
       store = λ s.
           let now = read.store s.0 in

@@ -95,4 +95,4 @@ returns-in_err-write_all-clause-rest g c = c.in_err-write_all.ensures.rest
 
 pub returns-clause-rest : goal.returns-clause-rest
 returns-clause-rest g c =
-    IsEnd-sent _ c.args.x.now _ _ c.in_ok-write_all.ensures.rest (c.send.ensures.sends.sent, c.send.ensures.sends.split)
+    IsEnd-sent c.args.x.now c.in_ok-write_all.ensures.rest (c.send.ensures.sends.sent, c.send.ensures.sends.split)

@@ -22,7 +22,7 @@ returns-in_err-send_lines-clause-moves g c =
 tail_plain : (g : _) (c : goal.After-write_all g) → HasNoNewline (sender_buffer c.write_all.new.self)
 tail_plain g c =
     let x = c.args.x.now in
-    HasNoNewline-after _ _ _ (HasNoNewline-none _ c.in_ok-send_lines.ensures.sent)
+    HasNoNewline-after _ (HasNoNewline-none _ c.in_ok-send_lines.ensures.sent)
     (HasNoNewline-take (length x - c.args.len) _ c.requires.lines.none_after) c.write_all.ensures.rest
 
 pub returns-clause-line : goal.returns-clause-line

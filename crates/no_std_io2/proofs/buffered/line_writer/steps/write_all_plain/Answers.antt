@@ -9,14 +9,14 @@ use Rattle.no_std_io2.proofs.buffered.line_writer.steps.write_all_plain.Goals as
 
 pub returns-clause-line : goal.returns-clause-line
 returns-clause-line g c =
-    IsLineState-plain _ (HasNoNewline-after _ c.args.x.now _ c.in_ok-send_line.ensures.open c.requires.plain c.write_all.ensures.rest)
+    IsLineState-plain _ (HasNoNewline-after c.args.x.now c.in_ok-send_line.ensures.open c.requires.plain c.write_all.ensures.rest)
 
 pub returns-clause-moves : goal.returns-clause-moves
 returns-clause-moves g c = MovesFront-then c.args.x.now c.write_all.result c.in_ok-send_line.ensures.moves c.write_all.ensures.moves
 
 pub returns-clause-open : goal.returns-clause-open
 returns-clause-open g c =
-    onok c.write_all.result _ (HasNoNewline-after _ c.args.x.now _ c.in_ok-send_line.ensures.open c.requires.plain c.write_all.ensures.rest)
+    onok c.write_all.result _ (HasNoNewline-after c.args.x.now c.in_ok-send_line.ensures.open c.requires.plain c.write_all.ensures.rest)
 
 pub returns-clause-all : goal.returns-clause-all
 returns-clause-all g c = λ t. c.write_all.ensures.all (c.in_ok-send_line.ensures.all t).0

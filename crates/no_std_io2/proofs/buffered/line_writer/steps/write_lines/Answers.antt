@@ -54,7 +54,7 @@ returns-clause-moves g c =
     let whole = taken_then_held x c.args.len n end c.in_ok-n.ensures.bound c.tail_end-end.ensures.after in
     let some : 0 < end = omega (arith, c.tail_end-end.ensures.after, c.if-n-eq0.false) in
     let held : sender_buffer c.send.new.self ++ take end x ≡ take n (take c.args.len x) ++ sender_buffer c.hold.new.self =
-    held_after _ (sender_buffer c.send.new.self) _ (slice_range x n end) _ _ c.in_ok-send.ensures.empty refl c.hold.ensures.buffer whole in
+    held_after (sender_buffer c.send.new.self) (slice_range x n end) _ c.in_ok-send.ensures.empty refl c.hold.ensures.buffer whole in
     let then =
     Moves-then first
     (Moves-quiet

@@ -16,7 +16,7 @@ loop-self-preserved-in-Ok g c =
 
 pub loop-self-smaller-in-Ok : goal.loop-self-smaller-in-Ok
 loop-self-smaller-in-Ok g c =
-    fewer_left c.as_slice.result.now _ _ _ c.in-Ok.ensures.moves c.in-Ok.n-test.1 c.in-Ok.ensures.bound c.as_slice.ensures.value
+    fewer_left c.as_slice.result.now c.in-Ok.ensures.moves c.in-Ok.n-test.1 c.in-Ok.ensures.bound c.as_slice.ensures.value
     c.drop_front.ensures.rest
 
 pub loop-self-preserved : goal.loop-self-preserved

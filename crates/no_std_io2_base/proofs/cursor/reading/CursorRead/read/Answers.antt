@@ -13,7 +13,7 @@ returns-clause-told g c =
     let all = g.T.AsSlice.slice here.inner in
     let front : take n c.copy_prefix-n.new.to ≡ take n left =
     ap (take n) c.copy_prefix-n.ensures.copied ∙ take_at _ _ n (length-take-le n left (omega arith)) in
-    read_bytes (cursor_left g.T.AsSlice.slice here) _ _ n (front ∙ ap (take n) c.left.ensures.left)
+    read_bytes (cursor_left g.T.AsSlice.slice here) _ n (front ∙ ap (take n) c.left.ensures.left)
     (left_after all here.pos n) (λ zero room. omega (arith, ap length c.left.ensures.left))
 
 pub returns-clause-fills : goal.returns-clause-fills

@@ -26,7 +26,7 @@ returns-clause-told g c =
     c.copy_prefix-n.ensures.copied
     ∙ ap (λ l. take n left ++ l) (drop_of_length-le c.args.buf.now {i = n} (omega arith))
     ∙ append-nil (take n left) in
-    fill_bytes (cursor_left g.T.AsSlice.slice here) _ _ n (whole ∙ ap (take n) c.left-left.ensures.left) (omega arith)
+    fill_bytes (cursor_left g.T.AsSlice.slice here) n (whole ∙ ap (take n) c.left-left.ensures.left) (omega arith)
     (left_after all here.pos n)
 
 pub returns-clause-store : goal.returns-clause-store

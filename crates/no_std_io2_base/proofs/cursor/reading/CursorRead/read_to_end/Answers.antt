@@ -18,7 +18,7 @@ returns-in_err-answer g c =
       appends = front_stays said.moved c.args.buf.now.ok.0;
       count = tt;
       capacity = said.grows;
-      room = λ _. λ enough. absurd (never_refused _ _ _ enough (subst
+      room = λ _. λ enough. absurd (never_refused _ _ enough (subst
           (λ l. vec_capacity c.args.buf.now < vec_len c.args.buf.now + length l + 32) left said.full));
       fault = memory_fault _ said.refused;
       turns = fewer_behind start _ content;
@@ -36,7 +36,7 @@ returns g c =
     let left = c.left-rest.ensures.left in
     let said = c.in_ok-answer.ensures in
     record {
-      told = λ _. rw (left_behind content start _ left said.moved, sym left) (tt, moved_whole _ _ _ _ said.moved said.done);
+      told = λ _. rw (left_behind content start _ left said.moved, sym left) (tt, moved_whole _ said.moved said.done);
       appends = front_stays said.moved c.args.buf.now.ok.0;
       count = longer_by _ said.moved said.done c.args.buf.now.ok.0 c.append_rest-answer.new.buf.ok.0;
       capacity = said.grows;

@@ -32,23 +32,23 @@ returns-then-is_whole g c =
           let lent = filled.told so_far.0 in
           let rest = dropped.told lent.0 in
           let part =
-          part_taken _ c.in-Ok.lent _ _ _
+          part_taken c.in-Ok.lent _
           ((goal.BufRead-dyn g (c.consume.new.self.vtable, c.consume.new.self.value)).Read.events
           c.consume.new.self.value)
           c.find_piece-len.result.0 c.in-Ok.is filled.lends lent.1 rest.1 in (
             rest.0,
             piece_ended so_far.1 part
-                (whole_part _ _ _ _ _ found c.if-is_whole.true (c.in-Ok.ensures.end so_far.0)) appended
+                (whole_part found c.if-is_whole.true (c.in-Ok.ensures.end so_far.0)) appended
                 (omega (arith, c.append.new.buf.ok.0, c.args.buf.now.ok.0, c.len.ensures, before.start)),
           );
-      appends = front_more _ _ _ _ before.front appended;
+      appends = front_more _ _ before.front appended;
       count = omega (arith, c.len.ensures, before.start, before.grows, c.in_ok-append-in-Ok.ensures.len);
       capacity = le_trans before.capacity c.append.ensures.grows;
       room = λ t enough. tt;
       fault = tt;
       turns = omega (arith, dropped.turns, filled.turns, before.turns);
       turn =
-          λ some. spent_more _ _ _ _ _ _ _ _ before.spent before.turns filled.turns dropped.turns dropped.turn grown
+          λ some. spent_more before.spent before.turns filled.turns dropped.turns dropped.turn grown
           (omega (arith, some, c.len.ensures, before.start));
       metered = λ h. absurd h;
       filling = λ h. absurd h;
@@ -66,17 +66,17 @@ pieces-preserved-else-is_whole g c =
       start = before.start;
       grows = omega (arith, before.grows, c.in_ok-append-in-Ok.ensures.len);
       capacity = le_trans before.capacity c.append.ensures.grows;
-      front = front_more _ _ _ _ before.front appended;
+      front = front_more _ _ before.front appended;
       turns = omega (arith, dropped.turns, filled.turns, before.turns);
       spent =
-          spent_more _ _ _ _ _ _ _ _ before.spent before.turns filled.turns dropped.turns dropped.turn
+          spent_more before.spent before.turns filled.turns dropped.turns dropped.turn
           (part_fits _ _ c.in_ok-append-in-Ok.ensures.len found.within);
       told = λ t.
           let so_far = before.told t in
           let lent = filled.told so_far.0 in
           let rest = dropped.told lent.0 in
           let part =
-          part_taken _ c.in-Ok.lent _ _ _
+          part_taken c.in-Ok.lent _
           ((goal.BufRead-dyn g (c.consume.new.self.vtable, c.consume.new.self.value)).Read.events
           c.consume.new.self.value)
           c.find_piece-len.result.0 c.in-Ok.is filled.lends lent.1 rest.1 in
@@ -103,13 +103,13 @@ pieces-preserved g c =
           let so_far = before.told t in
           let lent = filled.told so_far.0 in (
             lent.0,
-            piece_interruption so_far.1 (error_taken _ _ _ _ c.in-Err.is lent.1)
+            piece_interruption so_far.1 (error_taken c.in-Err.is lent.1)
                 (sym c.is_interrupted.ensures ∙ c.if-is_interrupted.true),
           );
     }
 
 pub pieces-smaller : goal.pieces-smaller
-pieces-smaller g c = error_turn _ _ _ _ c.in-Err.is c.fill_buf.follows.holds-at-none.turn
+pieces-smaller g c = error_turn c.in-Err.is c.fill_buf.follows.holds-at-none.turn
 
 pub returns-in-Err-2 : goal.returns-in-Err-2
 returns-in-Err-2 g c =
@@ -120,13 +120,13 @@ returns-in-Err-2 g c =
       told = λ t.
           let so_far = before.told t in
           let lent = filled.told so_far.0 in
-          (lent.0, piece_fault so_far.1 (error_taken _ _ _ _ c.in-Err.is lent.1) fault);
+          (lent.0, piece_fault so_far.1 (error_taken c.in-Err.is lent.1) fault);
       appends = before.front;
       count = tt;
       capacity = before.capacity;
       room = λ t enough.
           let so_far = before.told t in
-          fault_is_first so_far.1 (error_taken _ _ _ _ c.in-Err.is (filled.told so_far.0).1) fault;
+          fault_is_first so_far.1 (error_taken c.in-Err.is (filled.told so_far.0).1) fault;
       fault = fault;
       turns = le_trans filled.turns before.turns;
       turn = tt;
@@ -145,7 +145,7 @@ returns-in_err-append-in-Ok g c =
       told = λ t.
           let so_far = before.told t in
           let lent = filled.told so_far.0 in
-          (lent.0, piece_memory so_far.1 (none_taken _ c.in-Ok.lent _ _ c.in-Ok.is lent.1) refused.err refused.refused);
+          (lent.0, piece_memory so_far.1 (none_taken c.in-Ok.lent c.in-Ok.is lent.1) refused.err refused.refused);
       appends = front_same _ before.front refused.err;
       count = tt;
       capacity = le_trans before.capacity c.append.ensures.grows;

@@ -10,7 +10,7 @@ returns-clause-told c = λ _.
     let n = c.copy_prefix-n.result in
     let front : take n c.copy_prefix-n.new.to ≡ take n all =
     ap (take n) c.copy_prefix-n.ensures.copied ∙ take_at _ _ n (length-take-le n all (omega arith)) in
-    (tt, read_bytes _ _ _ _ front (take_rest all n) (λ zero room. omega arith))
+    (tt, read_bytes _ _ _ front (take_rest all n) (λ zero room. omega arith))
 
 pub returns-clause-fills : goal.returns-clause-fills
 returns-clause-fills c = λ _. (tt, omega (arith, length-events_of c.args.self.now.now))

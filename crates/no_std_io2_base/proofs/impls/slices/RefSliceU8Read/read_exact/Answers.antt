@@ -23,4 +23,4 @@ returns-clause-told c =
     c.copy_prefix-n.ensures.copied
     ∙ ap (λ l. take n all ++ l) (drop_of_length-le c.args.buf.now {i = n} (omega arith))
     ∙ append-nil (take n all) in
-    fill_bytes _ _ _ n whole (omega arith) (take_rest all n)
+    fill_bytes _ n whole (omega arith) (take_rest all n)

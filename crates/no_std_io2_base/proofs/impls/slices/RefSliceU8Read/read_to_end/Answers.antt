@@ -11,9 +11,9 @@ returns-in_err-append_rest-clause-told g c = λ _.
 
 pub returns-in_err-append_rest-clause-room : goal.returns-in_err-append_rest-clause-room
 returns-in_err-append_rest-clause-room g c = λ _. λ enough.
-    absurd (never_refused c.args.self.now.now _ _ enough c.in_err-append_rest.ensures.full)
+    absurd (never_refused c.args.self.now.now _ enough c.in_err-append_rest.ensures.full)
 
 pub returns-clause-told : goal.returns-clause-told
 returns-clause-told g c = λ _.
     let said = c.in_ok-append_rest.ensures in
-    (tt, moved_whole _ _ _ _ said.moved said.done)
+    (tt, moved_whole _ said.moved said.done)

@@ -29,7 +29,7 @@ pub returns-in_default-clause-turns : goal.returns-in_default-clause-turns
 returns-in_default-clause-turns g c = omega (arith, c.in_ok-n.ensures.turns)
 
 pub returns-in_default-clause-turn : goal.returns-in_default-clause-turn
-returns-in_default-clause-turn g c = first_turn c.in_ok-n.n _ _ _ c.in_ok-n.ensures.turn
+returns-in_default-clause-turn g c = first_turn c.in_ok-n.n _ c.in_ok-n.ensures.turn
 
 pub returns-in_default-clause-ended : goal.returns-in_default-clause-ended
 returns-in_default-clause-ended g c = λ t none some.

@@ -18,7 +18,7 @@ returns-then-self g c =
       appends = read.appends;
       count = read.count;
       capacity = read.capacity;
-      room = λ t enough. read.room t.1 (room_when_done _ one two _ _ c.if-self.true enough);
+      room = λ t enough. read.room t.1 (room_when_done one two _ c.if-self.true enough);
       fault = read.fault;
       turns = omega (arith, read.turns);
       in_turn = turn_of_second _ _ c.if-self.true refl;
@@ -38,7 +38,7 @@ returns-in_err-read_to_end g c =
       count = tt;
       capacity = first.capacity;
       room = λ t enough.
-          let both = room_while_going _ one two _ _ going enough in
+          let both = room_while_going one two _ going enough in
           first.room (t.0 going) (room_of_first one two _ _ both);
       fault = first.fault;
       turns = omega (arith, first.turns);
@@ -63,7 +63,7 @@ returns-in_err-is_at_end g c =
       count = tt;
       capacity = le_trans first.capacity second.capacity;
       room = λ t enough.
-          let both = room_while_going _ one two _ _ going enough in
+          let both = room_while_going one two _ going enough in
           absurd (stopped_clean _ (second.told t.1).1 (HasNoFault-behind one two both.0));
       fault = second.fault;
       turns = omega (arith, first.turns, second.turns);
@@ -84,7 +84,7 @@ returns-then-is_at_end g c =
           let before = first.told (t.0 going) in
           let now = second.told t.1 in
           let end = now.1.4 c.if-is_at_end.true in
-          let all = gathered_then _ _ _ _ _ _ _ (gathered_first one two before.1) now.1 in
+          let all = gathered_then (gathered_first one two before.1) now.1 in
           ((λ _. before.0, now.0), rw going (gathered_done _ all end end count));
       appends = front_then _ _ (omega (arith, first.count)) first.appends second.appends;
       count = omega (arith, first.count, second.grows);
@@ -110,14 +110,14 @@ returns-in_err-read_to_end-2 g c =
           let before = first.told (t.0 going) in
           let then = second.told t.1 in
           let now = last.told then.0 in
-          let so_far = gathered_then _ _ _ _ _ _ _ (gathered_first one two before.1) then.1 in
+          let so_far = gathered_then (gathered_first one two before.1) then.1 in
           ((λ _. before.0, now.0), rw going (gathered_stop _ so_far now.1));
       appends = front_then _ _ (omega (arith, first.count, second.grows))
           (front_then _ _ (omega (arith, first.count)) first.appends second.appends) last.appends;
       count = tt;
       capacity = le_trans first.capacity (le_trans second.capacity last.capacity);
       room = λ t enough.
-          let both = room_while_going _ one two _ _ going enough in
+          let both = room_while_going one two _ going enough in
           let behind = room_of_second one two _ _ _ _ _ both (first.told (t.0 going)).1.2 first.count first.capacity in
           let then = second.told t.1 in
           last.room then.0
@@ -143,7 +143,7 @@ returns g c =
           let before = first.told (t.0 going) in
           let then = second.told t.1 in
           let now = last.told then.0 in
-          let so_far = gathered_then _ _ _ _ _ _ _ (gathered_first one two before.1) then.1 in
+          let so_far = gathered_then (gathered_first one two before.1) then.1 in
           ((λ _. before.0, now.0), rw going (gathered_all _ _ so_far now.1 count));
       appends = front_then _ _ (omega (arith, first.count, second.grows))
           (front_then _ _ (omega (arith, first.count)) first.appends second.appends) last.appends;

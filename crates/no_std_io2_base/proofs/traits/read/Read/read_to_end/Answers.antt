@@ -15,7 +15,7 @@ returns-in_err-reserve_room g c =
     let refused = c.in_err-reserve_room.ensures.refused in
     let same = c.reserve_room.ensures.items in
     rw (p.1, p.2) (record {
-      told = λ t. (t, gathered_memory (gathered_none _ _ _ same) refused);
+      told = λ t. (t, gathered_memory (gathered_none same) refused);
       appends = front_whole c.args.buf.now.ok.0 same;
       count = tt;
       capacity = c.reserve_room.ensures.grows;
@@ -37,7 +37,7 @@ reads-init g c =
       capacity = c.reserve_room.ensures.grows;
       front = front_whole c.args.buf.now.ok.0 same;
       turns = le_refl _;
-      told = λ t. (t, gathered_none _ _ _ (front_whole (start ∙ c.args.buf.now.ok.0) same));
+      told = λ t. (t, gathered_none (front_whole (start ∙ c.args.buf.now.ok.0) same));
       is_metered = λ m. m;
       is_filling = λ f. f;
       store = λ s. (s, refl, refl);
@@ -56,7 +56,7 @@ returns-in_err-open_room g c =
       told = λ t.
           let so_far = before.told t in
           (so_far.0, gathered_memory (gathered_same so_far.1 same) refused);
-      appends = front_cut _ filled _ c.reads.buf.items _ before.grows same before.front;
+      appends = front_cut _ filled c.reads.buf.items before.grows same before.front;
       count = tt;
       capacity = le_trans before.capacity c.open_room.ensures.grows;
       room = λ t enough.
@@ -90,7 +90,7 @@ returns-in-Ok-eq0 g c =
           let so_far = before.told t in
           let now = read.told so_far.0 in
           (now.0, gathered_stops _ (gathered_same so_far.1 same) now.1 is none some count);
-      appends = front_cut _ filled _ mid _ before.grows same before.front;
+      appends = front_cut _ filled mid before.grows same before.front;
       count = len_cut c.len-start.result filled new.len _ _ mid c.len-start.ensures before.grows new.ok.0 same within;
       capacity = omega (arith, before.capacity, c.open_room.ensures.grows, c.truncate.ensures.capacity);
       room = λ t enough. refl;
@@ -127,7 +127,7 @@ returns-in-Err-2 g c =
           let so_far = before.told t in
           let now = read.told so_far.0 in
           (now.0, gathered_fault (gathered_same so_far.1 same) now.1 fault);
-      appends = front_cut start filled _ c.reads.buf.items _ before.grows same before.front;
+      appends = front_cut start filled c.reads.buf.items before.grows same before.front;
       count = tt;
       capacity = omega (arith, before.capacity, c.open_room.ensures.grows, c.truncate-in-Err-2.ensures.capacity);
       room = λ t enough.
@@ -198,7 +198,7 @@ reads-preserved g c =
           let so_far = before.told t in
           let now = read.told so_far.0 in (
             now.0,
-            gathered_interruption _ _ _ _ _ _ (gathered_same so_far.1 (kept ∙ c.open_room.ensures.front)) now.1
+            gathered_interruption (gathered_same so_far.1 (kept ∙ c.open_room.ensures.front)) now.1
                 (sym c.is_interrupted.ensures ∙ c.if-is_interrupted.true),
           );
       is_metered = λ m. (read.cost (before.is_metered m)).0;

@@ -36,7 +36,7 @@ returns-in-Ok-eq0 g c =
           let so_far = before.told t in
           let now = read.told so_far.0 in (
             now.0,
-            inr (exact_short _ _ _ _ _ _ _ _ _ _ _ so_far.1 now.1 is none some (search rules) (sym before.long ∙ sym stays)
+            inr (exact_short _ so_far.1 now.1 is none some (search rules) (sym before.long ∙ sym stays)
                 (short_before at _ old below stays)),
           );
       fault = search rules;

@@ -26,7 +26,7 @@ returns-in-Ok-eq0 g c =
     }
 
 pub writes-smaller-in-Ok : goal.writes-smaller-in-Ok
-writes-smaller-in-Ok g c = fewer_left c.in-Ok.n _ _ _ c.writes.rest.now c.in-Ok.n-test.1 c.in-Ok.ensures.bound c.in-Ok.ensures.moves.turns
+writes-smaller-in-Ok g c = fewer_left c.in-Ok.n _ _ c.writes.rest.now c.in-Ok.n-test.1 c.in-Ok.ensures.bound c.in-Ok.ensures.moves.turns
 
 pub writes-preserved-in-Ok : goal.writes-preserved-in-Ok
 writes-preserved-in-Ok g c =
@@ -41,7 +41,7 @@ writes-preserved-in-Ok g c =
           let so_far = before.cost m a in
           let now = wrote.cost so_far.0 (before.all a) in (
             now.0,
-            one_call n left _ _ _ _ (same_count refl (wrote.all (before.all a)).1)
+            one_call n left _ _ _ (same_count refl (wrote.all (before.all a)).1)
                 (not_empty _ left c.is_empty.ensures c.writes-test.true) now.1 so_far.1,
           );
     }

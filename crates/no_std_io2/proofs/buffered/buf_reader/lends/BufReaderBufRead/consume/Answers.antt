@@ -21,5 +21,5 @@ returns-clause-sound g c = λ s.
     let moved = c.drop_front.ensures in (
       s.0,
       sound_moved (reader_behind c.args.self.now) (reader_held c.args.self.now) (ahead_behind c.drop_front.new.self)
-          (ahead_held c.drop_front.new.self) _ _ _ c.args.amount moved.behind refl moved.held s.1,
+          (ahead_held c.drop_front.new.self) _ c.args.amount moved.behind refl moved.held s.1,
     )

@@ -37,21 +37,21 @@ returns-then-is_whole g c =
           let lent = filled.told so_far.0 in
           let rest = dropped.told lent.0 in
           let part =
-          part_taken _ c.in-Ok.lent _ _ _ (reader_events g.R.Read.events c.consume.new.self) c.find_piece-len.result.0
+          part_taken c.in-Ok.lent _ (reader_events g.R.Read.events c.consume.new.self) c.find_piece-len.result.0
           c.in-Ok.is filled.lends lent.1 rest.1 in (
             rest.0,
             piece_ended so_far.1 part
-                (whole_part _ _ _ _ _ found c.if-is_whole.true (c.in-Ok.ensures.end so_far.0)) appended
+                (whole_part found c.if-is_whole.true (c.in-Ok.ensures.end so_far.0)) appended
                 (omega (arith, c.append.new.buf.ok.0, c.args.buf.now.ok.0, c.len.ensures, before.start)),
           );
-      appends = front_more _ _ _ _ before.front appended;
+      appends = front_more _ _ before.front appended;
       count = omega (arith, c.len.ensures, before.start, before.grows, c.in_ok-append-in-Ok.ensures.len);
       capacity = le_trans before.capacity c.append.ensures.grows;
       room = λ t enough. tt;
       fault = tt;
       turns = omega (arith, dropped.turns, filled.turns, before.turns);
       turn =
-          λ some. spent_more _ _ _ _ _ _ _ _ before.spent before.turns filled.turns dropped.turns dropped.turn grown
+          λ some. spent_more before.spent before.turns filled.turns dropped.turns dropped.turn grown
           (omega (arith, some, c.len.ensures, before.start));
       metered = λ h. absurd h;
       filling = λ h. absurd h;
@@ -61,7 +61,7 @@ returns-then-is_whole g c =
           let rest = dropped.store lent.0 in
           let told = filled.told (g.met.R.Read.store_tells _ so_far.0.0).0 in
           let part =
-          part_taken _ c.in-Ok.lent _ _ _ (reader_events g.R.Read.events c.consume.new.self) c.find_piece-len.result.0
+          part_taken c.in-Ok.lent _ (reader_events g.R.Read.events c.consume.new.self) c.find_piece-len.result.0
           c.in-Ok.is filled.lends told.1 (dropped.told told.0).1 in (
             rest.0,
             rest.1 ∙ lent.1 ∙ so_far.1,
@@ -81,17 +81,17 @@ pieces-preserved-else-is_whole g c =
       start = before.start;
       grows = omega (arith, before.grows, c.in_ok-append-in-Ok.ensures.len);
       capacity = le_trans before.capacity c.append.ensures.grows;
-      front = front_more _ _ _ _ before.front appended;
+      front = front_more _ _ before.front appended;
       turns = omega (arith, dropped.turns, filled.turns, before.turns);
       spent =
-          spent_more _ _ _ _ _ _ _ _ before.spent before.turns filled.turns dropped.turns dropped.turn
+          spent_more before.spent before.turns filled.turns dropped.turns dropped.turn
           (part_fits _ _ c.in_ok-append-in-Ok.ensures.len found.within);
       told = λ t.
           let so_far = before.told t in
           let lent = filled.told so_far.0 in
           let rest = dropped.told lent.0 in
           let part =
-          part_taken _ c.in-Ok.lent _ _ _ (reader_events g.R.Read.events c.consume.new.self) c.find_piece-len.result.0
+          part_taken c.in-Ok.lent _ (reader_events g.R.Read.events c.consume.new.self) c.find_piece-len.result.0
           c.in-Ok.is filled.lends lent.1 rest.1 in
           (rest.0, piece_more _ so_far.1 part (found.open_ended c.if-is_whole.false).1 appended);
       store = λ h.
@@ -100,7 +100,7 @@ pieces-preserved-else-is_whole g c =
           let rest = dropped.store lent.0 in
           let told = filled.told (g.met.R.Read.store_tells _ so_far.0.0).0 in
           let part =
-          part_taken _ c.in-Ok.lent _ _ _ (reader_events g.R.Read.events c.consume.new.self) c.find_piece-len.result.0
+          part_taken c.in-Ok.lent _ (reader_events g.R.Read.events c.consume.new.self) c.find_piece-len.result.0
           c.in-Ok.is filled.lends told.1 (dropped.told told.0).1 in (
             rest.0,
             rest.1 ∙ lent.1 ∙ so_far.1,
@@ -129,18 +129,18 @@ pieces-preserved g c =
           let so_far = before.told t in
           let lent = filled.told so_far.0 in (
             lent.0,
-            piece_interruption so_far.1 (error_taken _ _ _ _ c.in-Err.is lent.1)
+            piece_interruption so_far.1 (error_taken c.in-Err.is lent.1)
                 (sym c.is_interrupted.ensures ∙ c.if-is_interrupted.true),
           );
       store = λ h.
           let so_far = before.store h in
           let inner = g.met.R.Read.store_tells _ so_far.0.0 in
           let alone = sound_tells (reader_held c.pieces.self) _ _ _ so_far.0.1 inner.1 in
-          absurd (no_error _ alone (error_taken _ _ _ _ c.in-Err.is (filled.told inner.0).1));
+          absurd (no_error _ alone (error_taken c.in-Err.is (filled.told inner.0).1));
     }
 
 pub pieces-smaller : goal.pieces-smaller
-pieces-smaller g c = error_turn _ _ _ _ c.in-Err.is c.fill_buf.follows.holds-at-none.turn
+pieces-smaller g c = error_turn c.in-Err.is c.fill_buf.follows.holds-at-none.turn
 
 pub returns-in-Err-2 : goal.returns-in-Err-2
 returns-in-Err-2 g c =
@@ -151,13 +151,13 @@ returns-in-Err-2 g c =
       told = λ t.
           let so_far = before.told t in
           let lent = filled.told so_far.0 in
-          (lent.0, piece_fault so_far.1 (error_taken _ _ _ _ c.in-Err.is lent.1) fault);
+          (lent.0, piece_fault so_far.1 (error_taken c.in-Err.is lent.1) fault);
       appends = before.front;
       count = tt;
       capacity = before.capacity;
       room = λ t enough.
           let so_far = before.told t in
-          fault_is_first so_far.1 (error_taken _ _ _ _ c.in-Err.is (filled.told so_far.0).1) fault;
+          fault_is_first so_far.1 (error_taken c.in-Err.is (filled.told so_far.0).1) fault;
       fault = fault;
       turns = le_trans filled.turns before.turns;
       turn = tt;
@@ -167,7 +167,7 @@ returns-in-Err-2 g c =
           let so_far = before.store h in
           let inner = g.met.R.Read.store_tells _ so_far.0.0 in
           let alone = sound_tells (reader_held c.pieces.self) _ _ _ so_far.0.1 inner.1 in
-          absurd (no_error _ alone (error_taken _ _ _ _ c.in-Err.is (filled.told inner.0).1));
+          absurd (no_error _ alone (error_taken c.in-Err.is (filled.told inner.0).1));
     }
 
 pub returns-in_err-append-in-Ok : goal.returns-in_err-append-in-Ok
@@ -180,7 +180,7 @@ returns-in_err-append-in-Ok g c =
       told = λ t.
           let so_far = before.told t in
           let lent = filled.told so_far.0 in
-          (lent.0, piece_memory so_far.1 (none_taken _ c.in-Ok.lent _ _ c.in-Ok.is lent.1) refused.err refused.refused);
+          (lent.0, piece_memory so_far.1 (none_taken c.in-Ok.lent c.in-Ok.is lent.1) refused.err refused.refused);
       appends = front_same _ before.front refused.err;
       count = tt;
       capacity = le_trans before.capacity c.append.ensures.grows;
@@ -199,5 +199,5 @@ returns-in_err-append-in-Ok g c =
           let so_far = before.store h in
           let lent = filled.store so_far.0 in
           let told = filled.told (g.met.R.Read.store_tells _ so_far.0.0).0 in
-          (lent.0, lent.1 ∙ so_far.1, ap₂ (λ p l. p + length l) lent.2 (none_taken _ c.in-Ok.lent _ _ c.in-Ok.is told.1) ∙ so_far.2);
+          (lent.0, lent.1 ∙ so_far.1, ap₂ (λ p l. p + length l) lent.2 (none_taken c.in-Ok.lent c.in-Ok.is told.1) ∙ so_far.2);
     })

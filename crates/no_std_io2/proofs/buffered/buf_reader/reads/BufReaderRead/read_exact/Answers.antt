@@ -61,7 +61,7 @@ returns g c =
       );
       sound = λ s. (
         s.0,
-        sound_moved (reader_behind c.args.self.now) old (ahead_behind c.give_whole.new.self) new _ _ _ n gave.behind
+        sound_moved (reader_behind c.args.self.now) old (ahead_behind c.give_whole.new.self) new _ n gave.behind
             gave.gave gave.held s.1,
       );
     }

@@ -25,12 +25,12 @@ returns-in_err-append_to g c =
     let moved = refused.moved in
     rw (p.1, p.2) (record {
       told = λ t. (t, part_refused held left _ _ moved refused.refused);
-      appends = part_front held left _ _ _ c.args.buf.now.ok.0 moved;
+      appends = part_front held left c.args.buf.now.ok.0 moved;
       count = tt;
       capacity = refused.grows;
-      room = λ t enough. absurd (room_held held _ _ _ enough refused.full);
+      room = λ t enough. absurd (room_held held _ _ enough refused.full);
       fault = memory_fault _ refused.refused;
-      turns = part_turns held left _ _ _ _ moved;
+      turns = part_turns held left _ _ _ moved;
       metered = λ h. h;
       filling = λ h. h;
       store = λ s. ((s.0, part_sound held left _ _ moved s.1), refl, part_moved held left _ _ s.1.0 moved);
@@ -52,16 +52,16 @@ returns-in_err-is_at_end g c =
       appends = emptied_front held _ c.args.buf.now.ok.0 c.append_to.new.buf.ok.0 first read.appends;
       count = tt;
       capacity = le_trans done.grows read.capacity;
-      room = λ t enough. absurd (stopped_clean _ (read.told t).1 (room_behind held _ _ _ enough));
+      room = λ t enough. absurd (stopped_clean _ (read.told t).1 (room_behind held _ _ enough));
       fault = read.fault;
       turns =
-          turns_read g.row.S (length held) (length none) _ _ few read.turns
+          turns_read g.row.S (length held) (length none) few read.turns
           (λ some. absurd (omega (arith, some, ap length done.done.0)));
       metered = λ h. h;
       filling = λ h. h;
       store = λ s.
           let now = read.store s.0 in
-          ((now.0, sound_none none _ _ done.done.0), now.1, emptied_moved held none _ _ _ _ s.1.0 done.done.0 now.2);
+          ((now.0, sound_none none _ _ done.done.0), now.1, emptied_moved held none _ _ _ s.1.0 done.done.0 now.2);
       empties = inl (emptied_shown _ first read.appends, done.done);
       sound = λ s. ((read.store s.0).0, sound_empty (ahead_behind c.append_to.new.self) none _ _ done.done.1 done.done.0);
     })
@@ -83,13 +83,13 @@ returns-then-is_at_end g c =
       room = λ t enough. refl;
       fault = tt;
       turns =
-          turns_read g.row.S (length held) (length none) _ _ few read.turns
+          turns_read g.row.S (length held) (length none) few read.turns
           (λ some. absurd (omega (arith, some, ap length done.done.0)));
       metered = λ h. h;
       filling = λ h. h;
       store = λ s.
           let now = read.store s.0 in
-          ((now.0, sound_none none _ _ done.done.0), now.1, emptied_moved held none _ _ _ _ s.1.0 done.done.0 now.2);
+          ((now.0, sound_none none _ _ done.done.0), now.1, emptied_moved held none _ _ _ s.1.0 done.done.0 now.2);
       empties = (emptied_shown _ first read.appends, done.done);
       sound = λ s. ((read.store s.0).0, sound_empty (ahead_behind c.append_to.new.self) none _ _ done.done.1 done.done.0);
     }
@@ -118,14 +118,14 @@ returns-in_err-read_to_end g c =
           let behind = emptied_on held _ _ enough c.args.buf.now.ok.0 c.append_to.new.buf.ok.0 first done.grows in
           last.room then.0 (room_left _ then.1 behind c.append_to.new.buf.ok.0 c.fill_room.new.buf.ok.0 read.capacity);
       fault = last.fault;
-      turns = turns_read g.row.S (length held) (length none) _ _ few (le_trans last.turns read.turns)
+      turns = turns_read g.row.S (length held) (length none) few (le_trans last.turns read.turns)
           (λ some. absurd (omega (arith, some, ap length done.done.0)));
       metered = λ h. h;
       filling = λ h. h;
       store = λ s.
           let then = read.store s.0 in
           let now = last.store then.0 in
-          ((now.0, sound_none none _ _ done.done.0), now.1 ∙ then.1, emptied_moved held none _ _ _ _ s.1.0 done.done.0 (now.2 ∙ then.2));
+          ((now.0, sound_none none _ _ done.done.0), now.1 ∙ then.1, emptied_moved held none _ _ _ s.1.0 done.done.0 (now.2 ∙ then.2));
       empties = inl (emptied_shown _ first shown, done.done);
       sound = λ s. ((last.store (read.store s.0).0).0, sound_empty (ahead_behind c.append_to.new.self) none _ _ done.done.1 done.done.0);
     })
@@ -151,14 +151,14 @@ returns g c =
       capacity = le_trans done.grows (le_trans read.capacity last.capacity);
       room = λ t enough. refl;
       fault = tt;
-      turns = turns_read g.row.S (length held) (length none) _ _ few (le_trans last.turns read.turns)
+      turns = turns_read g.row.S (length held) (length none) few (le_trans last.turns read.turns)
           (λ some. absurd (omega (arith, some, ap length done.done.0)));
       metered = λ h. h;
       filling = λ h. h;
       store = λ s.
           let then = read.store s.0 in
           let now = last.store then.0 in
-          ((now.0, sound_none none _ _ done.done.0), now.1 ∙ then.1, emptied_moved held none _ _ _ _ s.1.0 done.done.0 (now.2 ∙ then.2));
+          ((now.0, sound_none none _ _ done.done.0), now.1 ∙ then.1, emptied_moved held none _ _ _ s.1.0 done.done.0 (now.2 ∙ then.2));
       empties = (emptied_shown _ first shown, done.done);
       sound = λ s. ((last.store (read.store s.0).0).0, sound_empty (ahead_behind c.append_to.new.self) none _ _ done.done.1 done.done.0);
     }

@@ -53,5 +53,5 @@ returns-in-Start-clause-sought g c =
     let seek = c.seek_inner.ensures in record {
       dropped = dropped_whole c.seek_inner.result _ _ seek.empty seek.behind;
       kept = kept_whole c.seek_inner.result _ _ _ seek.kept seek.behind_kept;
-      inner = one_inner g.R.Seek.may_seek _ _ _ c.seek_inner.result c.args.pos c.in-Start.is seek.sought;
+      inner = one_inner g.R.Seek.may_seek _ c.seek_inner.result c.args.pos c.in-Start.is seek.sought;
     }
