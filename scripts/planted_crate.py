@@ -134,15 +134,12 @@ class Crate:
                     it.write(text)
         self.others = others
 
-    def place_of(self, path, old, new):
+    def place_of(self, path, old):
         """Says in what a change stands, and whether that is a function's body or an import."""
         at, (functions, items) = self.texts[path].find(old), self.items[path]
-        end = at + len(old)
-        # what the two begin with is no change
-        at += len(os.path.commonprefix([old, new]))
         for it in functions:
             if it.head <= at < it.end:
-                return it.name, it.body < at and end < it.end
+                return it.name, it.body < at and at + len(old) < it.end
         for first, end in items:
             if first <= at < end:
                 return f"{path}, {first}", False
@@ -178,7 +175,7 @@ class Crate:
             elif word == "refused by":
                 judged.add(self.named(rest.strip()))
         planted(self.texts, changes)
-        found = [self.place_of(*it) for it in changes if it[1] in self.texts[it[0]]]
+        found = [self.place_of(path, old) for path, old, _ in changes if old in self.texts[path]]
         places = {it for it, _ in found if it}
         if not judged and (len(places) != 1 or not places <= set(self.names)):
             raise Fault("it changes no one function, so it needs a line 'refused by: FUNCTION'")
