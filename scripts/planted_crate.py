@@ -194,15 +194,33 @@ class Crate:
         return [(path, at, at + length) for path, at, length in found]
 
     def can_stand(self, edit, other):
-        """Says whether two edits can be judged by one function in one check: each by its goal, which the other leaves proved."""
+        """Says whether two edits of one function can stand side by side: each has goals that are known, and they change other texts."""
         is_alike = edit.judged == other.judged and edit.in_bodies == other.in_bodies
         if not (edit.is_open and other.is_open and is_alike):
             return False
-        (own,), (others,) = edit.goals.values(), other.goals.values()
-        if own[0] in others or others[0] in own:
-            return False
         spans = [(a, b) for a in self.spans(edit) for b in self.spans(other)]
         return all(a[0] != b[0] or a[2] <= b[1] or b[2] <= a[1] for a, b in spans)
+
+    def told_apart(self, edits):
+        """Gives the edits of a round, where those of one function have each a goal first that the others leave proved, or nothing
+        where they have none."""
+        told = []
+        for edit in edits:
+            others = [it for it in edits if it is not edit and it.judged == edit.judged]
+            if not others:
+                told.append(edit)
+                continue
+            ((name, goals),) = edit.goals.items()
+            left = {goal for it in others for goal in it.goals[name]}
+            own = next((it for it in goals if it not in left and (it == goals[0] or self.is_quick(name, it))), None)
+            if own is None:
+                return None
+            told.append(edit._replace(goals={name: [own, *(it for it in goals if it != own)]}))
+        return told
+
+    def is_quick(self, name, goal):
+        """Says whether one goal of a function can be tried without the search of the gate: it has an answer, or the list its tactic."""
+        return (name, goal) in self.listed.words or not refusing_goals.is_searched(goal, self.proofs.get(name))
 
 
 def clause_of(goal):

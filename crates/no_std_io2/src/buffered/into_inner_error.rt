@@ -12,13 +12,13 @@ use std::fmt::{Debug, Display, Formatter};
 /// bytes that were not sent. Follows `std::io::IntoInnerError`.
 ///
 /// ```rust
-/// let mut room = [0u8; 2];
-/// let mut w = BufWriter::<_, 8>::new(Cursor::new(&mut room[..]));
+/// let taken = Vec::new(rt.alloc());
+/// let mut w = BufWriter::<_, 8>::new(Narrow { taken, most: 0 }); // a device that takes no byte
 /// w.write_all(b"abc")?;
 /// if let Err(failed) = w.into_inner() {
 ///     assert_eq!(rt; failed.error().kind(), ErrorKind::WriteZero);
 ///     let w = failed.into_inner();
-///     assert_eq!(rt; w.buffer(), b"c".as_slice()); // `ab` is out
+///     assert_eq!(rt; w.buffer(), b"abc".as_slice());
 /// }
 /// ```
 #[derive(Drop)]
@@ -38,13 +38,13 @@ impl<W> IntoInnerError<W> {
     /// Returns the error that stopped the sending. Follows `std::io::IntoInnerError::error`.
     ///
     /// ```rust
-    /// let mut room = [0u8; 2];
-    /// let mut w = BufWriter::<_, 8>::new(Cursor::new(&mut room[..]));
+    /// let taken = Vec::new(rt.alloc());
+    /// let mut w = BufWriter::<_, 8>::new(Narrow { taken, most: 0 }); // a device that takes no byte
     /// w.write_all(b"abc")?;
     /// if let Err(failed) = w.into_inner() {
     ///     assert_eq!(rt; failed.error().kind(), ErrorKind::WriteZero);
     ///     let w = failed.into_inner();
-    ///     assert_eq!(rt; w.buffer(), b"c".as_slice()); // `ab` is out
+    ///     assert_eq!(rt; w.buffer(), b"abc".as_slice());
     /// }
     /// ```
     pub fn error(&self) -> &Error
@@ -56,13 +56,13 @@ impl<W> IntoInnerError<W> {
     /// Returns the buffered writer, to be used again. Follows `std::io::IntoInnerError::into_inner`.
     ///
     /// ```rust
-    /// let mut room = [0u8; 2];
-    /// let mut w = BufWriter::<_, 8>::new(Cursor::new(&mut room[..]));
+    /// let taken = Vec::new(rt.alloc());
+    /// let mut w = BufWriter::<_, 8>::new(Narrow { taken, most: 0 }); // a device that takes no byte
     /// w.write_all(b"abc")?;
     /// if let Err(failed) = w.into_inner() {
     ///     assert_eq!(rt; failed.error().kind(), ErrorKind::WriteZero);
     ///     let w = failed.into_inner();
-    ///     assert_eq!(rt; w.buffer(), b"c".as_slice()); // `ab` is out
+    ///     assert_eq!(rt; w.buffer(), b"abc".as_slice());
     /// }
     /// ```
     pub fn into_inner(self) -> W
@@ -75,13 +75,13 @@ impl<W> IntoInnerError<W> {
     /// `std::io::IntoInnerError::into_parts`.
     ///
     /// ```rust
-    /// let mut room = [0u8; 2];
-    /// let mut w = BufWriter::<_, 8>::new(Cursor::new(&mut room[..]));
+    /// let taken = Vec::new(rt.alloc());
+    /// let mut w = BufWriter::<_, 8>::new(Narrow { taken, most: 0 }); // a device that takes no byte
     /// w.write_all(b"abc")?;
     /// if let Err(failed) = w.into_inner() {
     ///     let (error, w) = failed.into_parts();
     ///     assert_eq!(rt; error.kind(), ErrorKind::WriteZero);
-    ///     assert_eq!(rt; w.buffer(), b"c".as_slice()); // `ab` is out
+    ///     assert_eq!(rt; w.buffer(), b"abc".as_slice());
     /// }
     /// ```
     pub fn into_parts(self) -> (Error, W)

@@ -13,11 +13,11 @@ use crate::error::Result;
 /// buffered reader.
 ///
 /// ```rust
-/// let mut sum = 0u32;
+/// let mut content = Vec::<u8>::new(rt.alloc());
 /// for byte in Cursor::new(*b"abc").bytes() {
-///     sum += u32::from(byte?);
+///     content.push(byte?)?;
 /// }
-/// assert_eq!(rt; sum, 97 + 98 + 99);
+/// assert_eq!(rt; content.as_slice(), b"abc".as_slice());
 /// ```
 #[derive(Debug, Drop)]
 pub struct Bytes<R> {

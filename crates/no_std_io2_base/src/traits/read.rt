@@ -191,11 +191,11 @@ pub trait Read: Stored {
     /// Turns this reader into an iterator over its bytes. Follows `std::io::Read::bytes`.
     ///
     /// ```rust
-    /// let mut sum = 0u32;
+    /// let mut content = Vec::<u8>::new(rt.alloc());
     /// for byte in Cursor::new(*b"abc").bytes() {
-    ///     sum += u32::from(byte?);
+    ///     content.push(byte?)?;
     /// }
-    /// assert_eq!(rt; sum, 97 + 98 + 99);
+    /// assert_eq!(rt; content.as_slice(), b"abc".as_slice());
     /// ```
     final fn bytes(self) -> Bytes<Self>
     where

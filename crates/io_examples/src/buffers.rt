@@ -1,4 +1,5 @@
 // What the comments of the buffers and of `copy` show.
+use examples::Narrow;
 use no_std_io2::io::{BufReader, BufWriter, Cursor, ErrorKind, LineWriter, Read, Write, copy};
 use std::test::Fail;
 
@@ -33,32 +34,6 @@ fn a_writer_gives_what_is_below(rt: HostRuntime) -> Result<(), Fail> {
     w.write_all(b"abc")?;
     let device = w.into_inner()?; // sends `abc`
     assert_eq!(rt; device.as_slice(), b"abc".as_slice());
-    Ok(())
-}
-
-#[test]
-fn a_device_that_is_full_loses_nothing(rt: HostRuntime) -> Result<(), Fail> {
-    let mut room = [0u8; 2];
-    let mut w = BufWriter::<_, 8>::new(Cursor::new(&mut room[..]));
-    w.write_all(b"abc")?;
-    if let Err(failed) = w.into_inner() {
-        assert_eq!(rt; failed.error().kind(), ErrorKind::WriteZero);
-        let w = failed.into_inner();
-        assert_eq!(rt; w.buffer(), b"c".as_slice()); // `ab` is out
-    }
-    Ok(())
-}
-
-#[test]
-fn a_device_that_is_full_comes_apart(rt: HostRuntime) -> Result<(), Fail> {
-    let mut room = [0u8; 2];
-    let mut w = BufWriter::<_, 8>::new(Cursor::new(&mut room[..]));
-    w.write_all(b"abc")?;
-    if let Err(failed) = w.into_inner() {
-        let (error, w) = failed.into_parts();
-        assert_eq!(rt; error.kind(), ErrorKind::WriteZero);
-        assert_eq!(rt; w.buffer(), b"c".as_slice()); // `ab` is out
-    }
     Ok(())
 }
 
@@ -121,5 +96,31 @@ fn a_reader_is_copied_to_a_writer(rt: HostRuntime) -> Result<(), Fail> {
     let mut to = Vec::<u8>::new(rt.alloc());
     assert_eq!(rt; copy::<_, _, 64>(&mut from, &mut to)?, 5);
     assert_eq!(rt; to.as_slice(), b"abcde".as_slice());
+    Ok(())
+}
+
+#[test]
+fn a_device_that_takes_nothing_loses_nothing(rt: HostRuntime) -> Result<(), Fail> {
+    let taken = Vec::new(rt.alloc());
+    let mut w = BufWriter::<_, 8>::new(Narrow { taken, most: 0 }); // a device that takes no byte
+    w.write_all(b"abc")?;
+    if let Err(failed) = w.into_inner() {
+        assert_eq!(rt; failed.error().kind(), ErrorKind::WriteZero);
+        let w = failed.into_inner();
+        assert_eq!(rt; w.buffer(), b"abc".as_slice());
+    }
+    Ok(())
+}
+
+#[test]
+fn a_writer_comes_apart_from_its_error(rt: HostRuntime) -> Result<(), Fail> {
+    let taken = Vec::new(rt.alloc());
+    let mut w = BufWriter::<_, 8>::new(Narrow { taken, most: 0 }); // a device that takes no byte
+    w.write_all(b"abc")?;
+    if let Err(failed) = w.into_inner() {
+        let (error, w) = failed.into_parts();
+        assert_eq!(rt; error.kind(), ErrorKind::WriteZero);
+        assert_eq!(rt; w.buffer(), b"abc".as_slice());
+    }
     Ok(())
 }

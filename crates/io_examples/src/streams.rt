@@ -90,11 +90,11 @@ fn a_lent_reader_stays(rt: HostRuntime) -> Result<(), Fail> {
 
 #[test]
 fn bytes_one_at_a_time(rt: HostRuntime) -> Result<(), Fail> {
-    let mut sum = 0u32;
+    let mut content = Vec::<u8>::new(rt.alloc());
     for byte in Cursor::new(*b"abc").bytes() {
-        sum += u32::from(byte?);
+        content.push(byte?)?;
     }
-    assert_eq!(rt; sum, 97 + 98 + 99);
+    assert_eq!(rt; content.as_slice(), b"abc".as_slice());
     Ok(())
 }
 
