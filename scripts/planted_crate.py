@@ -188,18 +188,14 @@ class Crate:
         is_open = is_one and bool(goals) and self.listed.is_fresh(name, *judged)
         return Edit(name, changes, frozenset(places | judged), judged, in_bodies, frozenset(), goals, is_open)
 
-    def spans(self, edit):
-        """Gives where the texts stand that an edit takes away."""
-        found = [(path, self.texts[path].find(old), len(old)) for path, old, _ in edit.changes]
-        return [(path, at, at + length) for path, at, length in found]
-
     def can_stand(self, edit, other):
         """Says whether two edits of one function can stand side by side: each has goals that are known, and they change other texts."""
         is_alike = edit.judged == other.judged and edit.in_bodies == other.in_bodies
         if not (edit.is_open and other.is_open and is_alike):
             return False
-        spans = [(a, b) for a in self.spans(edit) for b in self.spans(other)]
-        return all(a[0] != b[0] or a[2] <= b[1] or b[2] <= a[1] for a, b in spans)
+        shared = {*edit.changes} & {*other.changes}
+        own, others = ([span_of(self.texts, it) for it in of.changes if it not in shared] for of in (edit, other))
+        return not any(overlap(a, b) for a in own for b in others)
 
     def told_apart(self, edits):
         """Gives the edits of a round, where those of one function have each a goal first that the others leave proved, or nothing
@@ -235,16 +231,44 @@ def hole(name):
     return f"use {statement}.{{statement}}\n\npub {path[-1]}_spec : {{M : Type 1}} → statement M\n{path[-1]}_spec = ?\n"
 
 
+def span_of(texts, change):
+    """Gives where a change's text stands, and what comes there: nothing is taken away where the text stays, behind or before what is new."""
+    path, old, new = change
+    at = texts[path].find(old)
+    if new.endswith(old):
+        return path, at, at, new[: len(new) - len(old)]
+    if new.startswith(old):
+        return path, at + len(old), at + len(old), new[len(old) :]
+    return path, at, at + len(old), new
+
+
+def overlap(one, other):
+    """Says whether two spans share a text, or their place."""
+    return one[0] == other[0] and (one[1:3] == other[1:3] or one[1] < other[2] and other[1] < one[2])
+
+
 def planted(texts, changes):
-    """Gives the sources with an edit's changes."""
-    texts = dict(texts)
-    for path, old, new in changes:
+    """Gives the sources with changes: those of texts that stand there all at once, and then those of texts that these have brought."""
+    if not changes:
+        raise Fault("it has no 'old:' and 'new:' lines")
+    texts, spans, brought = dict(texts), [], []
+    for change in dict.fromkeys(changes):
+        path, old, _ = change
         if path not in texts:
             raise Fault(f"there is no source file {path}")
+        if old and texts[path].count(old) == 1:
+            spans.append(span_of(texts, change))
+        else:
+            brought.append(change)
+    spans.sort(reverse=True)
+    for before, it in zip(spans, [None, *spans]):
+        path, at, end, new = before
+        if it and overlap(before, it):
+            raise Fault(f"two 'old:' texts overlap in {path}")
+        texts[path] = texts[path][:at] + new + texts[path][end:]
+    for path, old, new in brought:
         found = texts[path].count(old) if old else 0
         if found != 1:
             raise Fault(f"an 'old:' text stands in {path} {found} times, and not once")
         texts[path] = texts[path].replace(old, new)
-    if not changes:
-        raise Fault("it has no 'old:' and 'new:' lines")
     return texts

@@ -10,9 +10,9 @@ fn small_writes_are_held(rt: HostRuntime) -> Result<(), Fail> {
     w.write_all(b"def")?;
     assert!(rt; w.get_ref().is_empty()); // `abcdef` is held
     w.write_all(b"ghi")?; // does not fit beside them: they are sent first
-    assert_eq!(rt; w.get_ref().as_slice(), b"abcdef".as_slice());
+    assert!(rt; w.get_ref().as_slice() == b"abcdef".as_slice());
     w.flush()?;
-    assert_eq!(rt; w.get_ref().as_slice(), b"abcdefghi".as_slice());
+    assert!(rt; w.get_ref().as_slice() == b"abcdefghi".as_slice());
     Ok(())
 }
 
@@ -20,20 +20,20 @@ fn small_writes_are_held(rt: HostRuntime) -> Result<(), Fail> {
 fn a_writer_and_what_is_below(rt: HostRuntime) -> Result<(), Fail> {
     let mut w = BufWriter::<_, 8>::new(Cursor::new(Vec::<u8>::new(rt.alloc())));
     w.write_all(b"abc")?;
-    assert_eq!(rt; w.buffer(), b"abc".as_slice());
-    assert_eq!(rt; w.get_ref().position(), 0);
+    assert!(rt; w.buffer() == b"abc".as_slice());
+    assert!(rt; w.get_ref().position() == 0);
     w.get_mut().set_position(2);
-    assert_eq!(rt; w.buffer(), b"abc".as_slice()); // what is held stays
+    assert!(rt; w.buffer() == b"abc".as_slice()); // what is held stays
     Ok(())
 }
 
 #[test]
 fn a_writer_gives_what_is_below(rt: HostRuntime) -> Result<(), Fail> {
     let mut w = BufWriter::<Vec<u8>, 8>::new(Vec::new(rt.alloc()));
-    assert_eq!(rt; w.capacity(), 8);
+    assert!(rt; w.capacity() == 8);
     w.write_all(b"abc")?;
     let device = w.into_inner()?; // sends `abc`
-    assert_eq!(rt; device.as_slice(), b"abc".as_slice());
+    assert!(rt; device.as_slice() == b"abc".as_slice());
     Ok(())
 }
 
@@ -41,10 +41,10 @@ fn a_writer_gives_what_is_below(rt: HostRuntime) -> Result<(), Fail> {
 fn lines_go_out_as_they_end(rt: HostRuntime) -> Result<(), Fail> {
     let mut w = LineWriter::<Vec<u8>, 16>::new(Vec::new(rt.alloc()));
     w.write_all(b"one\ntw")?;
-    assert_eq!(rt; w.get_ref().as_slice(), b"one\n".as_slice());
-    assert_eq!(rt; w.buffer(), b"tw".as_slice());
+    assert!(rt; w.get_ref().as_slice() == b"one\n".as_slice());
+    assert!(rt; w.buffer() == b"tw".as_slice());
     w.write_all(b"o\n")?;
-    assert_eq!(rt; w.get_ref().as_slice(), b"one\ntwo\n".as_slice());
+    assert!(rt; w.get_ref().as_slice() == b"one\ntwo\n".as_slice());
     Ok(())
 }
 
@@ -54,7 +54,7 @@ fn a_line_writer_and_what_is_below(rt: HostRuntime) -> Result<(), Fail> {
     w.write_all(b"one\ntw")?;
     w.get_mut().clear(); // forgets `one\n`; `tw` is still held
     let device = w.into_inner()?; // sends `tw`
-    assert_eq!(rt; device.as_slice(), b"tw".as_slice());
+    assert!(rt; device.as_slice() == b"tw".as_slice());
     Ok(())
 }
 
@@ -63,21 +63,21 @@ fn small_reads_are_given_from_the_buffer(rt: HostRuntime) -> Result<(), Fail> {
     let mut r = BufReader::<_, 4>::new(Cursor::new(*b"abcdefgh"));
     let mut two = [0u8; 2];
     r.read_exact(&mut two)?; // one inner read, of four bytes
-    assert_eq!(rt; r.buffer(), b"cd".as_slice());
-    assert_eq!(rt; r.behind(), b"ab".as_slice());
+    assert!(rt; r.buffer() == b"cd".as_slice());
+    assert!(rt; r.behind() == b"ab".as_slice());
     r.seek_relative(-1)?; // inside the buffer: the inner reader is left alone
-    assert_eq!(rt; r.buffer(), b"bcd".as_slice());
+    assert!(rt; r.buffer() == b"bcd".as_slice());
     Ok(())
 }
 
 #[test]
 fn a_reader_and_what_is_below(rt: HostRuntime) -> Result<(), Fail> {
     let mut r = BufReader::<_, 4>::new(Cursor::new(*b"abcdefgh"));
-    assert_eq!(rt; r.capacity(), 4);
+    assert!(rt; r.capacity() == 4);
     r.read_exact(&mut [0u8; 2])?;
-    assert_eq!(rt; r.get_ref().position(), 4); // ahead by the two bytes held
+    assert!(rt; r.get_ref().position() == 4); // ahead by the two bytes held
     r.get_mut().set_position(6);
-    assert_eq!(rt; r.buffer(), b"cd".as_slice()); // what is held stays
+    assert!(rt; r.buffer() == b"cd".as_slice()); // what is held stays
     Ok(())
 }
 
@@ -86,7 +86,7 @@ fn a_reader_gives_what_is_below(rt: HostRuntime) -> Result<(), Fail> {
     let mut r = BufReader::<_, 4>::new(Cursor::new(*b"abcdefgh"));
     r.read_exact(&mut [0u8; 2])?;
     let inner = r.into_inner(); // `cd`, which was held, is lost
-    assert_eq!(rt; inner.position(), 4);
+    assert!(rt; inner.position() == 4);
     Ok(())
 }
 
@@ -94,8 +94,8 @@ fn a_reader_gives_what_is_below(rt: HostRuntime) -> Result<(), Fail> {
 fn a_reader_is_copied_to_a_writer(rt: HostRuntime) -> Result<(), Fail> {
     let mut from = Cursor::new(*b"abcde");
     let mut to = Vec::<u8>::new(rt.alloc());
-    assert_eq!(rt; copy::<_, _, 64>(&mut from, &mut to)?, 5);
-    assert_eq!(rt; to.as_slice(), b"abcde".as_slice());
+    assert!(rt; copy::<_, _, 64>(&mut from, &mut to)? == 5);
+    assert!(rt; to.as_slice() == b"abcde".as_slice());
     Ok(())
 }
 
@@ -105,9 +105,9 @@ fn a_device_that_takes_nothing_loses_nothing(rt: HostRuntime) -> Result<(), Fail
     let mut w = BufWriter::<_, 8>::new(Narrow { taken, most: 0 }); // a device that takes no byte
     w.write_all(b"abc")?;
     if let Err(failed) = w.into_inner() {
-        assert_eq!(rt; failed.error().kind(), ErrorKind::WriteZero);
+        assert!(rt; failed.error().kind() == ErrorKind::WriteZero);
         let w = failed.into_inner();
-        assert_eq!(rt; w.buffer(), b"abc".as_slice());
+        assert!(rt; w.buffer() == b"abc".as_slice());
     }
     Ok(())
 }
@@ -119,8 +119,8 @@ fn a_writer_comes_apart_from_its_error(rt: HostRuntime) -> Result<(), Fail> {
     w.write_all(b"abc")?;
     if let Err(failed) = w.into_inner() {
         let (error, w) = failed.into_parts();
-        assert_eq!(rt; error.kind(), ErrorKind::WriteZero);
-        assert_eq!(rt; w.buffer(), b"abc".as_slice());
+        assert!(rt; error.kind() == ErrorKind::WriteZero);
+        assert!(rt; w.buffer() == b"abc".as_slice());
     }
     Ok(())
 }

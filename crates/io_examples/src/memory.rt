@@ -6,12 +6,12 @@ use std::test::Fail;
 #[test]
 fn an_error_has_a_kind_and_perhaps_a_text(rt: HostRuntime) -> Result<(), Fail> {
     let e = Error::new(ErrorKind::InvalidData, "no header");
-    assert_eq!(rt; e.kind(), ErrorKind::InvalidData);
+    assert!(rt; e.kind() == ErrorKind::InvalidData);
     assert!(rt; e.get_ref().is_some());
     let e = Error::from(ErrorKind::WouldBlock); // no text: it prints its kind's
     assert!(rt; e.get_ref().is_none());
     let e = Error::other("no carrier");
-    assert_eq!(rt; e.kind(), ErrorKind::Other);
+    assert!(rt; e.kind() == ErrorKind::Other);
     Ok(())
 }
 
@@ -19,7 +19,7 @@ fn an_error_has_a_kind_and_perhaps_a_text(rt: HostRuntime) -> Result<(), Fail> {
 fn an_error_gives_its_text(rt: HostRuntime) -> Result<(), Fail> {
     let e = Error::other("no carrier");
     assert!(rt; e.get_ref().is_some());
-    assert_eq!(rt; e.into_inner(), Some("no carrier"));
+    assert!(rt; e.into_inner() == Some("no carrier"));
     Ok(())
 }
 
@@ -34,11 +34,11 @@ fn an_interruption_is_no_fault(rt: HostRuntime) -> Result<(), Fail> {
 fn a_cursor_reads_and_writes_bytes(rt: HostRuntime) -> Result<(), Fail> {
     let mut c = Cursor::new(Vec::<u8>::new(rt.alloc()));
     c.write_all(b"abc")?;
-    assert_eq!(rt; c.position(), 3);
+    assert!(rt; c.position() == 3);
     c.set_position(1);
     let mut rest = [0u8; 2];
     c.read_exact(&mut rest)?;
-    assert_eq!(rt; rest, *b"bc");
+    assert!(rt; rest == *b"bc");
     Ok(())
 }
 
@@ -46,7 +46,7 @@ fn a_cursor_reads_and_writes_bytes(rt: HostRuntime) -> Result<(), Fail> {
 fn a_cursor_and_its_content(rt: HostRuntime) -> Result<(), Fail> {
     let mut c = Cursor::new(*b"abc");
     c.set_position(7); // past the end too
-    assert_eq!(rt; c.position(), 7);
+    assert!(rt; c.position() == 7);
     Ok(())
 }
 
@@ -54,8 +54,8 @@ fn a_cursor_and_its_content(rt: HostRuntime) -> Result<(), Fail> {
 fn a_cursor_gives_its_content(rt: HostRuntime) -> Result<(), Fail> {
     let mut c = Cursor::new(*b"abc");
     c.get_mut()[0] = b'x';
-    assert_eq!(rt; *c.get_ref(), *b"xbc");
-    assert_eq!(rt; c.into_inner(), *b"xbc");
+    assert!(rt; *c.get_ref() == *b"xbc");
+    assert!(rt; c.into_inner() == *b"xbc");
     Ok(())
 }
 
@@ -64,13 +64,13 @@ fn a_cursor_is_cloned(rt: HostRuntime) -> Result<(), Fail> {
     let mut c = Cursor::new(*b"abc");
     let start = c.clone()?;
     c.set_position(3);
-    assert_eq!(rt; start.position(), 0);
+    assert!(rt; start.position() == 0);
     Ok(())
 }
 
 #[test]
 fn a_content_lends_itself(rt: HostRuntime) -> Result<(), Fail> {
-    assert_eq!(rt; AsSlice::as_slice(b"abc"), b"abc".as_slice());
+    assert!(rt; AsSlice::as_slice(b"abc") == b"abc".as_slice());
     Ok(())
 }
 

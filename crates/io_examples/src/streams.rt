@@ -8,7 +8,7 @@ fn bytes_go_into_a_writer(rt: HostRuntime) -> Result<(), Fail> {
     device.write_all(b"hello ")?;
     device.write_all(b"world")?;
     device.flush()?;
-    assert_eq!(rt; device.as_slice(), b"hello world".as_slice());
+    assert!(rt; device.as_slice() == b"hello world".as_slice());
     Ok(())
 }
 
@@ -18,7 +18,7 @@ fn a_lent_writer_stays(rt: HostRuntime) -> Result<(), Fail> {
     let mut w = BufWriter::<&mut Vec<u8>, 8>::new(device.by_ref());
     w.write_all(b"abc")?;
     drop(w); // sends `abc`
-    assert_eq!(rt; device.as_slice(), b"abc".as_slice());
+    assert!(rt; device.as_slice() == b"abc".as_slice());
     Ok(())
 }
 
@@ -26,8 +26,8 @@ fn a_lent_writer_stays(rt: HostRuntime) -> Result<(), Fail> {
 fn a_writer_without_room_says_so(rt: HostRuntime) -> Result<(), Fail> {
     let mut room = [0u8; 4];
     let mut w = Cursor::new(&mut room[..]);
-    assert_eq!(rt; w.write(b"abc")?, 3);
-    assert_eq!(rt; w.write(b"def")?, 1); // `ef` was not accepted
+    assert!(rt; w.write(b"abc")? == 3);
+    assert!(rt; w.write(b"def")? == 1); // `ef` was not accepted
     Ok(())
 }
 
@@ -46,7 +46,7 @@ fn a_flush_sends_what_is_held(rt: HostRuntime) -> Result<(), Fail> {
     w.write_all(b"abc")?;
     assert!(rt; w.get_ref().is_empty()); // `abc` is held
     w.flush()?;
-    assert_eq!(rt; w.get_ref().as_slice(), b"abc".as_slice());
+    assert!(rt; w.get_ref().as_slice() == b"abc".as_slice());
     Ok(())
 }
 
@@ -54,9 +54,9 @@ fn a_flush_sends_what_is_held(rt: HostRuntime) -> Result<(), Fail> {
 fn bytes_come_out_of_a_reader(rt: HostRuntime) -> Result<(), Fail> {
     let mut r = Cursor::new(*b"abc");
     let mut buf = [0u8; 2];
-    assert_eq!(rt; r.read(&mut buf)?, 2); // `ab`
-    assert_eq!(rt; r.read(&mut buf)?, 1); // `c`
-    assert_eq!(rt; r.read(&mut buf)?, 0); // the end
+    assert!(rt; r.read(&mut buf)? == 2); // `ab`
+    assert!(rt; r.read(&mut buf)? == 1); // `c`
+    assert!(rt; r.read(&mut buf)? == 0); // the end
     Ok(())
 }
 
@@ -65,7 +65,7 @@ fn a_buffer_is_filled_or_refused(rt: HostRuntime) -> Result<(), Fail> {
     let mut r = Cursor::new(*b"abcde");
     let mut header = [0u8; 4];
     r.read_exact(&mut header)?;
-    assert_eq!(rt; header, *b"abcd");
+    assert!(rt; header == *b"abcd");
     assert!(rt; r.read_exact(&mut header).is_err()); // one byte is left: `UnexpectedEof`
     Ok(())
 }
@@ -74,8 +74,8 @@ fn a_buffer_is_filled_or_refused(rt: HostRuntime) -> Result<(), Fail> {
 fn a_vector_gets_all_that_is_left(rt: HostRuntime) -> Result<(), Fail> {
     let mut r = Cursor::new(*b"abcde");
     let mut content = Vec::<u8>::new(rt.alloc());
-    assert_eq!(rt; r.read_to_end(&mut content)?, 5);
-    assert_eq!(rt; content.as_slice(), b"abcde".as_slice());
+    assert!(rt; r.read_to_end(&mut content)? == 5);
+    assert!(rt; content.as_slice() == b"abcde".as_slice());
     Ok(())
 }
 
@@ -84,7 +84,7 @@ fn a_lent_reader_stays(rt: HostRuntime) -> Result<(), Fail> {
     let mut r = Cursor::new(*b"abcde");
     let mut head = Vec::<u8>::new(rt.alloc());
     r.by_ref().take(2).read_to_end(&mut head)?;
-    assert_eq!(rt; r.position(), 2); // `r` goes on behind `ab`
+    assert!(rt; r.position() == 2); // `r` goes on behind `ab`
     Ok(())
 }
 
@@ -94,7 +94,7 @@ fn bytes_one_at_a_time(rt: HostRuntime) -> Result<(), Fail> {
     for byte in Cursor::new(*b"abc").bytes() {
         content.push(byte?)?;
     }
-    assert_eq!(rt; content.as_slice(), b"abc".as_slice());
+    assert!(rt; content.as_slice() == b"abc".as_slice());
     Ok(())
 }
 
@@ -103,7 +103,7 @@ fn a_chain_of_two(rt: HostRuntime) -> Result<(), Fail> {
     let mut r = Cursor::new(*b"ab").chain(Cursor::new(*b"cd"));
     let mut content = Vec::<u8>::new(rt.alloc());
     r.read_to_end(&mut content)?;
-    assert_eq!(rt; content.as_slice(), b"abcd".as_slice());
+    assert!(rt; content.as_slice() == b"abcd".as_slice());
     Ok(())
 }
 
@@ -113,7 +113,7 @@ fn the_two_of_a_chain(rt: HostRuntime) -> Result<(), Fail> {
     let (_, second) = r.get_mut();
     second.set_position(1); // without its `c`
     let mut content = Vec::<u8>::new(rt.alloc());
-    assert_eq!(rt; r.read_to_end(&mut content)?, 3);
+    assert!(rt; r.read_to_end(&mut content)? == 3);
     Ok(())
 }
 
@@ -123,9 +123,9 @@ fn the_two_of_a_chain_come_back(rt: HostRuntime) -> Result<(), Fail> {
     let mut three = [0u8; 3];
     r.read_exact(&mut three)?;
     let (first, second) = r.get_ref();
-    assert_eq!(rt; (first.position(), second.position()), (2, 1));
+    assert!(rt; (first.position(), second.position()) == (2, 1));
     let (_, second) = r.into_inner();
-    assert_eq!(rt; second.position(), 1);
+    assert!(rt; second.position() == 1);
     Ok(())
 }
 
@@ -133,7 +133,7 @@ fn the_two_of_a_chain_come_back(rt: HostRuntime) -> Result<(), Fail> {
 fn a_reader_with_a_limit(rt: HostRuntime) -> Result<(), Fail> {
     let mut r = Cursor::new(*b"abcde").take(2);
     let mut content = Vec::<u8>::new(rt.alloc());
-    assert_eq!(rt; r.read_to_end(&mut content)?, 2);
+    assert!(rt; r.read_to_end(&mut content)? == 2);
     Ok(())
 }
 
@@ -142,10 +142,10 @@ fn a_limit_is_set(rt: HostRuntime) -> Result<(), Fail> {
     let mut r = Cursor::new(*b"abcde").take(2);
     let mut two = [0u8; 2];
     r.read_exact(&mut two)?;
-    assert_eq!(rt; r.limit(), 0); // the end
+    assert!(rt; r.limit() == 0); // the end
     r.set_limit(2);
     r.read_exact(&mut two)?;
-    assert_eq!(rt; two, *b"cd");
+    assert!(rt; two == *b"cd");
     Ok(())
 }
 
@@ -154,20 +154,20 @@ fn what_a_limit_is_put_on(rt: HostRuntime) -> Result<(), Fail> {
     let mut r = Cursor::new(*b"abcde").take(2);
     let mut two = [0u8; 2];
     r.read_exact(&mut two)?;
-    assert_eq!(rt; r.get_ref().position(), 2);
+    assert!(rt; r.get_ref().position() == 2);
     r.get_mut().set_position(0);
-    assert_eq!(rt; r.limit(), 0); // the limit stays
+    assert!(rt; r.limit() == 0); // the limit stays
     let inner = r.into_inner();
-    assert_eq!(rt; inner.position(), 0);
+    assert!(rt; inner.position() == 0);
     Ok(())
 }
 
 #[test]
 fn what_stands_ready_is_lent(rt: HostRuntime) -> Result<(), Fail> {
     let mut r = Cursor::new(*b"abc");
-    assert_eq!(rt; r.fill_buf()?, b"abc".as_slice());
+    assert!(rt; r.fill_buf()? == b"abc".as_slice());
     r.consume(1);
-    assert_eq!(rt; r.fill_buf()?, b"bc".as_slice());
+    assert!(rt; r.fill_buf()? == b"bc".as_slice());
     Ok(())
 }
 
@@ -175,8 +175,8 @@ fn what_stands_ready_is_lent(rt: HostRuntime) -> Result<(), Fail> {
 fn bytes_up_to_a_delimiter(rt: HostRuntime) -> Result<(), Fail> {
     let mut r = Cursor::new(*b"key=value");
     let mut key = Vec::<u8>::new(rt.alloc());
-    assert_eq!(rt; r.read_until(b'=', &mut key)?, 4);
-    assert_eq!(rt; key.as_slice(), b"key=".as_slice());
+    assert!(rt; r.read_until(b'=', &mut key)? == 4);
+    assert!(rt; key.as_slice() == b"key=".as_slice());
     Ok(())
 }
 
@@ -184,10 +184,10 @@ fn bytes_up_to_a_delimiter(rt: HostRuntime) -> Result<(), Fail> {
 fn a_line_is_read(rt: HostRuntime) -> Result<(), Fail> {
     let mut r = Cursor::new(*b"one\ntwo");
     let mut line = String::new(rt.alloc());
-    assert_eq!(rt; r.read_line(rt.alloc(), &mut line)?, 4);
-    assert_eq!(rt; line.as_str(), "one\n");
-    assert_eq!(rt; r.read_line(rt.alloc(), &mut line)?, 3);
-    assert_eq!(rt; line.as_str(), "one\ntwo");
+    assert!(rt; r.read_line(rt.alloc(), &mut line)? == 4);
+    assert!(rt; line.as_str() == "one\n");
+    assert!(rt; r.read_line(rt.alloc(), &mut line)? == 3);
+    assert!(rt; line.as_str() == "one\ntwo");
     Ok(())
 }
 
@@ -197,7 +197,7 @@ fn pieces_of_bytes(rt: HostRuntime) -> Result<(), Fail> {
     for piece in Cursor::new(*b"ab,,c").split(rt.alloc(), b',') {
         lens.push(piece?.len())?;
     }
-    assert_eq!(rt; lens.as_slice(), [2, 0, 1].as_slice());
+    assert!(rt; lens.as_slice() == [2, 0, 1].as_slice());
     Ok(())
 }
 
@@ -207,16 +207,16 @@ fn lines_of_text(rt: HostRuntime) -> Result<(), Fail> {
     for line in Cursor::new(*b"one\r\ntwo\n").lines(rt.alloc()) {
         text.push_str(line?.as_str())?;
     }
-    assert_eq!(rt; text.as_str(), "onetwo");
+    assert!(rt; text.as_str() == "onetwo");
     Ok(())
 }
 
 #[test]
 fn a_position_moves(rt: HostRuntime) -> Result<(), Fail> {
     let mut r = Cursor::new(*b"abcde");
-    assert_eq!(rt; r.seek(SeekFrom::Start(1))?, 1);
-    assert_eq!(rt; r.seek(SeekFrom::Current(2))?, 3);
-    assert_eq!(rt; r.seek(SeekFrom::End(-1))?, 4);
+    assert!(rt; r.seek(SeekFrom::Start(1))? == 1);
+    assert!(rt; r.seek(SeekFrom::Current(2))? == 3);
+    assert!(rt; r.seek(SeekFrom::End(-1))? == 4);
     assert!(rt; r.seek(SeekFrom::Current(-5)).is_err()); // before the start: it stays at 4
     Ok(())
 }
@@ -225,9 +225,9 @@ fn a_position_moves(rt: HostRuntime) -> Result<(), Fail> {
 fn a_position_is_asked_for(rt: HostRuntime) -> Result<(), Fail> {
     let mut r = Cursor::new(*b"abcde");
     r.seek(SeekFrom::Start(3))?;
-    assert_eq!(rt; r.stream_position()?, 3);
-    assert_eq!(rt; r.stream_len()?, 5);
+    assert!(rt; r.stream_position()? == 3);
+    assert!(rt; r.stream_len()? == 5);
     r.rewind()?;
-    assert_eq!(rt; r.stream_position()?, 0);
+    assert!(rt; r.stream_position()? == 0);
     Ok(())
 }

@@ -42,7 +42,7 @@ impl From<Error> for Fault {
     ghost from_gives = { λ e fault. fault ≡ Io e };
 
     fn from(error: Error) -> Fault {
-        Fault::Io(error)
+        Self::Io(error)
     }
 }
 

@@ -2,6 +2,7 @@
 use Rattle.std.specs.Prelude.{◌≡◌, ◌⊎◌, ℕ, List, [], ◌∷◌, ◌++◌, map}
 use Rattle.std.specs.List.{concat}
 use Rattle.no_std_io2.specs.Errors.{error_kind, IsOutOfMemory}
+use Rattle.no_std_io2.specs.LineState.{HasNoNewline}
 use Rattle.no_std_io2.specs.Lines.{HasNewline}
 use Rattle.no_std_io2.specs.declared.io.Error.{Error}
 use Rattle.no_std_io2.specs.declared.io.ErrorKind.TheVariants.{InvalidInput}
@@ -14,6 +15,6 @@ line_of text = text ++ 10 ∷ []
 abbrev pub lines_of : List (List ℕ) → List ℕ
 lines_of texts = concat (map line_of texts)
 
--- a text was refused: a newline stands in it, or there was no memory for it
+-- a text was refused: a newline stands in it, or none does and there was no memory for it
 abbrev pub IsRefusal : List ℕ → Error → Type 0
-IsRefusal text e = (HasNewline text × (error_kind e ≡ InvalidInput)) ⊎ IsOutOfMemory e
+IsRefusal text e = (HasNewline text × (error_kind e ≡ InvalidInput)) ⊎ (HasNoNewline text × IsOutOfMemory e)

@@ -149,6 +149,7 @@ impl<W: Write + Drop, const S: usize> LineLog<W, S> {
             (under_way self.new) (still_to_go self.new) (log_told W.told self.new) }
         ensures passed { OnOk result (log_buffer self.new ≡ []) }
         ensures plain { OnOk result (HasNoNewline line.now) }
+        ensures started { 0 < length (under_way self.new) → HasNoNewline line.now }
         ensures fault { IsNoInterruption result }
     {
         self.pending.stage(line)?;

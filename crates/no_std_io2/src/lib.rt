@@ -10,7 +10,7 @@
 //! w.write_all(b"abc")?;
 //! assert!(rt; w.get_ref().is_empty()); // `abc` is held
 //! w.flush()?;
-//! assert_eq!(rt; w.get_ref().as_slice(), b"abc".as_slice());
+//! assert!(rt; w.get_ref().as_slice() == b"abc".as_slice());
 //! ```
 //!
 //! Bytes in memory are a stream by [`io::Cursor`]; slices read, and vectors take bytes, by

@@ -25,8 +25,8 @@ mod steady;
 /// ```rust
 /// let mut from = Cursor::new(*b"abcde");
 /// let mut to = Vec::<u8>::new(rt.alloc());
-/// assert_eq!(rt; copy::<_, _, 64>(&mut from, &mut to)?, 5);
-/// assert_eq!(rt; to.as_slice(), b"abcde".as_slice());
+/// assert!(rt; copy::<_, _, 64>(&mut from, &mut to)? == 5);
+/// assert!(rt; to.as_slice() == b"abcde".as_slice());
 /// ```
 pub fn copy<R: Read, W: Write, const S: usize>(reader: &mut R, writer: &mut W) -> Result<u64>
     requires { S < 2 ^ 63 }

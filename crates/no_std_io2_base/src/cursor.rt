@@ -20,7 +20,7 @@ use std::alloc::Allocator;
 /// asks `AsRef<[u8]>`. The same value always lends the same elements.
 ///
 /// ```rust
-/// assert_eq!(rt; AsSlice::as_slice(b"abc"), b"abc".as_slice());
+/// assert!(rt; AsSlice::as_slice(b"abc") == b"abc".as_slice());
 /// ```
 pub trait AsSlice<T> {
     // The elements that are lent.
@@ -29,7 +29,7 @@ pub trait AsSlice<T> {
     /// The elements, in order.
     ///
     /// ```rust
-    /// assert_eq!(rt; AsSlice::as_slice(b"abc"), b"abc".as_slice());
+    /// assert!(rt; AsSlice::as_slice(b"abc") == b"abc".as_slice());
     /// ```
     fn as_slice(&self) -> &[T]
         ensures { result.now ≡ slice self.now };
@@ -81,11 +81,11 @@ impl<A: Allocator> AsSlice<u8> for &mut Vec<u8, A> {
 /// ```rust
 /// let mut c = Cursor::new(Vec::<u8>::new(rt.alloc()));
 /// c.write_all(b"abc")?;
-/// assert_eq!(rt; c.position(), 3);
+/// assert!(rt; c.position() == 3);
 /// c.set_position(1);
 /// let mut rest = [0u8; 2];
 /// c.read_exact(&mut rest)?;
-/// assert_eq!(rt; rest, *b"bc");
+/// assert!(rt; rest == *b"bc");
 /// ```
 #[derive(Debug, PartialEq, Eq, Default, Drop)]
 pub struct Cursor<T> {
@@ -99,7 +99,7 @@ impl<T> Cursor<T> {
     /// ```rust
     /// let mut c = Cursor::new(Vec::<u8>::new(rt.alloc()));
     /// c.write_all(b"abc")?;
-    /// assert_eq!(rt; c.position(), 3);
+    /// assert!(rt; c.position() == 3);
     /// ```
     pub fn new(inner: T) -> Cursor<T>
         ensures inner { cursor_inner result ≡ inner }
@@ -113,8 +113,8 @@ impl<T> Cursor<T> {
     /// ```rust
     /// let mut c = Cursor::new(*b"abc");
     /// c.get_mut()[0] = b'x';
-    /// assert_eq!(rt; *c.get_ref(), *b"xbc");
-    /// assert_eq!(rt; c.into_inner(), *b"xbc");
+    /// assert!(rt; *c.get_ref() == *b"xbc");
+    /// assert!(rt; c.into_inner() == *b"xbc");
     /// ```
     pub fn into_inner(self) -> T
         ensures { result ≡ cursor_inner self }
@@ -127,7 +127,7 @@ impl<T> Cursor<T> {
     /// ```rust
     /// let mut c = Cursor::new(*b"abc");
     /// c.get_mut()[0] = b'x';
-    /// assert_eq!(rt; *c.get_ref(), *b"xbc");
+    /// assert!(rt; *c.get_ref() == *b"xbc");
     /// ```
     pub fn get_ref(&self) -> &T
         ensures { result.now ≡ cursor_inner self.now }
@@ -141,7 +141,7 @@ impl<T> Cursor<T> {
     /// ```rust
     /// let mut c = Cursor::new(*b"abc");
     /// c.get_mut()[0] = b'x';
-    /// assert_eq!(rt; *c.get_ref(), *b"xbc");
+    /// assert!(rt; *c.get_ref() == *b"xbc");
     /// ```
     pub fn get_mut(&mut self) -> &mut T
         ensures value { result.now ≡ cursor_inner self.old }
@@ -155,7 +155,7 @@ impl<T> Cursor<T> {
     /// ```rust
     /// let mut c = Cursor::new(*b"abc");
     /// c.set_position(7); // past the end too
-    /// assert_eq!(rt; c.position(), 7);
+    /// assert!(rt; c.position() == 7);
     /// ```
     pub fn position(&self) -> u64
         ensures { result ≡ cursor_place self.now }
@@ -168,7 +168,7 @@ impl<T> Cursor<T> {
     /// ```rust
     /// let mut c = Cursor::new(*b"abc");
     /// c.set_position(7); // past the end too
-    /// assert_eq!(rt; c.position(), 7);
+    /// assert!(rt; c.position() == 7);
     /// ```
     pub fn set_position(&mut self, pos: u64)
         ensures position { cursor_place self.new ≡ pos }
@@ -187,7 +187,7 @@ impl<T> Cursor<T> {
     /// let mut c = Cursor::new(*b"abc");
     /// let start = c.clone()?;
     /// c.set_position(3);
-    /// assert_eq!(rt; start.position(), 0);
+    /// assert!(rt; start.position() == 0);
     /// ```
     pub fn clone(&self) -> Result<Cursor<T>>
     where

@@ -99,7 +99,7 @@ impl ErrorKind {
 ///
 /// ```rust
 /// let e = Error::new(ErrorKind::InvalidData, "no header");
-/// assert_eq!(rt; e.kind(), ErrorKind::InvalidData);
+/// assert!(rt; e.kind() == ErrorKind::InvalidData);
 /// assert!(rt; e.get_ref().is_some());
 /// let e = Error::from(ErrorKind::WouldBlock); // no text: it prints its kind's
 /// assert!(rt; e.get_ref().is_none());
@@ -127,7 +127,7 @@ impl Error {
     ///
     /// ```rust
     /// let e = Error::new(ErrorKind::InvalidData, "no header");
-    /// assert_eq!(rt; e.kind(), ErrorKind::InvalidData);
+    /// assert!(rt; e.kind() == ErrorKind::InvalidData);
     /// assert!(rt; e.get_ref().is_some());
     /// ```
     pub fn new(kind: ErrorKind, text: &'static str) -> Error
@@ -144,7 +144,7 @@ impl Error {
     ///
     /// ```rust
     /// let e = Error::other("no carrier");
-    /// assert_eq!(rt; e.kind(), ErrorKind::Other);
+    /// assert!(rt; e.kind() == ErrorKind::Other);
     /// ```
     pub fn other(text: &'static str) -> Error
         ensures kind { error_kind result ≡ ErrorKind.Other }
@@ -157,7 +157,7 @@ impl Error {
     ///
     /// ```rust
     /// let e = Error::other("no carrier");
-    /// assert_eq!(rt; e.kind(), ErrorKind::Other);
+    /// assert!(rt; e.kind() == ErrorKind::Other);
     /// ```
     pub fn kind(&self) -> ErrorKind
         ensures { result ≡ error_kind self.now }
@@ -182,7 +182,7 @@ impl Error {
     /// ```rust
     /// let e = Error::other("no carrier");
     /// assert!(rt; e.get_ref().is_some());
-    /// assert_eq!(rt; e.into_inner(), Some("no carrier"));
+    /// assert!(rt; e.into_inner() == Some("no carrier"));
     /// ```
     pub fn into_inner(self) -> Option<&'static str>
         ensures { option_map (λ s. s.now) result ≡ error_text self }

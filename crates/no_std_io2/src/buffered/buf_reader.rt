@@ -30,7 +30,7 @@ mod seeks;
 /// let mut r = BufReader::<_, 4>::new(Cursor::new(*b"abcdefgh"));
 /// let mut two = [0u8; 2];
 /// r.read_exact(&mut two)?; // one inner read, of four bytes
-/// assert_eq!(rt; r.buffer(), b"cd".as_slice());
+/// assert!(rt; r.buffer() == b"cd".as_slice());
 /// ```
 #[derive(Drop)]
 pub struct BufReader<R, const S: usize> {
@@ -46,7 +46,7 @@ impl<R: Read, const S: usize> BufReader<R, S> {
     /// let mut r = BufReader::<_, 4>::new(Cursor::new(*b"abcdefgh"));
     /// let mut two = [0u8; 2];
     /// r.read_exact(&mut two)?; // one inner read, of four bytes
-    /// assert_eq!(rt; r.buffer(), b"cd".as_slice());
+    /// assert!(rt; r.buffer() == b"cd".as_slice());
     /// ```
     pub fn new(inner: R) -> BufReader<R, S>
         requires some_room { 0 < S }
@@ -69,9 +69,9 @@ impl<R, const S: usize> BufReader<R, S> {
     ///
     /// ```rust
     /// let mut r = BufReader::<_, 4>::new(Cursor::new(*b"abcdefgh"));
-    /// assert_eq!(rt; r.capacity(), 4);
+    /// assert!(rt; r.capacity() == 4);
     /// r.read_exact(&mut [0u8; 2])?;
-    /// assert_eq!(rt; r.get_ref().position(), 4); // ahead by the two bytes held
+    /// assert!(rt; r.get_ref().position() == 4); // ahead by the two bytes held
     /// ```
     pub fn get_ref(&self) -> &R
         ensures { result.now ≡ reader_inner self.now }
@@ -84,11 +84,11 @@ impl<R, const S: usize> BufReader<R, S> {
     ///
     /// ```rust
     /// let mut r = BufReader::<_, 4>::new(Cursor::new(*b"abcdefgh"));
-    /// assert_eq!(rt; r.capacity(), 4);
+    /// assert!(rt; r.capacity() == 4);
     /// r.read_exact(&mut [0u8; 2])?;
-    /// assert_eq!(rt; r.get_ref().position(), 4); // ahead by the two bytes held
+    /// assert!(rt; r.get_ref().position() == 4); // ahead by the two bytes held
     /// r.get_mut().set_position(6);
-    /// assert_eq!(rt; r.buffer(), b"cd".as_slice()); // what is held stays
+    /// assert!(rt; r.buffer() == b"cd".as_slice()); // what is held stays
     /// ```
     pub fn get_mut(&mut self) -> &mut R
         ensures value { result.now ≡ reader_inner self.old }
@@ -105,7 +105,7 @@ impl<R, const S: usize> BufReader<R, S> {
     /// let mut r = BufReader::<_, 4>::new(Cursor::new(*b"abcdefgh"));
     /// let mut two = [0u8; 2];
     /// r.read_exact(&mut two)?; // one inner read, of four bytes
-    /// assert_eq!(rt; r.buffer(), b"cd".as_slice());
+    /// assert!(rt; r.buffer() == b"cd".as_slice());
     /// ```
     pub fn buffer(&self) -> &[u8]
         ensures value { result.now ≡ reader_held self.now }
@@ -123,8 +123,8 @@ impl<R, const S: usize> BufReader<R, S> {
     /// let mut r = BufReader::<_, 4>::new(Cursor::new(*b"abcdefgh"));
     /// let mut two = [0u8; 2];
     /// r.read_exact(&mut two)?; // one inner read, of four bytes
-    /// assert_eq!(rt; r.buffer(), b"cd".as_slice());
-    /// assert_eq!(rt; r.behind(), b"ab".as_slice());
+    /// assert!(rt; r.buffer() == b"cd".as_slice());
+    /// assert!(rt; r.behind() == b"ab".as_slice());
     /// ```
     pub fn behind(&self) -> &[u8]
         ensures value { result.now ≡ reader_behind self.now }
@@ -137,7 +137,7 @@ impl<R, const S: usize> BufReader<R, S> {
     ///
     /// ```rust
     /// let mut r = BufReader::<_, 4>::new(Cursor::new(*b"abcdefgh"));
-    /// assert_eq!(rt; r.capacity(), 4);
+    /// assert!(rt; r.capacity() == 4);
     /// ```
     pub fn capacity(&self) -> usize
         ensures { result ≡ S }
@@ -151,7 +151,7 @@ impl<R, const S: usize> BufReader<R, S> {
     /// let mut r = BufReader::<_, 4>::new(Cursor::new(*b"abcdefgh"));
     /// r.read_exact(&mut [0u8; 2])?;
     /// let inner = r.into_inner(); // `cd`, which was held, is lost
-    /// assert_eq!(rt; inner.position(), 4);
+    /// assert!(rt; inner.position() == 4);
     /// ```
     pub fn into_inner(self) -> R
         ensures { result ≡ reader_inner self }

@@ -38,9 +38,9 @@ use std::fmt::{Debug, Formatter};
 /// w.write_all(b"def")?;
 /// assert!(rt; w.get_ref().is_empty()); // `abcdef` is held
 /// w.write_all(b"ghi")?; // does not fit beside them: they are sent first
-/// assert_eq!(rt; w.get_ref().as_slice(), b"abcdef".as_slice());
+/// assert!(rt; w.get_ref().as_slice() == b"abcdef".as_slice());
 /// w.flush()?;
-/// assert_eq!(rt; w.get_ref().as_slice(), b"abcdefghi".as_slice());
+/// assert!(rt; w.get_ref().as_slice() == b"abcdefghi".as_slice());
 /// ```
 pub struct BufWriter<W: Write + Drop, const S: usize> {
     core: Sender<W, S>,
@@ -53,7 +53,7 @@ impl<W: Write + Drop, const S: usize> BufWriter<W, S> {
     /// ```rust
     /// let mut w = BufWriter::<_, 8>::new(Cursor::new(Vec::<u8>::new(rt.alloc())));
     /// w.write_all(b"abc")?;
-    /// assert_eq!(rt; w.buffer(), b"abc".as_slice());
+    /// assert!(rt; w.buffer() == b"abc".as_slice());
     /// ```
     pub fn new(inner: W) -> BufWriter<W, S>
         ensures inner { writer_inner result ≡ inner }
@@ -69,8 +69,8 @@ impl<W: Write + Drop, const S: usize> BufWriter<W, S> {
     /// ```rust
     /// let mut w = BufWriter::<_, 8>::new(Cursor::new(Vec::<u8>::new(rt.alloc())));
     /// w.write_all(b"abc")?;
-    /// assert_eq!(rt; w.buffer(), b"abc".as_slice());
-    /// assert_eq!(rt; w.get_ref().position(), 0);
+    /// assert!(rt; w.buffer() == b"abc".as_slice());
+    /// assert!(rt; w.get_ref().position() == 0);
     /// ```
     pub fn get_ref(&self) -> &W
         ensures { result.now ≡ writer_inner self.now }
@@ -84,10 +84,10 @@ impl<W: Write + Drop, const S: usize> BufWriter<W, S> {
     /// ```rust
     /// let mut w = BufWriter::<_, 8>::new(Cursor::new(Vec::<u8>::new(rt.alloc())));
     /// w.write_all(b"abc")?;
-    /// assert_eq!(rt; w.buffer(), b"abc".as_slice());
-    /// assert_eq!(rt; w.get_ref().position(), 0);
+    /// assert!(rt; w.buffer() == b"abc".as_slice());
+    /// assert!(rt; w.get_ref().position() == 0);
     /// w.get_mut().set_position(2);
-    /// assert_eq!(rt; w.buffer(), b"abc".as_slice()); // what is held stays
+    /// assert!(rt; w.buffer() == b"abc".as_slice()); // what is held stays
     /// ```
     pub fn get_mut(&mut self) -> &mut W
         ensures value { result.now ≡ writer_inner self.old }
@@ -102,7 +102,7 @@ impl<W: Write + Drop, const S: usize> BufWriter<W, S> {
     /// ```rust
     /// let mut w = BufWriter::<_, 8>::new(Cursor::new(Vec::<u8>::new(rt.alloc())));
     /// w.write_all(b"abc")?;
-    /// assert_eq!(rt; w.buffer(), b"abc".as_slice());
+    /// assert!(rt; w.buffer() == b"abc".as_slice());
     /// ```
     pub fn buffer(&self) -> &[u8]
         ensures value { result.now ≡ writer_buffer self.now }
@@ -115,7 +115,7 @@ impl<W: Write + Drop, const S: usize> BufWriter<W, S> {
     ///
     /// ```rust
     /// let mut w = BufWriter::<Vec<u8>, 8>::new(Vec::new(rt.alloc()));
-    /// assert_eq!(rt; w.capacity(), 8);
+    /// assert!(rt; w.capacity() == 8);
     /// ```
     pub fn capacity(&self) -> usize
         ensures { result ≡ S }
@@ -135,10 +135,10 @@ impl<W: Write + Drop, const S: usize> BufWriter<W, S> {
     ///
     /// ```rust
     /// let mut w = BufWriter::<Vec<u8>, 8>::new(Vec::new(rt.alloc()));
-    /// assert_eq!(rt; w.capacity(), 8);
+    /// assert!(rt; w.capacity() == 8);
     /// w.write_all(b"abc")?;
     /// let device = w.into_inner()?; // sends `abc`
-    /// assert_eq!(rt; device.as_slice(), b"abc".as_slice());
+    /// assert!(rt; device.as_slice() == b"abc".as_slice());
     /// ```
     pub fn into_inner(mut self) -> std::result::Result<W, IntoInnerError<BufWriter<W, S>>>
         // No byte is lost.

@@ -16,9 +16,9 @@ use std::fmt::{Debug, Display, Formatter};
 /// let mut w = BufWriter::<_, 8>::new(Narrow { taken, most: 0 }); // a device that takes no byte
 /// w.write_all(b"abc")?;
 /// if let Err(failed) = w.into_inner() {
-///     assert_eq!(rt; failed.error().kind(), ErrorKind::WriteZero);
+///     assert!(rt; failed.error().kind() == ErrorKind::WriteZero);
 ///     let w = failed.into_inner();
-///     assert_eq!(rt; w.buffer(), b"abc".as_slice());
+///     assert!(rt; w.buffer() == b"abc".as_slice());
 /// }
 /// ```
 #[derive(Drop)]
@@ -42,9 +42,9 @@ impl<W> IntoInnerError<W> {
     /// let mut w = BufWriter::<_, 8>::new(Narrow { taken, most: 0 }); // a device that takes no byte
     /// w.write_all(b"abc")?;
     /// if let Err(failed) = w.into_inner() {
-    ///     assert_eq!(rt; failed.error().kind(), ErrorKind::WriteZero);
+    ///     assert!(rt; failed.error().kind() == ErrorKind::WriteZero);
     ///     let w = failed.into_inner();
-    ///     assert_eq!(rt; w.buffer(), b"abc".as_slice());
+    ///     assert!(rt; w.buffer() == b"abc".as_slice());
     /// }
     /// ```
     pub fn error(&self) -> &Error
@@ -60,9 +60,9 @@ impl<W> IntoInnerError<W> {
     /// let mut w = BufWriter::<_, 8>::new(Narrow { taken, most: 0 }); // a device that takes no byte
     /// w.write_all(b"abc")?;
     /// if let Err(failed) = w.into_inner() {
-    ///     assert_eq!(rt; failed.error().kind(), ErrorKind::WriteZero);
+    ///     assert!(rt; failed.error().kind() == ErrorKind::WriteZero);
     ///     let w = failed.into_inner();
-    ///     assert_eq!(rt; w.buffer(), b"abc".as_slice());
+    ///     assert!(rt; w.buffer() == b"abc".as_slice());
     /// }
     /// ```
     pub fn into_inner(self) -> W
@@ -80,8 +80,8 @@ impl<W> IntoInnerError<W> {
     /// w.write_all(b"abc")?;
     /// if let Err(failed) = w.into_inner() {
     ///     let (error, w) = failed.into_parts();
-    ///     assert_eq!(rt; error.kind(), ErrorKind::WriteZero);
-    ///     assert_eq!(rt; w.buffer(), b"abc".as_slice());
+    ///     assert!(rt; error.kind() == ErrorKind::WriteZero);
+    ///     assert!(rt; w.buffer() == b"abc".as_slice());
     /// }
     /// ```
     pub fn into_parts(self) -> (Error, W)

@@ -35,10 +35,10 @@ use steps::{lines_len, write_all_lines, write_all_plain, write_lines, write_plai
 /// ```rust
 /// let mut w = LineWriter::<Vec<u8>, 16>::new(Vec::new(rt.alloc()));
 /// w.write_all(b"one\ntw")?;
-/// assert_eq!(rt; w.get_ref().as_slice(), b"one\n".as_slice());
-/// assert_eq!(rt; w.buffer(), b"tw".as_slice());
+/// assert!(rt; w.get_ref().as_slice() == b"one\n".as_slice());
+/// assert!(rt; w.buffer() == b"tw".as_slice());
 /// w.write_all(b"o\n")?;
-/// assert_eq!(rt; w.get_ref().as_slice(), b"one\ntwo\n".as_slice());
+/// assert!(rt; w.get_ref().as_slice() == b"one\ntwo\n".as_slice());
 /// ```
 pub struct LineWriter<W: Write + Drop, const S: usize> {
     core: LineSender<W, S>,
@@ -51,7 +51,7 @@ impl<W: Write + Drop, const S: usize> LineWriter<W, S> {
     /// ```rust
     /// let mut w = LineWriter::<Vec<u8>, 16>::new(Vec::new(rt.alloc()));
     /// w.write_all(b"one\ntw")?;
-    /// assert_eq!(rt; w.get_ref().as_slice(), b"one\n".as_slice());
+    /// assert!(rt; w.get_ref().as_slice() == b"one\n".as_slice());
     /// ```
     pub fn new(inner: W) -> LineWriter<W, S>
         ensures inner { line_inner result ≡ inner }
@@ -67,7 +67,7 @@ impl<W: Write + Drop, const S: usize> LineWriter<W, S> {
     /// ```rust
     /// let mut w = LineWriter::<Vec<u8>, 16>::new(Vec::new(rt.alloc()));
     /// w.write_all(b"one\ntw")?;
-    /// assert_eq!(rt; w.get_ref().as_slice(), b"one\n".as_slice());
+    /// assert!(rt; w.get_ref().as_slice() == b"one\n".as_slice());
     /// ```
     pub fn get_ref(&self) -> &W
         ensures { result.now ≡ line_inner self.now }
@@ -97,8 +97,8 @@ impl<W: Write + Drop, const S: usize> LineWriter<W, S> {
     /// ```rust
     /// let mut w = LineWriter::<Vec<u8>, 16>::new(Vec::new(rt.alloc()));
     /// w.write_all(b"one\ntw")?;
-    /// assert_eq!(rt; w.get_ref().as_slice(), b"one\n".as_slice());
-    /// assert_eq!(rt; w.buffer(), b"tw".as_slice());
+    /// assert!(rt; w.get_ref().as_slice() == b"one\n".as_slice());
+    /// assert!(rt; w.buffer() == b"tw".as_slice());
     /// ```
     pub fn buffer(&self) -> &[u8]
         ensures value { result.now ≡ line_buffer self.now }
@@ -121,7 +121,7 @@ impl<W: Write + Drop, const S: usize> LineWriter<W, S> {
     /// w.write_all(b"one\ntw")?;
     /// w.get_mut().clear(); // forgets `one\n`; `tw` is still held
     /// let device = w.into_inner()?; // sends `tw`
-    /// assert_eq!(rt; device.as_slice(), b"tw".as_slice());
+    /// assert!(rt; device.as_slice() == b"tw".as_slice());
     /// ```
     pub fn into_inner(mut self) -> std::result::Result<W, IntoInnerError<LineWriter<W, S>>>
         // No byte is lost.

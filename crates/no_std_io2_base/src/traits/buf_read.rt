@@ -19,9 +19,9 @@ use std::alloc::{Allocator, Global};
 ///
 /// ```rust
 /// let mut r = Cursor::new(*b"abc");
-/// assert_eq!(rt; r.fill_buf()?, b"abc".as_slice());
+/// assert!(rt; r.fill_buf()? == b"abc".as_slice());
 /// r.consume(1);
-/// assert_eq!(rt; r.fill_buf()?, b"bc".as_slice());
+/// assert!(rt; r.fill_buf()? == b"bc".as_slice());
 /// ```
 pub trait BufRead: Read {
     // The bytes that stand ready: where events are told, those begin with them.
@@ -45,9 +45,9 @@ pub trait BufRead: Read {
     ///
     /// ```rust
     /// let mut r = Cursor::new(*b"abc");
-    /// assert_eq!(rt; r.fill_buf()?, b"abc".as_slice());
+    /// assert!(rt; r.fill_buf()? == b"abc".as_slice());
     /// r.consume(1);
-    /// assert_eq!(rt; r.fill_buf()?, b"bc".as_slice());
+    /// assert!(rt; r.fill_buf()? == b"bc".as_slice());
     /// ```
     fn fill_buf(&mut self) -> Result<&[u8]>
         ensures held { IsNotEmpty (held self.old) → IsOkAnd result (λ s. s.now ≡ held self.old) }
@@ -79,9 +79,9 @@ pub trait BufRead: Read {
     ///
     /// ```rust
     /// let mut r = Cursor::new(*b"abc");
-    /// assert_eq!(rt; r.fill_buf()?, b"abc".as_slice());
+    /// assert!(rt; r.fill_buf()? == b"abc".as_slice());
     /// r.consume(1);
-    /// assert_eq!(rt; r.fill_buf()?, b"bc".as_slice());
+    /// assert!(rt; r.fill_buf()? == b"bc".as_slice());
     /// ```
     fn consume(&mut self, amount: usize)
         requires { amount ≤ length (held self.old) }
@@ -111,8 +111,8 @@ pub trait BufRead: Read {
     /// ```rust
     /// let mut r = Cursor::new(*b"key=value");
     /// let mut key = Vec::<u8>::new(rt.alloc());
-    /// assert_eq!(rt; r.read_until(b'=', &mut key)?, 4);
-    /// assert_eq!(rt; key.as_slice(), b"key=".as_slice());
+    /// assert!(rt; r.read_until(b'=', &mut key)? == 4);
+    /// assert!(rt; key.as_slice() == b"key=".as_slice());
     /// ```
     fn read_until<A: Allocator>(&mut self, delim: u8, buf: &mut Vec<u8, A>) -> Result<usize>
     where
@@ -164,10 +164,10 @@ pub trait BufRead: Read {
     /// ```rust
     /// let mut r = Cursor::new(*b"one\ntwo");
     /// let mut line = String::new(rt.alloc());
-    /// assert_eq!(rt; r.read_line(rt.alloc(), &mut line)?, 4);
-    /// assert_eq!(rt; line.as_str(), "one\n");
-    /// assert_eq!(rt; r.read_line(rt.alloc(), &mut line)?, 3);
-    /// assert_eq!(rt; line.as_str(), "one\ntwo");
+    /// assert!(rt; r.read_line(rt.alloc(), &mut line)? == 4);
+    /// assert!(rt; line.as_str() == "one\n");
+    /// assert!(rt; r.read_line(rt.alloc(), &mut line)? == 3);
+    /// assert!(rt; line.as_str() == "one\ntwo");
     /// ```
     final fn read_line(&mut self, alloc: Global, buf: &mut String) -> Result<usize>
     where
@@ -200,7 +200,7 @@ pub trait BufRead: Read {
     /// for piece in Cursor::new(*b"ab,,c").split(rt.alloc(), b',') {
     ///     lens.push(piece?.len())?;
     /// }
-    /// assert_eq!(rt; lens.as_slice(), [2, 0, 1].as_slice());
+    /// assert!(rt; lens.as_slice() == [2, 0, 1].as_slice());
     /// ```
     final fn split(self, alloc: Global, delim: u8) -> Split<Self>
     where
@@ -220,7 +220,7 @@ pub trait BufRead: Read {
     /// for line in Cursor::new(*b"one\r\ntwo\n").lines(rt.alloc()) {
     ///     text.push_str(line?.as_str())?;
     /// }
-    /// assert_eq!(rt; text.as_str(), "onetwo");
+    /// assert!(rt; text.as_str() == "onetwo");
     /// ```
     final fn lines(self, alloc: Global) -> Lines<Self>
     where

@@ -17,7 +17,7 @@ use crate::error::Result;
 /// for byte in Cursor::new(*b"abc").bytes() {
 ///     content.push(byte?)?;
 /// }
-/// assert_eq!(rt; content.as_slice(), b"abc".as_slice());
+/// assert!(rt; content.as_slice() == b"abc".as_slice());
 /// ```
 #[derive(Debug, Drop)]
 pub struct Bytes<R> {

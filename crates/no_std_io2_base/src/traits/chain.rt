@@ -25,7 +25,7 @@ use std::alloc::Allocator;
 /// let mut r = Cursor::new(*b"ab").chain(Cursor::new(*b"cd"));
 /// let mut content = Vec::<u8>::new(rt.alloc());
 /// r.read_to_end(&mut content)?;
-/// assert_eq!(rt; content.as_slice(), b"abcd".as_slice());
+/// assert!(rt; content.as_slice() == b"abcd".as_slice());
 /// ```
 #[derive(Debug, Drop)]
 pub struct Chain<T, U> {
@@ -52,9 +52,9 @@ impl<T, U> Chain<T, U> {
     /// let mut three = [0u8; 3];
     /// r.read_exact(&mut three)?;
     /// let (first, second) = r.get_ref();
-    /// assert_eq!(rt; (first.position(), second.position()), (2, 1));
+    /// assert!(rt; (first.position(), second.position()) == (2, 1));
     /// let (_, second) = r.into_inner();
-    /// assert_eq!(rt; second.position(), 1);
+    /// assert!(rt; second.position() == 1);
     /// ```
     pub fn into_inner(self) -> (T, U)
         ensures first { result.0 ≡ chain_first self }
@@ -70,7 +70,7 @@ impl<T, U> Chain<T, U> {
     /// let mut three = [0u8; 3];
     /// r.read_exact(&mut three)?;
     /// let (first, second) = r.get_ref();
-    /// assert_eq!(rt; (first.position(), second.position()), (2, 1));
+    /// assert!(rt; (first.position(), second.position()) == (2, 1));
     /// ```
     pub fn get_ref(&self) -> (&T, &U)
         ensures first { result.0.now ≡ chain_first self.now }
@@ -87,7 +87,7 @@ impl<T, U> Chain<T, U> {
     /// let (_, second) = r.get_mut();
     /// second.set_position(1); // without its `c`
     /// let mut content = Vec::<u8>::new(rt.alloc());
-    /// assert_eq!(rt; r.read_to_end(&mut content)?, 3);
+    /// assert!(rt; r.read_to_end(&mut content)? == 3);
     /// ```
     pub fn get_mut(&mut self) -> (&mut T, &mut U)
         ensures first { result.0.now ≡ chain_first self.old }

@@ -22,7 +22,7 @@ use std::alloc::Global;
 /// for line in Cursor::new(*b"one\r\ntwo\n").lines(rt.alloc()) {
 ///     text.push_str(line?.as_str())?;
 /// }
-/// assert_eq!(rt; text.as_str(), "onetwo");
+/// assert!(rt; text.as_str() == "onetwo");
 /// ```
 #[derive(Drop)]
 pub struct Lines<R> {

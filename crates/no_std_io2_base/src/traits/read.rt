@@ -23,9 +23,9 @@ use std::alloc::Allocator;
 /// ```rust
 /// let mut r = Cursor::new(*b"abc");
 /// let mut buf = [0u8; 2];
-/// assert_eq!(rt; r.read(&mut buf)?, 2); // `ab`
-/// assert_eq!(rt; r.read(&mut buf)?, 1); // `c`
-/// assert_eq!(rt; r.read(&mut buf)?, 0); // the end
+/// assert!(rt; r.read(&mut buf)? == 2); // `ab`
+/// assert!(rt; r.read(&mut buf)? == 1); // `c`
+/// assert!(rt; r.read(&mut buf)? == 0); // the end
 /// ```
 pub trait Read: Stored {
     // That the reader tells the events to come, and these.
@@ -57,9 +57,9 @@ pub trait Read: Stored {
     /// ```rust
     /// let mut r = Cursor::new(*b"abc");
     /// let mut buf = [0u8; 2];
-    /// assert_eq!(rt; r.read(&mut buf)?, 2); // `ab`
-    /// assert_eq!(rt; r.read(&mut buf)?, 1); // `c`
-    /// assert_eq!(rt; r.read(&mut buf)?, 0); // the end
+    /// assert!(rt; r.read(&mut buf)? == 2); // `ab`
+    /// assert!(rt; r.read(&mut buf)? == 1); // `c`
+    /// assert!(rt; r.read(&mut buf)? == 0); // the end
     /// ```
     fn read(&mut self, buf: &mut [u8]) -> Result<usize>
         ensures bound { IfOk result (λ n. n ≤ length buf.new) }
@@ -87,7 +87,7 @@ pub trait Read: Stored {
     /// let mut r = Cursor::new(*b"abcde");
     /// let mut header = [0u8; 4];
     /// r.read_exact(&mut header)?;
-    /// assert_eq!(rt; header, *b"abcd");
+    /// assert!(rt; header == *b"abcd");
     /// assert!(rt; r.read_exact(&mut header).is_err()); // one byte is left: `UnexpectedEof`
     /// ```
     fn read_exact(&mut self, buf: &mut [u8]) -> Result<()>
@@ -128,8 +128,8 @@ pub trait Read: Stored {
     /// ```rust
     /// let mut r = Cursor::new(*b"abcde");
     /// let mut content = Vec::<u8>::new(rt.alloc());
-    /// assert_eq!(rt; r.read_to_end(&mut content)?, 5);
-    /// assert_eq!(rt; content.as_slice(), b"abcde".as_slice());
+    /// assert!(rt; r.read_to_end(&mut content)? == 5);
+    /// assert!(rt; content.as_slice() == b"abcde".as_slice());
     /// ```
     fn read_to_end<A: Allocator>(&mut self, buf: &mut Vec<u8, A>) -> Result<usize>
     where
@@ -177,7 +177,7 @@ pub trait Read: Stored {
     /// let mut r = Cursor::new(*b"abcde");
     /// let mut head = Vec::<u8>::new(rt.alloc());
     /// r.by_ref().take(2).read_to_end(&mut head)?;
-    /// assert_eq!(rt; r.position(), 2); // `r` goes on behind `ab`
+    /// assert!(rt; r.position() == 2); // `r` goes on behind `ab`
     /// ```
     final fn by_ref(&mut self) -> &mut Self
     where
@@ -195,7 +195,7 @@ pub trait Read: Stored {
     /// for byte in Cursor::new(*b"abc").bytes() {
     ///     content.push(byte?)?;
     /// }
-    /// assert_eq!(rt; content.as_slice(), b"abc".as_slice());
+    /// assert!(rt; content.as_slice() == b"abc".as_slice());
     /// ```
     final fn bytes(self) -> Bytes<Self>
     where
@@ -211,7 +211,7 @@ pub trait Read: Stored {
     /// let mut r = Cursor::new(*b"ab").chain(Cursor::new(*b"cd"));
     /// let mut content = Vec::<u8>::new(rt.alloc());
     /// r.read_to_end(&mut content)?;
-    /// assert_eq!(rt; content.as_slice(), b"abcd".as_slice());
+    /// assert!(rt; content.as_slice() == b"abcd".as_slice());
     /// ```
     final fn chain<R: Read>(self, next: R) -> Chain<Self, R>
     where
@@ -231,7 +231,7 @@ pub trait Read: Stored {
     /// ```rust
     /// let mut r = Cursor::new(*b"abcde").take(2);
     /// let mut content = Vec::<u8>::new(rt.alloc());
-    /// assert_eq!(rt; r.read_to_end(&mut content)?, 2);
+    /// assert!(rt; r.read_to_end(&mut content)? == 2);
     /// ```
     final fn take(self, limit: u64) -> Take<Self>
     where

@@ -8,9 +8,9 @@ use crate::error::Result;
 ///
 /// ```rust
 /// let mut r = Cursor::new(*b"abcde");
-/// assert_eq!(rt; r.seek(SeekFrom::Start(1))?, 1);
-/// assert_eq!(rt; r.seek(SeekFrom::Current(2))?, 3);
-/// assert_eq!(rt; r.seek(SeekFrom::End(-1))?, 4);
+/// assert!(rt; r.seek(SeekFrom::Start(1))? == 1);
+/// assert!(rt; r.seek(SeekFrom::Current(2))? == 3);
+/// assert!(rt; r.seek(SeekFrom::End(-1))? == 4);
 /// ```
 #[derive(Clone, Copy, Debug, PartialEq, Eq)]
 pub enum SeekFrom {
@@ -26,9 +26,9 @@ pub enum SeekFrom {
 ///
 /// ```rust
 /// let mut r = Cursor::new(*b"abcde");
-/// assert_eq!(rt; r.seek(SeekFrom::Start(1))?, 1);
-/// assert_eq!(rt; r.seek(SeekFrom::Current(2))?, 3);
-/// assert_eq!(rt; r.seek(SeekFrom::End(-1))?, 4);
+/// assert!(rt; r.seek(SeekFrom::Start(1))? == 1);
+/// assert!(rt; r.seek(SeekFrom::Current(2))? == 3);
+/// assert!(rt; r.seek(SeekFrom::End(-1))? == 4);
 /// ```
 pub trait Seek: Stored {
     ghost use Rattle.no_std_io2_base.specs.declared.error.Error.{Error};
@@ -48,9 +48,9 @@ pub trait Seek: Stored {
     ///
     /// ```rust
     /// let mut r = Cursor::new(*b"abcde");
-    /// assert_eq!(rt; r.seek(SeekFrom::Start(1))?, 1);
-    /// assert_eq!(rt; r.seek(SeekFrom::Current(2))?, 3);
-    /// assert_eq!(rt; r.seek(SeekFrom::End(-1))?, 4);
+    /// assert!(rt; r.seek(SeekFrom::Start(1))? == 1);
+    /// assert!(rt; r.seek(SeekFrom::Current(2))? == 3);
+    /// assert!(rt; r.seek(SeekFrom::End(-1))? == 4);
     /// assert!(rt; r.seek(SeekFrom::Current(-5)).is_err()); // before the start: it stays at 4
     /// ```
     fn seek(&mut self, pos: SeekFrom) -> Result<u64>
@@ -68,7 +68,7 @@ pub trait Seek: Stored {
     /// ```rust
     /// let mut r = Cursor::new(*b"abcde");
     /// r.seek(SeekFrom::Start(3))?;
-    /// assert_eq!(rt; r.stream_position()?, 3);
+    /// assert!(rt; r.stream_position()? == 3);
     /// ```
     fn stream_position(&mut self) -> Result<u64>
         ensures store { Self.has_store self.old → Self.has_store self.new
@@ -89,10 +89,10 @@ pub trait Seek: Stored {
     /// ```rust
     /// let mut r = Cursor::new(*b"abcde");
     /// r.seek(SeekFrom::Start(3))?;
-    /// assert_eq!(rt; r.stream_position()?, 3);
-    /// assert_eq!(rt; r.stream_len()?, 5);
+    /// assert!(rt; r.stream_position()? == 3);
+    /// assert!(rt; r.stream_len()? == 5);
     /// r.rewind()?;
-    /// assert_eq!(rt; r.stream_position()?, 0);
+    /// assert!(rt; r.stream_position()? == 0);
     /// ```
     fn rewind(&mut self) -> Result<()>
         ensures store { Self.has_store self.old → Self.has_store self.new
@@ -114,8 +114,8 @@ pub trait Seek: Stored {
     /// ```rust
     /// let mut r = Cursor::new(*b"abcde");
     /// r.seek(SeekFrom::Start(3))?;
-    /// assert_eq!(rt; r.stream_position()?, 3);
-    /// assert_eq!(rt; r.stream_len()?, 5);
+    /// assert!(rt; r.stream_position()? == 3);
+    /// assert!(rt; r.stream_len()? == 5);
     /// ```
     fn stream_len(&mut self) -> Result<u64>
         ensures store { Self.has_store self.old → Self.has_store self.new

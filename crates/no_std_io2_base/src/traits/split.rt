@@ -22,7 +22,7 @@ use std::alloc::Global;
 /// for piece in Cursor::new(*b"ab,,c").split(rt.alloc(), b',') {
 ///     lens.push(piece?.len())?;
 /// }
-/// assert_eq!(rt; lens.as_slice(), [2, 0, 1].as_slice());
+/// assert!(rt; lens.as_slice() == [2, 0, 1].as_slice());
 /// ```
 #[derive(Drop)]
 pub struct Split<R> {

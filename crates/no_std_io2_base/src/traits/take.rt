@@ -24,7 +24,7 @@ use std::alloc::Allocator;
 /// ```rust
 /// let mut r = Cursor::new(*b"abcde").take(2);
 /// let mut content = Vec::<u8>::new(rt.alloc());
-/// assert_eq!(rt; r.read_to_end(&mut content)?, 2);
+/// assert!(rt; r.read_to_end(&mut content)? == 2);
 /// ```
 #[derive(Debug, Drop)]
 pub struct Take<T> {
@@ -46,7 +46,7 @@ impl<T> Take<T> {
     /// let mut r = Cursor::new(*b"abcde").take(2);
     /// let mut two = [0u8; 2];
     /// r.read_exact(&mut two)?;
-    /// assert_eq!(rt; r.limit(), 0); // the end
+    /// assert!(rt; r.limit() == 0); // the end
     /// ```
     pub fn limit(&self) -> u64
         ensures { result ≡ take_limit self.now }
@@ -61,10 +61,10 @@ impl<T> Take<T> {
     /// let mut r = Cursor::new(*b"abcde").take(2);
     /// let mut two = [0u8; 2];
     /// r.read_exact(&mut two)?;
-    /// assert_eq!(rt; r.limit(), 0); // the end
+    /// assert!(rt; r.limit() == 0); // the end
     /// r.set_limit(2);
     /// r.read_exact(&mut two)?;
-    /// assert_eq!(rt; two, *b"cd");
+    /// assert!(rt; two == *b"cd");
     /// ```
     pub fn set_limit(&mut self, limit: u64)
         ensures limit { take_limit self.new ≡ limit }
@@ -79,7 +79,7 @@ impl<T> Take<T> {
     /// let mut r = Cursor::new(*b"abcde").take(2);
     /// let mut two = [0u8; 2];
     /// r.read_exact(&mut two)?;
-    /// assert_eq!(rt; r.get_ref().position(), 2);
+    /// assert!(rt; r.get_ref().position() == 2);
     /// ```
     pub fn get_ref(&self) -> &T
         ensures { result.now ≡ take_inner self.now }
@@ -94,9 +94,9 @@ impl<T> Take<T> {
     /// let mut r = Cursor::new(*b"abcde").take(2);
     /// let mut two = [0u8; 2];
     /// r.read_exact(&mut two)?;
-    /// assert_eq!(rt; r.get_ref().position(), 2);
+    /// assert!(rt; r.get_ref().position() == 2);
     /// r.get_mut().set_position(0);
-    /// assert_eq!(rt; r.limit(), 0); // the limit stays
+    /// assert!(rt; r.limit() == 0); // the limit stays
     /// ```
     pub fn get_mut(&mut self) -> &mut T
         ensures value { result.now ≡ take_inner self.old }
@@ -111,11 +111,11 @@ impl<T> Take<T> {
     /// let mut r = Cursor::new(*b"abcde").take(2);
     /// let mut two = [0u8; 2];
     /// r.read_exact(&mut two)?;
-    /// assert_eq!(rt; r.get_ref().position(), 2);
+    /// assert!(rt; r.get_ref().position() == 2);
     /// r.get_mut().set_position(0);
-    /// assert_eq!(rt; r.limit(), 0); // the limit stays
+    /// assert!(rt; r.limit() == 0); // the limit stays
     /// let inner = r.into_inner();
-    /// assert_eq!(rt; inner.position(), 0);
+    /// assert!(rt; inner.position() == 0);
     /// ```
     pub fn into_inner(self) -> T
         ensures { result ≡ take_inner self }

@@ -19,7 +19,7 @@ use crate::error::{Result, failed_to_write};
 /// device.write_all(b"hello ")?;
 /// device.write_all(b"world")?;
 /// device.flush()?;
-/// assert_eq!(rt; device.as_slice(), b"hello world".as_slice());
+/// assert!(rt; device.as_slice() == b"hello world".as_slice());
 /// ```
 pub trait Write {
     // What it tells of itself.
@@ -42,8 +42,8 @@ pub trait Write {
     /// ```rust
     /// let mut room = [0u8; 4];
     /// let mut w = Cursor::new(&mut room[..]);
-    /// assert_eq!(rt; w.write(b"abc")?, 3);
-    /// assert_eq!(rt; w.write(b"def")?, 1); // `ef` was not accepted
+    /// assert!(rt; w.write(b"abc")? == 3);
+    /// assert!(rt; w.write(b"def")? == 1); // `ef` was not accepted
     /// ```
     fn write(&mut self, buf: &[u8]) -> Result<usize>
         ensures bound { IfOk result (λ n. n ≤ length buf.now) }
@@ -65,7 +65,7 @@ pub trait Write {
     /// w.write_all(b"abc")?;
     /// assert!(rt; w.get_ref().is_empty()); // `abc` is held
     /// w.flush()?;
-    /// assert_eq!(rt; w.get_ref().as_slice(), b"abc".as_slice());
+    /// assert!(rt; w.get_ref().as_slice() == b"abc".as_slice());
     /// ```
     fn flush(&mut self) -> Result<()>
         ensures empty { OnOk result ((told self.new).held ≡ []) }
@@ -146,7 +146,7 @@ pub trait Write {
     /// let mut w = BufWriter::<&mut Vec<u8>, 8>::new(device.by_ref());
     /// w.write_all(b"abc")?;
     /// drop(w); // sends `abc`
-    /// assert_eq!(rt; device.as_slice(), b"abc".as_slice());
+    /// assert!(rt; device.as_slice() == b"abc".as_slice());
     /// ```
     final fn by_ref(&mut self) -> &mut Self
     where

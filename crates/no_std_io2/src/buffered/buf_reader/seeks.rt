@@ -112,10 +112,10 @@ impl<R: Seek, const S: usize> BufReader<R, S> {
     /// let mut r = BufReader::<_, 4>::new(Cursor::new(*b"abcdefgh"));
     /// let mut two = [0u8; 2];
     /// r.read_exact(&mut two)?; // one inner read, of four bytes
-    /// assert_eq!(rt; r.buffer(), b"cd".as_slice());
-    /// assert_eq!(rt; r.behind(), b"ab".as_slice());
+    /// assert!(rt; r.buffer() == b"cd".as_slice());
+    /// assert!(rt; r.behind() == b"ab".as_slice());
     /// r.seek_relative(-1)?; // inside the buffer: the inner reader is left alone
-    /// assert_eq!(rt; r.buffer(), b"bcd".as_slice());
+    /// assert!(rt; r.buffer() == b"bcd".as_slice());
     /// ```
     pub fn seek_relative(&mut self, offset: i64) -> Result<()>
         // In the buffer the border between behind and held moves.
