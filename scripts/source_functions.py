@@ -4,7 +4,7 @@ from collections import namedtuple
 
 # What a source file holds that is no code.
 NO_CODE = re.compile(r'//[^\n]*|/\*.*?\*/|\bb?r(#*)".*?"\1|"(?:\\.|[^"\\])*"|\'(?:\\[^\n]+?|[^\'\\\n])\'', re.S)
-TOKEN = re.compile(r"\b(?:mod|impl|trait)\b|\bfn\s+\w+|[{}()\[\];]")
+TOKEN = re.compile(r"\b(?:mod|impl|trait|enum)\b|\bfn\s+\w+|[{}()\[\];]")
 CLAUSE = re.compile(r"(?:\b(?:requires|ensures)\*?\s*\w*|\bghost\s+\w+\s*:)\s*\Z")
 
 # A function: its name as the checker prints it, where its head, its body and its end stand, and whether it, its impl or
@@ -85,7 +85,7 @@ def is_generic(heads):
 
 
 def items_of(code, module, types):
-    """Lists the functions with a body of a source file, and the texts of its impls and traits."""
+    """Lists the functions with a body of a source file, and the texts of its impls, traits and enums."""
     functions, items, opened, head, depth = [], [], [], None, 0
     for it in TOKEN.finditer(code):
         if it[0] in "([":
@@ -108,7 +108,7 @@ def items_of(code, module, types):
                 heads = [code[last.head : last.at], *(" ".join(words) for words in owners)]
                 first = code.rfind("\n", 0, last.head) + 1
                 functions.append(Function(f"{owner}::{name}", first, last.at, it.end(), is_generic(heads)))
-            elif last.kind in ("impl", "trait"):
+            elif last.kind in ("impl", "trait", "enum"):
                 items.append((last.head, it.end()))
         elif it[0] == ";":
             head = None if depth == 0 and not (opened and opened[-1].kind == "clause") else head
