@@ -110,10 +110,12 @@ impl<W: Write + Drop, const S: usize> FrameWriter<W, S> {
         let mut rest = self.pending.rest();
         let reply = self.inner.write_rest(&mut rest);
         let left = rest.len();
-        self.pending.keep_last(left);
-        reply?;
-        self.pending.clear();
-        Ok(())
+        if reply.is_ok() {
+            self.pending.clear();
+        } else {
+            self.pending.keep_last(left);
+        }
+        reply
     }
 
     /// Sends a payload: after `Ok` its whole frame was accepted, and is out or held. It isn't flushed. No
