@@ -1,5 +1,6 @@
 //! The traits at streams in memory (slices, vectors), and at what stands for another stream
 //! (references, boxes, boxed trait objects). There is nothing here to be named.
+mod appending;
 mod boxed;
 mod copying;
 mod lending_objects;
@@ -9,6 +10,7 @@ mod reading_objects;
 mod slices;
 mod vectors;
 
-pub(crate) use copying::{copy_prefix, put_short};
+pub(crate) use appending::{append, put_longer, put_short};
+pub(crate) use copying::{copy_prefix, copy_short};
 pub use copying::{copy_bytes, copy_wide};
 pub use slices::append_rest;

@@ -72,6 +72,14 @@ impl<W: Write + Drop, const S: usize> Sender<W, S> {
     pub(crate) fn send(&mut self) -> Result<()>
         ensures { Sent W.told W.takes_all W.is_metered W.cost self.old result self.new }
     {
+        self.send_held()
+    }
+
+    // The whole of `send`, which the cold functions inline.
+    #[inline(always)]
+    fn send_held(&mut self) -> Result<()>
+        ensures { Sent W.told W.takes_all W.is_metered W.cost self.old result self.new }
+    {
         while self.window.len() > 0 {
             match self.inner.write(self.window.as_slice()) {
                 Ok(0) => {
@@ -99,11 +107,12 @@ impl<W: Write + Drop, const S: usize> Sender<W, S> {
     ///
     /// # Errors
     /// As `send`.
+    #[inline(always)]
     fn make_way(&mut self, more: usize) -> Result<()>
         ensures { MakesWay W.told W.takes_all W.is_metered W.cost self.old more result self.new }
     {
         if more > S - self.window.len() {
-            return self.send();
+            return self.send_held();
         }
         Ok(())
     }
@@ -121,7 +130,7 @@ impl<W: Write + Drop, const S: usize> Sender<W, S> {
     }
 
     /// Holds `buf` where it is shorter than `S`, else hands it to the inner `write`. What is held is
-    /// sent first where both together are above `S`.
+    /// sent first where both together are above `S`. Where nothing is held, handing on is a hot path too.
     ///
     /// # Errors
     /// As `send`, or the inner `write`'s. Nothing of `buf` was accepted then.
@@ -129,10 +138,13 @@ impl<W: Write + Drop, const S: usize> Sender<W, S> {
     pub(crate) fn write(&mut self, buf: &[u8]) -> Result<usize>
         ensures { Buffers W.told W.takes_all W.is_metered W.cost self.old buf.now result self.new }
     {
-        if !self.hold_if_room(buf) {
-            return self.write_slowly(buf);
+        if self.hold_if_room(buf) {
+            return Ok(buf.len());
         }
-        Ok(buf.len())
+        if buf.len() >= S && self.window.len() == 0 {
+            return self.inner.write(buf);
+        }
+        self.write_slowly(buf)
     }
 
     // The call of `write_cold`. It stands between, so that the room for the answer is made on this way alone.

@@ -2,7 +2,7 @@
 ghost use Rattle.std.specs.Prelude.{◌≡◌, ◌+◌, ◌-◌, ◌<◌, ◌≤◌, [], ◌++◌, length, drop};
 ghost use Rattle.std.specs.Bool.{OnTrue, OnFalse};
 
-use no_std_io2_base::impls::copy_bytes;
+use no_std_io2_base::impls::{copy_bytes, copy_wide};
 
 /// Holds the bytes from `start` to `end`. Dropping some at the front moves no byte.
 #[derive(Drop)]
@@ -71,6 +71,8 @@ impl<const S: usize> Window<S> {
     }
 
     /// Moves the held bytes to the front.
+    #[cold]
+    #[inline(never)]
     fn make_room(&mut self)
         ensures same { window_bytes self.new ≡ window_bytes self.old }
         ensures start { self.new.start ≡ 0 }
@@ -90,7 +92,7 @@ impl<const S: usize> Window<S> {
     {
         let end = self.end + more.len();
         let all = &mut self.bytes[..];
-        copy_bytes(more, &mut all[self.end..end]);
+        copy_wide(more, &mut all[self.end..end]);
         self.end = end;
     }
 

@@ -1,7 +1,4 @@
-ghost use Rattle.std.specs.Prelude.{◌≡◌, ◌≤◌, ◌+◌, ◌++◌, min, length, take, drop, vec_len, vec_capacity};
-ghost use Rattle.no_std_io2_base.specs.Cursor.{put_at};
-
-use std::alloc::Allocator;
+ghost use Rattle.std.specs.Prelude.{◌≡◌, ◌≤◌, ◌+◌, ◌++◌, min, length, take, drop};
 
 // Copies a slice of N to 2 N bytes by two moves of N, its front and its back, which may overlap.
 #[inline(always)]
@@ -56,8 +53,33 @@ pub fn copy_bytes(from: &[u8], to: &mut [u8])
     }
 }
 
-/// Copies bytes over as many others, as [`copy_bytes`] does, of which up to 128 are moved in place: for readers, whose
-/// callers ask for pieces of some tens of bytes too. Follows `copy_from_slice` of std's slices.
+// Copies a slice of any length. It stands apart, so that callers inline no more than the copies in place: between slices that may
+// overlap, for all that the compiler knows, a copy becomes a test, a call and loops beside it. It is called cold, so that callers save
+// no register for it on their way to the others.
+#[cold]
+#[inline(never)]
+fn copy_by_call(to: &mut [u8], from: &[u8])
+    requires { length from.now ≡ length to.old }
+    ensures { to.new ≡ from.now }
+{
+    to.copy_from_slice(from);
+}
+
+// Copies bytes over as many others, of which up to 32 are moved in place, and any other number by a function of its own.
+#[inline(always)]
+pub(crate) fn copy_short(from: &[u8], to: &mut [u8])
+    requires { length from.now ≡ length to.old }
+    ensures { to.new ≡ from.now }
+{
+    if from.len() > 32 {
+        return copy_by_call(to, from);
+    }
+    copy_bytes(from, to);
+}
+
+/// Copies bytes over as many others, as [`copy_bytes`] does, of which up to 128 are moved in place, and any other number by a
+/// function of its own: for readers, whose callers ask for pieces of some tens of bytes too. Follows `copy_from_slice` of
+/// std's slices.
 #[inline(always)]
 pub fn copy_wide(from: &[u8], to: &mut [u8])
     requires { length from.now ≡ length to.old }
@@ -70,7 +92,7 @@ pub fn copy_wide(from: &[u8], to: &mut [u8])
     } else if from.len() <= 128 {
         copy_ends::<64>(from, to);
     } else {
-        to.copy_from_slice(from);
+        copy_by_call(to, from);
     }
 }
 
@@ -88,24 +110,4 @@ pub(crate) fn copy_prefix(from: &[u8], to: &mut [u8]) -> usize
     let n = from.len().min(to.len());
     copy_wide(&from[..n], &mut to[..n]);
     n
-}
-
-// Puts a short slice at `start` into a vector that ends at most M bytes before the slice's end, and has room for M more. It
-// opens M zeros, which no call is needed for, since M is known; those behind the slice go again.
-#[inline(always)]
-pub(crate) fn put_short<const M: usize, A: Allocator>(
-    content: &mut Vec<u8, A>,
-    start: usize,
-    buf: &[u8],
-)
-    requires small { M ≤ 32 }
-    requires past { vec_len content.old ≤ start + length buf.now }
-    requires near { start + length buf.now ≤ vec_len content.old + M }
-    requires room { vec_len content.old + M ≤ vec_capacity content.old }
-    ensures { content.new.items ≡ put_at start buf.now content.old.items }
-{
-    let end = start + buf.len();
-    let _ = content.extend_from_slice(&[0u8; M]);
-    copy_bytes(buf, &mut content[start..end]);
-    content.truncate(end);
 }

@@ -3,6 +3,7 @@ ghost use Rattle.std.specs.Prelude.{IfErr, length, vec_len, vec_capacity};
 ghost use Rattle.no_std_io2_base.specs.Errors.{IsNoInterruption, IsOutOfMemory};
 ghost use Rattle.no_std_io2_base.specs.Writes.{Moves, MovesFront, taken, write_mishap, call_mishap, told_out};
 
+use super::appending::append;
 use crate::error::{Error, ErrorKind, Result};
 use crate::traits::Write;
 use std::alloc::Allocator;
@@ -18,7 +19,7 @@ impl<A: Allocator> Write for Vec<u8, A> {
 
     ghost is_metered = { λ _. ⊥ };
 
-    #[inline]
+    #[inline(always)]
     fn write(&mut self, buf: &[u8]) -> Result<usize>
         // The trait's.
         ensures bound { IfOk result (λ n. n ≤ length buf.now) }
@@ -34,11 +35,11 @@ impl<A: Allocator> Write for Vec<u8, A> {
         ensures empty { length buf.now ≡ 0 → IsOk result }
         ensures full { OnErr result (vec_capacity self.old < vec_len self.old + length buf.now) }
     {
-        self.extend_from_slice(buf)?;
+        append(self, buf)?;
         Ok(buf.len())
     }
 
-    #[inline]
+    #[inline(always)]
     fn write_all(&mut self, buf: &[u8]) -> Result<()>
         // The trait's.
         ensures fault { IsNoInterruption result }
@@ -52,13 +53,7 @@ impl<A: Allocator> Write for Vec<u8, A> {
         ensures empty { length buf.now ≡ 0 → IsOk result }
         ensures full { OnErr result (vec_capacity self.old < vec_len self.old + length buf.now) }
     {
-        // A single byte is written by one instruction, and any other number by a call.
-        let is_done = if buf.len() == 1 {
-            self.push(buf[0]).is_ok()
-        } else {
-            self.extend_from_slice(buf).is_ok()
-        };
-        if is_done {
+        if append(self, buf).is_ok() {
             return Ok(());
         }
         Err(Error::from(ErrorKind::OutOfMemory))

@@ -160,6 +160,7 @@ impl<T: Read> Read for Take<T> {
 
     ghost may_take_none = { λ _. ⊥ };
 
+    #[inline]
     fn read(&mut self, buf: &mut [u8]) -> Result<usize>
         // The trait's.
         ensures bound { IfOk result (λ n. n ≤ length buf.new) }

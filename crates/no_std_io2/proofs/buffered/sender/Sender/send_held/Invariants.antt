@@ -2,7 +2,7 @@
 use Rattle.std.proofs.Common.{◌+◌, length}
 use Rattle.no_std_io2.specs.Buffered.{sender_buffer}
 use Rattle.no_std_io2.proofs.SendLemmas.{Sending}
-use Rattle.no_std_io2.proofs.buffered.sender.Sender.send.Given as goal
+use Rattle.no_std_io2.proofs.buffered.sender.Sender.send_held.Given as goal
 
 abbrev pub invariant-loop-self : goal.invariant-loop-self
 invariant-loop-self g l =

@@ -3,7 +3,7 @@ use Rattle.std.proofs.Common.{arith, sym, ◌∙◌}
 use Rattle.no_std_io2.proofs.BufferLemmas.{none_of_length}
 use Rattle.no_std_io2.proofs.SendLemmas.{sending_begins, sending_took, sending_again, sending_ends, sending_fails}
 use Rattle.no_std_io2.proofs.SendLemmas.{sending_stuck, takes_not_all, fewer_left, fewer_turns}
-use Rattle.no_std_io2.proofs.buffered.sender.Sender.send.Goals as goal
+use Rattle.no_std_io2.proofs.buffered.sender.Sender.send_held.Goals as goal
 
 pub loop-self-init : goal.loop-self-init
 loop-self-init g c = sending_begins c.args.self.now
