@@ -4,6 +4,7 @@ import re
 import subprocess
 import time
 from collections import namedtuple
+from functools import lru_cache
 
 import refusing_goals
 from planted_crate import clause_of
@@ -12,6 +13,9 @@ from planted_crate import clause_of
 NAME_IS_GONE = re.compile(r"has no field|is not in scope|has no `|was not admitted|was rejected")
 # An error of a text that cannot be read, so that the prover has judged nothing.
 UNREAD = re.compile(r"is not in scope|has no field|is no name|operand is missing|expected the end|cannot continue")
+# What a check says of a goal in a function's text, and of a function.
+OPEN = re.compile(r"^note: ([^\s:]+):(\d+):\d+: it is not proved.*?\(`([^`]+)`\)", re.M)
+FUNCTION = re.compile(r"^fn (\S+): (.*)", re.M)
 
 # The checks that are running, to be ended with the script.
 RUNNING = set()
@@ -43,10 +47,25 @@ def unread(said):
     return next((it for it in errors if UNREAD.search(re.sub(r"`[^`]*`", "", it))), "")
 
 
+# What a check says is a megabyte, which each body of a round is looked up in: so it is read once.
+@lru_cache(maxsize=1)
+def functions_of(said):
+    """Gives what the check says of each function."""
+    return {name: line for name, line in reversed(FUNCTION.findall(said))}
+
+
+@lru_cache(maxsize=1)
+def open_of(said):
+    """Gives of each source file the lines and names of the goals that the check says are not proved."""
+    found = {}
+    for path, line, goal in OPEN.findall(said):
+        found.setdefault(path, []).append((int(line), goal))
+    return found
+
+
 def line_of(name, said):
     """Gives what the check says of a function."""
-    found = re.search(rf"^fn {re.escape(name)}: (.*)", said, re.M)
-    return found[1] if found else ""
+    return functions_of(said).get(name, "")
 
 
 def is_proved(line):
@@ -66,11 +85,11 @@ def behind(crate, name, said):
 def open_goals(crate, name, texts, said):
     """Lists the goals in the function's text that the check says are not proved."""
     goals = []
-    for path, text in texts.items():
-        found = re.findall(rf"^note: {path}:(\d+):\d+: it is not proved.*?\(`([^`]+)`\)", said, re.M)
-        for it in crate.items_in(path, text)[0] if found else []:
+    for path, found in open_of(said).items():
+        text = texts.get(path, "")
+        for it in crate.items_in(path, text)[0]:
             first, last = text.count("\n", 0, it.head) + 1, text.count("\n", 0, it.end) + 1
-            goals += [goal for line, goal in found if it.name == name and first <= int(line) <= last]
+            goals += [goal for line, goal in found if it.name == name and first <= line <= last]
     return goals
 
 
