@@ -8,9 +8,9 @@ from source_functions import blanked, items_of
 
 # A wrong body: its changes (file, old, new), what they stand in, the functions that must be refused,
 # whether it stands in their bodies alone, the functions that must be whole when it is tried, of
-# each refused function the goals that stay open, where they are known, and whether it may stand in
-# a round with others of its function.
-Edit = namedtuple("Edit", "name changes places judged in_bodies needs goals is_open")
+# each refused function the goals that stay open, where they are known, whether it may stand in a
+# round with others of its function, and those of them that it stands without.
+Edit = namedtuple("Edit", "name changes places judged in_bodies needs goals is_open apart")
 
 # The folders of a crate that hold its wrong bodies.
 EDITS = ("wrong-bodies", "must-fail")
@@ -186,12 +186,14 @@ class Crate:
         # of an edit outside of bodies a function of its own tells: the one that says what a type tells
         is_one = len(judged) == 1 and (places == judged or not in_bodies)
         is_open = is_one and bool(goals) and self.listed.is_fresh(name, *judged)
-        return Edit(name, changes, frozenset(places | judged), judged, in_bodies, frozenset(), goals, is_open)
+        apart = frozenset(self.listed.apart.get(name, ()))
+        return Edit(name, changes, frozenset(places | judged), judged, in_bodies, frozenset(), goals, is_open, apart)
 
     def can_stand(self, edit, other):
         """Says whether two edits of one function can stand side by side: each has goals that are known, and they change other texts."""
         is_alike = edit.judged == other.judged and edit.in_bodies == other.in_bodies
-        if not (edit.is_open and other.is_open and is_alike):
+        is_apart = edit.name in other.apart or other.name in edit.apart
+        if is_apart or not (edit.is_open and other.is_open and is_alike):
             return False
         shared = {*edit.changes} & {*other.changes}
         own, others = ([span_of(self.texts, it) for it in of.changes if it not in shared] for of in (edit, other))

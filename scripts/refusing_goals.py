@@ -6,7 +6,8 @@
 # an answer by five tactics, one after another. 'GOAL=WORD' names the first of TACTICS by which the right body's goal is
 # proved, and a wrong body is tried by that one alone; a goal that only wrong bodies have is tried by two in turn. MARK
 # is a sum of the function and of the crate's definitions as they were when the word was found: where it is another one, the
-# word is not used. '!' before it says that the body was not refused beside others of its function, and stands without them.
+# word is not used. '!OTHER' says that the body was not refused in a round with the body OTHER of its function, as where that one
+# gives the goal another name, and stands without it.
 # The file saves time and no more: a body whose goal is not listed, or is not refused any more, is tried whole.
 import hashlib
 import os
@@ -30,10 +31,10 @@ IMPORTS = {
 SIGNATURE = re.compile(r"pub (\S+) : goal\.(\S+)$")
 
 # What is listed: the goals of each function that an edit changes, by the edits' names, the words of goals, and the edits with
-# the functions that are still as they were when it was listed, and the edits that stand without others of their function.
-class Listed(namedtuple("Listed", "goals words fresh alone")):
+# the functions that are still as they were when it was listed, and of each edit the others that it stands without.
+class Listed(namedtuple("Listed", "goals words fresh apart")):
     def is_fresh(self, edit, function):
-        """Says whether what is listed of an edit's function was found of the function as it is, and beside others."""
+        """Says whether what is listed of an edit's function was found of the function as it is."""
         return (edit, function) in self.fresh
 
 
@@ -49,28 +50,28 @@ def mark_of(*texts):
 
 def read(folder, marks):
     """Reads a crate's list, with the words of the functions whose marks are these."""
-    listed = Listed({}, {}, set(), set())
+    listed = Listed({}, {}, set(), {})
     if os.path.isfile(file_of(folder)):
         with open(file_of(folder), encoding="utf-8") as it:
             for line in it:
                 edit, function, mark, *found = line.split()
-                goals = [name.partition("=")[::2] for name in found]
+                goals = [name.partition("=")[::2] for name in found if name[0] != "!"]
                 listed.goals.setdefault(edit, {})[function] = [goal for goal, _ in goals]
-                listed.alone.update([edit] if mark.startswith("!") else [])
-                if mark.lstrip("!") == marks.get(function):
-                    listed.fresh.update([(edit, function)] if edit not in listed.alone else [])
+                listed.apart[edit] = {name[1:] for name in found if name[0] == "!"}
+                if mark == marks.get(function):
+                    listed.fresh.add((edit, function))
                     listed.words.update({(function, goal): word for goal, word in goals if word})
     return listed
 
 
-def write(folder, goals, words, marks, alone):
-    """Writes a crate's list, where some edits stand without others of their function."""
+def write(folder, goals, words, marks, apart):
+    """Writes a crate's list, with the others of its function that each edit stands without."""
     rows = []
     for edit in sorted(goals):
         for name, found in sorted(goals[edit].items()):
             given = [f"{goal}={words[name, goal]}" if (name, goal) in words else goal for goal in found]
-            mark = f"{'!' if edit in alone else ''}{marks.get(name, '-')}"
-            rows.append(" ".join([edit, name, mark, *given]))
+            others = [f"!{it}" for it in sorted(apart[edit])]
+            rows.append(" ".join([edit, name, marks.get(name, "-"), *others, *given]))
     with open(file_of(folder), "w", encoding="utf-8") as it:
         it.write("".join(f"{row}\n" for row in rows))
 
