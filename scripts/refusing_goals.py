@@ -18,6 +18,7 @@ from collections import namedtuple
 TACTICS = {
     "search": "search (rules, get_or_read)",
     "grind": "grind (arith, common_steps)",
+    "rules": "search rules",
     "both": "first_of (search (rules, get_or_read), grind (arith, common_steps))",
 }
 # What an answer by these tactics imports.

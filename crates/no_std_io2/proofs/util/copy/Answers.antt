@@ -181,8 +181,7 @@ returns-in-Err-2-clause-store g c = λ s.
     let tells = g.met.R.Read.store_tells _ (c.reads.invariant.store s).0 in
     absurd (no_error _ tells.1 (c.in-Err.ensures.told tells.0).1)
 
-pub returns-in-Err-2-clause-told :
-    goal.returns-in-Err-2-clause-told
+pub returns-in-Err-2-clause-told : goal.returns-in-Err-2-clause-told
 returns-in-Err-2-clause-told g c = λ t.
     let so_far = c.reads.invariant.told t in
     let now = c.in-Err.ensures.told so_far.0 in

@@ -15,8 +15,7 @@ returns-clause-buffer g c =
     (c.write_all-2.ensures.plain c.requires.start)
 
 -- the first call can't fail over a writer that takes all
-pub returns-in_err-write_all-clause-lasts :
-    goal.returns-in_err-write_all-clause-lasts
+pub returns-in_err-write_all-clause-lasts : goal.returns-in_err-write_all-clause-lasts
 returns-in_err-write_all-clause-lasts g c = λ t. let never = (c.in_err-write_all.ensures.lasts t).1 in cc
 
 pub returns-in_err-write_all-clause-buffer : goal.returns-in_err-write_all-clause-buffer
