@@ -1,6 +1,7 @@
 -- How frames go, piece by piece.
-use Rattle.std.proofs.Common.{◌≡◌, ℕ, ◌<◌, ◌^◌, List, [], ◌∷◌, ◌++◌, length, map, Result, Ok, Err, refl, sym, ap, ◌∙◌}
-use Rattle.std.proofs.Common.{subst, inr, arith, append_assoc, append-nil}
+use Rattle.std.proofs.Common.{◌≡◌, ℕ, ◌<◌, ◌-◌, ◌^◌, List, [], ◌∷◌, ◌++◌, length, drop, map, Result, Ok, Err, refl, sym, ap, ◌∙◌}
+use Rattle.std.proofs.Common.{subst, inr, arith, append_assoc, append-nil, length-append}
+use Rattle.std.proofs.Math.Seq.{drop-append_seam}
 use Rattle.std.specs.Result.{OnOk, OnErr}
 use Rattle.std.proofs.lemmas.List.Elements.{All-push}
 use Rattle.no_std_io2.specs.declared.io.Error.{Error}
@@ -104,3 +105,13 @@ pub staged : {X : Type 0} (f : X → List ℕ) (xs : List X) (x : X) (others : L
 staged f xs x others left to_go payload first none same is =
     ap (λ l. l ++ frames (map f xs)) none ∙ ap (λ l. frames (map f l)) first
     ∙ ap (λ l. frame l ++ frames (map f others)) (sym same) ∙ ap (λ l. l ++ frames (map f others)) (sym is)
+
+-- the last bytes are still to go
+pub kept : {a b : Told} {left : List ℕ} (reply : Result (Unit {0}) Error) {shown rest to_go : List ℕ}
+    → Sends a shown reply b left → shown ≡ rest → to_go ≡ drop (length rest - length left) rest
+    → Sends a rest reply b to_go
+kept {left = left} reply {rest = rest} s same is =
+    let split : rest ≡ s.sent ++ left = sym same ∙ s.split in
+    let n : length rest - length left ≡ length s.sent = omega (arith, ap length split, length-append s.sent left) in
+    let end = ap (λ k. drop k rest) n ∙ ap (drop (length s.sent)) split ∙ drop-append_seam s.sent left in
+    record { sent = s.sent; split = split ∙ ap (λ l. s.sent ++ l) (sym (is ∙ end)); moves = s.moves }
