@@ -78,8 +78,8 @@ pub(crate) fn append<A: Allocator>(content: &mut Vec<u8, A>, buf: &[u8]) -> Resu
     append_longer(content, buf)
 }
 
-// Puts a slice at `start`, of which `more` bytes go past the vector's end, and answers whether there was room for that: no memory
-// is asked for. Up to 128 bytes past the end are moved in place.
+// Puts a slice at `start`, of which `more` bytes go past the vector's end: behind a gap, or right behind that end. It answers whether
+// there was room: no memory is asked for. A gap and what stands behind it are moved in place up to 128 bytes, and else refused.
 #[inline(never)]
 pub(crate) fn put_longer<A: Allocator>(
     content: &mut Vec<u8, A>,
@@ -94,12 +94,15 @@ pub(crate) fn put_longer<A: Allocator>(
     ensures same { OnFalse result (content.new ≡ content.old) }
 {
     let room = content.capacity() - content.len();
-    if more <= 128 && room >= 128 {
+    if start > content.len() {
+        if more > 128 || room < 128 {
+            return false;
+        }
         put_short::<128, A>(content, start, buf);
         return true;
     }
-    if start != content.len() || buf.len() > room {
+    if start < content.len() || buf.len() > room {
         return false;
     }
-    append_by_call(content, buf).is_ok()
+    append_longer(content, buf).is_ok()
 }
