@@ -6,7 +6,7 @@ ghost use Rattle.no_std_io2_base.specs.Writes.{Moves, MovesFront, taken, write_m
 
 use super::Cursor;
 use crate::error::{Error, ErrorKind, Result};
-use crate::impls::{copy_short, put_longer, put_short};
+use crate::impls::{copy_short, put_behind_gap, put_short};
 use crate::traits::Write;
 use std::alloc::Allocator;
 
@@ -86,8 +86,8 @@ fn put_past_slowly<A: Allocator>(content: &mut Vec<u8, A>, start: usize, buf: &[
     put_past(content, start, buf)
 }
 
-// Writes `buf` into the vector at the position, and moves that behind it. Callers inline the two hot paths: over other bytes, and
-// a few bytes past the end.
+// Writes `buf` into the vector at the position, and moves that behind it. Callers inline the three
+// hot paths: over other bytes, a few bytes past the end, and right behind the end.
 #[inline(always)]
 fn write_at<A: Allocator>(content: &mut Vec<u8, A>, pos: &mut u64, buf: &[u8]) -> Result<usize>
     ensures puts { PutsWhole content.old.items pos.old buf.now result content.new.items pos.new }
@@ -100,7 +100,10 @@ fn write_at<A: Allocator>(content: &mut Vec<u8, A>, pos: &mut u64, buf: &[u8]) -
         overwrite(content, start, buf);
     } else if buf.len() <= 32 && end - len <= 32 && content.capacity() - len >= 32 {
         put_short::<32, A>(content, start, buf);
-    } else if !put_longer(content, start, end - len, buf) {
+    } else if start == len && buf.len() <= content.capacity() - len {
+        // It fits within the capacity, so no memory is asked for.
+        let _ = content.extend_from_slice(buf);
+    } else if !put_behind_gap(content, start, end - len, buf) {
         put_past_slowly(content, start, buf)?;
     }
     *pos = end as u64;

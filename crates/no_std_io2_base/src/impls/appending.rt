@@ -78,10 +78,10 @@ pub(crate) fn append<A: Allocator>(content: &mut Vec<u8, A>, buf: &[u8]) -> Resu
     append_longer(content, buf)
 }
 
-// Puts a slice at `start`, of which `more` bytes go past the vector's end: behind a gap, or right behind that end. It answers whether
-// there was room: no memory is asked for. A gap and what stands behind it are moved in place up to 128 bytes, and else refused.
+// Puts a slice at `start`, behind a gap: `more` bytes go past the vector's end. It answers whether there was room for that, and
+// asks for no memory. Up to 128 bytes past the end are moved in place, and more refused.
 #[inline(never)]
-pub(crate) fn put_longer<A: Allocator>(
+pub(crate) fn put_behind_gap<A: Allocator>(
     content: &mut Vec<u8, A>,
     start: usize,
     more: usize,
@@ -93,16 +93,9 @@ pub(crate) fn put_longer<A: Allocator>(
     ensures puts { OnTrue result (content.new.items ≡ put_at start buf.now content.old.items) }
     ensures same { OnFalse result (content.new ≡ content.old) }
 {
-    let room = content.capacity() - content.len();
-    if start > content.len() {
-        if more > 128 || room < 128 {
-            return false;
-        }
-        put_short::<128, A>(content, start, buf);
-        return true;
-    }
-    if start < content.len() || buf.len() > room {
+    if more > 128 || content.capacity() - content.len() < 128 {
         return false;
     }
-    append_longer(content, buf).is_ok()
+    put_short::<128, A>(content, start, buf);
+    true
 }
