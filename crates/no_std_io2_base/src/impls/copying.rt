@@ -54,8 +54,8 @@ pub fn copy_bytes(from: &[u8], to: &mut [u8])
 }
 
 // Copies a slice of any length. It stands apart, so that callers inline no more than the copies in place: between slices that may
-// overlap, for all that the compiler knows, a copy becomes a test, a call and loops beside it. It is called cold, so that callers save
-// no register for it on their way to the others.
+// overlap, for all that the compiler knows, a copy becomes a test, a call and loops beside it. That it is cold saves the copies in
+// place an instruction.
 #[cold]
 #[inline(never)]
 fn copy_by_call(to: &mut [u8], from: &[u8])
