@@ -208,6 +208,8 @@ class Crate:
             if not others:
                 told.append(edit)
                 continue
+            if len(edit.goals) != 1:
+                return None
             ((name, goals),) = edit.goals.items()
             left = {goal for it in others for goal in it.goals[name]}
             own = next((it for it in goals if it not in left and (it == goals[0] or self.is_quick(name, it))), None)
