@@ -87,8 +87,7 @@ pub(crate) fn put_behind_gap<A: Allocator>(
     more: usize,
     buf: &[u8],
 ) -> bool
-    requires past { 0 < more }
-    requires more { vec_len content.old + more ≡ min (start + length buf.now) (2 ^ 64 - 1) }
+    requires { vec_len content.old + more ≡ min (start + length buf.now) (2 ^ 64 - 1) }
     ensures fits { OnTrue result (start + length buf.now < 2 ^ 64) }
     ensures puts { OnTrue result (content.new.items ≡ put_at start buf.now content.old.items) }
     ensures same { OnFalse result (content.new ≡ content.old) }
