@@ -6,22 +6,28 @@ use Rattle.no_std_io2_base.specs.declared.error.Error.{Error}
 use Rattle.no_std_io2_base.specs.Events.{Event, fails, events_of, bytes, cut, Reads}
 use Rattle.no_std_io2_base.proofs.Events.{cut-bytes, length-events_of}
 
+cut-none : (k : ℕ) → cut k [] ≡ []
+cut-none zero = refl
+cut-none (suc k) = refl
+
 -- the cut loses what the inner reader loses
+pub cut_reads_whole : {E : List Event} (E' : List Event) (k : ℕ) {n : ℕ} (buf : List ℕ) → n ≤ length buf → length buf ≤ k
+    → Reads E (Ok n) buf E' → Reads (cut k E) (Ok n) buf (cut (k - n) E')
+cut_reads_whole E' k {n} buf fits within read =
+    let long = length-take-le n buf fits in
+    let rest : k - length (take n buf) ≡ k - n = ap (λ m. k - m) long in (
+      ap (cut k) read.0 ∙ cut-bytes (take n buf) E' k (omega (arith, long)) ∙ ap (λ m. events_of (take n buf) ++ cut m E') rest,
+      λ zero some. ap (cut k) (read.1 zero some) ∙ cut-none k,
+    )
+
+-- and where what was read is a part of the buffer
 pub cut_reads : {E : List Event} (E' : List Event) (k : ℕ) {n : ℕ} (part kept : List ℕ) → n ≤ length part → length part ≤ k
     → (0 < length (part ++ kept)
     → 0 < length part)
     → Reads E (Ok n) part E' → Reads (cut k E) (Ok n) (part ++ kept) (cut (k - n) E')
 cut_reads E' k {n} part kept fits within room read =
-    let long = length-take-le n part fits in
-    let rest : k - length (take n part) ≡ k - n = ap (λ m. k - m) long in (
-      ap (cut k) read.0 ∙ cut-bytes (take n part) E' k (omega (arith, long)) ∙ ap (λ m. events_of (take n part) ++ cut m E') rest
-          ∙ ap (λ l. events_of l ++ cut (k - n) E') (sym (take-append-le n part kept fits)),
-      λ zero some. ap (cut k) (read.1 zero (room some)) ∙ cut-none k,
-    )
-  where
-    cut-none : (k : ℕ) → cut k [] ≡ []
-    cut-none zero = refl
-    cut-none (suc k) = refl
+    let put = cut_reads_whole E' k part fits within read in
+    (put.0 ∙ ap (λ l. events_of l ++ cut (k - n) E') (sym (take-append-le n part kept fits)), λ zero some. put.1 zero (room some))
 
 -- bytes as events, cut at k, are k of them, or all where there are fewer
 cut-length_bytes : (k : ℕ) (bs : List ℕ) → length (cut k (events_of bs)) ≡ min k (length bs)

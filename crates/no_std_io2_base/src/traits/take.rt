@@ -160,7 +160,7 @@ impl<T: Read> Read for Take<T> {
 
     ghost may_take_none = { λ _. ⊥ };
 
-    #[inline]
+    #[inline(always)]
     fn read(&mut self, buf: &mut [u8]) -> Result<usize>
         // The trait's.
         ensures bound { IfOk result (λ n. n ≤ length buf.new) }
@@ -178,6 +178,12 @@ impl<T: Read> Read for Take<T> {
         ensures along { T.tells (take_inner self.old)
             → TakesAlong (take_limit self.old) (T.events (take_inner self.old)) (take_limit self.new) (T.events (take_inner self.new)) }
     {
+        // Far from the limit no part of the buffer is taken.
+        if (buf.len() as u64) < self.limit {
+            let given = self.inner.read(buf)?;
+            self.limit -= given as u64;
+            return Ok(given);
+        }
         if self.limit == 0 {
             return Ok(0);
         }

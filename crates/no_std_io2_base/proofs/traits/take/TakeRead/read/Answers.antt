@@ -1,8 +1,9 @@
+-- Far from the limit the inner reader is read into the whole buffer, and else into a part of it.
 use Rattle.std.proofs.Common.{◌≡◌, length, refl, arith, ap, le_refl, length-take-le}
 use Rattle.std.proofs.lemmas.Result.{err_from_is_err_and}
 use Rattle.no_std_io2_base.specs.Events.{cut}
 use Rattle.no_std_io2_base.proofs.Along.{along_none, along_read, along_error}
-use Rattle.no_std_io2_base.proofs.Cut.{cut_reads, cut-length, cut_error, part_within, part_room, fits_whole, limit_falls}
+use Rattle.no_std_io2_base.proofs.Cut.{cut_reads, cut_reads_whole, cut-length, cut_error, part_within, part_room, fits_whole, limit_falls}
 use Rattle.no_std_io2_base.proofs.ReadExactExits.{some_bytes}
 use Rattle.no_std_io2_base.proofs.traits.take.TakeRead.read.Goals as goal
 
@@ -23,7 +24,7 @@ returns-then-self-eq0 g c =
 
 pub returns-in_err-n : goal.returns-in_err-n
 returns-in_err-n g c =
-    let p = err_from_is_err_and c.from_residual.result c.from_residual.ensures.1 in
+    let p = err_from_is_err_and c.from_residual-in_err-n.result c.from_residual-in_err-n.ensures.1 in
     let read = c.in_err-n.ensures in
     let some = some_bytes _ c.if-self-eq0.false in
     rw (p.1, p.2) (record {
@@ -42,10 +43,10 @@ returns g c =
     let buf = c.args.buf.now in
     let limit = c.args.self.now.limit in
     let most = c.min_with_limit-most.result in
-    let part = c.read.new.buf in
+    let part = c.read-2.new.buf in
     let read = c.in_ok-n.ensures in
     let some = some_bytes _ c.if-self-eq0.false in
-    let within = part_within most limit buf part c.min_with_limit-most.ensures c.read.auto.buf in
+    let within = part_within most limit buf part c.min_with_limit-most.ensures c.read-2.auto.buf in
     let falls = limit_falls limit c.in_ok-n.n _ read.bound within in
     record {
       bound = fits_whole _ part _ read.bound;
@@ -53,7 +54,7 @@ returns g c =
           let now = read.told t in (
             now.0,
             cut_reads _ limit part _ read.bound within
-                (part_room most limit buf part c.min_with_limit-most.ensures c.read.auto.buf some) now.1,
+                (part_room most limit buf part c.min_with_limit-most.ensures c.read-2.auto.buf some) now.1,
           );
       turns = read.turns;
       turn = read.turn;
@@ -66,3 +67,24 @@ returns g c =
       at_limit = λ zero. absurd (c.if-self-eq0.false zero);
       along = λ t. along_read _ (read.told t).1 read.bound falls;
     }
+
+pub returns-in_err-given-clause-along : goal.returns-in_err-given-clause-along
+returns-in_err-given-clause-along g c = λ t. along_error (c.in_err-given.ensures.told t).1 (omega (arith, c.if-buf-self.true))
+
+pub returns-then-buf-self-clause-told : goal.returns-then-buf-self-clause-told
+returns-then-buf-self-clause-told g c = λ t.
+    let read = c.in_ok-given.ensures in
+    let now = read.told t in
+    (now.0, cut_reads_whole _ c.args.self.now.limit c.read.new.buf read.bound (omega (arith, c.if-buf-self.true, c.read.auto.buf)) now.1)
+
+pub returns-then-buf-self-clause-fills : goal.returns-then-buf-self-clause-fills
+returns-then-buf-self-clause-fills g c = λ f.
+    let now = c.in_ok-given.ensures.fills f in
+    let alone = g.met.T.Read.filling_tells _ f in
+    (now.0, omega (arith, now.1, c.if-buf-self.true, cut-length c.args.self.now.limit _ alone.1))
+
+pub returns-then-buf-self-clause-along : goal.returns-then-buf-self-clause-along
+returns-then-buf-self-clause-along g c = λ t.
+    let read = c.in_ok-given.ensures in
+    along_read _ (read.told t).1 read.bound (limit_falls c.args.self.now.limit c.in_ok-given.given (length c.read.new.buf) read.bound
+    (omega (arith, c.if-buf-self.true, c.read.auto.buf)))
