@@ -1,6 +1,6 @@
 -- What a clause reads of a `Cursor`.
 use Rattle.std.specs.Prelude.{◌≡◌, ℕ, ◌+◌, ◌-◌, ◌^◌, ◌<◌, ◌≤◌, ◌⊎◌, List, ◌++◌, length, take, drop, replicate, codes}
-use Rattle.std.specs.Prelude.{None, Some, Ok, Err, Result}
+use Rattle.std.specs.Prelude.{None, Some, Ok, Err, Result, OnOk, OnErr, IfErr}
 use Rattle.no_std_io2_base.specs.declared.cursor.Cursor.{Cursor}
 use Rattle.no_std_io2_base.specs.declared.error.Error.{Error}
 use Rattle.no_std_io2_base.specs.declared.error.ErrorKind.TheVariants.{InvalidInput, OutOfMemory}
@@ -69,3 +69,11 @@ PutsAll bs place x (Err e) bs' place' = (length bs < place + length x) × IsRefu
 abbrev pub PutsFitting : List ℕ → ℕ → List ℕ → List ℕ → ℕ → Type 0
 PutsFitting bs place x bs' place' =
     let front = fitting place x bs in (bs' ≡ put_over place front bs) × (place' ≡ place + length front)
+
+-- What a private function that puts x at `place` says: it is there, or it was refused for want of room, and nothing has changed.
+pub record IsPut (bs : List ℕ) (capacity place : ℕ) (x : List ℕ) (reply : Result (Unit {0}) Error) (bs' : List ℕ) : Type 0 where
+  pub fits : OnOk reply (place + length x < 2 ^ 64)
+  pub puts : OnOk reply (bs' ≡ put_at place x bs)
+  pub refused : IfErr reply (IsRefusal place x)
+  pub same : OnErr reply (bs' ≡ bs)
+  pub full : OnErr reply (capacity < place + length x)

@@ -1,6 +1,6 @@
 ghost use Rattle.std.specs.Prelude.{◌≡◌, ℕ, ◌+◌, nat_lt, ◌≤◌, ◌<◌, ◌^◌, ◌++◌, [], Ok, IsOk, OnOk, OnErr, IfOk, IfErr};
 ghost use Rattle.std.specs.Prelude.{length, take, drop, vec_len, vec_capacity, is_ok, false, if◌then◌else◌};
-ghost use Rattle.no_std_io2_base.specs.Cursor.{cursor_place, cursor_inner, cursor_out, put_at, IsRefusal, PutsWhole, PutsAll};
+ghost use Rattle.no_std_io2_base.specs.Cursor.{cursor_place, cursor_inner, cursor_out, put_at, IsPut, PutsWhole, PutsAll};
 ghost use Rattle.no_std_io2_base.specs.Errors.{IsNoInterruption};
 ghost use Rattle.no_std_io2_base.specs.Writes.{Moves, MovesFront, taken, write_mishap, call_mishap, told_out};
 
@@ -52,11 +52,7 @@ fn append_and_overwrite<A: Allocator>(content: &mut Vec<u8, A>, start: usize, bu
 #[inline(never)]
 fn put_past<A: Allocator>(content: &mut Vec<u8, A>, start: usize, buf: &[u8]) -> Result<()>
     requires past { vec_len content.old < start + length buf.now }
-    ensures fits { OnOk result (start + length buf.now < 2 ^ 64) }
-    ensures puts { OnOk result (content.new.items ≡ put_at start buf.now content.old.items) }
-    ensures refused { IfErr result (IsRefusal start buf.now) }
-    ensures same { OnErr result (content.new.items ≡ content.old.items) }
-    ensures full { OnErr result (vec_capacity content.old < start + length buf.now) }
+    ensures { IsPut content.old.items (vec_capacity content.old) start buf.now result content.new.items }
 {
     if start.checked_add(buf.len()).is_none() {
         let message = "vector position past the greatest usize";
@@ -77,36 +73,65 @@ fn put_past<A: Allocator>(content: &mut Vec<u8, A>, start: usize, buf: &[u8]) ->
 #[inline(always)]
 fn put_past_slowly<A: Allocator>(content: &mut Vec<u8, A>, start: usize, buf: &[u8]) -> Result<()>
     requires past { vec_len content.old < start + length buf.now }
-    ensures fits { OnOk result (start + length buf.now < 2 ^ 64) }
-    ensures puts { OnOk result (content.new.items ≡ put_at start buf.now content.old.items) }
-    ensures refused { IfErr result (IsRefusal start buf.now) }
-    ensures same { OnErr result (content.new.items ≡ content.old.items) }
-    ensures full { OnErr result (vec_capacity content.old < start + length buf.now) }
+    ensures { IsPut content.old.items (vec_capacity content.old) start buf.now result content.new.items }
 {
     put_past(content, start, buf)
 }
 
-// Writes `buf` into the vector at the position, and moves that behind it. Callers inline the three
-// hot paths: over other bytes, a few bytes past the end, and right behind the end.
+// Puts `buf` behind a gap. Callers inline the way of a few bytes near the end.
+#[inline(always)]
+fn put_behind<A: Allocator>(content: &mut Vec<u8, A>, start: usize, buf: &[u8]) -> Result<()>
+    requires gap { vec_len content.old < start }
+    ensures { IsPut content.old.items (vec_capacity content.old) start buf.now result content.new.items }
+{
+    let len = content.len();
+    if buf.len() <= 32 && start - len <= 32 - buf.len() && content.capacity() - len >= 32 {
+        put_short::<32, A>(content, start, buf);
+        return Ok(());
+    }
+    if put_behind_gap(content, start, buf) {
+        return Ok(());
+    }
+    put_past_slowly(content, start, buf)
+}
+
+// Puts `buf` at `start`, inside or right at the end, and past it. Callers inline the ways of a few bytes, and of any right behind
+// the end.
+#[inline(always)]
+fn put_on<A: Allocator>(content: &mut Vec<u8, A>, start: usize, buf: &[u8]) -> Result<()>
+    requires within { start ≤ vec_len content.old }
+    requires past { vec_len content.old < start + length buf.now }
+    ensures { IsPut content.old.items (vec_capacity content.old) start buf.now result content.new.items }
+{
+    let room = content.capacity() - content.len();
+    if buf.len() <= 32 && room >= 32 {
+        put_short::<32, A>(content, start, buf);
+        return Ok(());
+    }
+    if start == content.len() && buf.len() <= room {
+        // It fits within the capacity, so no memory is asked for.
+        let _ = content.extend_from_slice(buf);
+        return Ok(());
+    }
+    put_past_slowly(content, start, buf)
+}
+
+// Writes `buf` into the vector at the position, and moves that behind it.
 #[inline(always)]
 fn write_at<A: Allocator>(content: &mut Vec<u8, A>, pos: &mut u64, buf: &[u8]) -> Result<usize>
     ensures puts { PutsWhole content.old.items pos.old buf.now result content.new.items pos.new }
     ensures full { OnErr result (vec_capacity content.old < pos.old + length buf.now) }
 {
     let start = *pos as usize;
-    let end = start.saturating_add(buf.len());
     let len = content.len();
-    if end <= len {
+    if start > len {
+        put_behind(content, start, buf)?;
+    } else if buf.len() <= len - start {
         overwrite(content, start, buf);
-    } else if buf.len() <= 32 && end - len <= 32 && content.capacity() - len >= 32 {
-        put_short::<32, A>(content, start, buf);
-    } else if start == len && buf.len() <= content.capacity() - len {
-        // It fits within the capacity, so no memory is asked for.
-        let _ = content.extend_from_slice(buf);
-    } else if !put_behind_gap(content, start, end - len, buf) {
-        put_past_slowly(content, start, buf)?;
+    } else {
+        put_on(content, start, buf)?;
     }
-    *pos = end as u64;
+    *pos += buf.len() as u64;
     Ok(buf.len())
 }
 

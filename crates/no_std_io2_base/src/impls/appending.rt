@@ -1,7 +1,7 @@
 // Slices that are put behind the end of a vector, or across it. Short ones are moved in place, since most pieces are short, and
 // a call of `memcpy` costs more than they do. What is not in place stands in functions of its own, so that callers inline no more
 // than the hot path.
-ghost use Rattle.std.specs.Prelude.{◌≡◌, ◌≤◌, ◌<◌, ◌+◌, ◌++◌, ◌-◌, ◌^◌, min, length, vec_len, vec_capacity, is_ok, OnErr, if◌then◌else◌};
+ghost use Rattle.std.specs.Prelude.{◌≡◌, ◌≤◌, ◌<◌, ◌+◌, ◌++◌, ◌-◌, ◌^◌, length, vec_len, vec_capacity, is_ok, OnErr, if◌then◌else◌};
 ghost use Rattle.std.specs.Bool.{OnTrue, OnFalse};
 ghost use Rattle.no_std_io2_base.specs.Cursor.{put_at};
 
@@ -78,21 +78,26 @@ pub(crate) fn append<A: Allocator>(content: &mut Vec<u8, A>, buf: &[u8]) -> Resu
     append_longer(content, buf)
 }
 
-// Puts a slice at `start`, behind a gap: `more` bytes go past the vector's end. It answers whether there was room for that, and
-// asks for no memory. Up to 128 bytes past the end are moved in place, and more refused.
+// Puts a slice at `start`, behind a gap, where it ends up to 128 bytes behind the vector's end. It answers whether there was room
+// for that, and asks for no memory.
 #[inline(never)]
 pub(crate) fn put_behind_gap<A: Allocator>(
     content: &mut Vec<u8, A>,
     start: usize,
-    more: usize,
     buf: &[u8],
 ) -> bool
-    requires { vec_len content.old + more ≡ min (start + length buf.now) (2 ^ 64 - 1) }
+    requires { vec_len content.old ≤ start }
     ensures fits { OnTrue result (start + length buf.now < 2 ^ 64) }
     ensures puts { OnTrue result (content.new.items ≡ put_at start buf.now content.old.items) }
     ensures same { OnFalse result (content.new ≡ content.old) }
 {
-    if more > 128 || content.capacity() - content.len() < 128 {
+    if buf.len() > 128 {
+        return false;
+    }
+    if start - content.len() > 128 - buf.len() {
+        return false;
+    }
+    if content.capacity() - content.len() < 128 {
         return false;
     }
     put_short::<128, A>(content, start, buf);
