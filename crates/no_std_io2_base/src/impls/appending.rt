@@ -65,14 +65,20 @@ fn append_longer<A: Allocator>(content: &mut Vec<u8, A>, buf: &[u8]) -> Result<(
     append_by_call(content, buf)
 }
 
-// Appends a slice, or returns that memory was refused, and the vector is as it was. Up to 16 bytes are moved in place.
+// Appends a slice, or returns that memory was refused, and the vector is as it was. Up to 32 bytes are moved in place.
 #[inline(always)]
 pub(crate) fn append<A: Allocator>(content: &mut Vec<u8, A>, buf: &[u8]) -> Result<(), AllocError>
     ensures items { content.new.items ≡ (if is_ok result then content.old.items ++ buf.now else content.old.items) }
     ensures full { OnErr result (vec_capacity content.old < vec_len content.old + length buf.now) }
 {
-    if buf.len() <= 16 && content.capacity() - content.len() >= 16 {
-        append_short::<16, A>(content, buf);
+    let room = content.capacity() - content.len();
+    if buf.len() <= 16 {
+        if room >= 16 {
+            append_short::<16, A>(content, buf);
+            return Ok(());
+        }
+    } else if buf.len() <= 32 && room >= 32 {
+        append_short::<32, A>(content, buf);
         return Ok(());
     }
     append_longer(content, buf)

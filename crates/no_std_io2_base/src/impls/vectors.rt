@@ -19,7 +19,7 @@ impl<A: Allocator> Write for Vec<u8, A> {
 
     ghost is_metered = { λ _. ⊥ };
 
-    #[inline(always)]
+    #[inline]
     fn write(&mut self, buf: &[u8]) -> Result<usize>
         // The trait's.
         ensures bound { IfOk result (λ n. n ≤ length buf.now) }
@@ -39,7 +39,7 @@ impl<A: Allocator> Write for Vec<u8, A> {
         Ok(buf.len())
     }
 
-    #[inline(always)]
+    #[inline]
     fn write_all(&mut self, buf: &[u8]) -> Result<()>
         // The trait's.
         ensures fault { IsNoInterruption result }
