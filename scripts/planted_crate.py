@@ -113,12 +113,14 @@ class Crate:
                 it.write("".join([*parts, text[done:]]))
 
     def prove_alone(self, names, texts, proofs):
-        """Writes these proofs of these functions, and holes for the proofs of those that their texts name, or an edit's own function's."""
+        """Writes these proofs of these functions, and holes for the proofs of those that their texts name, or an edit's own function's.
+        The operator `?` names `from`."""
         words = set()
         for path, text in texts.items():
             for it in self.items_in(path, text)[0]:
                 is_alone = it.name in self.names and it.name not in names
-                words |= set() if is_alone else set(re.findall(r"\w+", text[it.body : it.end]))
+                body = "" if is_alone else text[it.body : it.end]
+                words |= set(re.findall(r"\w+", body.replace("?", " from ")))
         holes = {it for it in self.names if it.rpartition("::")[2] in words} - names
         others = {name: {"Proof.antt": hole(name)} for name in holes} | proofs
         for name in {*others, *self.others}:
