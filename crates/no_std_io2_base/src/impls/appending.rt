@@ -49,7 +49,7 @@ fn append_by_call<A: Allocator>(content: &mut Vec<u8, A>, buf: &[u8]) -> Result<
     content.extend_from_slice(buf)
 }
 
-// Appends a slice of more than 16 bytes, or where the room for 16 is missing. Up to 64 bytes are moved in place.
+// Appends a slice of more than 32 bytes, or where the room is missing. Up to 64 bytes are moved in place.
 #[inline(never)]
 fn append_longer<A: Allocator>(content: &mut Vec<u8, A>, buf: &[u8]) -> Result<(), AllocError>
     ensures items { content.new.items ≡ (if is_ok result then content.old.items ++ buf.now else content.old.items) }
