@@ -178,7 +178,7 @@ impl<T: Read> Read for Take<T> {
         ensures along { T.tells (take_inner self.old)
             → TakesAlong (take_limit self.old) (T.events (take_inner self.old)) (take_limit self.new) (T.events (take_inner self.new)) }
     {
-        // Far from the limit no part of the buffer is taken.
+        // Far from the limit the buffer goes on as it is.
         if (buf.len() as u64) < self.limit {
             let given = self.inner.read(buf)?;
             self.limit -= given as u64;
