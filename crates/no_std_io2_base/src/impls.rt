@@ -10,7 +10,7 @@ mod reading_objects;
 mod slices;
 mod vectors;
 
-pub(crate) use appending::{append, put_behind_gap, put_short};
-pub(crate) use copying::{copy_prefix, copy_short};
+pub(crate) use appending::{append, append_in_place, pad_within, put_behind_gap, put_short};
+pub(crate) use copying::copy_prefix;
 pub use copying::{copy_bytes, copy_wide};
 pub use slices::append_rest;

@@ -164,7 +164,7 @@ impl<const S: usize> ReadAhead<S> {
     }
 
     // Reads once. What was held before is lost.
-    #[inline]
+    #[inline(always)]
     pub(super) fn fill<R: Read>(&mut self, from: &mut R) -> Result<()>
         ensures err { OnErr result (ahead_held self.new ≡ []) }
         ensures behind { ahead_behind self.new ≡ [] }

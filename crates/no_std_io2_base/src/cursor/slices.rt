@@ -6,7 +6,7 @@ ghost use Rattle.no_std_io2_base.specs.Writes.{Moves, MovesFront, taken, write_m
 
 use super::Cursor;
 use crate::error::{Result, failed_to_write};
-use crate::impls::copy_prefix;
+use crate::impls::{copy_prefix, copy_wide};
 use crate::traits::Write;
 
 // Writes what fits into the slice at the position, and moves that behind it.
@@ -15,9 +15,14 @@ fn write_fitting(content: &mut [u8], pos: &mut u64, buf: &[u8]) -> usize
     ensures puts { PutsFitting content.old pos.old buf.now content.new pos.new }
 {
     let start = (content.len() as u64).min(*pos) as usize;
-    let n = copy_prefix(buf, &mut content[start..]);
-    *pos += n as u64;
-    n
+    if buf.len() > content.len() - start {
+        let n = copy_prefix(buf, &mut content[start..]);
+        *pos += n as u64;
+        return n;
+    }
+    copy_wide(buf, &mut content[start..start + buf.len()]);
+    *pos += buf.len() as u64;
+    buf.len()
 }
 
 /// A slice keeps its length: it takes the front of a buffer that fits between the position and its

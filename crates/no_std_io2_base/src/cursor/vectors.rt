@@ -6,7 +6,7 @@ ghost use Rattle.no_std_io2_base.specs.Writes.{Moves, MovesFront, taken, write_m
 
 use super::Cursor;
 use crate::error::{Error, ErrorKind, Result};
-use crate::impls::{copy_short, put_behind_gap, put_short};
+use crate::impls::{append_in_place, copy_wide, pad_within, put_behind_gap, put_short};
 use crate::traits::Write;
 use std::alloc::Allocator;
 
@@ -15,7 +15,7 @@ fn overwrite(content: &mut [u8], start: usize, buf: &[u8])
     requires { start + length buf.now ≤ length content.old }
     ensures { content.new ≡ take start content.old ++ buf.now ++ drop (start + length buf.now) content.old }
 {
-    copy_short(buf, &mut content[start..start + buf.len()]);
+    copy_wide(buf, &mut content[start..start + buf.len()]);
 }
 
 // Puts `buf` behind the end, after zeros up to `start`.
@@ -26,10 +26,7 @@ fn pad_and_append<A: Allocator>(content: &mut Vec<u8, A>, start: usize, buf: &[u
     ensures full { result ≡ false → vec_capacity content.old < start + length buf.now }
 {
     let more = start - content.len() + buf.len();
-    if content.reserve(more).is_err() {
-        return false;
-    }
-    content.resize(start, 0).is_ok() && content.extend_from_slice(buf).is_ok()
+    content.reserve(more).is_ok() && pad_within(content, start, buf)
 }
 
 // Puts `buf` at `start`, first what goes behind the end, and then what goes over other bytes.
@@ -85,7 +82,7 @@ fn put_behind<A: Allocator>(content: &mut Vec<u8, A>, start: usize, buf: &[u8]) 
     ensures { IsPut content.old.items (vec_capacity content.old) start buf.now result content.new.items }
 {
     let len = content.len();
-    if buf.len() <= 32 && start - len <= 32 - buf.len() && content.capacity() - len >= 32 {
+    if buf.len() <= 32 && start <= len + (32 - buf.len()) && content.capacity() - len >= 32 {
         put_short::<32, A>(content, start, buf);
         return Ok(());
     }
@@ -95,25 +92,22 @@ fn put_behind<A: Allocator>(content: &mut Vec<u8, A>, start: usize, buf: &[u8]) 
     put_past_slowly(content, start, buf)
 }
 
-// Puts `buf` at `start`, inside or right at the end, and past it. Callers inline the ways of a few bytes, and of any right behind
-// the end.
+// Puts `buf`, which has a byte, at the vector's end. Callers inline the ways where there is room for it.
 #[inline(always)]
-fn put_on<A: Allocator>(content: &mut Vec<u8, A>, start: usize, buf: &[u8]) -> Result<()>
-    requires within { start ≤ vec_len content.old }
-    requires past { vec_len content.old < start + length buf.now }
-    ensures { IsPut content.old.items (vec_capacity content.old) start buf.now result content.new.items }
+fn put_at_end<A: Allocator>(content: &mut Vec<u8, A>, buf: &[u8]) -> Result<()>
+    requires { 0 < length buf.now }
+    ensures { IsPut content.old.items (vec_capacity content.old) (vec_len content.old) buf.now result content.new.items }
 {
-    let room = content.capacity() - content.len();
-    if buf.len() <= 32 && room >= 32 {
-        put_short::<32, A>(content, start, buf);
+    if append_in_place(content, buf) {
         return Ok(());
     }
-    if start == content.len() && buf.len() <= room {
+    let len = content.len();
+    if buf.len() > 32 && buf.len() <= content.capacity() - len {
         // It fits within the capacity, so no memory is asked for.
         let _ = content.extend_from_slice(buf);
         return Ok(());
     }
-    put_past_slowly(content, start, buf)
+    put_past_slowly(content, len, buf)
 }
 
 // Writes `buf` into the vector at the position, and moves that behind it.
@@ -124,12 +118,14 @@ fn write_at<A: Allocator>(content: &mut Vec<u8, A>, pos: &mut u64, buf: &[u8]) -
 {
     let start = *pos as usize;
     let len = content.len();
-    if start > len {
+    if start == len && !buf.is_empty() {
+        put_at_end(content, buf)?;
+    } else if start > len {
         put_behind(content, start, buf)?;
-    } else if buf.len() <= len - start {
+    } else if start + buf.len() <= len {
         overwrite(content, start, buf);
     } else {
-        put_on(content, start, buf)?;
+        put_past_slowly(content, start, buf)?;
     }
     *pos += buf.len() as u64;
     Ok(buf.len())

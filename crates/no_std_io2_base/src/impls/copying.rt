@@ -1,5 +1,7 @@
 ghost use Rattle.std.specs.Prelude.{◌≡◌, ◌≤◌, ◌+◌, ◌++◌, min, length, take, drop};
 
+use std::simd::Simd;
+
 // Copies a slice of N to 2 N bytes by two moves of N, its front and its back, which may overlap.
 #[inline(always)]
 fn copy_ends<const N: usize>(from: &[u8], to: &mut [u8])
@@ -8,15 +10,13 @@ fn copy_ends<const N: usize>(from: &[u8], to: &mut [u8])
     requires most { length from.now ≤ N + N }
     ensures { to.new ≡ from.now }
 {
-    let (Some(front), Some(back)) = (from.first_chunk::<N>(), from.last_chunk::<N>()) else {
-        return;
-    };
-    if let Some(place) = to.first_chunk_mut::<N>() {
-        *place = *front;
-    }
-    if let Some(place) = to.last_chunk_mut::<N>() {
-        *place = *back;
-    }
+    let back = from.len() - N;
+    let (first, last) = (
+        Simd::<u8, N>::from_slice(from),
+        Simd::<u8, N>::from_slice(&from[back..]),
+    );
+    first.copy_to_slice(to);
+    last.copy_to_slice(&mut to[back..]);
 }
 
 // Copies a slice of fewer than eight bytes.
@@ -65,16 +65,20 @@ fn copy_by_call(to: &mut [u8], from: &[u8])
     to.copy_from_slice(from);
 }
 
-// Copies bytes over as many others, of which up to 32 are moved in place, and any other number by a function of its own.
+// Copies up to 128 bytes over as many others, in place.
 #[inline(always)]
-pub(crate) fn copy_short(from: &[u8], to: &mut [u8])
-    requires { length from.now ≡ length to.old }
+pub(crate) fn copy_in_place(from: &[u8], to: &mut [u8])
+    requires same { length from.now ≡ length to.old }
+    requires most { length from.now ≤ 128 }
     ensures { to.new ≡ from.now }
 {
-    if from.len() > 32 {
-        return copy_by_call(to, from);
+    if from.len() > 64 {
+        copy_ends::<64>(from, to);
+    } else if from.len() > 32 {
+        copy_ends::<32>(from, to);
+    } else {
+        copy_bytes(from, to);
     }
-    copy_bytes(from, to);
 }
 
 /// Copies bytes over as many others, as [`copy_bytes`] does, of which up to 128 are moved in place, and any other number by a
@@ -96,18 +100,39 @@ pub fn copy_wide(from: &[u8], to: &mut [u8])
     }
 }
 
-// Copies as many bytes as both have, and returns how many.
+// Copies all of a slice to the front of a longer place.
+#[cold]
+#[inline(never)]
+fn copy_to_front(from: &[u8], to: &mut [u8])
+    requires { length from.now ≤ length to.old }
+    ensures { to.new ≡ from.now ++ drop (length from.now) to.old }
+{
+    to[..from.len()].copy_from_slice(from);
+}
+
+// Copies as many bytes as both have, and returns how many. Where there are enough, that is the length of the place, which a caller
+// mostly knows before, so that the copy is made for it.
 #[inline(always)]
 pub(crate) fn copy_prefix(from: &[u8], to: &mut [u8]) -> usize
     ensures count { result ≡ min (length from.now) (length to.old) }
     ensures copied { to.new ≡ take result from.now ++ drop result to.old }
 {
     // Who reads byte by byte asks for one.
-    if to.len() == 1 && !from.is_empty() {
-        to[0] = from[0];
+    if to.len() == 1 {
+        let Some(byte) = from.first() else {
+            return 0;
+        };
+        to[0] = *byte;
         return 1;
     }
-    let n = from.len().min(to.len());
-    copy_wide(&from[..n], &mut to[..n]);
-    n
+    if to.len() > from.len() {
+        if to.len() > 128 {
+            copy_to_front(from, to);
+        } else {
+            copy_in_place(from, &mut to[..from.len()]);
+        }
+        return from.len();
+    }
+    copy_wide(&from[..to.len()], to);
+    to.len()
 }

@@ -14,7 +14,7 @@ returns g c =
     let x = c.args.buf.now in
     let start = c.args.start in
     let shown = c.deref_mut.result.now in
-    let part = c.copy_wide.new.to in
+    let part = c.copy_in_place.new.to in
     let k = start + length x - start in
     let put = put_mid start k shown part in
     let long = length-replicate {A = ℕ} g.row.M 0 in
@@ -24,12 +24,12 @@ returns g c =
     let was = c.args.content.now.ok.0 in
     let all : length shown ≡ length bs + g.row.M = ap length is ∙ length-append bs (replicate g.row.M 0) ∙ ap (λ n. length bs + n) long in
     let near : start + length x ≤ length bs + g.row.M = omega (arith, was, c.requires.near) in
-    let copied : length part ≡ length x = ap length c.copy_wide.ensures in
+    let copied : length part ≡ length x = ap length c.copy_in_place.ensures in
     let within : start ≤ length shown = omega (arith, all, near) in
     let fits : start + length x ≤ grown.len = omega (arith, near, all, grown.ok.0, ap length c.deref_mut.ensures.value) in
     let reaches = length-put_mid start k (length x) shown part within (omega (arith, copied)) in
     c.truncate.ensures.items ∙ take-take (start + length x) grown.len (put ++ drop (length put) grown.items) fits
     ∙ take-append-le (start + length x) put (drop (length put) grown.items) reaches
     ∙ take-put_mid start k (length x) shown part within (omega (arith, copied))
-    ∙ ap (λ l. take start shown ++ l) (take_all (length x) part (omega (arith, copied)) ∙ c.copy_wide.ensures)
+    ∙ ap (λ l. take start shown ++ l) (take_all (length x) part (omega (arith, copied)) ∙ c.copy_in_place.ensures)
     ∙ ap (λ l. take start l ++ x) is ∙ put_opened g.row.M start x bs (omega (arith, was, c.requires.past)) near
