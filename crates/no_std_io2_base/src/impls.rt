@@ -11,6 +11,6 @@ mod slices;
 mod vectors;
 
 pub(crate) use appending::{append, append_in_place, pad_within, put_behind_gap, put_short};
-pub(crate) use copying::copy_prefix;
+pub(crate) use copying::{copy_one, copy_prefix};
 pub use copying::{copy_bytes, copy_wide};
 pub use slices::append_rest;

@@ -7,7 +7,7 @@ ghost use Rattle.std.proofs.Common.{rules};
 
 use super::{AsSlice, Cursor};
 use crate::error::{Result, failed_to_fill};
-use crate::impls::{append_rest, copy_prefix};
+use crate::impls::{append_rest, copy_one, copy_prefix};
 use crate::traits::{BufRead, Read, Stored};
 use std::alloc::Allocator;
 
@@ -58,6 +58,11 @@ impl<T: AsSlice<u8>> Read for Cursor<T> {
         ensures position { cursor_place self.new ≡ cursor_place self.old + given result }
         ensures inner { cursor_inner self.new ≡ cursor_inner self.old }
     {
+        if buf.len() == 1 {
+            let n = copy_one(self.left(), buf);
+            self.pos += n as u64;
+            return Ok(n);
+        }
         let n = copy_prefix(self.left(), buf);
         self.pos += n as u64;
         Ok(n)

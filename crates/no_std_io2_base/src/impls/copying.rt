@@ -110,6 +110,20 @@ fn copy_to_front(from: &[u8], to: &mut [u8])
     to[..from.len()].copy_from_slice(from);
 }
 
+// Copies a byte, where there is one, and returns how many.
+#[inline(always)]
+pub(crate) fn copy_one(from: &[u8], to: &mut [u8]) -> usize
+    requires { length to.old ≡ 1 }
+    ensures count { result ≡ min (length from.now) (length to.old) }
+    ensures copied { to.new ≡ take result from.now ++ drop result to.old }
+{
+    let Some(byte) = from.first() else {
+        return 0;
+    };
+    to[0] = *byte;
+    1
+}
+
 // Copies as many bytes as both have, and returns how many. Where there are enough, that is the length of the place, which a caller
 // mostly knows before, so that the copy is made for it.
 #[inline(always)]
@@ -119,11 +133,7 @@ pub(crate) fn copy_prefix(from: &[u8], to: &mut [u8]) -> usize
 {
     // Who reads byte by byte asks for one.
     if to.len() == 1 {
-        let Some(byte) = from.first() else {
-            return 0;
-        };
-        to[0] = *byte;
-        return 1;
+        return copy_one(from, to);
     }
     if to.len() > from.len() {
         if to.len() > 128 {
