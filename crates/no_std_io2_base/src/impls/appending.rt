@@ -49,18 +49,14 @@ fn append_by_call<A: Allocator>(content: &mut Vec<u8, A>, buf: &[u8]) -> Result<
     content.extend_from_slice(buf)
 }
 
-// Appends a slice of more than 32 bytes, or where the room is missing. Up to 128 bytes are moved in place.
+// Appends a slice of more than 32 bytes, or where the room is missing. Up to 64 bytes are moved in place; of more the zeros would
+// take longer than a call does.
 #[inline(never)]
 fn append_longer<A: Allocator>(content: &mut Vec<u8, A>, buf: &[u8]) -> Result<(), AllocError>
     ensures { IsAppended content.old.items (vec_capacity content.old) buf.now result content.new.items }
 {
-    if buf.len() <= 64 {
-        if content.capacity() - content.len() >= 64 {
-            append_short::<64, A>(content, buf);
-            return Ok(());
-        }
-    } else if buf.len() <= 128 && content.capacity() - content.len() >= 128 {
-        append_short::<128, A>(content, buf);
+    if buf.len() <= 64 && content.capacity() - content.len() >= 64 {
+        append_short::<64, A>(content, buf);
         return Ok(());
     }
     append_by_call(content, buf)
