@@ -1,6 +1,6 @@
-use Rattle.std.proofs.Common.{◌≡◌, ◌-◌, ◌++◌, [], ℕ, List, length, take, drop, arith, ap, ◌∙◌, append-nil, length-drop}
+use Rattle.std.proofs.Common.{◌≡◌, ◌-◌, ◌++◌, [], ℕ, length, take, drop, arith, ap, ◌∙◌, append-nil, length-drop}
 use Rattle.std.specs.Simd.Lanes.{chunk, put_chunk}
-use Rattle.std.proofs.lemmas.List.{take-take, take-append-le, take-append-drop, take_all, length-take-le}
+use Rattle.std.proofs.lemmas.List.{take-take, take-append-le, take-append-drop, take_all}
 use Rattle.std.proofs.lemmas.Simd.{length-chunk, length-put_chunk, put_chunk_is}
 use Rattle.std.proofs.Math.ListN.{drop_of_length-le}
 use Rattle.no_std_io2_base.proofs.impls.copying.copy_ends.Goals as goal
