@@ -1,12 +1,12 @@
 -- A content and a position in it.
-use Rattle.std.proofs.Common.{◌≡◌, ℕ, Bool, true, cond, ◌+◌, ◌-◌, ◌<◌, ◌≤◌, min, List, [], ◌∷◌, ◌++◌, Ok, Err, Result}
+use Rattle.std.proofs.Common.{◌≡◌, ℕ, true, ◌+◌, ◌-◌, ◌<◌, ◌≤◌, min, List, [], ◌∷◌, ◌++◌, Ok, Err, Result}
 use Rattle.std.proofs.Common.{length, take, drop, replicate, refl, sym, ap, ◌∙◌, arith, count_by, inl, inr, append-nil}
 use Rattle.std.proofs.Common.{append_assoc, take-append-drop, length-append, length-take}
-use Rattle.std.proofs.lemmas.Bool.{cases_lt, cond-true, false≢true}
+use Rattle.std.proofs.lemmas.Bool.{cases_lt, false≢true}
 use Rattle.std.proofs.lemmas.List.{length-replicate, drop-drop, take_all, take_at, take_min, drop_all, drop_at, take-append-le}
 use Rattle.std.proofs.lemmas.List.{take-replicate}
 use Rattle.std.proofs.Math.Seq.{take-append-add}
-use Rattle.std.specs.Result.{OnOk, OnErr, is_ok, is_err}
+use Rattle.std.specs.Result.{OnErr, is_err}
 use Rattle.std.proofs.lemmas.Grind.{common_steps}
 use Rattle.std.proofs.lemmas.Bool.Decides.{nat_tests}
 use Rattle.no_std_io2_base.specs.declared.error.Error.{Error}
@@ -41,31 +41,10 @@ pub put_within : (place : ℕ) (x bs : List ℕ) → place ≤ length bs → tak
 put_within place x bs within =
     ap (λ l. l ++ x ++ drop (place + length x) bs) (sym (bytes_before-within place bs within))
 
--- x behind the bytes
-pub put_past : (place : ℕ) (x bs : List ℕ) → length bs ≤ place → take place bs ++ replicate (place - length bs) 0 ++ x ≡ put_at place x bs
-put_past place x bs past =
-    sym (append-nil _) ∙ ap (λ l. bytes_before place bs ++ x ++ l) (sym (drop_all (place + length x) bs (omega arith)))
-
--- what a call's answer tells, where it succeeded
-pub told_ok : {X E P : Type 0} (r : Result X E) → is_ok r ≡ true → OnOk r P → P
-told_ok (Ok x) is h = h
-told_ok (Err e) is h = absurd (false≢true is)
-
--- and where it failed
+-- what a call's answer tells, where it failed
 pub told_err : {X E P : Type 0} (r : Result X E) → is_err r ≡ true → OnErr r P → P
 told_err (Ok x) is h = absurd (false≢true is)
 told_err (Err e) is h = h
-
--- zeros were put behind the bytes, and then x
-pub padded : (place : ℕ) {len : ℕ} (x : List ℕ) {bs held mid bs' : List ℕ} {padding appending done : Bool} → held ≡ bs → len ≡ length held
-    → length bs ≤ place → padding ≡ true → mid ≡ cond padding (take place held ++ replicate (place - len) 0) held
-    → appending ≡ true → bs' ≡ cond appending (mid ++ x) mid
-    → done ≡ true → bs' ≡ cond done (put_at place x bs) bs
-padded place x {bs} {held} {mid} {padding} {appending} {done} same long past p is a new d =
-    let zeros : mid ≡ take place bs ++ replicate (place - length bs) 0 =
-    is ∙ cond-true padding _ _ p ∙ ap (λ n. take place held ++ replicate (place - n) 0) long
-    ∙ ap (λ l. take place l ++ replicate (place - length l) 0) same in
-    new ∙ cond-true appending _ _ a ∙ ap (λ l. l ++ x) zeros ∙ put_past place x bs past ∙ sym (cond-true done _ _ d)
 
 -- the end of x was appended, and its front put before it
 pub put_across : (place k : ℕ) (x bs : List ℕ) → place + k ≡ length bs → k ≤ length x

@@ -9,7 +9,7 @@ pub record IsAppended (bs : List ℕ) (capacity : ℕ) (x : List ℕ) (reply : R
   pub items : bs' ≡ (if is_ok reply then bs ++ x else bs)
   pub full : OnErr reply (capacity < length bs + length x)
 
--- x stands at `place`, behind a gap, or there was too little room, and nothing has changed: no memory was asked for
+-- x stands at `place`, behind a gap, or there was too little room, and nothing has changed
 pub record IsPutWithin (bs : List ℕ) (capacity place : ℕ) (x : List ℕ) (done : Bool) (bs' : List ℕ) (capacity' : ℕ) : Type 0 where
   pub puts : OnTrue done (bs' ≡ put_at place x bs)
   pub fits : OnTrue done (place + length x ≤ capacity)

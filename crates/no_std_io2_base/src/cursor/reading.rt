@@ -58,6 +58,7 @@ impl<T: AsSlice<u8>> Read for Cursor<T> {
         ensures position { cursor_place self.new ≡ cursor_place self.old + given result }
         ensures inner { cursor_inner self.new ≡ cursor_inner self.old }
     {
+        // Where a read is a call, this way saves no register for the copies of the others.
         if buf.len() == 1 {
             let n = copy_one(self.left(), buf);
             self.pos += n as u64;

@@ -1,7 +1,7 @@
 // Slices that are put behind the end of a vector. Short ones are moved in place, since most pieces are short, and a call of
 // `memcpy` costs more than they do. What is not in place stands in functions of its own, so that callers inline no more
 // than the hot path.
-ghost use Rattle.std.specs.Prelude.{◌≡◌, ◌≤◌, ◌<◌, ◌+◌, ◌++◌, ◌-◌, ◌^◌, length, take, vec_len, vec_capacity, is_ok, OnErr, if◌then◌else◌};
+ghost use Rattle.std.specs.Prelude.{◌≡◌, ◌≤◌, ◌<◌, ◌+◌, ◌++◌, ◌⊎◌, length, take, vec_len, vec_capacity};
 ghost use Rattle.std.specs.Bool.{OnTrue, OnFalse};
 ghost use Rattle.no_std_io2_base.specs.Appending.{IsAppended, IsPutWithin};
 ghost use Rattle.no_std_io2_base.specs.Cursor.{put_at};
@@ -70,6 +70,7 @@ fn open_zeros<A: Allocator>(content: &mut Vec<u8, A>, n: usize) -> bool
     ensures short { OnTrue result (n ≤ 32) }
     ensures fits { OnTrue result (vec_len content.old + n ≤ vec_capacity content.old) }
     ensures same { OnFalse result (content.new ≡ content.old) }
+    ensures full { OnFalse result ((32 < n) ⊎ (vec_capacity content.old < vec_len content.old + 32)) }
 {
     let room = content.capacity() - content.len();
     if n <= 16 {
@@ -85,6 +86,7 @@ pub(crate) fn append_in_place<A: Allocator>(content: &mut Vec<u8, A>, buf: &[u8]
     ensures done { OnTrue result (content.new.items ≡ content.old.items ++ buf.now) }
     ensures fits { OnTrue result (vec_len content.old + length buf.now ≤ vec_capacity content.old) }
     ensures same { OnFalse result (content.new ≡ content.old) }
+    ensures full { OnFalse result ((32 < length buf.now) ⊎ (vec_capacity content.old < vec_len content.old + 32)) }
 {
     let start = content.len();
     if !open_zeros(content, buf.len()) {

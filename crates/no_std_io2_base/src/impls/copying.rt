@@ -65,7 +65,7 @@ fn copy_by_call(to: &mut [u8], from: &[u8])
     to.copy_from_slice(from);
 }
 
-// Copies up to 128 bytes over as many others, in place.
+// Copies up to 128 bytes over as many others, in place. The longest stand first: where a piece is short its caller mostly knows.
 #[inline(always)]
 pub(crate) fn copy_in_place(from: &[u8], to: &mut [u8])
     requires same { length from.now ≡ length to.old }

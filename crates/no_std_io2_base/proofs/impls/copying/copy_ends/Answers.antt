@@ -19,8 +19,10 @@ returns g c =
     let all : length put ≡ length x = length-put_chunk 0 t first ∙ omega (arith, c.requires.same) in
     let front : take k put ≡ take k x =
     ap (take k) (put_chunk_is 0 t first (omega (arith, long, c.requires.same, c.requires.least)))
-    ∙ take-append-le k first (drop (length first) t) (omega (arith, long, c.requires.most)) ∙ take-take k N x (omega (arith, c.requires.most)) in
+    ∙ take-append-le k first (drop (length first) t) (omega (arith, long, c.requires.most))
+    ∙ take-take k N x (omega (arith, c.requires.most)) in
     let none : drop (length last) (drop k put) ≡ [] = drop_of_length-le (drop k put) (omega (arith, all, long', length-drop {A = ℕ})) in
     put_chunk_is k put last (omega (arith, all, long', c.requires.least))
     ∙ ap (λ l. l ++ (last ++ drop (length last) (drop k put))) front ∙ ap (λ l. take k x ++ (last ++ l)) none
-    ∙ ap (λ l. take k x ++ l) (append-nil last ∙ take_all N (drop k x) (omega (arith, length-drop {A = ℕ}, c.requires.least))) ∙ take-append-drop k x
+    ∙ ap (λ l. take k x ++ l) (append-nil last ∙ take_all N (drop k x) (omega (arith, length-drop {A = ℕ}, c.requires.least)))
+    ∙ take-append-drop k x
