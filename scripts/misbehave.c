@@ -19,13 +19,8 @@ void *__libc_malloc(size_t size);
 void *__libc_realloc(void *pointer, size_t size);
 
 static const char *kind = "", *path;
-// How many calls there are up to the one that fails; 0 where none is left.
-static long left;
-// How many calls fail from there on.
-static long times;
-static int takes_nothing;
-// The number of errno, or 0 for a call that moves one byte.
-static int number;
+static long left, times; // how many calls there are up to the one that fails, and how many fail from there on
+static int takes_nothing, number; // the number of errno, or 0 for a call that moves one byte
 
 __attribute__((constructor)) static void begin(void)
 {
@@ -68,28 +63,23 @@ void *realloc(void *pointer, size_t size)
     return is_too_large(size) || has_come("memory") ? NULL : __libc_realloc(pointer, size);
 }
 
+// A call of read or write on this file, with the one that the C library has.
+#define CALL(name, on, bytes) \
+    ssize_t (*next)(int, bytes, size_t) = (ssize_t (*)(int, bytes, size_t))dlsym(RTLD_NEXT, #name); \
+    if (file == on && size > 0 && has_come(#name)) { \
+        if (takes_nothing) return 0; \
+        if (number == 0) return next(file, buffer, 1); \
+        errno = number; \
+        return -1; \
+    } \
+    return next(file, buffer, size);
+
 ssize_t read(int file, void *buffer, size_t size)
 {
-    ssize_t (*next)(int, void *, size_t) = (ssize_t (*)(int, void *, size_t))dlsym(RTLD_NEXT, "read");
-    if (file == 0 && size > 0 && has_come("read")) {
-        if (number == 0)
-            return next(file, buffer, 1);
-        errno = number;
-        return -1;
-    }
-    return next(file, buffer, size);
+    CALL(read, 0, void *)
 }
 
 ssize_t write(int file, const void *buffer, size_t size)
 {
-    ssize_t (*next)(int, const void *, size_t) = (ssize_t (*)(int, const void *, size_t))dlsym(RTLD_NEXT, "write");
-    if (file == 1 && size > 0 && has_come("write")) {
-        if (takes_nothing)
-            return 0;
-        if (number == 0)
-            return next(file, buffer, 1);
-        errno = number;
-        return -1;
-    }
-    return next(file, buffer, size);
+    CALL(write, 1, const void *)
 }

@@ -1,6 +1,7 @@
 //! Instructions a call, counted by callgrind: the difference of two runs, of which one makes twice
 //! as many calls, so that what is made before and after the calls isn't counted.
-use crate::cases::{Case, SIDES};
+use crate::Measured;
+use crate::cases::Case;
 use std::arch::asm;
 use std::ffi::CString;
 use std::fs;
@@ -33,13 +34,11 @@ fn request(code: usize, argument: usize) {
 /// a name of three numbers.
 pub fn count_below_callgrind(cases: &[Case]) {
     for (at, case) in cases.iter().enumerate() {
-        for (side, run) in case.runs.iter().enumerate() {
-            let Some(run) = run else { continue };
+        for side in (0..3).filter(|side| case.has(*side)) {
             for times in [1, 2] {
                 let name = CString::new(format!("{at} {side} {times}")).unwrap();
-                let calls = case.calls * times;
                 request(ZERO, 0);
-                std::hint::black_box(run(calls));
+                std::hint::black_box(case.run(side, case.calls * times));
                 request(DUMP, name.as_ptr() as usize);
             }
         }
@@ -48,7 +47,7 @@ pub fn count_below_callgrind(cases: &[Case]) {
 
 /// Runs this program below callgrind on the cases of this word, and gives for each case the instructions a call on each side
 /// that it has.
-pub fn count(cases: &[Case], word: &str) -> Result<Vec<Vec<Option<f64>>>, String> {
+pub fn count(cases: &[Case], word: &str) -> Result<Measured, String> {
     let program = std::env::current_exe().map_err(|error| error.to_string())?;
     let folder = program.with_file_name("callgrind");
     let _ = fs::remove_dir_all(&folder);
@@ -70,23 +69,16 @@ pub fn count(cases: &[Case], word: &str) -> Result<Vec<Vec<Option<f64>>>, String
 }
 
 // The two counts of each case and side, by their difference.
-fn read_dumps(folder: &Path, cases: &[Case]) -> std::io::Result<Vec<Vec<Option<f64>>>> {
-    let mut totals = vec![[[None; 2]; SIDES.len()]; cases.len()];
+fn read_dumps(folder: &Path, cases: &[Case]) -> std::io::Result<Measured> {
+    let mut totals = vec![[[None::<f64>; 2]; 3]; cases.len()];
     for entry in fs::read_dir(folder)? {
         if let Some((at, side, times, total)) = read_dump(&entry?.path()) {
             totals[at][side][times - 1] = Some(total);
         }
     }
-    let mut counts = Vec::new();
-    for (case, totals) in cases.iter().zip(&totals) {
-        let each = totals[..case.runs.len()].iter();
-        let calls = case.calls as f64;
-        counts.push(
-            each.map(|[once, twice]| Some(((*twice)? - (*once)?) / calls))
-                .collect(),
-        );
-    }
-    Ok(counts)
+    let each = |case: &Case, [once, twice]: [Option<f64>; 2]| Some((twice? - once?) / case.calls as f64);
+    let counts = cases.iter().zip(totals);
+    Ok(counts.map(|(case, sides)| sides.map(|totals| each(case, totals))).collect())
 }
 
 // A dump's three numbers, and its count.

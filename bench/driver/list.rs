@@ -1,59 +1,104 @@
-//! The calls that each side has under one name: each makes so many of them on streams of its own, over a source and
-//! with a size, and answers a sum. `cases.rs` makes the cases of this list, and `ours.rs` declares this library's.
+//! The one list of cases. A line: a call's name on all sides, what the source is, its class, the words of the table, of which
+//! `{}` is the size, and the sizes; behind `|` a side that has no such call.
+//!
+//! Classes, with the most instructions that a case may take to the better of std and the original crate: `short` 1.00, and 1.25
+//! where more than 32 bytes move; `long` 1.25; `fields` 1.4; `append` 1.75; `whole` has no limit, for its definition asks for more.
 
-/// Hands the list to a macro. A line: a name, what the source is, the words of the table, of which `{}` is the size, and the
-/// sizes. Behind `|` stands a side that has no such call.
 macro_rules! listed {
     ($read:ident) => {
         $read! {
-            slice_read: bytes "a slice, `read` of {}" [1 7 16 100];
-            slice_read_exact: bytes "a slice, `read_exact` of {}" [1 7 16 100];
-            cursor_read: bytes "a cursor, `read` of {}" [1 7 16 100];
-            cursor_read_exact: bytes "a cursor, `read_exact` of {}" [1 7 16 100];
-            take_read: bytes "`Take` over a slice, `read` of {}" [1 7 16 100];
-            chain_read: bytes "`Chain` of two slices, `read` of {}" [1 7 16 100];
-            vec_write: bytes "`Vec`, `write` of {}" [1 7 16 100];
-            vec_write_all: bytes "`Vec`, `write_all` of {}" [1 7 16 100];
-            slice_cursor_write: bytes "`Cursor<&mut [u8]>`, `write` of {}" [1 7 16 100];
-            cursor_gaps: bytes "`Cursor<Vec>`, `write_all` of {} past the end" [1 7 16 100];
-            slice_bytes: bytes "`Bytes` of a slice" [1];
-            cursor_bytes: bytes "`Bytes` of a cursor" [1];
-            buffered_bytes_64: bytes "`Bytes` of a `BufReader` 64" [1];
-            buffered_bytes_1024: bytes "`Bytes` of a `BufReader` 1024" [1];
-            slice_fill: bytes "a slice, `fill_buf` and `consume` of {}" [1 7 16];
-            cursor_fill: bytes "a cursor, `fill_buf` and `consume` of {}" [1 7 16];
-            buffered_fill_64: bytes "`BufReader` 64, `fill_buf` and `consume` of {}" [1 7 16];
-            buffered_fill_1024: bytes "`BufReader` 1024, `fill_buf` and `consume` of {}" [1 7 16];
-            slice_to_end: bytes "a slice, `read_to_end` of {}" [100 4096 16777216];
-            cursor_to_end: bytes "a cursor, `read_to_end` of {}" [100 4096 16777216];
-            buffered_to_end: bytes "`BufReader` 1024, `read_to_end` of {}" [100 4096 16777216];
-            two_slices_to_end: bytes "`Chain` of two slices, `read_to_end` of {}" [100 4096 16777216];
-            limited_to_end: bytes "`Take` over a longer slice, `read_to_end` of {}" [100 4096 16777216];
-            reference_to_end: bytes "a reference to a cursor, `read_to_end` of {}" [100 4096 16777216];
-            box_to_end: bytes "a boxed cursor, `read_to_end` of {}" [100 4096 16777216];
-            buffers_copy_64: bytes "`copy` 64 from `BufReader` 64 to `BufWriter` 64 of {}" [67108864] | std;
-            buffers_copy_1024: bytes "`copy` 1024 from `BufReader` 1024 to `BufWriter` 1024 of {}" [67108864] | std;
-            buffers_copy_8192: bytes "`copy` 8192 from `BufReader` 8192 to `BufWriter` 8192 of {}" [67108864];
-            reference_read: bytes "a reference to a cursor, `read` of {}" [1 16];
-            box_read: bytes "a boxed cursor, `read` of {}" [1 16];
-            object_read: bytes "a boxed object, `read` of {}" [1 16];
-            reference_write: bytes "a reference to a sink, `write` of {}" [1 16];
-            box_write: bytes "a boxed sink, `write` of {}" [1 16];
-            object_write: bytes "a boxed object, `write` of {}" [1 16];
-            cursor_seek: bytes "a cursor, `seek`" [7];
-            buffered_seek: bytes "`BufReader` 1024, `seek` by 3 and `read_exact` of 8" [8];
-            buffered_position: bytes "`BufReader` 1024, `stream_position` and `read_exact` of 8" [8];
-            writer_seek: bytes "`BufWriter` 64 to a cursor, `write_all` of {} and `seek`" [1 16];
-            two_writers: bytes "`BufWriter` 64 over `BufWriter` 1024, `write_all` of {}" [1 7 16 100];
-            lines_to_buffer: lines "`LineWriter` 64 over `BufWriter` 1024, lines of {}" [8 40 80];
-            two_readers: bytes "`BufReader` 64 over `BufReader` 1024, `read` of {}" [1 7 16 100];
-            seven_write_all: bytes "a device of seven bytes, `write_all` of {}" [7 100];
-            seven_buffered_write: bytes "`BufWriter` 64 over a device of seven bytes, `write` of {}" [1 16];
-            seven_read_exact: bytes "a device of seven bytes, `read_exact` of {}" [7 100];
-            seven_buffered_read_exact: bytes "`BufReader` 64 over a device of seven bytes, `read_exact` of {}" [1 16];
-            make_writer: bytes "`BufWriter` 1024, made, `write_all` of {} and dropped" [16 100];
-            make_line_writer: lines "`LineWriter` 1024, made, `write_all` of {} and dropped" [8 80];
-            make_reader: bytes "`BufReader` 1024, made, `read_exact` of {} and dropped" [16 100];
+            slice_read: bytes short "a slice, `read` of {}" [1 7 16 100];
+            slice_exact: bytes short "a slice, `read_exact` of {}" [1 7 16 100];
+            cursor_read: bytes short "a cursor, `read` of {}" [1 7 16 100];
+            cursor_exact: bytes short "a cursor, `read_exact` of {}" [1 7 16 100];
+            slice_bytes: bytes short "a slice, `bytes`" [1];
+            cursor_bytes: bytes short "a cursor, `bytes`" [1];
+            slice_fill: bytes short "a slice, `fill_buf` and `consume` of {}" [7];
+            cursor_fill: bytes short "a cursor, `fill_buf` and `consume` of {}" [7];
+            slice_until: lines short "a slice, `read_until`, lines of {}" [16 80 1000] | original;
+            slice_lines: lines short "a slice, `lines` of {}" [16 80] | original;
+            cursor_lines: lines short "a cursor, `lines` of {}" [16 80] | original;
+            cursor_seek: bytes short "a cursor, `seek`" [7];
+            cursor_len: bytes short "a cursor, `stream_len`" [7] | original;
+            over_slice: bytes short "`Cursor<&mut [u8]>`, `write` of {}" [1 7 16 100];
+            over_vec: bytes short "`Cursor<Vec>`, `write_all` of {} over others" [7 16 100];
+            fields_slice: bytes short "a slice, `read_exact` of a struct's fields" [1];
+            fields_cursor: bytes short "a cursor, `read_exact` of a struct's fields" [1];
+            fields_over: bytes short "`Cursor<&mut [u8]>`, `write_all` of a struct's fields" [1];
+            records_slice: bytes short "a slice, `read_exact` of 1 to {} by turns" [32 100];
+            records_cursor: bytes short "a cursor, `read_exact` of 1 to {} by turns" [32 100];
+            tlv_slice: bytes short "a slice, tag, length, value" [1];
+            tlv_cursor: bytes short "a cursor, tag, length, value" [1];
+            varints_slice: bytes short "a slice, a number in 1 to 5 bytes" [1];
+            varints_cursor: bytes short "a cursor, a number in 1 to 5 bytes" [1];
+
+            take_read: bytes long "`Take` over a slice, `read` of {}" [1 7 16 100];
+            chain_read: bytes long "`Chain` of two slices, `read` of {}" [1 7 16 100];
+            records_take: bytes long "`Take` over a slice, `read_exact` of 1 to {} by turns" [32 100];
+            records_chain: bytes long "`Chain` of two slices, `read_exact` of 1 to {} by turns" [32 100];
+            reference_read: bytes long "a reference to a cursor, `read` of {}" [1 16];
+            box_read: bytes long "a boxed cursor, `read` of {}" [1 16];
+            object_read: bytes long "a boxed object, `read` of {}" [1 13 16];
+            object_write: bytes long "a boxed object, `write` of {}" [1 16];
+
+            vec_write: bytes append "`Vec`, `write` of {}" [1 7 16 33 100];
+            vec_write_all: bytes append "`Vec`, `write_all` of {}" [1 7 16 33 100];
+            fields_vec: bytes fields "`Vec`, `write_all` of a struct's fields" [1];
+            records_vec: bytes append "`Vec`, `write_all` of 1 to {} by turns" [32 100];
+            cursor_grows: bytes append "`Cursor<Vec>`, `write_all` of {}, growing" [1 7 16 100];
+            cursor_gaps: bytes append "`Cursor<Vec>`, `write_all` of {} past the end" [1 7 16 100];
+            fields_grow: bytes fields "`Cursor<Vec>`, `write_all` of a struct's fields" [1];
+            records_grow: bytes append "`Cursor<Vec>`, `write_all` of 1 to {} by turns" [32 100];
+
+            writer_all_64: bytes short "`BufWriter` 64, `write_all` of {}" [1 7 16 100];
+            writer_all_1024: bytes short "`BufWriter` 1024, `write_all` of {}" [1 7 16 100];
+            writer_write_64: bytes short "`BufWriter` 64, `write` of {}" [1 7 16 100];
+            writer_write_1024: bytes short "`BufWriter` 1024, `write` of {}" [1 7 16 100];
+            writer_vec_64: bytes short "`BufWriter` 64 to a `Vec`, `write_all` of {}" [1 7 16 100];
+            writer_vec_1024: bytes short "`BufWriter` 1024 to a `Vec`, `write_all` of {}" [1 7 16 100];
+            fields_writer_64: bytes short "`BufWriter` 64, `write_all` of a struct's fields" [1];
+            fields_writer_1024: bytes short "`BufWriter` 1024, `write_all` of a struct's fields" [1];
+            records_writer_64: bytes short "`BufWriter` 64, `write_all` of 1 to {} by turns" [32 100];
+            records_writer_1024: bytes short "`BufWriter` 1024, `write_all` of 1 to {} by turns" [32 100];
+            line_writer: lines short "`LineWriter` 1024, lines of {}" [8 40 80];
+            lines_apart: bytes short "`LineWriter` 1024, a text of {} and its newline apart" [8 40];
+            writer_seek: bytes short "`BufWriter` 64 to a cursor, `write_all` of {} and `seek`" [1 16];
+            two_writers: bytes short "`BufWriter` 64 over `BufWriter` 1024, `write_all` of {}" [1 7 16 100];
+            lines_to_buffer: lines short "`LineWriter` 64 over `BufWriter` 1024, lines of {}" [8 40 80];
+            seven_write: bytes short "`BufWriter` 64 over a device of seven bytes, `write` of {}" [1 16];
+            made_writer: bytes long "`BufWriter` 1024, made, `write_all` of {} and dropped" [16 100];
+
+            reader_read_64: bytes short "`BufReader` 64, `read` of {}" [1 7 16 100];
+            reader_read_1024: bytes short "`BufReader` 1024, `read` of {}" [1 7 16 100];
+            reader_exact_64: bytes short "`BufReader` 64, `read_exact` of {}" [1 7 16 100];
+            reader_exact_1024: bytes short "`BufReader` 1024, `read_exact` of {}" [1 7 16 100];
+            reader_bytes_64: bytes short "`BufReader` 64, `bytes`" [1];
+            reader_bytes_1024: bytes short "`BufReader` 1024, `bytes`" [1];
+            reader_bytes_cursor: bytes short "`BufReader` 1024 over a cursor, `bytes`" [1];
+            reader_fill: bytes short "`BufReader` 1024, `fill_buf` and `consume` of {}" [7];
+            fields_reader: bytes short "`BufReader` 1024, `read_exact` of a struct's fields" [1];
+            records_reader_64: bytes short "`BufReader` 64, `read_exact` of 1 to {} by turns" [32 100];
+            records_reader_1024: bytes short "`BufReader` 1024, `read_exact` of 1 to {} by turns" [32 100];
+            tlv_reader: bytes short "`BufReader` 1024, tag, length, value" [1];
+            tlv_seven: bytes short "`BufReader` 64 over a device of seven bytes, tag, length, value" [1];
+            varints_reader: bytes short "`BufReader` 1024, a number in 1 to 5 bytes" [1];
+            reader_until_64: lines short "`BufReader` 64, `read_until`, lines of {}" [16 80 1000] | original;
+            reader_until_1024: lines short "`BufReader` 1024, `read_until`, lines of {}" [16 80 1000] | original;
+            reader_lines_1024: lines short "`BufReader` 1024, `lines` of {}" [16 80] | original;
+            reader_split_1024: lines short "`BufReader` 1024, `split`, lines of {}" [16 80] | original;
+            reader_seek: bytes short "`BufReader` 1024, `seek` by 3 and `read_exact` of 8" [8];
+            reader_moves: bytes short "`BufReader` 1024, `seek_relative` of 3 and `read_exact` of 8" [8] | original;
+            two_readers: bytes short "`BufReader` 64 over `BufReader` 1024, `read` of {}" [1 7 16 100];
+            seven_exact: bytes short "a device of seven bytes, `read_exact` of {}" [7 100];
+            made_reader: bytes long "`BufReader` 1024, made, `read_exact` of {} and dropped" [16 100];
+
+            reader_position: bytes whole "`BufReader` 1024, `stream_position` and `read_exact` of 8" [8];
+            slice_to_end: bytes whole "a slice, `read_to_end` of {}" [100 4096 16777216];
+            reader_to_end: bytes whole "`BufReader` 1024, `read_to_end` of {}" [100 4096 16777216];
+            chain_to_end: bytes whole "`Chain` of two slices, `read_to_end` of {}" [4096 16777216];
+            take_to_end: bytes whole "`Take` over a slice, `read_to_end` of {}" [4096 16777216];
+            copy_64: bytes whole "`copy` 64 of {}" [16777216] | std;
+            copy_8192: bytes whole "`copy` 8192 of {}" [16777216];
         }
     };
 }

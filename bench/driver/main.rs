@@ -1,17 +1,12 @@
-//! Times this library's streams, Rust's standard ones and those of the original crate on the same
-//! work, and counts their instructions. Prints one table.
-//!
-//! `driver WORD` runs the cases in whose names it stands, and `driver` alone all; with `count` behind the word, or
-//! behind an empty one, it is what it runs below `callgrind`. `driver growth` prints another table, of `growth.rs`.
+//! Times this library's streams, Rust's standard ones and those of the original crate on the same work, and counts their
+//! instructions: `driver WORD` runs the cases in whose names it stands, and `driver` all. With `count` behind the word it is
+//! what it runs below `callgrind`.
 #![feature(seek_stream_len)]
 
 mod cases;
 mod counting;
-mod growth;
 mod list;
-mod ours;
 mod table;
-mod timing;
 
 #[cfg(original)]
 #[path = "original.rs"]
@@ -21,34 +16,55 @@ mod std_side;
 
 use cases::Case;
 use std::process::ExitCode;
+use std::time::Instant;
 
-// The cases of a word.
-fn cases_of(word: &str) -> Vec<Case> {
-    if word == "growth" {
-        return growth::all();
+// The original crate's side of a call, where its text was given.
+#[cfg(original)]
+macro_rules! original {
+    ($name:ident) => {
+        Some(crate::original_side::$name)
+    };
+}
+#[cfg(not(original))]
+macro_rules! original {
+    ($name:ident) => {
+        None
+    };
+}
+pub(crate) use original;
+
+/// Of each case what was measured on each side.
+pub type Measured = Vec<[Option<f64>; 3]>;
+
+// Nanoseconds a call: the best of some rounds, in which the sides take turns, so that a busy machine slows them alike.
+fn time(case: &Case) -> [Option<f64>; 3] {
+    let mut best = [None::<f64>; 3];
+    for _ in 0..15 {
+        for (side, best) in best.iter_mut().enumerate() {
+            if case.has(side) {
+                let start = Instant::now();
+                std::hint::black_box(case.run(side, case.calls));
+                let nanoseconds = start.elapsed().as_nanos() as f64 / case.calls as f64;
+                *best = Some(best.map_or(nanoseconds, |best| best.min(nanoseconds)));
+            }
+        }
     }
-    let mut cases = cases::all();
-    cases.retain(|case| case.name.contains(word));
-    cases
+    best
 }
 
-// Prints the table of these cases.
 fn measure(cases: &[Case], word: &str) -> Result<(), String> {
     for case in cases {
         case.check()?;
     }
-    if word == "growth" {
-        growth::print(cases, &counting::count(cases, word)?);
-        return Ok(());
-    }
-    let times = timing::time(cases);
+    let times = cases.iter().map(time).collect();
     table::print(cases, &times, &counting::count(cases, word)?);
     Ok(())
 }
 
 fn main() -> ExitCode {
     let word = std::env::args().nth(1).unwrap_or_default();
-    let cases = cases_of(&word);
+    let mut cases = cases::all();
+    cases.retain(|case| case.name.contains(&word));
     if std::env::args().nth(2).as_deref() == Some("count") {
         counting::count_below_callgrind(&cases);
         return ExitCode::SUCCESS;

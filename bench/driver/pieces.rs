@@ -1,12 +1,9 @@
-//! The work of the cases that the original crate has no calls for, over the streams of the standard library.
-use super::streams::{BufRead, Cursor, Read, Seek, buffered_reader};
+//! The calls that the original crate lacks, over the streams of the standard library.
+use super::often::first_byte;
+use super::streams::*;
 use crate::cases::FAILED;
 
-fn first_byte(room: &[u8]) -> u64 {
-    room.first().map_or(0, |byte| u64::from(*byte))
-}
-
-fn read_until_often<R: BufRead>(r: &mut R, calls: u64) -> u64 {
+fn until_often<R: BufRead>(r: &mut R, calls: u64) -> u64 {
     let mut piece = Vec::new();
     let mut sum = 0u64;
     for _ in 0..calls {
@@ -19,72 +16,56 @@ fn read_until_often<R: BufRead>(r: &mut R, calls: u64) -> u64 {
     sum
 }
 
-fn lines_often<R: BufRead>(r: R, calls: u64) -> u64 {
-    let mut lines = r.lines();
+// Sums the lengths and first bytes of so many items.
+fn items_often<T: AsRef<[u8]>>(mut items: impl Iterator<Item = Result<T>>, calls: u64) -> u64 {
     let mut sum = 0u64;
     for _ in 0..calls {
-        let Some(Ok(line)) = lines.next() else {
+        let Some(Ok(item)) = items.next() else {
             return FAILED;
         };
-        sum = sum.wrapping_add(line.len() as u64).wrapping_add(first_byte(line.as_bytes()));
+        let bytes = item.as_ref();
+        sum = sum.wrapping_add(bytes.len() as u64).wrapping_add(first_byte(bytes));
     }
     sum
 }
 
-#[inline(never)]
-pub fn read_until_slice(mut text: &[u8], calls: u64) -> u64 {
-    read_until_often(&mut text, calls)
+macro_rules! calls {
+    ($($name:ident($source:ident, $room:ident, $calls:ident) $body:block)*) => {$(
+        #[inline(never)]
+        #[allow(unused_variables, unused_mut)]
+        pub fn $name(mut $source: &[u8], $room: &mut [u8], $calls: u64) -> u64 $body
+    )*};
 }
 
-#[inline(never)]
-pub fn lines_slice(text: &[u8], calls: u64) -> u64 {
-    lines_often(text, calls)
-}
-
-#[inline(never)]
-pub fn read_until_cursor(text: &[u8], calls: u64) -> u64 {
-    read_until_often(&mut Cursor::new(text), calls)
-}
-
-#[inline(never)]
-pub fn lines_cursor(text: &[u8], calls: u64) -> u64 {
-    lines_often(Cursor::new(text), calls)
-}
-
-#[inline(never)]
-pub fn read_until_buffered<const S: usize>(text: &[u8], calls: u64) -> u64 {
-    read_until_often(&mut buffered_reader::<_, S>(text), calls)
-}
-
-#[inline(never)]
-pub fn lines_buffered<const S: usize>(text: &[u8], calls: u64) -> u64 {
-    lines_often(buffered_reader::<_, S>(text), calls)
-}
-
-#[inline(never)]
-pub fn moves(source: &[u8], calls: u64) -> u64 {
-    let mut r = buffered_reader::<_, 1024>(Cursor::new(source));
-    let mut room = [0; 8];
-    let mut sum = 0u64;
-    for _ in 0..calls {
-        if r.seek_relative(3).is_err() || r.read_exact(&mut room).is_err() {
-            return FAILED;
+calls! {
+    slice_until(source, room, calls) { until_often(&mut source, calls) }
+    slice_lines(source, room, calls) { items_often(source.lines(), calls) }
+    cursor_lines(source, room, calls) { items_often(Cursor::new(source).lines(), calls) }
+    reader_until_64(source, room, calls) { until_often(&mut buffered_reader::<_, 64>(source), calls) }
+    reader_until_1024(source, room, calls) { until_often(&mut buffered_reader::<_, 1024>(source), calls) }
+    reader_lines_1024(source, room, calls) { items_often(buffered_reader::<_, 1024>(source).lines(), calls) }
+    reader_split_1024(source, room, calls) { items_often(buffered_reader::<_, 1024>(source).split(b'\n'), calls) }
+    reader_moves(source, room, calls) {
+        let mut r = buffered_reader::<_, 1024>(Cursor::new(source));
+        let mut sum = 0u64;
+        for _ in 0..calls {
+            if r.seek_relative(3).is_err() || r.read_exact(room).is_err() {
+                return FAILED;
+            }
+            sum = sum.wrapping_add(first_byte(room));
         }
-        sum = sum.wrapping_add(u64::from(room[0]));
+        sum
     }
-    sum
-}
-
-#[inline(never)]
-pub fn stream_len(source: &[u8], calls: u64) -> u64 {
-    let (front, back) = source.split_at(source.len() / 3);
-    let mut cursors = [source, front, back, front].map(Cursor::new);
-    let mut sum = 0u64;
-    for _ in 0..calls {
-        match cursors[(sum % 4) as usize].stream_len() {
-            Ok(len) => sum = sum.wrapping_add(len).wrapping_add(1),
-            Err(_) => return FAILED,
+    cursor_len(source, room, calls) {
+        let (front, back) = source.split_at(source.len() / 3);
+        let mut cursors = [source, front, back, front].map(Cursor::new);
+        let mut sum = 0u64;
+        for _ in 0..calls {
+            match cursors[(sum % 4) as usize].stream_len() {
+                Ok(len) => sum = sum.wrapping_add(len).wrapping_add(1),
+                Err(_) => return FAILED,
+            }
         }
+        sum
     }
-    sum
 }

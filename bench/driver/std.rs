@@ -3,11 +3,13 @@ mod streams {
     pub use std::io::{BufRead, Cursor, Read, Result, Seek, SeekFrom, Write};
     use std::io::{BufReader, BufWriter, LineWriter};
 
+    pub type BufferedWriter<const S: usize> = BufWriter<super::often::Counter>;
+
     pub fn buffered_writer<W: Write, const S: usize>(inner: W) -> BufWriter<W> {
         BufWriter::with_capacity(S, inner)
     }
 
-    pub fn line_writer<W: Write, const S: usize>(inner: W) -> LineWriter<W> {
+    pub fn new_line_writer<W: Write, const S: usize>(inner: W) -> LineWriter<W> {
         LineWriter::with_capacity(S, inner)
     }
 
@@ -21,27 +23,12 @@ mod streams {
     }
 }
 
-#[path = "calls/ends.rs"]
-mod ends;
-#[path = "calls/handed.rs"]
-mod handed;
-#[path = "calls/lending.rs"]
-mod lending;
-#[path = "loops.rs"]
-mod loops;
-#[path = "calls/often.rs"]
+#[path = "calls.rs"]
+mod calls;
+#[path = "often.rs"]
 mod often;
 #[path = "pieces.rs"]
 mod pieces;
-#[path = "calls/plain.rs"]
-mod plain;
-#[path = "calls/stacked.rs"]
-mod stacked;
 
-pub use ends::*;
-pub use handed::*;
-pub use lending::*;
-pub use loops::*;
+pub use calls::*;
 pub use pieces::*;
-pub use plain::*;
-pub use stacked::*;

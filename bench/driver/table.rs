@@ -1,27 +1,63 @@
-//! The table, as Markdown.
-use crate::cases::{Case, SIDES};
+//! The tables, as Markdown: the classes, and all cases.
+use crate::Measured;
+use crate::cases::Case;
 
-/// Prints a line for each case: nanoseconds and instructions a call on each side, and of both the
-/// ratio of this library to the better of the others.
-pub fn print(cases: &[Case], times: &[Vec<Option<f64>>], counts: &[Vec<Option<f64>>]) {
-    let sides = cases.first().map_or(0, |case| case.runs.len());
-    let mut head = String::from("| a call |");
-    let mut rule = String::from("|---|");
-    for unit in ["ns", "instr."] {
-        for side in &SIDES[..sides] {
-            head += &format!(" {unit} {side} |");
-            rule += "---:|";
-        }
-        head += " ratio |";
-        rule += "---:|";
-    }
-    println!("{head}\n{rule}");
-    for ((case, times), counts) in cases.iter().zip(times).zip(counts) {
-        println!("| {} |{}{}", case.name, cells(times), cells(counts));
+// The classes, and the most that a case of one may take, in instructions to the better of the other two.
+const CLASSES: [(&str, &str); 5] = [
+    ("short", "1.00, longer than 32 bytes 1.25"),
+    ("long", "1.25"),
+    ("fields", "1.40"),
+    ("append", "1.75"),
+    ("whole", "none"),
+];
+
+fn most(case: &Case) -> f64 {
+    match case.class {
+        "short" if case.size <= 32 => 1.0,
+        "short" | "long" => 1.25,
+        "fields" => 1.4,
+        "append" => 1.75,
+        _ => f64::INFINITY,
     }
 }
 
-fn cells(values: &[Option<f64>]) -> String {
+// This library to the better of the others.
+fn ratio(values: &[Option<f64>; 3]) -> Option<f64> {
+    let better = values[1..].iter().flatten().copied().reduce(f64::min)?;
+    Some(values[0]? / better)
+}
+
+/// Prints a line for each class and then one for each case: nanoseconds and instructions a call on each side, and of both the
+/// ratio. A `*` stands where a case is above its class's limit.
+pub fn print(cases: &[Case], times: &Measured, counts: &Measured) {
+    println!("| class | limit | cases | above | mean, instr. | most, instr. | mean, ns |\n|---|---|---:|---:|---:|---:|---:|");
+    for (class, limit) in CLASSES {
+        let of = |values: &Measured| -> Vec<(f64, f64)> {
+            let mine = cases.iter().zip(values).filter(|(case, _)| case.class == class);
+            mine.filter_map(|(case, values)| Some((ratio(values)?, most(case)))).collect()
+        };
+        let mean = |ratios: &[(f64, f64)]| {
+            (ratios.iter().map(|(ratio, _)| ratio.ln()).sum::<f64>() / ratios.len() as f64).exp()
+        };
+        let (instructions, nanoseconds) = (of(counts), of(times));
+        let above = instructions.iter().filter(|(ratio, most)| *ratio > most + 0.005).count();
+        let greatest = instructions.iter().map(|(ratio, _)| *ratio).fold(0.0, f64::max);
+        println!(
+            "| {class} | {limit} | {} | {above} | {:.2} | {greatest:.2} | {:.2} |",
+            instructions.len(),
+            mean(&instructions),
+            mean(&nanoseconds),
+        );
+    }
+    println!("\n| a call | class | ns ours | ns std | ns original | ratio | instr. ours | instr. std | instr. original | ratio | |");
+    println!("|---|---|---:|---:|---:|---:|---:|---:|---:|---:|---|");
+    for ((case, times), counts) in cases.iter().zip(times).zip(counts) {
+        let mark = if ratio(counts).is_some_and(|it| it > most(case) + 0.005) { "*" } else { "" };
+        println!("| {} | {} |{}{} {mark} |", case.name, case.class, cells(times), cells(counts));
+    }
+}
+
+fn cells(values: &[Option<f64>; 3]) -> String {
     let mut cells = String::new();
     for value in values {
         cells += &match value {
@@ -30,9 +66,5 @@ fn cells(values: &[Option<f64>]) -> String {
             None => String::from(" - |"),
         };
     }
-    let others = values[1..].iter().flatten();
-    match (values[0], others.copied().reduce(f64::min)) {
-        (Some(ours), Some(best)) => cells + &format!(" {:.2} |", ours / best),
-        _ => cells + " - |",
-    }
+    cells + &ratio(values).map_or(String::from(" - |"), |ratio| format!(" {ratio:.2} |"))
 }

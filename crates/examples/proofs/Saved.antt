@@ -2,7 +2,7 @@
 use Rattle.std.proofs.Common.{◌≡◌, ℕ, List, [], ◌++◌, Ok, sym, ap, ◌∙◌, subst, append-nil}
 use Rattle.no_std_io2.specs.Writes.{Told, Moves, MovesFront, told_out}
 use Rattle.no_std_io2.proofs.MovesLemmas.{Moves-ends}
-use Rattle.no_std_io2.specs.Buffered.{with_buffer}
+use Rattle.no_std_io2.specs.BufWriter.{with_buffer}
 
 -- a text was accepted behind an empty buffer, flushed, and given back: it stands behind what was there
 pub saved : {a b : Told} (was now buffer text : List ℕ) → MovesFront (with_buffer (told_out was) buffer) text (Ok tt) a

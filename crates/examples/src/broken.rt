@@ -27,12 +27,6 @@ impl Read for Broken {
 
     ghost turns = { λ s. length (option_to_list s.fault) };
 
-    ghost cost = { λ _. 0 };
-
-    ghost is_metered = { λ _. ⊥ };
-
-    ghost is_filling = { λ _. ⊥ };
-
     ghost may_take_none = { λ _. ⊥ };
 
     fn read(&mut self, _buf: &mut [u8]) -> Result<usize> {

@@ -34,14 +34,6 @@ impl<S: Source> Read for Inbox<S> {
 
     ghost turns = { λ r. r.turns };
 
-    ghost cost = { λ _. 0 };
-
-    ghost is_metered = { λ _. ⊥ };
-
-    ghost is_filling = { λ _. ⊥ };
-
-    ghost may_take_none = { λ _. ⊥ };
-
     fn read(&mut self, buf: &mut [u8]) -> Result<usize> {
         if buf.is_empty() || self.turns == 0 {
             return Ok(0);

@@ -1,17 +1,19 @@
-//! The examples that README and docs/DEVICES.md print, as the gate proves them. They stand on `no_std_io2` alone.
+//! The examples that README and the CALLING page of `no_std_io2` print, as the gate proves them. They stand on `no_std_io2` alone.
 #![tactic(auto)]
 
 ghost use Rattle.std.specs.Prelude.{◌≡◌, ◌++◌, IfOk};
-ghost use Rattle.no_std_io2.specs.Fits.{BufWriterFits};
+ghost use Rattle.no_std_io2.specs.BufWriter.{BufWriterFits};
 
 mod broken;
 mod inbox;
+mod lengths;
 mod narrow;
 mod patiently;
 mod serial;
 
 pub use broken::Broken;
 pub use inbox::{Inbox, Source};
+pub use lengths::pass_records;
 pub use narrow::Narrow;
 use no_std_io2::io::{BufWriter, Result, Write};
 pub use patiently::send_patiently;

@@ -16,12 +16,6 @@ impl Write for Narrow {
     // What it took is out, nothing is held, and no failures are told.
     ghost told = { λ d. told_out d.taken.items };
 
-    ghost takes_all = { λ _. ⊥ };
-
-    ghost cost = { λ _. 0 };
-
-    ghost is_metered = { λ _. ⊥ };
-
     fn write(&mut self, buf: &[u8]) -> Result<usize> {
         let n = buf.len().min(self.most);
         self.taken.extend_from_slice(&buf[..n])?;

@@ -2,7 +2,7 @@
 ghost use Rattle.std.specs.Prelude.{◌≡◌, ◌≢◌, ◌≤◌, ◌+◌, ℕ, List, [], ◌∷◌, ◌++◌, None, length, take, drop, slice_index};
 ghost use Rattle.std.specs.Prelude.{IsOkAnd, IsSomeAnd, IfOk, IfErr, OnOk};
 ghost use Rattle.no_std_io2.specs.Errors.{IsOutOfMemory};
-ghost use Rattle.no_std_io2.specs.Reading.{reader_held, reader_inner, KeepsBuffer};
+ghost use Rattle.no_std_io2.specs.BufReader.{reader_held, reader_inner, KeepsBuffer};
 
 use no_std_io2::io::{BufReader, Read, Result, Seek};
 use std::alloc::Global;

@@ -23,12 +23,6 @@ impl<P: Port> Write for Serial<P> {
     // What the port took is out.
     ghost told = { λ s. told_out s.taken.bytes };
 
-    ghost takes_all = { λ _. ⊥ };
-
-    ghost cost = { λ _. 0 };
-
-    ghost is_metered = { λ _. ⊥ };
-
     fn write(&mut self, buf: &[u8]) -> Result<usize> {
         let Some(byte) = buf.first() else {
             return Ok(0);

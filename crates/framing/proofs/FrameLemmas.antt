@@ -8,9 +8,10 @@ use Rattle.no_std_io2.specs.declared.io.ErrorKind.TheVariants.{InvalidData, Unex
 use Rattle.no_std_io2.specs.Errors.{error_kind}
 use Rattle.no_std_io2.specs.Events.{Event, events_of, bytes}
 use Rattle.framing.specs.Frames.{frame, told_length, IsPart}
-use Rattle.framing.specs.Taking.{Passes, Gathered, Gathers, TakesNone}
-use Rattle.framing.proofs.EventLemmas.{bytes-append, bytes-behind}
-use Rattle.framing.proofs.TakingLemmas.{gathered_then, gathered_passes}
+use Rattle.no_std_io2.specs.Passing.{Passes, Gathered}
+use Rattle.framing.specs.Taking.{Gathers, TakesNone}
+use Rattle.no_std_io2.proofs.EventLemmas.{bytes-append, bytes-behind}
+use Rattle.no_std_io2.proofs.EventLemmas.{Gathered-then, Gathered-passes}
 
 -- the length that a header tells, with a payload behind it
 pub told_behind : (header payload : List ℕ) → length header ≡ 4 → told_length (header ++ payload) ≡ from_le_bytes w32 header
@@ -28,13 +29,13 @@ stopped limit want {I = I} {after = after} {part = part} {new = new} e g (inl h)
     (record {
       seen = new;
       rest = after;
-      passes = gathered_passes (gathered_then g h.0);
+      passes = Gathered-passes (Gathered-then g h.0);
       kept = refl;
       part = short h.1;
       fault = h.2;
     }))
 stopped limit want {I = I} {after = after} {new = new} e g (inr h) short =
-    inr (inr (record { seen = new; rest = after; passes = gathered_passes (gathered_then g h.0); kept = refl; memory = h.1 }))
+    inr (inr (record { seen = new; rest = after; passes = Gathered-passes (Gathered-then g h.0); kept = refl; memory = h.1 }))
 
 -- the bytes ended inside the frame
 pub ended : (limit want : ℕ) {I mid : List Event} (after : List Event) {was part : List ℕ} (new : List ℕ) (b : Bool) (e : Error)
@@ -45,7 +46,7 @@ pub ended : (limit want : ℕ) {I mid : List Event} (after : List Event) {was pa
 ended limit want {I = I} after new true e is g h short some kind = let no : ⊥ = cc in absurd no
 ended limit want {I = I} after {was = was} {part = part} new false e is g h short some kind = inl (inr (record {
   seen = new;
-  passes = subst (λ l. Passes (events_of was ++ I) new l) h.2 (gathered_passes (gathered_then g h.0));
+  passes = subst (λ l. Passes (events_of was ++ I) new l) h.2 (Gathered-passes (Gathered-then g h.0));
   kept = ap (λ l. events_of new ++ l) h.2 ∙ append-nil (events_of new);
   some = some;
   part = short h.1;
@@ -57,7 +58,7 @@ pub no_frame : (want : ℕ) (I : List Event) {after : List Event} (was : List �
     → Gathers want I (Ok b) was new after → new ≡ []
     → Passes (events_of was ++ I) [] after × (after ≡ []) × (new ≡ [])
 no_frame want I was true is h none = let no : ⊥ = cc in absurd no
-no_frame want I {after} was false is h none = (subst (λ l. Passes (events_of was ++ I) l after) none (gathered_passes h.0), h.2, none)
+no_frame want I {after} was false is h none = (subst (λ l. Passes (events_of was ++ I) l after) none (Gathered-passes h.0), h.2, none)
 
 -- the part that was asked for is there
 pub whole_part : (want : ℕ) {I after : List Event} {was new : List ℕ} (b : Bool) → b ≡ true
@@ -70,7 +71,7 @@ pub too_long : (limit : ℕ) {I after : List Event} {was new : List ℕ} (e : Er
     → 4 ≤ length new → limit < told_length new → error_kind e ≡ InvalidData
     → TakesNone limit (events_of was ++ I) e (events_of new ++ after)
 too_long limit {after} {new} e g four above kind =
-    inr (inl (record { seen = new; rest = after; passes = gathered_passes g; kept = refl; header = four; above = above; kind = kind }))
+    inr (inl (record { seen = new; rest = after; passes = Gathered-passes g; kept = refl; header = four; above = above; kind = kind }))
 
 -- a header and the payload that it tells are a frame
 pub frame_whole : (len : ℕ) (header payload : List ℕ) → to_le_bytes w32 len ≡ header → length payload ≡ len

@@ -1,4 +1,3 @@
-pub mod EventLemmas
 pub mod SendingLemmas
 pub mod DeliveryLemmas
 pub mod TakingLemmas

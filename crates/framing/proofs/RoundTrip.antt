@@ -12,7 +12,7 @@ use Rattle.no_std_io2.specs.Errors.{IsOutOfMemory}
 use Rattle.no_std_io2.specs.Events.{Event, bytes}
 use Rattle.framing.specs.Frames.{frame, frames, told_length, IsPart}
 use Rattle.framing.specs.Taking.{TakesNone, TakesFrames, ComesBack, IsFirstFault}
-use Rattle.framing.proofs.TakingLemmas.{passes_then}
+use Rattle.no_std_io2.proofs.EventLemmas.{Passes-then}
 use Rattle.framing.proofs.FrameLemmas.{bytes_passed, none_lost}
 
 -- a frame begins with its length
@@ -128,7 +128,7 @@ comes_back limit sent {E = E} (Err e) {given = given} after small (mid, run, non
     why more left fit (inl (inl t)) =
         inl
         (record
-        { seen = frames given ++ t.seen; rest = t.rest; passes = passes_then run.passes t.passes; fault = t.fault })
+        { seen = frames given ++ t.seen; rest = t.rest; passes = Passes-then run.passes t.passes; fault = t.fault })
     why more left fit (inl (inr t)) =
         absurd
         (no_part t.seen more (sym (bytes_passed t.passes) ∙ left) (all_within limit (2 ^ 32) small more fit) t.some

@@ -9,9 +9,10 @@ use Rattle.std.proofs.lemmas.List.Elements.{All-push}
 use Rattle.no_std_io2.specs.declared.io.Error.{Error}
 use Rattle.no_std_io2.specs.Errors.{IsOutOfMemory}
 use Rattle.no_std_io2.specs.Events.{Event}
+use Rattle.no_std_io2.specs.Passing.{Passes}
 use Rattle.framing.specs.Frames.{frame, frames}
-use Rattle.framing.specs.Taking.{Passes, PassesFrames, TakesNone, TakesFrames, appended}
-use Rattle.framing.proofs.TakingLemmas.{passes_none, passes_then}
+use Rattle.framing.specs.Taking.{PassesFrames, TakesNone, TakesFrames, appended}
+use Rattle.no_std_io2.proofs.EventLemmas.{Passes-none, Passes-then}
 use Rattle.framing.proofs.FrameLemmas.{passes_as}
 
 -- one payload more
@@ -42,7 +43,7 @@ run_more f limit {E = E} {after = after} old had new x e is run h =
     let all : map f (appended old new) ≡ map f (appended old had) ++ f x ∷ [] =
     ap (map f) (appended_push old had new x e is) ∙ map-append f (appended old had) (x ∷ []) in
     subst (λ ps. PassesFrames limit E ps after) (sym all) (record {
-      passes = passes_as (passes_then run.passes h.0) (sym (frames_push (map f (appended old had)) (f x)));
+      passes = passes_as (Passes-then run.passes h.0) (sym (frames_push (map f (appended old had)) (f x)));
       each = All-push (λ p. length p ≤ limit) (map f (appended old had)) (f x) run.each h.1;
     })
 
@@ -56,7 +57,7 @@ run_same f {limit} {E} {after} old new run is = subst (λ l. PassesFrames limit 
 pub run_ends : (limit : ℕ) {E mid after : List Event} {ps : List (List ℕ)} → PassesFrames limit E ps mid
     → Passes mid [] after × (after ≡ []) → TakesFrames limit E (Ok tt) ps after
 run_ends limit {E = E} {ps = ps} run h =
-    (record { passes = passes_as (passes_then run.passes h.0) (append-nil (frames ps)); each = run.each }, h.1)
+    (record { passes = passes_as (Passes-then run.passes h.0) (append-nil (frames ps)); each = run.each }, h.1)
 
 -- want of memory after the frames
 pub run_refused : (limit : ℕ) {E after : List Event} {ps : List (List ℕ)} (e : Error) → PassesFrames limit E ps after
@@ -64,7 +65,7 @@ pub run_refused : (limit : ℕ) {E after : List Event} {ps : List (List ℕ)} (e
 run_refused limit {E = E} {after = after} e run memory = (
   after,
   run,
-  inr (inr (record { seen = []; rest = after; passes = passes_none after; kept = refl; memory = memory })),
+  inr (inr (record { seen = []; rest = after; passes = Passes-none after; kept = refl; memory = memory })),
 )
 
 -- no frame after the frames

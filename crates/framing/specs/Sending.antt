@@ -2,7 +2,7 @@
 use Rattle.std.specs.Prelude.{◌≡◌, ◌⊎◌, ◌<◌, ◌^◌, All, Result, Ok, Err, List, ℕ, [], ◌∷◌, ◌++◌, length}
 use Rattle.no_std_io2.specs.Errors.{error_kind}
 use Rattle.no_std_io2.specs.Writes.{Told, Moves}
-use Rattle.no_std_io2.specs.Buffered.{writer_inner, writer_buffer, writer_told}
+use Rattle.no_std_io2.specs.BufWriter.{writer_inner, writer_buffer, writer_told}
 use Rattle.no_std_io2.specs.declared.io.Error.{Error}
 use Rattle.no_std_io2.specs.declared.io.ErrorKind.{ErrorKind}
 use Rattle.framing.specs.Frames.{frame, IsRefusal}

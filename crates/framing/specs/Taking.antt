@@ -3,22 +3,10 @@ use Rattle.std.specs.Prelude.{◌≡◌, ◌⊎◌, ℕ, ◌<◌, ◌≤◌, Lis
 use Rattle.std.specs.Prelude.{Bool, true, false, Option, Some, None, Result, Ok, Err, OnOk, IfErr}
 use Rattle.no_std_io2.specs.Errors.{error_kind, IsFault, IsOutOfMemory}
 use Rattle.no_std_io2.specs.Events.{Event, fails, events_of, bytes, HasNoFault}
+use Rattle.no_std_io2.specs.Passing.{Passes, Gathered}
 use Rattle.no_std_io2.specs.declared.io.Error.{Error}
 use Rattle.no_std_io2.specs.declared.io.ErrorKind.TheVariants.{InvalidData, UnexpectedEof}
 use Rattle.framing.specs.Frames.{frame, frames, told_length, IsPart}
-
--- A front of E is gone that has no fault and these bytes.
-pub record Passes (E : List Event) (taken : List ℕ) (after : List Event) : Type 0 where
-  pub front : List Event
-  pub split : E ≡ front ++ after
-  pub no_fault : HasNoFault front
-  pub gave : bytes front ≡ taken
-
--- More of a part was gathered, from a front of E that is gone and has no fault.
-pub record Gathered (E : List Event) (old new : List ℕ) (after : List Event) : Type 0 where
-  pub more : List ℕ
-  pub is : new ≡ old ++ more
-  pub passes : Passes E more after
 
 -- A part was gathered up to `want` bytes: it has them; or the end came before, or a fault, or memory was refused.
 abbrev pub Gathers : ℕ → List Event → Result Bool Error → List ℕ → List ℕ → List Event → Type 0

@@ -8,7 +8,7 @@
 //! let mut w = FrameWriter::<Vec<u8>, 64>::new(rt.alloc(), Vec::new(rt.alloc()));
 //! w.send(b"ab")?;
 //! w.flush()?;
-//! assert_eq!(rt; w.get_ref().as_slice(), b"\x02\0\0\0ab".as_slice());
+//! assert!(rt; w.get_ref().as_slice() == b"\x02\0\0\0ab".as_slice());
 //! ```
 #![tactic(auto)]
 

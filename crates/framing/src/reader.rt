@@ -4,7 +4,7 @@ ghost use Rattle.no_std_io2.specs.Errors.{error_kind, IsFault};
 ghost use Rattle.no_std_io2.specs.Events.{bytes};
 ghost use Rattle.framing.specs.Frames.{frames};
 ghost use Rattle.framing.specs.Part.{reads_from, frame_events, frame_turns, most, part_bytes, part_payload};
-ghost use Rattle.no_std_io2.specs.Reading.{reader_events, reader_turns};
+ghost use Rattle.no_std_io2.specs.BufReader.{reader_events, reader_turns};
 ghost use Rattle.framing.specs.Taking.{GathersFrame, TakesFrame, TakesFrames, appended, ComesBack};
 
 mod part;
@@ -21,11 +21,9 @@ use std::alloc::Global;
 /// ```rust
 /// let wire = Cursor::new(*b"\x02\0\0\0ab\x01\0\0\0c");
 /// let mut r = FrameReader::<_, 64>::new(rt.alloc(), wire, 1024);
-/// let mut bytes = 0;
-/// while let Some(payload) = r.next()? {
-///     bytes += payload.len();
-/// }
-/// assert_eq!(rt; bytes, 3);
+/// assert!(rt; r.next()?.is_some_and(|payload| payload.as_slice() == b"ab".as_slice()));
+/// assert!(rt; r.next()?.is_some_and(|payload| payload.as_slice() == b"c".as_slice()));
+/// assert!(rt; r.next()?.is_none());
 /// ```
 #[derive(Drop)]
 pub struct FrameReader<R: Read, const S: usize> {
@@ -37,16 +35,6 @@ pub struct FrameReader<R: Read, const S: usize> {
 impl<R: Read, const S: usize> FrameReader<R, S> {
     /// A reader of the frames of `inner`, each with a payload of at most `limit` bytes. `S` is from 1 to
     /// 2^63 - 1. Payloads are gathered by `alloc`.
-    ///
-    /// ```rust
-    /// let wire = Cursor::new(*b"\x02\0\0\0ab\x01\0\0\0c");
-    /// let mut r = FrameReader::<_, 64>::new(rt.alloc(), wire, 1024);
-    /// let mut bytes = 0;
-    /// while let Some(payload) = r.next()? {
-    ///     bytes += payload.len();
-    /// }
-    /// assert_eq!(rt; bytes, 3);
-    /// ```
     pub fn new(alloc: Global, inner: R, limit: u32) -> FrameReader<R, S>
         requires some_room { 0 < S }
         requires in_memory { S < 2 ^ 63 }
@@ -62,17 +50,6 @@ impl<R: Read, const S: usize> FrameReader<R, S> {
     }
 
     /// Gets a reference to the reader below. It is ahead of this one by the bytes held and gathered.
-    ///
-    /// ```rust
-    /// let wire = Cursor::new(*b"\x02\0\0\0ab\x01\0\0\0c");
-    /// let mut r = FrameReader::<_, 64>::new(rt.alloc(), wire, 1024);
-    /// let mut bytes = 0;
-    /// while let Some(payload) = r.next()? {
-    ///     bytes += payload.len();
-    /// }
-    /// assert_eq!(rt; bytes, 3);
-    /// assert_eq!(rt; r.get_ref().position(), 11);
-    /// ```
     pub fn get_ref(&self) -> &R
         ensures { result.now ≡ reads_from self.now }
     {
@@ -132,16 +109,6 @@ impl<R: Read, const S: usize> FrameReader<R, S> {
     /// the bytes end inside a frame; `InvalidData` where the next frame is longer than the limit, before any
     /// of its payload is asked for; `OutOfMemory` where there is no room for its payload, before any of that
     /// is read. After each the frame is still to come, with every byte of it. Never `Interrupted`.
-    ///
-    /// ```rust
-    /// let wire = Cursor::new(*b"\x02\0\0\0ab\x01\0\0\0c");
-    /// let mut r = FrameReader::<_, 64>::new(rt.alloc(), wire, 1024);
-    /// let mut bytes = 0;
-    /// while let Some(payload) = r.next()? {
-    ///     bytes += payload.len();
-    /// }
-    /// assert_eq!(rt; bytes, 3);
-    /// ```
     pub fn next(&mut self) -> Result<Option<Vec<u8>>>
         ensures told { R.tells (reads_from self.old) → R.tells (reads_from self.new)
             × TakesFrame (λ v. v.items) (most self.old) (frame_events R.events self.old) result (frame_events R.events self.new) }
@@ -169,7 +136,7 @@ impl<R: Read, const S: usize> FrameReader<R, S> {
     /// let mut r = FrameReader::<_, 64>::new(rt.alloc(), wire, 1024);
     /// let mut payloads = Vec::new(rt.alloc());
     /// r.read_all(&mut payloads)?;
-    /// assert_eq!(rt; payloads.len(), 2);
+    /// assert!(rt; payloads.len() == 2);
     /// ```
     pub fn read_all(&mut self, payloads: &mut Vec<Vec<u8>>) -> Result<()>
         ensures appends { payloads.new.items ≡ payloads.old.items ++ appended payloads.old.items payloads.new.items }

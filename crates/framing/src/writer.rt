@@ -2,7 +2,7 @@
 ghost use Rattle.std.specs.Prelude.{◌≡◌, ◌⊎◌, ◌<◌, ◌^◌, [], ◌∷◌, ◌++◌, map, length, nat_lt, OnOk, OnErr, IfOk, IfErr, IsOk};
 ghost use Rattle.no_std_io2.specs.Errors.{error_kind, IsNoInterruption, IsFault};
 ghost use Rattle.no_std_io2.specs.Writes.{Moves, Sends};
-ghost use Rattle.no_std_io2.specs.Buffered.{writer_told, into_inner_error_writer, into_inner_error_cause};
+ghost use Rattle.no_std_io2.specs.BufWriter.{writer_told, into_inner_error_writer, into_inner_error_cause};
 ghost use Rattle.framing.specs.Frames.{frames};
 ghost use Rattle.framing.specs.Sending.{writes_to, frames_held, writer_tells, under_way, still_to_go};
 ghost use Rattle.framing.specs.Sending.{SendsFrame, SendsFrames, RefusesFirst, TakesOff};
@@ -21,13 +21,6 @@ use std::alloc::Global;
 /// was, followed by exactly the frames that were sent.
 ///
 /// Dropping it sends the buffer once, ignores a fault, and cuts off the frame under way.
-///
-/// ```rust
-/// let mut w = FrameWriter::<Vec<u8>, 64>::new(rt.alloc(), Vec::new(rt.alloc()));
-/// w.send(b"ab")?;
-/// w.flush()?;
-/// assert_eq!(rt; w.get_ref().as_slice(), b"\x02\0\0\0ab".as_slice());
-/// ```
 #[derive(Drop)]
 pub struct FrameWriter<W: Write + Drop, const S: usize> {
     inner: BufWriter<W, S>,
@@ -36,11 +29,6 @@ pub struct FrameWriter<W: Write + Drop, const S: usize> {
 
 impl<W: Write + Drop, const S: usize> FrameWriter<W, S> {
     /// A writer of frames to `inner`, with none under way. The frame under way is kept by `alloc`.
-    ///
-    /// ```rust
-    /// let mut w = FrameWriter::<Vec<u8>, 64>::new(rt.alloc(), Vec::new(rt.alloc()));
-    /// w.send(b"ab")?;
-    /// ```
     pub fn new(alloc: Global, inner: W) -> FrameWriter<W, S>
         ensures inner { writes_to result ≡ inner }
         ensures empty { frames_held result ≡ [] }
@@ -54,13 +42,6 @@ impl<W: Write + Drop, const S: usize> FrameWriter<W, S> {
     }
 
     /// Gets a reference to the writer below.
-    ///
-    /// ```rust
-    /// let mut w = FrameWriter::<Vec<u8>, 64>::new(rt.alloc(), Vec::new(rt.alloc()));
-    /// w.send(b"ab")?;
-    /// w.flush()?;
-    /// assert_eq!(rt; w.get_ref().as_slice(), b"\x02\0\0\0ab".as_slice());
-    /// ```
     pub fn get_ref(&self) -> &W
         ensures { result.now ≡ writes_to self.now }
     {
@@ -86,14 +67,6 @@ impl<W: Write + Drop, const S: usize> FrameWriter<W, S> {
     /// # Errors
     /// The device's first fault, or `WriteZero` where it took no byte of some; never `Interrupted`. The
     /// frame is still under way, from the first byte on that was not accepted.
-    ///
-    /// ```rust
-    /// let mut room = [0u8; 8];
-    /// let mut w = FrameWriter::<Cursor<&mut [u8]>, 4>::new(rt.alloc(), Cursor::new(&mut room[..4]));
-    /// assert!(rt; w.send(b"hello").is_err()); // the device has room for the length alone
-    /// assert!(rt; w.is_under_way());
-    /// assert!(rt; w.retry().is_err()); // there is still no room, and the frame still under way
-    /// ```
     pub fn retry(&mut self) -> Result<()>
         ensures sends { Sends (writer_tells W.told self.old) (still_to_go self.old) result
             (writer_tells W.told self.new) (still_to_go self.new) }
@@ -124,13 +97,6 @@ impl<W: Write + Drop, const S: usize> FrameWriter<W, S> {
     /// # Errors
     /// `InvalidInput` where the payload has 2^32 bytes or more, and `OutOfMemory`: nothing was accepted, and
     /// no frame is under way. Else those of `retry`, and the frame is under way.
-    ///
-    /// ```rust
-    /// let mut w = FrameWriter::<Vec<u8>, 64>::new(rt.alloc(), Vec::new(rt.alloc()));
-    /// w.send(b"ab")?;
-    /// w.flush()?;
-    /// assert_eq!(rt; w.get_ref().as_slice(), b"\x02\0\0\0ab".as_slice());
-    /// ```
     pub fn send(&mut self, payload: &[u8]) -> Result<()>
         requires { under_way self.old ≡ [] }
         ensures sends { SendsFrame (writer_tells W.told self.old) payload.now result
@@ -183,13 +149,6 @@ impl<W: Write + Drop, const S: usize> FrameWriter<W, S> {
     /// # Errors
     /// Those of `retry`, or the device's own. What was not handed on is still held or to go, and a later
     /// call goes on there.
-    ///
-    /// ```rust
-    /// let mut w = FrameWriter::<Vec<u8>, 64>::new(rt.alloc(), Vec::new(rt.alloc()));
-    /// w.send(b"ab")?;
-    /// w.flush()?;
-    /// assert_eq!(rt; w.get_ref().as_slice(), b"\x02\0\0\0ab".as_slice());
-    /// ```
     pub fn flush(&mut self) -> Result<()>
         ensures sends { Sends (writer_tells W.told self.old) (still_to_go self.old) result
             (writer_tells W.told self.new) (still_to_go self.new) }
@@ -206,15 +165,6 @@ impl<W: Write + Drop, const S: usize> FrameWriter<W, S> {
     /// # Errors
     /// The device's first fault, or `WriteZero`; never `Interrupted`. The error holds the buffered writer,
     /// which holds what was not sent.
-    ///
-    /// ```rust
-    /// let mut w = FrameWriter::<Vec<u8>, 64>::new(rt.alloc(), Vec::new(rt.alloc()));
-    /// w.send(b"ab")?;
-    /// w.flush()?;
-    /// assert_eq!(rt; w.get_ref().as_slice(), b"\x02\0\0\0ab".as_slice());
-    /// let device = w.into_inner()?; // no frame is under way
-    /// assert_eq!(rt; device.len(), 6);
-    /// ```
     pub fn into_inner(self) -> std::result::Result<W, IntoInnerError<BufWriter<W, S>>>
         requires { under_way self ≡ [] }
         ensures ok { IfOk result (λ w. Moves (writer_tells W.told self) [] [] (W.told w)) }

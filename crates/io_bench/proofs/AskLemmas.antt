@@ -16,9 +16,9 @@ use Rattle.no_std_io2_base.specs.Errors.{error_kind}
 use Rattle.no_std_io2_base.specs.Events.{byte, fails, cut, events_of, bytes, HasNoFault, Reads, ReadsExact, Fills}
 use Rattle.no_std_io2_base.specs.Lending.{Lends, LendsFrom}
 use Rattle.no_std_io2_base.proofs.Events.{bytes-events_of, length-events_of, events_of-append, HasNoFault-events_of}
-use Rattle.no_std_io2.proofs.Exact.{length-events, no_bytes}
-use Rattle.no_std_io2.proofs.Copied.{HasNoFault-front, no_fault_at_end}
-use Rattle.no_std_io2.specs.Reading.{held_or_to_come, filled_length, exact_reads, exact_left}
+use Rattle.no_std_io2.proofs.BufReaderExact.{length-events, no_bytes}
+use Rattle.no_std_io2.proofs.CopyLemmas.{HasNoFault-front, no_fault_at_end}
+use Rattle.no_std_io2.specs.BufReader.{held_or_to_come, filled_length, exact_reads, exact_left}
 use Rattle.io_bench.proofs.ReadsPaid.{ReadsPaid, paid_ask, paid_same, asked-le}
 use Rattle.io_bench.specs.Asks.{Drops, Step, Steps, TakesFront, Fits, AllFit, Asked, meets_end, asked_bytes, asked_reads, asked_left}
 

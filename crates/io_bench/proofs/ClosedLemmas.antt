@@ -3,7 +3,7 @@ use Rattle.std.proofs.Common.{◌≡◌, ℕ, ◌+◌, ◌<◌, ◌≤◌, ◌*�
 use Rattle.std.proofs.Common.{length, take, get_or, List, [], ◌∷◌, ◌++◌, refl, sym, ap, ◌∙◌, subst, append_assoc}
 use Rattle.std.proofs.Common.{append-nil}
 use Rattle.std.proofs.lemmas.List.{take_more, length-append}
-use Rattle.no_std_io2.specs.Buffered.{writing_calls, buffer_after}
+use Rattle.no_std_io2.specs.BufWriter.{writing_calls, buffer_after}
 use Rattle.no_std_io2_base.specs.Writes.{calls_for}
 use Rattle.io_bench.specs.declared.runs.Op.{Op}
 use Rattle.io_bench.specs.declared.runs.Op.TheVariants.{Write, WriteAll, Flush}

@@ -27,6 +27,12 @@ leading-drop (suc n) [] h = absurd (omega arith)
 leading-drop (suc n) (Byte b ∷ left) h = leading-drop n left (omega arith)
 leading-drop (suc n) (Fail kind ∷ left) h = absurd (omega arith)
 
+-- the leading bytes are no more than all events
+pub leading-le : (left : List Event) → length (leading_bytes left) ≤ length left
+leading-le [] = omega arith
+leading-le (Byte b ∷ left) = let rest = leading-le left in omega (arith, rest)
+leading-le (Fail kind ∷ left) = omega arith
+
 -- where no byte and no failure stands first, nothing is left
 pub nothing_left : (left : List Event) → length (leading_bytes left) ≡ 0 → first_failure left ≡ None → left ≡ []
 nothing_left [] h f = refl

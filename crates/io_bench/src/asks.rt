@@ -1,6 +1,6 @@
 // Calls of a buffered reader in a row, and what they cost below.
 ghost use Rattle.std.specs.Prelude.{◌≡◌, ◌+◌, ◌-◌, ◌/◌, ◌≤◌, [], IsOkAnd, length};
-ghost use Rattle.no_std_io2.specs.Reading.{reader_held, reader_inner, reader_events};
+ghost use Rattle.no_std_io2.specs.BufReader.{reader_held, reader_inner, reader_events};
 ghost use Rattle.io_bench.specs.Asks.{AllFit, Asked, Fits, Steps, TakesFront};
 ghost use Rattle.io_bench.specs.Tally.{tally_inner, tally_reads};
 

@@ -2,7 +2,7 @@
 ghost use Rattle.std.specs.Prelude.{◌≡◌, ◌+◌, ◌*◌, ◌/◌, ◌<◌, ◌≤◌, [], ◌++◌, length, IfOk, IfErr, OnOk, OnErr, vec_len, vec_capacity};
 ghost use Rattle.no_std_io2_base.specs.Errors.{IsOutOfMemory};
 ghost use Rattle.no_std_io2_base.specs.Writes.{Moves};
-ghost use Rattle.no_std_io2.specs.Buffered.{writer_inner, writer_buffer, writer_told};
+ghost use Rattle.no_std_io2.specs.BufWriter.{writer_inner, writer_buffer, writer_told};
 ghost use Rattle.io_bench.specs.Runs.{appended, Answers, AreWhole, IsWhole};
 ghost use Rattle.io_bench.specs.Tally.{tally_inner, tally_writes};
 ghost use Rattle.io_bench.specs.Closed.{given_bytes, flushes, op_calls, op_buffer, CountedWriterFits};

@@ -2,12 +2,11 @@
 ghost use Rattle.std.specs.Prelude.{◌≡◌, ℕ, ◌+◌, ◌<◌, ◌≤◌, [], ◌∷◌, Some, None, Ok, IfOk, OnOk, IsOk, IsErrAnd};
 ghost use Rattle.std.specs.Prelude.{MatchOption, length, take, drop, vec_len};
 ghost use Rattle.no_std_io2_base.specs.declared.error.ErrorKind.{ErrorKind};
-ghost use Rattle.no_std_io2_base.specs.Errors.{IsNoInterruption};
-ghost use Rattle.no_std_io2_base.specs.Writes.{Moves, MovesFront, Sends, taken, write_mishap, call_mishap};
-ghost use Rattle.io_bench.specs.Calls.{FailsWith, IsWrite, IsFlush};
+ghost use Rattle.no_std_io2_base.specs.WriteLaws.{WriteLaw, FlushLaw, WriteAllLaw, WriteRestLaw};
+ghost use Rattle.io_bench.specs.Calls.{FailsWith};
 
 use no_std_io2::io::{Error, ErrorKind, Result, Write};
-use no_std_io2_base::error::failed_to_write;
+use no_std_io2_base::shared::failed_to_write;
 
 /// What a [`Faulty`] does with its next call.
 #[derive(Clone, Copy, Debug, PartialEq, Eq)]
@@ -84,18 +83,9 @@ impl<W: Write> Write for Faulty<W> {
 
     ghost cost = { λ f. W.cost (faulty_inner f) };
 
-    ghost is_metered = { λ _. ⊥ };
-
     fn write(&mut self, buf: &[u8]) -> Result<usize>
-        // The trait's.
-        ensures bound { IfOk result (λ n. n ≤ length buf.now) }
-        ensures moves { Moves (faulty_told W.told self.old) (taken result buf.now)
-            (write_mishap result buf.now) (faulty_told W.told self.new) }
-        ensures all { W.takes_all (faulty_inner self.old) × (acts_left self.old ≡ [])
-            → (W.takes_all (faulty_inner self.new) × (acts_left self.new ≡ []))
-            × (result ≡ Ok (length buf.now)) }
-        ensures cost { ⊥ → W.takes_all (faulty_inner self.old) × (acts_left self.old ≡ [])
-            → ⊥ × (W.cost (faulty_inner self.new) ≡ W.cost (faulty_inner self.old) + 1) }
+        ensures law { let F = ⟦<Self as Write>⟧ in
+            WriteLaw F.told F.takes_all F.cost F.is_metered self.old buf.now result self.new }
 
         // One act is spent, and what it says is done.
         ensures acts { acts_left self.new ≡ drop 1 (acts_left self.old) }
@@ -106,10 +96,10 @@ impl<W: Write> Write for Faulty<W> {
         ensures take_none { next_act self.old ≡ Some (Act.Take 0)
             → (result ≡ Ok 0) × (faulty_inner self.new ≡ faulty_inner self.old) }
         ensures take { (n : ℕ) → 0 < n → next_act self.old ≡ Some (Act.Take n)
-            → IsWrite W.told W.takes_all W.cost W.is_metered
+            → WriteLaw W.told W.takes_all W.cost W.is_metered
             (faulty_inner self.old) (take n buf.now) result (faulty_inner self.new) }
         ensures whole { next_act self.old ≡ None
-            → IsWrite W.told W.takes_all W.cost W.is_metered
+            → WriteLaw W.told W.takes_all W.cost W.is_metered
             (faulty_inner self.old) buf.now result (faulty_inner self.new) }
     {
         match self.spend() {
@@ -124,21 +114,15 @@ impl<W: Write> Write for Faulty<W> {
     }
 
     fn flush(&mut self) -> Result<()>
-        // The trait's.
-        ensures empty { OnOk result ((faulty_told W.told self.new).held ≡ []) }
-        ensures moves { Moves (faulty_told W.told self.old) [] (call_mishap result)
-            (faulty_told W.told self.new) }
-        ensures all { W.takes_all (faulty_inner self.old) × (acts_left self.old ≡ [])
-            → W.takes_all (faulty_inner self.new) × (acts_left self.new ≡ []) }
-        ensures cost { ⊥ → W.takes_all (faulty_inner self.old) × (acts_left self.old ≡ [])
-            → ⊥ × (W.cost (faulty_inner self.new) ≡ W.cost (faulty_inner self.old)) }
+        ensures law { let F = ⟦<Self as Write>⟧ in
+            FlushLaw F.told F.takes_all F.cost F.is_metered self.old result self.new }
 
         // One act is spent, and what it says is done.
         ensures acts { acts_left self.new ≡ drop 1 (acts_left self.old) }
         ensures fail { (kind : ErrorKind) → next_act self.old ≡ Some (Act.Fail kind)
             → FailsWith kind result × (faulty_inner self.new ≡ faulty_inner self.old) }
         ensures whole { LetsFlush (next_act self.old)
-            → IsFlush W.told W.takes_all W.cost W.is_metered
+            → FlushLaw W.told W.takes_all W.cost W.is_metered
             (faulty_inner self.old) result (faulty_inner self.new) }
     {
         match self.spend() {
@@ -148,11 +132,8 @@ impl<W: Write> Write for Faulty<W> {
     }
 
     fn write_all(&mut self, buf: &[u8]) -> Result<()>
-        // The trait's.
-        ensures fault { IsNoInterruption result }
-        ensures moves { MovesFront (faulty_told W.told self.old) buf.now result (faulty_told W.told self.new) }
-        ensures all { W.takes_all (faulty_inner self.old) × (acts_left self.old ≡ [])
-            → W.takes_all (faulty_inner self.new) × (acts_left self.new ≡ []) }
+        ensures law { let F = ⟦<Self as Write>⟧ in
+            WriteAllLaw F.told F.takes_all F.cost F.is_metered self.old buf.now result self.new }
 
         // Each write spends an act. How many bytes are left is known where all is written.
         ensures acts { (left : ℕ) × OnOk result (left ≡ 0) × (left ≤ length buf.now)
@@ -164,13 +145,8 @@ impl<W: Write> Write for Faulty<W> {
     }
 
     fn write_rest(&mut self, rest: &mut &[u8]) -> Result<()>
-        // The trait's.
-        ensures fault { IsNoInterruption result }
-        ensures sends { Sends (faulty_told W.told self.old) rest.old.now result
-            (faulty_told W.told self.new) rest.new.now }
-        ensures done { OnOk result (rest.new.now ≡ []) }
-        ensures all { W.takes_all (faulty_inner self.old) × (acts_left self.old ≡ [])
-            → (W.takes_all (faulty_inner self.new) × (acts_left self.new ≡ [])) × IsOk result }
+        ensures law { let F = ⟦<Self as Write>⟧ in
+            WriteRestLaw F.told F.takes_all F.cost F.is_metered self.old rest.old.now result self.new rest.new.now }
 
         // Each write spends an act.
         ensures acts { SpendsActs (acts_left self.old) (length rest.old.now) (faulty_told W.told self.old).turns

@@ -3,7 +3,7 @@ ghost use Rattle.std.specs.Prelude.{◌≡◌, ◌<◌, ◌≤◌, ◌+◌, ◌�
 ghost use Rattle.std.specs.Prelude.{length, take, drop, min, vec_len};
 ghost use Rattle.no_std_io2_base.specs.declared.error.ErrorKind.{ErrorKind};
 ghost use Rattle.io_bench.specs.Calls.{FailsWith};
-ghost use Rattle.no_std_io2_base.specs.Events.{given, Reads, SpendsTurn};
+ghost use Rattle.no_std_io2_base.specs.ReadLaws.{ReadLaw};
 
 use no_std_io2::io::{Error, ErrorKind, Read, Result, Stored};
 
@@ -133,21 +133,10 @@ impl Read for Feed {
 
     ghost turns = { λ f. length (feed_left f) };
 
-    ghost cost = { λ _. 0 };
-
-    ghost is_metered = { λ _. ⊥ };
-
-    ghost is_filling = { λ _. ⊥ };
-
     ghost may_take_none = { λ _. ⊥ };
 
     fn read(&mut self, buf: &mut [u8]) -> Result<usize>
-        // The trait's.
-        ensures bound { IfOk result (λ n. n ≤ length buf.new) }
-        ensures told { Unit {0} → Unit {0} × Reads (all_to_come (feed_left self.old)) result buf.new
-            (all_to_come (feed_left self.new)) }
-        ensures turns { length (feed_left self.new) ≤ length (feed_left self.old) }
-        ensures turn { SpendsTurn result (length (feed_left self.old)) (length (feed_left self.new)) }
+        ensures law { ReadLaw ⟦<Self as Read>⟧ self.old buf.old result buf.new self.new }
 
         // Exactly what is given and taken.
         ensures empty { length buf.old ≡ 0

@@ -15,11 +15,11 @@ mod asks;
 mod closed;
 mod faulty;
 mod feed;
+mod laws;
 mod pieces;
 mod runs;
 mod sink;
 mod tally;
-mod tells;
 mod towers;
 
 pub use accepted::joined;

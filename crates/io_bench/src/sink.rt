@@ -34,10 +34,6 @@ impl Write for Sink {
 
     ghost takes_all = { λ _. ⊤ };
 
-    ghost cost = { λ _. 0 };
-
-    ghost is_metered = { λ _. ⊥ };
-
     fn write(&mut self, buf: &[u8]) -> Result<usize> {
         self.taken.add(buf);
         Ok(buf.len())

@@ -1,15 +1,16 @@
 // A stream that counts.
 ghost use Rattle.std.specs.Prelude.{◌≡◌, ◌+◌, ◌-◌, ◌^◌, ◌≤◌, [], Ok, IfOk, IfErr, OnOk, IsOk, IsOkAnd, ⊤, length, min};
 ghost use Rattle.std.specs.Prelude.{take, vec_len, vec_capacity};
-ghost use Rattle.no_std_io2_base.specs.Events.{given, HasRoom, Reads, ReadsExact, ReadsToEnd, SpendsTurn};
 ghost use Rattle.no_std_io2_base.specs.Errors.{IsFault, IsNoInterruption};
-ghost use Rattle.no_std_io2_base.specs.Writes.{Moves, MovesFront, Sends, taken, write_mishap, call_mishap, calls_for};
-ghost use Rattle.io_bench.specs.Calls.{IsRead, IsWrite, IsFlush, CountsLoop, CountsToEnd};
+ghost use Rattle.no_std_io2_base.specs.ReadLaws.{ReadLaw, ReadExactLaw, ReadToEndLaw};
+ghost use Rattle.no_std_io2_base.specs.WriteLaws.{WriteLaw, FlushLaw, WriteAllLaw, WriteRestLaw};
+ghost use Rattle.io_bench.specs.Calls.{CountsLoop, CountsToEnd};
 
 use no_std_io2::io::{Read, Result, Stored, Write};
 use no_std_io2::trace::Trace;
-use no_std_io2_base::error::{failed_to_fill, failed_to_write};
-use no_std_io2_base::traits::{LEAST_ROOM, open_room, reserve_room};
+use no_std_io2_base::shared::{
+    LEAST_ROOM, failed_to_fill, failed_to_write, open_room, reserve_room,
+};
 use std::alloc::Allocator;
 use std::fmt;
 
@@ -111,17 +112,11 @@ impl<T: Write> Write for Tally<T> {
     ghost is_metered = { λ _. ⊤ };
 
     fn write(&mut self, buf: &[u8]) -> Result<usize>
-        // The trait's.
-        ensures bound { IfOk result (λ n. n ≤ length buf.now) }
-        ensures moves { Moves (T.told (tally_inner self.old)) (taken result buf.now)
-            (write_mishap result buf.now) (T.told (tally_inner self.new)) }
-        ensures all { T.takes_all (tally_inner self.old)
-            → T.takes_all (tally_inner self.new) × (result ≡ Ok (length buf.now)) }
-        ensures cost { ⊤ → T.takes_all (tally_inner self.old)
-            → ⊤ × (tally_writes self.new ≡ tally_writes self.old + 1) }
+        ensures law { let W = ⟦<Self as Write>⟧ in
+            WriteLaw W.told W.takes_all W.cost W.is_metered self.old buf.now result self.new }
 
         // One write of the inner writer, and one more in the count, whatever the answer.
-        ensures handed { IsWrite T.told T.takes_all T.cost T.is_metered
+        ensures handed { WriteLaw T.told T.takes_all T.cost T.is_metered
             (tally_inner self.old) buf.now result (tally_inner self.new) }
         ensures writes { tally_writes self.new ≡ tally_writes self.old + 1 }
         ensures reads { tally_reads self.new ≡ tally_reads self.old }
@@ -131,16 +126,11 @@ impl<T: Write> Write for Tally<T> {
     }
 
     fn flush(&mut self) -> Result<()>
-        // The trait's.
-        ensures empty { OnOk result ((T.told (tally_inner self.new)).held ≡ []) }
-        ensures moves { Moves (T.told (tally_inner self.old)) [] (call_mishap result)
-            (T.told (tally_inner self.new)) }
-        ensures all { T.takes_all (tally_inner self.old) → T.takes_all (tally_inner self.new) }
-        ensures cost { ⊤ → T.takes_all (tally_inner self.old)
-            → ⊤ × (tally_writes self.new ≡ tally_writes self.old) }
+        ensures law { let W = ⟦<Self as Write>⟧ in
+            FlushLaw W.told W.takes_all W.cost W.is_metered self.old result self.new }
 
         // One flush of the inner writer, which counts for nothing.
-        ensures handed { IsFlush T.told T.takes_all T.cost T.is_metered
+        ensures handed { FlushLaw T.told T.takes_all T.cost T.is_metered
             (tally_inner self.old) result (tally_inner self.new) }
         ensures writes { tally_writes self.new ≡ tally_writes self.old }
         ensures reads { tally_reads self.new ≡ tally_reads self.old }
@@ -149,12 +139,8 @@ impl<T: Write> Write for Tally<T> {
     }
 
     fn write_all(&mut self, buf: &[u8]) -> Result<()>
-        // The trait's.
-        ensures fault { IsNoInterruption result }
-        ensures moves { MovesFront (T.told (tally_inner self.old)) buf.now result (T.told (tally_inner self.new)) }
-        ensures all { T.takes_all (tally_inner self.old) → T.takes_all (tally_inner self.new) }
-        ensures cost { ⊤ → T.takes_all (tally_inner self.old)
-            → ⊤ × (tally_writes self.new ≡ tally_writes self.old + calls_for buf.now) }
+        ensures law { let W = ⟦<Self as Write>⟧ in
+            WriteAllLaw W.told W.takes_all W.cost W.is_metered self.old buf.now result self.new }
 
         // Each write of the inner writer counts: at most one for each byte, each turn that is spent, and the fault.
         ensures counts { CountsLoop (length buf.now)
@@ -168,14 +154,8 @@ impl<T: Write> Write for Tally<T> {
     }
 
     fn write_rest(&mut self, rest: &mut &[u8]) -> Result<()>
-        // The trait's.
-        ensures fault { IsNoInterruption result }
-        ensures sends { Sends (T.told (tally_inner self.old)) rest.old.now result
-            (T.told (tally_inner self.new)) rest.new.now }
-        ensures done { OnOk result (rest.new.now ≡ []) }
-        ensures all { T.takes_all (tally_inner self.old) → T.takes_all (tally_inner self.new) × IsOk result }
-        ensures cost { ⊤ → T.takes_all (tally_inner self.old)
-            → ⊤ × (tally_writes self.new ≡ tally_writes self.old + calls_for rest.old.now) }
+        ensures law { let W = ⟦<Self as Write>⟧ in
+            WriteRestLaw W.told W.takes_all W.cost W.is_metered self.old rest.old.now result self.new rest.new.now }
 
         // Each write of the inner writer counts: at most one for each byte, each turn that is spent, and the fault.
         ensures counts { CountsLoop (length rest.old.now)
@@ -229,27 +209,10 @@ impl<T: Read> Read for Tally<T> {
     ghost may_take_none = { λ _. ⊥ };
 
     fn read(&mut self, buf: &mut [u8]) -> Result<usize>
-        // The trait's.
-        ensures bound { IfOk result (λ n. n ≤ length buf.new) }
-        ensures told { T.tells (tally_inner self.old) → T.tells (tally_inner self.new)
-            × Reads (T.events (tally_inner self.old)) result buf.new
-            (T.events (tally_inner self.new)) }
-        ensures turns { T.turns (tally_inner self.new) ≤ T.turns (tally_inner self.old) }
-        ensures turn { SpendsTurn result (T.turns (tally_inner self.old))
-            (T.turns (tally_inner self.new)) }
-        ensures cost { ⊤ → ⊤
-            × (tally_reads self.new ≡ tally_reads self.old + min 1 (length buf.old)) }
-        ensures fills { T.is_filling (tally_inner self.old) → T.is_filling (tally_inner self.new)
-            × IsOkAnd result
-            (λ n. n ≡ min (length buf.old) (length (T.events (tally_inner self.old)))) }
-        ensures store { T.has_store (tally_inner self.old) → T.has_store (tally_inner self.new)
-            × (T.content (tally_inner self.new) ≡ T.content (tally_inner self.old))
-            × (T.position (tally_inner self.new)
-            ≡ T.position (tally_inner self.old) + given result) }
+        ensures law { ReadLaw ⟦<Self as Read>⟧ self.old buf.old result buf.new self.new }
 
         // One read of the inner reader, and one more in the count where there is some room, whatever the answer.
-        ensures handed { IsRead T.tells T.events T.turns T.cost T.is_metered T.is_filling
-            (tally_inner self.old) (length buf.old) result buf.new (tally_inner self.new) }
+        ensures handed { ReadLaw T.Read (tally_inner self.old) buf.old result buf.new (tally_inner self.new) }
         ensures writes { tally_writes self.new ≡ tally_writes self.old }
         ensures reads { tally_reads self.new ≡ tally_reads self.old + min 1 (length buf.old) }
     {
@@ -260,17 +223,7 @@ impl<T: Read> Read for Tally<T> {
     }
 
     fn read_exact(&mut self, buf: &mut [u8]) -> Result<()>
-        // The trait's.
-        ensures told { T.tells (tally_inner self.old) → T.tells (tally_inner self.new)
-            × ReadsExact ⊥ (T.events (tally_inner self.old)) result buf.new (T.events (tally_inner self.new)) }
-        ensures fault { IfErr result IsFault }
-        ensures empty { length buf.old ≡ 0 → IsOk result × (self.new ≡ self.old) }
-        ensures turns { T.turns (tally_inner self.new) ≤ T.turns (tally_inner self.old) }
-        ensures filling { T.is_filling (tally_inner self.old) → T.is_filling (tally_inner self.new) }
-        ensures store { T.has_store (tally_inner self.old) → T.has_store (tally_inner self.new)
-            × (T.content (tally_inner self.new) ≡ T.content (tally_inner self.old))
-            × (T.position (tally_inner self.new) + length (T.events (tally_inner self.new))
-            ≡ T.position (tally_inner self.old) + length (T.events (tally_inner self.old))) }
+        ensures law { ReadExactLaw ⟦<Self as Read>⟧ self.old buf.old result buf.new self.new }
 
         // Each read of the inner reader counts, and no other call: at most one for each turn that is spent, and the
         // one that stopped it.
@@ -294,22 +247,7 @@ impl<T: Read> Read for Tally<T> {
     }
 
     fn read_to_end<A: Allocator>(&mut self, buf: &mut Vec<u8, A>) -> Result<usize>
-        // The trait's.
-        ensures told { T.tells (tally_inner self.old) → T.tells (tally_inner self.new)
-            × ReadsToEnd (T.events (tally_inner self.old)) result buf.old.items buf.new.items
-            (T.events (tally_inner self.new)) }
-        ensures appends { take (vec_len buf.old) buf.new.items ≡ buf.old.items }
-        ensures count { IfOk result (λ n. vec_len buf.new ≡ vec_len buf.old + n) }
-        ensures capacity { vec_capacity buf.old ≤ vec_capacity buf.new }
-        ensures room { T.tells (tally_inner self.old)
-            → HasRoom (T.events (tally_inner self.old)) (vec_len buf.old) (vec_capacity buf.old) → IsOk result }
-        ensures fault { IfErr result IsFault }
-        ensures turns { T.turns (tally_inner self.new) ≤ T.turns (tally_inner self.old) }
-        ensures filling { T.is_filling (tally_inner self.old) → T.is_filling (tally_inner self.new) }
-        ensures store { T.has_store (tally_inner self.old) → T.has_store (tally_inner self.new)
-            × (T.content (tally_inner self.new) ≡ T.content (tally_inner self.old))
-            × (T.position (tally_inner self.new) + length (T.events (tally_inner self.new))
-            ≡ T.position (tally_inner self.old) + length (T.events (tally_inner self.old))) }
+        ensures law { ReadToEndLaw ⟦<Self as Read>⟧ self.old buf.old result buf.new self.new }
 
         // Each read of the inner reader counts, and no other call: at most one for each turn that is spent, and the
         // one that met the end.

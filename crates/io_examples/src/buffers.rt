@@ -1,6 +1,8 @@
-// What the comments of the buffers and of `copy` show.
+// What the comments of the buffers, of `copy` and of `skip` show.
 use examples::Narrow;
-use no_std_io2::io::{BufReader, BufWriter, Cursor, ErrorKind, LineWriter, Read, Write, copy};
+use no_std_io2::io::{
+    BufRead, BufReader, BufWriter, Cursor, ErrorKind, LineWriter, Read, Write, copy, skip,
+};
 use std::test::Fail;
 
 #[test]
@@ -96,6 +98,17 @@ fn a_reader_is_copied_to_a_writer(rt: HostRuntime) -> Result<(), Fail> {
     let mut to = Vec::<u8>::new(rt.alloc());
     assert!(rt; copy::<_, _, 64>(&mut from, &mut to)? == 5);
     assert!(rt; to.as_slice() == b"abcde".as_slice());
+    Ok(())
+}
+
+#[test]
+fn bytes_are_passed_over(rt: HostRuntime) -> Result<(), Fail> {
+    let mut r = Cursor::new(*b"abcde");
+    skip(&mut r, &mut 3)?;
+    assert!(rt; r.fill_buf()? == b"de".as_slice());
+    let mut left = 5;
+    assert!(rt; skip(&mut r, &mut left).is_err());
+    assert!(rt; left == 3); // two of them were there
     Ok(())
 }
 

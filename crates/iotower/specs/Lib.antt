@@ -1,8 +1,1 @@
-pub mod Script
-pub mod Lines
-pub mod Calls
-pub mod Reading
-pub mod Report
-pub mod Faults
-pub mod Play
 pub mod Words

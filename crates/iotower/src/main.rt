@@ -12,28 +12,25 @@ ghost use Rattle.iotower.specs.Words.{verb_of, mode_of, AreWords};
 ghost use Rattle.std.specs.Vec.Iter.{into_iter_items};
 ghost use Rattle.system_streams.specs.Patient.{patient_turns};
 
-mod copy;
-mod memory;
-mod patient;
-mod play;
-mod report;
-mod script;
-
-use copy::copy_through;
 use no_std_io2::io::{Error, ErrorKind};
-use patient::Patient;
-use play::{Fault, Shape, play};
 use std::alloc::Global;
 use std::process::ExitCode;
 use std::rt::Env;
 use std::{env, io};
+use system_streams::{Patient, copy_through};
+use tower_play::{Fault, Shape, play};
 
 const USAGE: &str = "usage: iotower copy buf|line, iotower play buf|line|buf-buf|line-buf";
 
+#[derive(Clone, Copy)]
+enum Mode {
+    Buffered,
+    LineBuffered,
+}
+
 // What the words ask for.
 enum Command {
-    // With `true`, lines are sent as they end.
-    Copy(bool),
+    Copy(Mode),
     Play(Shape),
 }
 
@@ -72,8 +69,8 @@ fn command_of(verb: &str, mode: &str) -> Option<Command>
     ensures none { IfNone result ((command : Asked) → verb.now ≡ verb_of command → mode.now ≡ mode_of command → ⊥) }
 {
     match (verb, mode) {
-        ("copy", "buf") => Some(Command::Copy(false)),
-        ("copy", "line") => Some(Command::Copy(true)),
+        ("copy", "buf") => Some(Command::Copy(Mode::Buffered)),
+        ("copy", "line") => Some(Command::Copy(Mode::LineBuffered)),
         ("play", "buf") => Some(Command::Play(Shape::Buf)),
         ("play", "line") => Some(Command::Play(Shape::Line)),
         ("play", "buf-buf") => Some(Command::Play(Shape::BufBuf)),
@@ -93,8 +90,8 @@ fn run(rt: &HostRuntime, command: Command) -> Result<(), Fault> {
     let input = patiently(rt.reader());
     let output = patiently(io::writer(rt));
     match command {
-        Command::Copy(line) => {
-            copy_through(input, output, line)?;
+        Command::Copy(mode) => {
+            copy_through(input, output, matches!(mode, Mode::LineBuffered))?;
         }
         Command::Play(shape) => {
             play(rt.alloc(), input, output, shape)?;
@@ -103,8 +100,8 @@ fn run(rt: &HostRuntime, command: Command) -> Result<(), Fault> {
     Ok(())
 }
 
-// The status of a run, whose fault is told on standard error.
-fn told(rt: &HostRuntime, answer: Result<(), Fault>) -> ExitCode
+// The status of a run, whose fault is printed on standard error.
+fn report(rt: &HostRuntime, answer: Result<(), Fault>) -> ExitCode
     ensures done { OnOk answer (exit_status result ≡ 0) }
     ensures failed { OnErr answer (exit_status result ≡ 1) }
 {
@@ -119,11 +116,11 @@ fn told(rt: &HostRuntime, answer: Result<(), Fault>) -> ExitCode
 
 fn main(rt: HostRuntime) -> ExitCode {
     match parse_words(&rt) {
-        Ok(Some(command)) => told(&rt, run(&rt, command)),
+        Ok(Some(command)) => report(&rt, run(&rt, command)),
         Ok(None) => {
             let _ = eprintln!(rt; "{USAGE}");
             ExitCode::from(2)
         }
-        Err(fault) => told(&rt, Err(fault)),
+        Err(fault) => report(&rt, Err(fault)),
     }
 }

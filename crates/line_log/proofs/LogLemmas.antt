@@ -9,8 +9,8 @@ use Rattle.std.proofs.lemmas.Bool.Decides.{nat_tests}
 use Rattle.std.proofs.lemmas.List.Elements.{All-push}
 use Rattle.no_std_io2.specs.declared.io.Error.{Error}
 use Rattle.no_std_io2.specs.Writes.{Told, Moves, MovesFront, Sends, call_mishap}
-use Rattle.no_std_io2.specs.Buffered.{with_buffer}
-use Rattle.no_std_io2.specs.LineState.{HasNoNewline}
+use Rattle.no_std_io2.specs.BufWriter.{with_buffer}
+use Rattle.no_std_io2.specs.Lines.{HasNoNewline}
 use Rattle.no_std_io2.proofs.MovesLemmas.{Moves-refl, Moves-then, Moves-ends}
 use Rattle.line_log.specs.Lines.{line_of, lines_of}
 use Rattle.line_log.specs.Logging.{LogsLine, LogsLines, line_mishap, TakesOff}

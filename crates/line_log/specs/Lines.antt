@@ -2,8 +2,7 @@
 use Rattle.std.specs.Prelude.{◌≡◌, ◌⊎◌, ℕ, List, [], ◌∷◌, ◌++◌, map}
 use Rattle.std.specs.List.{concat}
 use Rattle.no_std_io2.specs.Errors.{error_kind, IsOutOfMemory}
-use Rattle.no_std_io2.specs.LineState.{HasNoNewline}
-use Rattle.no_std_io2.specs.Lines.{HasNewline}
+use Rattle.no_std_io2.specs.Lines.{HasNoNewline, HasNewline}
 use Rattle.no_std_io2.specs.declared.io.Error.{Error}
 use Rattle.no_std_io2.specs.declared.io.ErrorKind.TheVariants.{InvalidInput}
 

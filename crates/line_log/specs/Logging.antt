@@ -2,7 +2,7 @@
 use Rattle.std.specs.Prelude.{◌≡◌, ◌⊎◌, Result, Ok, Err, List, ℕ, [], ◌∷◌, ◌++◌, All}
 use Rattle.no_std_io2.specs.Errors.{error_kind}
 use Rattle.no_std_io2.specs.Writes.{Told, Moves}
-use Rattle.no_std_io2.specs.LineState.{HasNoNewline}
+use Rattle.no_std_io2.specs.Lines.{HasNoNewline}
 use Rattle.no_std_io2.specs.declared.io.Error.{Error}
 use Rattle.no_std_io2.specs.declared.io.ErrorKind.{ErrorKind}
 use Rattle.line_log.specs.Lines.{line_of, IsRefusal}

@@ -3,15 +3,15 @@
 //! ```rust
 //! let mut log = LineLog::<Vec<u8>, 64>::new(rt.alloc(), Vec::new(rt.alloc()));
 //! log.log("started")?;
-//! assert_eq!(rt; log.get_ref().as_slice(), b"started\n".as_slice());
+//! assert!(rt; log.get_ref().as_slice() == b"started\n".as_slice());
 //! ```
 #![tactic(auto)]
 
 ghost use Rattle.std.specs.Prelude.{◌≡◌, ◌<◌, [], ◌∷◌, ◌++◌, ℕ, List, map, length, nat_lt, OnOk, OnErr, IfOk, IfErr, IsOk, string_bytes};
 ghost use Rattle.no_std_io2.specs.Errors.{error_kind, IsNoInterruption, IsFault};
 ghost use Rattle.no_std_io2.specs.Writes.{Moves, Sends};
-ghost use Rattle.no_std_io2.specs.Buffered.{into_inner_error_writer, into_inner_error_cause};
-ghost use Rattle.no_std_io2.specs.LineState.{HasNoNewline};
+ghost use Rattle.no_std_io2.specs.BufWriter.{into_inner_error_writer, into_inner_error_cause};
+ghost use Rattle.no_std_io2.specs.Lines.{HasNoNewline};
 ghost use Rattle.no_std_io2.specs.LineWriter.{line_told};
 ghost use Rattle.line_log.specs.Lines.{lines_of};
 ghost use Rattle.line_log.specs.Log.{log_inner, log_told, log_buffer, under_way, still_to_go};
@@ -31,12 +31,6 @@ use std::alloc::Global;
 /// lines that were logged, each with its newline.
 ///
 /// Dropping it sends what is held once, ignores a fault, and cuts off the line under way.
-///
-/// ```rust
-/// let mut log = LineLog::<Vec<u8>, 64>::new(rt.alloc(), Vec::new(rt.alloc()));
-/// log.log("started")?;
-/// assert_eq!(rt; log.get_ref().as_slice(), b"started\n".as_slice());
-/// ```
 #[derive(Drop)]
 pub struct LineLog<W: Write + Drop, const S: usize> {
     lines: LineWriter<W, S>,
@@ -45,11 +39,6 @@ pub struct LineLog<W: Write + Drop, const S: usize> {
 
 impl<W: Write + Drop, const S: usize> LineLog<W, S> {
     /// An empty log that goes to `inner`. The line under way is kept by `alloc`.
-    ///
-    /// ```rust
-    /// let mut log = LineLog::<Vec<u8>, 64>::new(rt.alloc(), Vec::new(rt.alloc()));
-    /// log.log("started")?;
-    /// ```
     pub fn new(alloc: Global, inner: W) -> LineLog<W, S>
         ensures inner { log_inner result ≡ inner }
         ensures empty { log_buffer result ≡ [] }
@@ -63,12 +52,6 @@ impl<W: Write + Drop, const S: usize> LineLog<W, S> {
     }
 
     /// Gets a reference to the writer below.
-    ///
-    /// ```rust
-    /// let mut log = LineLog::<Vec<u8>, 64>::new(rt.alloc(), Vec::new(rt.alloc()));
-    /// log.log("started")?;
-    /// assert_eq!(rt; log.get_ref().as_slice(), b"started\n".as_slice());
-    /// ```
     pub fn get_ref(&self) -> &W
         ensures { result.now ≡ log_inner self.now }
     {
@@ -95,14 +78,6 @@ impl<W: Write + Drop, const S: usize> LineLog<W, S> {
     /// # Errors
     /// The device's first fault, or `WriteZero` where it took no byte of some; never `Interrupted`. The line
     /// is still under way, from the first byte on that was not accepted.
-    ///
-    /// ```rust
-    /// let mut room = [0u8; 4];
-    /// let mut log = LineLog::<_, 8>::new(rt.alloc(), Cursor::new(&mut room[..]));
-    /// assert!(rt; log.log("started").is_err()); // the device has room for `star` alone
-    /// assert!(rt; log.is_under_way());
-    /// assert!(rt; log.retry().is_err()); // there is still no room, and the line still under way
-    /// ```
     pub fn retry(&mut self) -> Result<()>
         ensures sends { Sends (log_told W.told self.old) (still_to_go self.old) result
             (log_told W.told self.new) (still_to_go self.new) }
@@ -137,12 +112,6 @@ impl<W: Write + Drop, const S: usize> LineLog<W, S> {
     /// # Errors
     /// `InvalidInput` where a newline stands in the text, and `OutOfMemory`: nothing was accepted, and no line
     /// is under way. Else those of `retry`, and the line is under way.
-    ///
-    /// ```rust
-    /// let mut log = LineLog::<Vec<u8>, 64>::new(rt.alloc(), Vec::new(rt.alloc()));
-    /// log.log("started")?;
-    /// assert_eq!(rt; log.get_ref().as_slice(), b"started\n".as_slice());
-    /// ```
     pub fn log(&mut self, line: &str) -> Result<()>
         requires { under_way self.old ≡ [] }
         ensures sends { LogsLine (log_told W.told self.old) line.now result
@@ -170,7 +139,7 @@ impl<W: Write + Drop, const S: usize> LineLog<W, S> {
     /// if log.log_all(&mut rest).is_err() {
     ///     log.log_all(&mut rest)?; // goes on where it stopped
     /// }
-    /// assert_eq!(rt; log.get_ref().as_slice(), b"one\ntwo\n".as_slice());
+    /// assert!(rt; log.get_ref().as_slice() == b"one\ntwo\n".as_slice());
     /// ```
     pub fn log_all(&mut self, rest: &mut &[String]) -> Result<()>
         ensures sends { LogsLines (log_told W.told self.old)
@@ -197,13 +166,6 @@ impl<W: Write + Drop, const S: usize> LineLog<W, S> {
     /// # Errors
     /// Those of `retry`, or the device's own. What was not handed on is still held or to go, and a later
     /// call goes on there.
-    ///
-    /// ```rust
-    /// let mut log = LineLog::<Vec<u8>, 64>::new(rt.alloc(), Vec::new(rt.alloc()));
-    /// log.log("started")?;
-    /// assert_eq!(rt; log.get_ref().as_slice(), b"started\n".as_slice());
-    /// log.flush()?; // after `Ok` nothing is held, and no line is under way
-    /// ```
     pub fn flush(&mut self) -> Result<()>
         ensures sends { Sends (log_told W.told self.old) (still_to_go self.old) result
             (log_told W.told self.new) (still_to_go self.new) }
@@ -220,15 +182,6 @@ impl<W: Write + Drop, const S: usize> LineLog<W, S> {
     /// # Errors
     /// The device's first fault, or `WriteZero`; never `Interrupted`. The error holds the line writer, which
     /// holds what was not sent.
-    ///
-    /// ```rust
-    /// let mut log = LineLog::<Vec<u8>, 64>::new(rt.alloc(), Vec::new(rt.alloc()));
-    /// log.log("started")?;
-    /// assert_eq!(rt; log.get_ref().as_slice(), b"started\n".as_slice());
-    /// log.flush()?; // after `Ok` nothing is held, and no line is under way
-    /// let device = log.into_inner()?;
-    /// assert_eq!(rt; device.len(), 8);
-    /// ```
     pub fn into_inner(self) -> std::result::Result<W, IntoInnerError<LineWriter<W, S>>>
         requires { under_way self ≡ [] }
         ensures ok { IfOk result (λ w. Moves (log_told W.told self) [] [] (W.told w)) }

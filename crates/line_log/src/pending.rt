@@ -1,6 +1,6 @@
 //! The line that is under way.
 ghost use Rattle.std.specs.Prelude.{◌≡◌, ◌≤◌, ◌-◌, [], drop, length, vec_len, nat_lt, OnOk, OnErr, IfErr};
-ghost use Rattle.no_std_io2.specs.LineState.{HasNoNewline};
+ghost use Rattle.no_std_io2.specs.Lines.{HasNoNewline};
 ghost use Rattle.line_log.specs.Lines.{line_of, IsRefusal};
 
 use no_std_io2::io::{Error, ErrorKind, Result};

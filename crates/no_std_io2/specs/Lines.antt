@@ -1,9 +1,15 @@
 -- Lines in a list of bytes, and what is held of them.
-use Rattle.std.specs.Prelude.{◌≡◌, ℕ, ◌+◌, ◌-◌, ◌<◌, ◌≤◌, ◌==◌, List, [], ◌++◌, length, take, drop, slice_index, nat_lt}
-use Rattle.std.specs.Prelude.{nat_le, if◌then◌else◌}
+use Rattle.std.specs.Prelude.{◌≡◌, ◌≢◌, ℕ, ◌-◌, ◌<◌, List, length, slice_index, ◌≤◌, ◌==◌, [], take, drop, nat_lt, nat_le}
+use Rattle.std.specs.Prelude.{if◌then◌else◌}
 use Rattle.std.specs.List.{after_last, Contains}
-use Rattle.no_std_io2_base.specs.Writes.{Told, Moves}
-use Rattle.no_std_io2.specs.LineState.{HasNoNewline}
+
+-- no byte is a newline
+abbrev pub HasNoNewline : List ℕ → Type 0
+HasNoNewline xs = (k : ℕ) → k < length xs → slice_index xs k ≢ 10
+
+-- No newline, or one at the end: where a newline stands anywhere, one stands at the end.
+abbrev pub IsLineState : List ℕ → Type 0
+IsLineState xs = (k : ℕ) → k < length xs → slice_index xs k ≡ 10 → slice_index xs (length xs - 1) ≡ 10
 
 -- some byte is a newline
 abbrev pub HasNewline : List ℕ → Type 0
@@ -33,17 +39,6 @@ abbrev pub held_tail : ℕ → List ℕ → ℕ → List ℕ
 held_tail S x n =
     if nat_le (lines_len x) n then take S (drop n x)
     else (if nat_le (lines_len x - n) S then take (lines_len x - n) (drop n x) else lines_or_all (take S (drop n x)))
-
--- A write of x, which has a newline, answered Ok(n) and left this buffer. The inner writer got the old buffer and, in
--- one write of the lines,
--- took `sent` bytes of x. Where it took none, nothing is held and n is 0, else the tail is held.
-pub record WritesLines (S : ℕ) (told_old : Told) (old x : List ℕ) (n : ℕ) (told_new : Told) (new : List ℕ) : Type 0 where
-  pub sent : ℕ
-  pub within : sent ≤ lines_len x
-  pub moves : Moves told_old (old ++ take sent x) [] told_new
-  pub none : sent ≡ 0 → new ≡ []
-  pub some : 0 < sent → new ≡ held_tail S x sent
-  pub count : n ≡ sent + length new
 
 -- xs where it is shorter than S, else nothing
 abbrev pub whole_if_short : ℕ → List ℕ → List ℕ

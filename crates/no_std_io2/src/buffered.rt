@@ -3,13 +3,10 @@
 //! asked for. [`IntoInnerError`] is what `into_inner` of a writer fails with.
 mod buf_reader;
 mod buf_writer;
+mod buffer;
 mod into_inner_error;
 mod line_writer;
-mod read_ahead;
-mod reader_tells;
 mod sender;
-mod tells;
-mod window;
 
 pub use buf_reader::BufReader;
 pub use buf_writer::BufWriter;

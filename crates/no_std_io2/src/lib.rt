@@ -5,14 +5,6 @@
 //! [`io::BufReader`]. In this example and all others `rt` is the `HostRuntime` that a program's
 //! `main` and a test are given, and `?` leaves a function that returns a `Result`:
 //!
-//! ```rust
-//! let mut w = BufWriter::<Vec<u8>, 8>::new(Vec::new(rt.alloc()));
-//! w.write_all(b"abc")?;
-//! assert!(rt; w.get_ref().is_empty()); // `abc` is held
-//! w.flush()?;
-//! assert!(rt; w.get_ref().as_slice() == b"abc".as_slice());
-//! ```
-//!
 //! Bytes in memory are a stream by [`io::Cursor`]; slices read, and vectors take bytes, by
 //! themselves. [`io::copy`] moves all of a reader to a writer. A device of your own implements
 //! [`io::Write`], or [`io::Stored`] and [`io::Read`]; where it keeps no byte of those that it took,
@@ -20,6 +12,7 @@
 #![tactic(auto)]
 
 pub mod buffered;
+mod laws;
 pub mod trace;
 pub mod util;
 
@@ -32,7 +25,7 @@ pub mod error {
 /// traits make, `copy`, and errors.
 pub mod io {
     pub use super::buffered::{BufReader, BufWriter, IntoInnerError, LineWriter};
-    pub use super::util::copy;
+    pub use super::util::{copy, skip};
     pub use no_std_io2_base::cursor::{AsSlice, Cursor};
     pub use no_std_io2_base::error::{Error, ErrorKind, Result};
     pub use no_std_io2_base::traits::{

@@ -7,13 +7,6 @@ use std::marker::{Model, PhantomData};
 /// A list of bytes that is seen by contracts alone: ghost state. It takes no memory, and its calls do nothing when they run.
 ///
 /// A device that doesn't keep what it took tells its `out` by one: a port, a socket, a sink.
-///
-/// ```rust
-/// if !self.port.send(*byte) {
-///     return Err(Error::from(ErrorKind::WouldBlock));
-/// }
-/// self.taken.add(&buf[..1]);
-/// ```
 #[derive(Drop)]
 pub struct Trace {
     marker: PhantomData<u8>,
@@ -40,11 +33,6 @@ impl Trace {
     }
 
     /// These bytes come after the others.
-    ///
-    /// ```rust
-    /// let mut taken = Trace::new();
-    /// taken.add(b"ab"); // for contracts `taken.bytes` is `ab` now
-    /// ```
     pub fn add(&mut self, _more: &[u8])
         ensures { self.new.bytes ≡ self.old.bytes ++ _more.now }
     {}

@@ -1,10 +1,12 @@
-//! Whole copies from a reader to a writer: [`copy`].
-ghost use Rattle.std.specs.Prelude.{◌≡◌, ◌+◌, ◌≤◌, ◌<◌, ◌^◌, length, IfErr, OnOk};
+//! Whole copies from a reader to a writer, [`copy`], and bytes that are passed over, [`skip`].
+ghost use Rattle.std.specs.Prelude.{◌≡◌, ◌+◌, ◌≤◌, ◌<◌, ◌^◌, length, IfErr, OnOk, OnErr};
 ghost use Rattle.no_std_io2_base.specs.Errors.{IsFault};
 ghost use Rattle.no_std_io2.specs.Copy.{Copies, CopyMoves, copy_reads};
+ghost use Rattle.no_std_io2.specs.Passing.{Skips};
 
 use no_std_io2_base::error::Result;
-use no_std_io2_base::traits::{Read, Write};
+use no_std_io2_base::shared::failed_to_fill;
+use no_std_io2_base::traits::{BufRead, Read, Write};
 
 mod steady;
 
@@ -60,4 +62,54 @@ pub fn copy<R: Read, W: Write, const S: usize>(reader: &mut R, writer: &mut W) -
             Err(e) => return Err(e),
         }
     }
+}
+
+/// Passes over the next `left` bytes of `reader`, and over interruptions. `left` is then what is still to
+/// be passed over: 0 at `Ok`. With `left` 0 no call is made. No byte is copied. `std::io` has no such
+/// function: there one copies a `Take` into a `Sink`.
+///
+/// # Errors
+/// The reader's first fault, which is gone then; `UnexpectedEof` where the bytes end too early. The bytes
+/// before it are passed over, and `left` says how many are missing: the same call goes on. Never
+/// `Interrupted`.
+///
+/// ```rust
+/// let mut r = Cursor::new(*b"abcde");
+/// skip(&mut r, &mut 3)?;
+/// assert!(rt; r.fill_buf()? == b"de".as_slice());
+/// let mut left = 5;
+/// assert!(rt; skip(&mut r, &mut left).is_err());
+/// assert!(rt; left == 3); // two of them were there
+/// ```
+pub fn skip<B: BufRead>(reader: &mut B, left: &mut u64) -> Result<()>
+    ensures told { B.tells reader.old → B.tells reader.new
+        × Skips left.old (B.events reader.old) result left.new (B.events reader.new) }
+    ensures left { left.new ≤ left.old }
+    ensures done { OnOk result (left.new ≡ 0) }
+    ensures missing { OnErr result (0 < left.new) }
+    ensures none { left.old ≡ 0 → reader.new ≡ reader.old }
+    ensures fault { IfErr result IsFault }
+    ensures turns { B.turns reader.new ≤ B.turns reader.old }
+    ensures turn { left.new < left.old → B.turns reader.new < B.turns reader.old }
+    ensures metered { B.is_metered reader.old → B.is_metered reader.new }
+    ensures filling { B.is_filling reader.old → B.is_filling reader.new }
+    ensures store { B.has_store reader.old → B.has_store reader.new
+        × (B.content reader.new ≡ B.content reader.old)
+        × (B.position reader.new + left.new ≡ B.position reader.old + left.old) }
+{
+    'pieces: while *left > 0 {
+        match reader.fill_buf() {
+            Ok(lent) => {
+                if lent.is_empty() {
+                    return Err(failed_to_fill());
+                }
+                let len = (lent.len() as u64).min(*left);
+                reader.consume(len as usize);
+                *left -= len;
+            }
+            Err(e) if e.is_interrupted() => {}
+            Err(e) => return Err(e),
+        }
+    }
+    Ok(())
 }

@@ -1,6 +1,6 @@
 -- What `Take` removes, its inner reader loses.
 use Rattle.std.proofs.Common.{◌≡◌, ℕ, zero, suc, ◌+◌, ◌-◌, ◌<◌, ◌≤◌, List, [], ◌∷◌, ◌++◌, Ok, length, take, sym, ap}
-use Rattle.std.proofs.Common.{◌∙◌, arith, append_assoc, length-append, length-take-le}
+use Rattle.std.proofs.Common.{◌∙◌, refl, subst, arith, append_assoc, length-append, length-take-le}
 use Rattle.no_std_io2_base.specs.declared.error.Error.{Error}
 use Rattle.no_std_io2_base.specs.Events.{Event, fails, events_of, bytes, cut, Reads}
 use Rattle.no_std_io2_base.specs.Take.{TakesAlong}
@@ -37,6 +37,11 @@ along_read {k} {k'} {E} {E'} {n} buf read fits falls =
 pub along_error : {k : ℕ} {E E' : List Event} {e : Error} → E ≡ fails e ∷ E' → 0 < k → TakesAlong k E k E'
 along_error {k = zero} is some = absurd (omega arith)
 along_error {k = suc k} {e} is some = record { removed = fails e ∷ []; below = is; here = ap (cut (suc k)) is; falls = omega arith }
+
+-- an error, where the limit stays and isn't 0
+pub along_fault : {k k' : ℕ} {E E' : List Event} {e : Error} → E ≡ fails e ∷ E' → k' ≡ k → (k ≡ 0 → ⊥) → TakesAlong k E k' E'
+along_fault {k = zero} is same some = absurd (some refl)
+along_fault {k = suc k} {E} {E'} is same some = subst (λ n. TakesAlong (suc k) E n E') (sym same) (along_error is (omega arith))
 
 -- one call after another
 pub along_then : {k k' k'' : ℕ} {E E' E'' : List Event} → TakesAlong k E k' E' → TakesAlong k' E' k'' E'' → TakesAlong k E k'' E''

@@ -1,10 +1,35 @@
--- A boxed object after a call that left the value as it was.
-use Rattle.std.proofs.Common.{◌≡◌, ap, ◌∙◌}
+-- A boxed object after a call on the value in it.
+use Rattle.std.proofs.Common.{◌≡◌, ℕ, ◌<◌, ◌≤◌, List, length, Result, OnOk, IsOk, sym, subst, ap}
 use Rattle.std.specs.declared.dyn_box.DynBox.{DynBox}
+use Rattle.no_std_io2_base.specs.declared.error.Error.{Error}
+use Rattle.no_std_io2_base.specs.Errors.{IsNoInterruption}
+use Rattle.no_std_io2_base.specs.Events.{Event, ReadsExact}
+use Rattle.no_std_io2_base.specs.ReadLaws.{ReadExactLaw}
+use Rattle.no_std_io2_base.proofs.Readers.{box_reader}
 
--- the box whose value was lent and came back is the same
-pub same_box : {I A : Type 0} {V : I → Type 0} (box : DynBox I A V) (lent : (x : I) × V x) (new : V lent.0) → new ≡ lent.1
-    → lent ≡ (box.vtable, box.value) → record { ptr = box.ptr; vtable = lent.0; alloc = box.alloc; value = new } ≡ box
-same_box box lent new same back =
-    ap (λ v. record { ptr = box.ptr; vtable = lent.0; alloc = box.alloc; value = v }) same
-    ∙ ap (λ p. record { ptr = box.ptr; vtable = p.0; alloc = box.alloc; value = p.1 }) back
+module _ {I A : Type 0} {V : I → Type 0} (tells : ((x : I) × V x) → Type 0) (events : ((x : I) × V x) → List Event)
+    (turns : ((x : I) × V x) → ℕ) (may_take_none : ((x : I) × V x) → Type 0) (box : DynBox I A V)
+    (buf buf' : List ℕ) (reply : Result (Unit {0}) Error) where
+  -- what a `read_exact` did to the value that was lent, it did to the box
+  abbrev pub Exact : ((x : I) × V x) → Type 0
+  Exact lent = (new : V lent.0)
+      → (tells lent → tells (lent.0, new) × ReadsExact (may_take_none lent) (events lent) reply buf' (events (lent.0, new)))
+      → IsNoInterruption reply → (length buf ≡ 0 → IsOk reply × (new ≡ lent.1)) → turns (lent.0, new) ≤ turns lent
+      → (0 < length buf → OnOk reply (turns (lent.0, new) < turns lent))
+      → ReadExactLaw (box_reader tells events turns may_take_none) box buf reply buf'
+      (record { ptr = box.ptr; vtable = lent.0; alloc = box.alloc; value = new })
+
+  -- the value that was lent is that in the box
+  pub exact_box : (lent : (x : I) × V x) → lent ≡ (box.vtable, box.value) → Exact lent
+  exact_box lent back = subst Exact (sym back) (λ new told fault empty less spent. record {
+    told = told;
+    fault = fault;
+    empty = λ none.
+        let done = empty none in
+        (done.0, ap (λ v. record { ptr = box.ptr; vtable = box.vtable; alloc = box.alloc; value = v }) done.1);
+    turns = less;
+    turn = spent;
+    metered = λ m. m;
+    filling = λ f. f;
+    store = λ s. absurd s;
+  })

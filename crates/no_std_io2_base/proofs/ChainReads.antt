@@ -2,11 +2,17 @@
 use Rattle.std.proofs.Common.{◌≡◌, ℕ, ◌+◌, ◌<◌, ◌≤◌, Bool, true, false, List, [], ◌∷◌, ◌++◌, Result, Ok, Err, OnOk}
 use Rattle.std.proofs.Common.{length, take, length-take-le, true≢false, length-append, if◌then◌else◌, refl, sym, ap}
 use Rattle.std.proofs.Common.{subst, ◌∙◌, arith, le_refl}
+use Rattle.std.proofs.Common.{Option, Some, append_assoc, inl, inr}
+use Rattle.std.proofs.lemmas.Bool.{cases_lt}
 use Rattle.no_std_io2_base.specs.declared.error.Error.{Error}
 use Rattle.no_std_io2_base.specs.declared.traits.chain.Chain.{Chain}
-use Rattle.no_std_io2_base.specs.Events.{Event, fails, events_of, bytes, HasNoFault, FillsRoom, HasRoom, Reads, SpendsTurn}
+use Rattle.no_std_io2_base.specs.Errors.{error_kind, is_interruption}
+use Rattle.no_std_io2_base.specs.Events.{Event, byte, fails, events_of, bytes, HasNoFault, FillsRoom, Reads, SpendsTurn}
+use Rattle.no_std_io2_base.specs.Pieces.{bytes_to_fault, first_fault}
+use Rattle.no_std_io2_base.specs.ReadLaws.{HasRoom}
 use Rattle.no_std_io2_base.specs.Chain.{chain_events, chain_tells, InTurn}
-use Rattle.no_std_io2_base.proofs.Events.{bytes-append, length-events_of, HasNoFault-front, HasNoFault-behind}
+use Rattle.no_std_io2_base.proofs.Events.{length-events_of}
+use Rattle.no_std_io2_base.proofs.GivenPieces.{first_fault-append, bytes_to_fault-append}
 
 -- the first reader is at its end: the second is read
 pub record PastFirst {T U : Type 0} (tells : T → Type 0) (tells_second : U → Type 0) (turns : T → ℕ) (events : T → List Event)
@@ -73,6 +79,11 @@ turn_past mid now past marked same = record {
   second_alone = λ h. absurd (true≢false (sym (marked ∙ past.done) ∙ h));
 }
 
+-- what a read gave stands first, whatever comes behind
+pub read_before : (n : ℕ) (buf : List ℕ) {E : List Event} (after F : List Event) → E ≡ events_of (take n buf) ++ after
+    → E ++ F ≡ events_of (take n buf) ++ (after ++ F)
+read_before n buf after F read = ap (λ l. l ++ F) read ∙ append_assoc (events_of (take n buf)) after F
+
 -- a reader with nothing left gives no byte
 pub gave_none : {E : List Event} (E' : List Event) {n : ℕ} (buf : List ℕ) → Reads E (Ok n) buf E' → n ≤ length buf → E ≡ [] → n ≡ 0
 gave_none E' {n} buf read bound none =
@@ -83,41 +94,67 @@ gave_none E' {n} buf read bound none =
 pub failed_none : {E E' : List Event} {e : Error} → E ≡ fails e ∷ E' → E ≡ [] → ⊥
 failed_none failed none = omega (arith, ap length (sym none ∙ failed))
 
+-- a choice that is no longer on one side is no longer after it
+chosen_le : (t : Bool) (xs ys : List ℕ) → length xs ≤ length ys → length (if t then xs else []) ≤ length (if t then ys else [])
+chosen_le true xs ys below = below
+chosen_le false xs ys below = le_refl _
+
+-- of the first there are no more bytes before a fault than of both
+to_fault-first : (E F : List Event) → length (bytes_to_fault E) ≤ length (bytes_to_fault (E ++ F))
+to_fault-first [] F = omega arith
+to_fault-first (byte b ∷ E) F = let below = to_fault-first E F in omega (arith, below)
+to_fault-first (fails e ∷ E) F = chosen_le (is_interruption (error_kind e)) (bytes_to_fault E) (bytes_to_fault (E ++ F)) (to_fault-first E F)
+
+-- a choice that gives an error gives it after what is chosen from grew
+chosen_some : (t : Bool) (this that other : Option Error) {e : Error} → (this ≡ Some e → that ≡ Some e)
+    → (if t then this else other) ≡ Some e → (if t then that else other) ≡ Some e
+chosen_some true this that other goes_on is = goes_on is
+chosen_some false this that other goes_on is = is
+
+-- the first fault of the first is that of both
+pub first_fault-first : (E F : List Event) {e : Error} → first_fault E ≡ Some e → first_fault (E ++ F) ≡ Some e
+first_fault-first [] F is = cc
+first_fault-first (byte b ∷ E) F is = first_fault-first E F is
+first_fault-first (fails e ∷ E) F is = chosen_some (is_interruption (error_kind e)) (first_fault E) (first_fault (E ++ F)) (Some e) (first_fault-first E F) is
+
 -- where there is room for both, there is room for the first
-pub room_of_first : (E F : List Event) (len capacity : ℕ) → HasRoom (E ++ F) len capacity → HasRoom E len capacity
-room_of_first E F len capacity enough = (
-  HasNoFault-front E F enough.0,
-  omega (arith, enough.1, ap length (bytes-append E F), length-append (bytes E) (bytes F)),
-)
+pub room_of_first : (E F : List Event) (len capacity : ℕ) → HasRoom 32 (E ++ F) len capacity → HasRoom 32 E len capacity
+room_of_first E F len capacity enough = let below = to_fault-first E F in omega (arith, enough, below)
 
 -- and for the second behind it
-pub room_of_second : (E F : List Event) (len capacity n len' capacity' : ℕ) → HasRoom (E ++ F) len capacity → n ≡ length (bytes E)
-    → len' ≡ len + n → capacity ≤ capacity' → HasRoom F len' capacity'
-room_of_second E F len capacity n len' capacity' enough all grown more = (
-  HasNoFault-behind E F enough.0,
-  omega (arith, enough.1, all, grown, more, ap length (bytes-append E F), length-append (bytes E) (bytes F)),
-)
+pub room_of_second : (E F : List Event) (len capacity n len' capacity' : ℕ) → HasRoom 32 (E ++ F) len capacity → HasNoFault E
+    → n ≡ length (bytes E) → len' ≡ len + n → capacity ≤ capacity' → HasRoom 32 F len' capacity'
+room_of_second E F len capacity n len' capacity' enough clean all grown more =
+    let both = ap length (bytes_to_fault-append E F clean) ∙ length-append (bytes E) (bytes_to_fault F) in
+    omega (arith, enough, all, grown, more, both)
 
 -- and for what a part of it has left
 pub room_left : {E after : List Event} (old : List ℕ) {new : List ℕ} {len capacity len' capacity' : ℕ} {at_end : Bool}
-    → FillsRoom E (Ok at_end) old new after → HasRoom E len capacity → len ≡ length old → len' ≡ length new → capacity ≤ capacity'
-    → HasRoom after len' capacity'
+    → FillsRoom E (Ok at_end) old new after → HasRoom 32 E len capacity → len ≡ length old → len' ≡ length new → capacity ≤ capacity'
+    → HasRoom 32 after len' capacity'
 room_left {after} old read enough was is more =
-    let all = ap (λ l. length (bytes l)) read.1 ∙ ap length (bytes-append read.0 after) ∙ length-append (bytes read.0) (bytes after) in
-    let gave = ap length read.3 ∙ length-append old (bytes read.0) in (
-      HasNoFault-behind read.0 after (subst HasNoFault read.1 enough.0),
-      omega (arith, enough.1, was, is, more, all, gave),
-    )
+    let all = ap (λ l. length (bytes_to_fault l)) read.1 ∙ ap length (bytes_to_fault-append read.0 after read.2)
+    ∙ length-append (bytes read.0) (bytes_to_fault after) in
+    let gave = ap length read.3 ∙ length-append old (bytes read.0) in
+    omega (arith, enough, was, is, more, all, gave)
+
+-- the fault that stops such a part is the first
+pub fault_of_room : {E : List Event} (old : List ℕ) {new : List ℕ} {after : List Event} {e : Error} → FillsRoom E (Err e) old new after
+    → first_fault E ≡ Some e
+fault_of_room old {after} {e} stop =
+    let f = stop.3 in
+    ap first_fault (stop.1 ∙ ap (λ l. l ++ after) f.1 ∙ append_assoc f.0 (fails e ∷ []) after)
+    ∙ first_fault-append f.0 (fails e ∷ after) f.2 ∙ ap (λ t. if t then first_fault after else Some e) f.3
 
 -- the second is all that is left of a chain whose first is done, and both are while it is not
 pub room_when_done : {done : Bool} (E F : List Event) (len : ℕ) {capacity : ℕ} → done ≡ true
-    → HasRoom ((if done then [] else E) ++ F) len capacity → HasRoom F len capacity
-room_when_done E F len {capacity = capacity} is enough = subst (λ b. HasRoom ((if b then [] else E) ++ F) len capacity) is enough
+    → HasRoom 32 ((if done then [] else E) ++ F) len capacity → HasRoom 32 F len capacity
+room_when_done E F len {capacity = capacity} is enough = subst (λ b. HasRoom 32 ((if b then [] else E) ++ F) len capacity) is enough
 
 -- while the first is not done, room for what the chain has left is room for what both have
 pub room_while_going : {done : Bool} (E F : List Event) (len : ℕ) {capacity : ℕ} → done ≡ false
-    → HasRoom ((if done then [] else E) ++ F) len capacity → HasRoom (E ++ F) len capacity
-room_while_going E F len {capacity = capacity} is enough = subst (λ b. HasRoom ((if b then [] else E) ++ F) len capacity) is enough
+    → HasRoom 32 ((if done then [] else E) ++ F) len capacity → HasRoom 32 (E ++ F) len capacity
+room_while_going E F len {capacity = capacity} is enough = subst (λ b. HasRoom 32 ((if b then [] else E) ++ F) len capacity) is enough
 
 -- what holds, holds after an `Ok`
 pub after_ok : {A E : Type 0} {P : Type 0} (reply : Result A E) → P → OnOk reply P
@@ -147,3 +184,29 @@ turn_of_second was now done same = record {
   first_alone = λ _. same;
   second_alone = λ h. absurd (true≢false (sym done ∙ h));
 }
+
+-- a call that uses none of them uses one after the other
+pub in_turn_none : {T U : Type 0} {was : Chain T U} → InTurn was was
+in_turn_none = record { stays_done = λ done. done; first_alone = λ done. refl; second_alone = λ going. refl }
+
+-- what is not done at the end was not done before
+still_going : (mid now : Bool) → (mid ≡ true → now ≡ true) → now ≡ false → mid ≡ false
+still_going true now stays going = absurd (true≢false (sym (stays refl) ∙ going))
+still_going false now stays going = refl
+
+-- two calls that use one after the other
+pub in_turn_then : {T U : Type 0} {was mid now : Chain T U} → InTurn was mid → InTurn mid now → InTurn was now
+in_turn_then {mid} {now} a b = record {
+  stays_done = λ done. b.stays_done (a.stays_done done);
+  first_alone = λ done. b.first_alone (a.stays_done done) ∙ a.first_alone done;
+  second_alone = λ going.
+      b.second_alone going ∙ a.second_alone (still_going mid.done_first now.done_first b.stays_done going);
+}
+
+-- of two calls in a row one appended a byte, and spent a turn
+pub spent_then : {len now first last : ℕ} (grown mid : ℕ) → (len < grown → mid < first) → (grown < now → last < mid) → mid ≤ first
+    → last ≤ mid → len < now → last < first
+spent_then {len} {now} {first} {last} grown mid one two stays stays' more = elim (cases_lt len grown) [
+  | inl below ↦ let spent = one below in omega (arith, spent, stays')
+  | inr above ↦ let spent = two (omega (arith, above, more)) in omega (arith, spent, stays)
+]

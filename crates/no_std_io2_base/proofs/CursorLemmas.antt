@@ -1,18 +1,17 @@
 -- A content and a position in it.
-use Rattle.std.proofs.Common.{◌≡◌, ℕ, true, ◌+◌, ◌-◌, ◌<◌, ◌≤◌, min, List, [], ◌∷◌, ◌++◌, Ok, Err, Result}
+use Rattle.std.proofs.Common.{◌≡◌, ℕ, ◌+◌, ◌-◌, ◌<◌, ◌≤◌, ◌⊎◌, min, List, [], ◌∷◌, ◌++◌, Ok, Err, Result}
 use Rattle.std.proofs.Common.{length, take, drop, replicate, refl, sym, ap, ◌∙◌, arith, count_by, inl, inr, append-nil}
-use Rattle.std.proofs.Common.{append_assoc, take-append-drop, length-append, length-take}
-use Rattle.std.proofs.lemmas.Bool.{cases_lt, false≢true}
-use Rattle.std.proofs.lemmas.List.{length-replicate, drop-drop, take_all, take_at, take_min, drop_all, drop_at, take-append-le}
+use Rattle.std.proofs.Common.{take-append-drop, length-append, length-take}
+use Rattle.std.proofs.lemmas.Bool.{cases_lt}
+use Rattle.std.proofs.lemmas.List.{length-replicate, drop-drop, take_all, take_at, take_min, drop_all, take-append-le}
 use Rattle.std.proofs.lemmas.List.{take-replicate}
 use Rattle.std.proofs.Math.Seq.{take-append-add}
-use Rattle.std.specs.Result.{OnErr, is_err}
-use Rattle.std.proofs.lemmas.Grind.{common_steps}
+use Rattle.std.specs.Result.{OnOk, OnErr, IfErr}
 use Rattle.std.proofs.lemmas.Bool.Decides.{nat_tests}
 use Rattle.no_std_io2_base.specs.declared.error.Error.{Error}
 use Rattle.no_std_io2_base.specs.declared.error.ErrorKind.{ErrorKind}
 use Rattle.no_std_io2_base.specs.declared.error.ErrorKind.TheVariants.{WriteZero}
-use Rattle.no_std_io2_base.specs.Errors.{error_kind, is_interruption, IsFault, IsOutOfMemory}
+use Rattle.no_std_io2_base.specs.Errors.{error_kind, is_interruption, IsFault, IsNoInterruption, IsOutOfMemory}
 use Rattle.no_std_io2_base.specs.Writes.{Moves, MovesFront, told_out, taken, write_mishap, zero_write}
 use Rattle.no_std_io2_base.specs.Cursor.{bytes_before, put_at, put_over, fitting, IsRefusal, PutsWhole, PutsAll, PutsFitting}
 
@@ -41,25 +40,6 @@ pub put_within : (place : ℕ) (x bs : List ℕ) → place ≤ length bs → tak
 put_within place x bs within =
     ap (λ l. l ++ x ++ drop (place + length x) bs) (sym (bytes_before-within place bs within))
 
--- what a call's answer tells, where it failed
-pub told_err : {X E P : Type 0} (r : Result X E) → is_err r ≡ true → OnErr r P → P
-told_err (Ok x) is h = absurd (false≢true is)
-told_err (Err e) is h = h
-
--- the end of x was appended, and its front put before it
-pub put_across : (place k : ℕ) (x bs : List ℕ) → place + k ≡ length bs → k ≤ length x
-    → take place (bs ++ drop k x) ++ take k x ++ drop (place + k) (bs ++ drop k x) ≡ put_at place x bs
-put_across place k x bs seam fits =
-    let front : take place (bs ++ drop k x) ≡ bytes_before place bs =
-    take-append-le place bs (drop k x) (omega arith) ∙ sym (bytes_before-within place bs (omega arith)) in
-    let back : drop (place + k) (bs ++ drop k x) ≡ drop k x = drop_at bs (drop k x) (place + k) (sym seam) in
-    let whole : take k x ++ drop k x ≡ x = grind (arith, common_steps) in
-    let none : drop (place + length x) bs ≡ [] = drop_all (place + length x) bs (omega arith) in
-    ap (λ l. l ++ take k x ++ drop (place + k) (bs ++ drop k x)) front
-    ∙ ap (λ l. bytes_before place bs ++ take k x ++ l) back
-    ∙ append_assoc (bytes_before place bs) (take k x) (drop k x) ∙ ap (λ l. bytes_before place bs ++ l) whole
-    ∙ sym (append-nil _) ∙ ap (λ l. bytes_before place bs ++ x ++ l) (sym none)
-
 -- before a place zeros that stand behind the bytes are those that would be added
 before-opened : (more place : ℕ) (bs : List ℕ) → place ≤ length bs + more → take place (bs ++ replicate more 0) ≡ bytes_before place bs
 before-opened more place bs near = elim (cases_lt (length bs) place) [ inl past ↦ behind past | inr within ↦ inside within ]
@@ -81,6 +61,32 @@ pub put_opened : (more place : ℕ) (x bs : List ℕ) → length bs ≤ place + 
 put_opened more place x bs past near =
     ap (λ l. l ++ x) (before-opened more place bs (omega arith))
     ∙ sym (append-nil _) ∙ ap (λ l. bytes_before place bs ++ x ++ l) (sym (drop_all (place + length x) bs past))
+
+-- the bytes reach `end`, by zeros where they did not
+abbrev pub IsLengthened : ℕ → List ℕ → List ℕ → Type 0
+IsLengthened end bs grown =
+    (end ≤ length bs) × (grown ≡ bs) ⊎ (length bs ≤ end) × (grown ≡ bs ++ replicate (end - length bs) 0)
+
+-- so they do
+pub lengthened_reaches : (end : ℕ) (bs grown : List ℕ) → IsLengthened end bs grown → end ≤ length grown
+lengthened_reaches end bs grown (inl h) = omega (arith, h.0, ap length h.1)
+lengthened_reaches end bs grown (inr h) =
+    let zeros : List ℕ = replicate (end - length bs) 0 in
+    omega (arith, h.0, ap length h.1, length-append bs zeros, length-replicate {A = ℕ} (end - length bs) 0)
+
+-- x was put into such bytes
+pub put_lengthened : (place end : ℕ) (x bs grown : List ℕ) → end ≡ place + length x → IsLengthened end bs grown
+    → take place grown ++ x ++ drop end grown ≡ put_at place x bs
+put_lengthened place end x bs grown at (inl h) =
+    ap (λ l. take place l ++ x ++ drop end l) h.1 ∙ ap (λ n. take place bs ++ x ++ drop n bs) at
+    ∙ put_within place x bs (omega (arith, at, h.0))
+put_lengthened place end x bs grown at (inr h) =
+    let more = end - length bs in
+    let long : length grown ≡ end =
+    ap length h.1 ∙ length-append bs (replicate more 0) ∙ omega (arith, length-replicate {A = ℕ} more 0, h.0) in
+    let none : drop end grown ≡ [] = drop_all end grown (omega (arith, long)) in
+    ap (λ l. take place grown ++ x ++ l) none ∙ append-nil _ ∙ ap (λ l. take place l ++ x) h.1
+    ∙ put_opened more place x bs (omega (arith, at, h.0)) (omega (arith, at, h.0))
 
 -- what was put stands right before the place behind it
 pub before_put : (place : ℕ) (x bs : List ℕ) → bytes_before (place + length x) (put_at place x bs) ≡ bytes_before place bs ++ x
@@ -127,17 +133,6 @@ puts_moves bs place x (Ok n) bs' place' h =
 puts_moves bs place x (Err e) bs' place' h =
     appends_moves (ap (λ l. bytes_before place' l) h.2 ∙ ap (λ m. bytes_before m bs) h.3 ∙ sym (append-nil _))
     (refused_quietly place x e h.1)
-
--- and so does `write_all`
-pub puts_moves_all : (bs : List ℕ) (place : ℕ) {x : List ℕ} {n : ℕ} {bs' : List ℕ} {place' : ℕ} → PutsWhole bs place x (Ok n) bs' place'
-    → MovesFront (told_out (bytes_before place bs)) x (Ok tt) (told_out (bytes_before place' bs'))
-puts_moves_all bs place {x} {bs'} {place'} h =
-    record {
-      accepted = x;
-      front = ([], sym (append-nil x));
-      whole = refl;
-      moves = appends_moves (put_goes_out bs place x bs' place' h.2 h.3) refl;
-    }
 
 -- what fits in a slice goes out
 pub fitting_goes_out : (bs : List ℕ) (place : ℕ) (x bs' : List ℕ) (place' : ℕ) → PutsFitting bs place x bs' place'
@@ -199,17 +194,13 @@ fits_moves_all bs place {x} {bs'} {place'} room h =
       moves = appends_moves (fitting_goes_out bs place x bs' place' h ∙ ap (λ l. bytes_before place bs ++ l) whole) refl;
     }
 
--- an error of a vector: none was accepted
-pub puts_moves_none : {bs : List ℕ} {place : ℕ} {x : List ℕ} {e : Error} {bs' : List ℕ} {place' : ℕ}
-    → PutsWhole bs place x (Err e) bs' place'
-    → MovesFront (told_out (bytes_before place bs)) x (Err e) (told_out (bytes_before place' bs'))
-puts_moves_none {bs} {place} {x} {e} {bs'} {place'} h =
-    record { accepted = []; front = (x, refl); whole = tt; moves = puts_moves bs place x (Err e) bs' place' h }
-
--- a vector that was refused memory has accepted none
-pub refused_moves : {old new x : List ℕ} (e : Error) → new ≡ old → IsOutOfMemory e
-    → MovesFront (told_out old) x (Err e) (told_out new)
-refused_moves {old} {x} e same refused =
+-- `write_all` of a vector keeps it: memory was refused and none accepted, or all
+pub append_moves : {old new x : List ℕ} (reply : Result (Unit {0}) Error) → OnOk reply (new ≡ old ++ x) → OnErr reply (new ≡ old)
+    → IfErr reply IsOutOfMemory
+    → MovesFront (told_out old) x reply (told_out new)
+append_moves {x} (Ok tt) is same refused =
+    record { accepted = x; front = ([], sym (append-nil x)); whole = refl; moves = appends_moves is refl }
+append_moves {old} {x} (Err e) is same refused =
     let quiet = ap (λ k. count_by is_interruption (k ∷ [])) refused.0 in
     let moves = appends_moves (same ∙ sym (append-nil old)) quiet in
     record { accepted = []; front = (x, refl); whole = tt; moves = moves }
@@ -219,24 +210,31 @@ pub refused_fault : (place : ℕ) (x : List ℕ) (e : Error) → IsRefusal place
 refused_fault place x e (inl h) = ap is_interruption h.1
 refused_fault place x e (inr h) = ap is_interruption h.1
 
--- `write_all` of some bytes that were put
-pub puts_all_some : {bs : List ℕ} (place : ℕ) (x : List ℕ) {n : ℕ} {bs' : List ℕ} {place' : ℕ} → PutsWhole bs place x (Ok n) bs' place'
-    → 0 < length x
-    → PutsAll bs place x (Ok tt) bs' place'
-puts_all_some place x h some = (λ _. (h.0, h.2), λ none. absurd (omega (arith, none, some)), h.3)
+-- `write_all` of x lets it out, where it is empty too
+all_goes_out : (bs : List ℕ) (place : ℕ) (x bs' : List ℕ) (place' : ℕ) → PutsAll bs place x (Ok tt) bs' place'
+    → bytes_before place' bs' ≡ bytes_before place bs ++ x
+all_goes_out bs place [] bs' place' h =
+    let at : place' ≡ place = omega (arith, h.2) in
+    ap (λ l. bytes_before place' l) (h.1 refl) ∙ ap (λ m. bytes_before m bs) at ∙ sym (append-nil _)
+all_goes_out bs place (b ∷ x) bs' place' h = put_goes_out bs place (b ∷ x) bs' place' (h.0 (omega arith)).1 h.2
 
--- `write_all` of none
-pub moves_none : (old x : List ℕ) → x ≡ [] → MovesFront (told_out old) x (Ok tt) (told_out old)
-moves_none old x none =
+-- so it keeps the law of writers
+pub puts_all_moves : (bs : List ℕ) (place : ℕ) (x : List ℕ) (reply : Result (Unit {0}) Error) (bs' : List ℕ) (place' : ℕ)
+    → PutsAll bs place x reply bs' place'
+    → MovesFront (told_out (bytes_before place bs)) x reply (told_out (bytes_before place' bs'))
+puts_all_moves bs place x (Ok tt) bs' place' h =
     record {
       accepted = x;
       front = ([], sym (append-nil x));
       whole = refl;
-      moves = appends_moves (sym (append-nil old) ∙ ap (λ l. old ++ l) (sym none)) refl;
+      moves = appends_moves (all_goes_out bs place x bs' place' h) refl;
     }
+puts_all_moves bs place x (Err e) bs' place' h =
+    record { accepted = []; front = (x, refl); whole = tt; moves = puts_moves bs place x (Err e) bs' place' h }
 
--- and nothing is put
-pub puts_all_none : {bs : List ℕ} {place : ℕ} {x : List ℕ} → x ≡ [] → PutsAll bs place x (Ok tt) bs place
-puts_all_none {x} none =
-    let zero : length x ≡ 0 = ap length none in
-    (λ some. absurd (omega (arith, zero, some)), λ _. refl, omega (arith, zero))
+-- and its error is no interruption
+pub puts_all_fault : (bs : List ℕ) (place : ℕ) (x : List ℕ) (reply : Result (Unit {0}) Error) (bs' : List ℕ) (place' : ℕ)
+    → PutsAll bs place x reply bs' place'
+    → IsNoInterruption reply
+puts_all_fault bs place x (Ok tt) bs' place' h = tt
+puts_all_fault bs place x (Err e) bs' place' h = refused_fault place x e h.1

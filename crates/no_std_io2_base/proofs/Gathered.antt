@@ -1,12 +1,15 @@
 -- What a loop of reads has appended so far.
-use Rattle.std.proofs.Common.{◌≡◌, ℕ, ◌-◌, ◌<◌, ◌≤◌, Bool, true, true≢false, List, [], ◌∷◌, ◌++◌, length, take}
+use Rattle.std.proofs.Common.{◌≡◌, ℕ, ◌-◌, ◌<◌, ◌≤◌, Bool, true, if◌then◌else◌, Some, List, [], ◌∷◌, ◌++◌, length, take}
 use Rattle.std.proofs.Common.{refl, sym, ap, ◌∙◌, subst, arith, Ok, Err, append_assoc, append-nil, inl, inr}
 use Rattle.std.proofs.Common.{length-append}
 use lib.Seq.{take-append-le}
 use Rattle.no_std_io2_base.specs.declared.error.Error.{Error}
 use Rattle.no_std_io2_base.specs.Errors.{IsInterruption, IsFault, IsOutOfMemory}
-use Rattle.no_std_io2_base.specs.Events.{Event, fails, events_of, bytes, HasNoFault, FillsRoom, HasRoom, Reads, ReadsToEnd}
-use Rattle.no_std_io2_base.proofs.Events.{bytes-append, bytes-events_of, HasNoFault-append, HasNoFault-behind, HasNoFault-events_of}
+use Rattle.no_std_io2_base.specs.Events.{Event, fails, events_of, bytes, HasNoFault, FillsRoom, Reads, ReadsToEnd}
+use Rattle.no_std_io2_base.specs.Pieces.{bytes_to_fault, first_fault}
+use Rattle.no_std_io2_base.specs.ReadLaws.{HasRoom}
+use Rattle.no_std_io2_base.proofs.Events.{bytes-append, bytes-events_of, HasNoFault-append, HasNoFault-events_of}
+use Rattle.no_std_io2_base.proofs.GivenPieces.{first_fault-append, bytes_to_fault-append}
 
 -- `front`, which has no fault, is gone from E, and its bytes were appended
 pub record Gathered (E : List Event) (old new : List ℕ) (after : List Event) : Type 0 where
@@ -109,20 +112,21 @@ gathered_then {E = E} {old = old} {rest = rest} t more = record {
       ∙ ap (λ l. old ++ l) (sym (bytes-append t.front more.0));
 }
 
--- where there is room for all, a loop has not filled it
-pub gathered_fits : {E : List Event} {old new : List ℕ} {after : List Event} {len room now : ℕ}
-    → Gathered E old new after → HasRoom E len room → len ≡ length old → room ≤ now → length new < now
-gathered_fits {old} {after} t enough long grows =
+-- where there is room for all before the first fault, and for more, a loop has not filled it
+pub gathered_fits : {E : List Event} {old new : List ℕ} {after : List Event} {more len room now : ℕ}
+    → Gathered E old new after → HasRoom more E len room → 0 < more → len ≡ length old → room ≤ now → length new < now
+gathered_fits {old} {after} t enough some long grows =
     let gave = ap length t.gave ∙ length-append old (bytes t.front) in
-    let all = ap (λ l. length (bytes l)) t.split ∙ ap length (bytes-append t.front after) ∙ length-append (bytes t.front) (bytes after) in
-    omega (arith, enough.1, long, grows, gave, all)
+    let all = ap (λ l. length (bytes_to_fault l)) t.split ∙ ap length (bytes_to_fault-append t.front after t.no_fault)
+    ∙ length-append (bytes t.front) (bytes_to_fault after) in
+    omega (arith, enough, some, long, grows, gave, all)
 
--- where no fault is to come, none came
-pub gathered_no_fault : {E : List Event} {old new : List ℕ} {after : List Event} {e : Error} {rest : List Event}
-    → Gathered E old new after → after ≡ fails e ∷ rest → IsFault e → HasNoFault E → ⊥
-gathered_no_fault {after} t read fault clean =
-    let left = HasNoFault-behind t.front after (subst HasNoFault t.split clean) in
-    true≢false (sym (subst HasNoFault read left).0 ∙ fault)
+-- a fault that stops a loop is the first
+pub gathered_first_fault : {E : List Event} {old new : List ℕ} {after : List Event} {e : Error} {rest : List Event}
+    → Gathered E old new after → after ≡ fails e ∷ rest → IsFault e → first_fault E ≡ Some e
+gathered_first_fault {after} {e} {rest} t read fault =
+    ap first_fault t.split ∙ first_fault-append t.front after t.no_fault ∙ ap first_fault read
+    ∙ ap (λ s. if s then first_fault rest else Some e) fault
 
 -- a whole stream was read, before another one
 pub gathered_first : (E F : List Event) {n : ℕ} {old new : List ℕ} {after : List Event}
@@ -168,12 +172,3 @@ gathered_then_failed e t more =
 -- a front stays where more is appended
 pub take-grown : (k : ℕ) (old mid new more : List ℕ) → take k mid ≡ old → k ≤ length mid → new ≡ mid ++ more → take k new ≡ old
 take-grown k old mid new more h fits is = ap (take k) is ∙ take-append-le k mid more fits ∙ h
-
--- no fault comes of what has none
-pub stopped_clean : {E : List Event} (old : List ℕ) {new : List ℕ} {after : List Event} {e : Error} → FillsRoom E (Err e) old new after
-    → HasNoFault E → ⊥
-stopped_clean old {after} {e} stop clean =
-    let f = stop.3 in
-    let whole = stop.1 ∙ ap (λ l. l ++ after) f.1 ∙ append_assoc f.0 (fails e ∷ []) after in
-    let left = HasNoFault-behind f.0 (fails e ∷ after) (subst HasNoFault whole clean) in
-    true≢false (sym left.0 ∙ f.3)

@@ -3,14 +3,16 @@ use Rattle.std.proofs.Common.{◌≡◌, ℕ, ◌-◌, ◌⊎◌, List, [], ◌�
 use Rattle.std.proofs.Common.{append_assoc, append-nil, inl, inr, length-append, ◌+◌, ◌==◌, Bool, true, zero, suc}
 use Rattle.std.proofs.Common.{⊎_elim, All, slice_index, add-one, take, take-suc, ◌<◌, ◌≤◌, ◌≢◌, Result, Ok, Err}
 use Rattle.std.proofs.Common.{true≢false, eqb-true, eq-eqb, drop_of_length-le, take_all, le_refl, length-take-le}
+use Rattle.std.proofs.lemmas.List.{get_or-take}
 use Rattle.std.proofs.lemmas.List.Elements.{recursion_from_All}
+use Rattle.std.specs.List.{AllWithin}
 use Rattle.std.specs.Borrow.{Bor}
 use Rattle.no_std_io2_base.specs.declared.error.Error.{Error}
-use Rattle.no_std_io2_base.specs.Lending.{Lends, LendsFrom, LendingTurn}
+use Rattle.no_std_io2_base.specs.Lending.{BeginsWith, Lends, LendsFrom, LendingTurn}
 use Rattle.no_std_io2_base.specs.Writes.{IsFront}
 use Rattle.no_std_io2_base.specs.Errors.{is_interruption, IsInterruption, IsFault, IsOutOfMemory}
 use Rattle.no_std_io2_base.specs.Events.{Event, byte, fails, events_of, bytes, HasNoFault}
-use Rattle.no_std_io2_base.specs.Pieces.{Lacks, EndsPiece, FindsPiece, GivesPiece, StopsInPiece}
+use Rattle.no_std_io2_base.specs.Pieces.{Lacks, EndsPiece, FindsPiece, GivesPiece, IsByteNext, StopsInPiece}
 use Rattle.no_std_io2_base.proofs.Events.{bytes-append, bytes-events_of, events_of-append, HasNoFault-append, HasNoFault-events_of}
 
 -- `front`, which has neither a fault nor a d, is gone from E, and its bytes were appended
@@ -115,14 +117,21 @@ piece_fault {d} {old} {e} {rest} t read fault =
 
 -- refused memory stops the call: nothing more is gone, and nothing more was appended
 pub piece_memory : {d : ℕ} {E : List Event} {old mid new : List ℕ} {after rest : List Event} {e : Error}
-    → PieceSoFar d E old mid after → rest ≡ after → new ≡ mid → IsOutOfMemory e → StopsInPiece d E e old new rest
-piece_memory t same is refused = record {
+    → PieceSoFar d E old mid after → rest ≡ after → new ≡ mid → IsOutOfMemory e → IsByteNext after → StopsInPiece d E e old new rest
+piece_memory t same is refused next = record {
   taken = t.front;
   split = t.split ∙ ap (λ l. t.front ++ l) (sym same);
   appended = is ∙ t.gave;
   no_end = t.no_end;
-  stops = inr (t.no_fault, refused);
+  stops = inr (t.no_fault, refused, subst IsByteNext (sym same) next);
 }
+
+-- what holds of each element below a place holds of those before it
+pub all_before : (P : ℕ → Type 0) (bs : List ℕ) (at : ℕ) → at < length bs → AllWithin P bs 0 at → All P (take at bs)
+all_before P bs at within each k e short =
+    let long : length (take at bs) ≡ at = length-take-le at bs (omega (arith, within)) in
+    let below : k < at = omega (arith, short, long) in
+    subst P (sym (get_or-take at bs k e below)) (each k e (omega arith) below)
 
 -- where d stands first, the piece ends
 pub found_at : (d : ℕ) (bs : List ℕ) (at : ℕ) → at < length bs → slice_index bs at ≡ d → All (λ b. b ≢ d) (take at bs)
@@ -175,6 +184,12 @@ error_turn {old = old} {new = new} is turn = subst (λ r. LendingTurn r old new)
 take-none : (n : ℕ) → take {A = ℕ} n [] ≡ []
 take-none zero = refl
 take-none (suc n) = refl
+
+-- where a part of what is lent found no room, one of its bytes comes next
+pub byte_next : {d : ℕ} {E : List Event} {lent : List ℕ} {n : ℕ} {is_whole : Bool} {len capacity : ℕ}
+    → BeginsWith E lent → FindsPiece d lent n is_whole → len ≤ capacity → capacity < len + length (take n lent) → IsByteNext E
+byte_next {lent = []} {n} begins found fits full = absurd (omega (arith, fits, full, ap length (take-none n)))
+byte_next {lent = b ∷ bs} begins found fits full = subst IsByteNext (sym begins.is) tt
 
 -- the part that makes the piece whole, or nothing at the end
 pub whole_part : {d : ℕ} {E : List Event} {lent : List ℕ} {n : ℕ} {is_whole : Bool} → FindsPiece d lent n is_whole

@@ -1,11 +1,13 @@
 -- Bytes that are taken off a slice and appended, as a reader tells it.
-use Rattle.std.proofs.Common.{◌≡◌, ℕ, ◌+◌, ◌-◌, ◌<◌, ◌≤◌, ◌^◌, min, List, [], ◌++◌, Err, length, take, drop, refl, sym}
+use Rattle.std.proofs.Common.{◌≡◌, ℕ, ◌+◌, ◌-◌, ◌<◌, ◌≤◌, ◌^◌, min, List, [], ◌∷◌, ◌++◌, Err, length, take, drop, refl, sym}
 use Rattle.std.proofs.Common.{ap, ◌∙◌, arith, inr, append-nil, append_assoc, take-append-drop, length-drop, length-take}
 use Rattle.std.proofs.Math.Seq.{drop-append_seam}
 use Rattle.std.proofs.lemmas.List.{length-append, take_at}
 use Rattle.no_std_io2_base.specs.declared.error.Error.{Error}
 use Rattle.no_std_io2_base.specs.Errors.{IsOutOfMemory}
-use Rattle.no_std_io2_base.specs.Events.{events_of, bytes, HasNoFault, HasRoom, ReadsToEnd}
+use Rattle.no_std_io2_base.specs.Events.{events_of, bytes, HasNoFault, ReadsToEnd}
+use Rattle.no_std_io2_base.specs.Pieces.{bytes_to_fault}
+use Rattle.no_std_io2_base.specs.ReadLaws.{HasRoom}
 use Rattle.no_std_io2_base.specs.Slices.{HasMoved}
 use Rattle.no_std_io2_base.proofs.CursorLemmas.{left_after}
 use Rattle.no_std_io2_base.proofs.Events.{HasNoFault-events_of, bytes-events_of, events_of-append, length-events_of}
@@ -100,10 +102,30 @@ longer_by {rest} old moved none before now =
 pub fewer_behind : (place n : ℕ) (content : List ℕ) → length (drop (place + n) content) ≤ length (drop place content)
 fewer_behind place n content = omega (arith, length-drop (place + n) content, length-drop place content)
 
+-- and fewer where it moves over some
+pub spent_behind : (place n : ℕ) (content : List ℕ) → 0 < n → n ≤ length (drop place content)
+    → length (drop (place + n) content) < length (drop place content)
+spent_behind place n content some within = omega (arith, some, within, length-drop (place + n) content, length-drop place content)
+
+-- bytes alone stand before any fault
+to_fault-events_of : (bs : List ℕ) → bytes_to_fault (events_of bs) ≡ bs
+to_fault-events_of [] = refl
+to_fault-events_of (b ∷ bs) = ap (λ l. b ∷ l) (to_fault-events_of bs)
+
 -- where there is room for all of it, and for 32 bytes more, memory is never refused
 pub never_refused : (all : List ℕ) (len : ℕ) {capacity : ℕ}
-    → HasRoom (events_of all) len capacity → capacity < len + length all + 32 → ⊥
-never_refused all len enough full = omega (arith, enough.1, full, ap length (bytes-events_of all))
+    → HasRoom 32 (events_of all) len capacity → capacity < len + length all + 32 → ⊥
+never_refused all len enough full = omega (arith, enough, full, ap length (to_fault-events_of all))
+
+-- what is left is no longer
+pub left_of : {all rest : List ℕ} (old : List ℕ) {new : List ℕ} → HasMoved all rest old new → length rest ≤ length all
+left_of {rest} old moved = omega (arith, ap length moved.1, length-append moved.0 rest)
+
+-- and shorter where the vector grew
+pub fewer_left : {all rest : List ℕ} (old : List ℕ) {new : List ℕ} {was is : ℕ} → HasMoved all rest old new → was ≡ length old
+    → is ≡ length new → was < is → length rest < length all
+fewer_left {rest} old moved before now more =
+    omega (arith, before, now, more, ap length moved.1, ap length moved.2, length-append moved.0 rest, length-append old moved.0)
 
 -- the rest is no longer than the whole was
 pub rest_within : (all rest old new : List ℕ) → HasMoved all rest old new → length all ≡ length rest + (length all - length rest)

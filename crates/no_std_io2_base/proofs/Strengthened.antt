@@ -1,10 +1,10 @@
 -- An impl may say more of its value after a loan than its trait does.
 use mathlib.Core.Option.{Option}
 use seplogic.Ra.Ura.{Ura}
-use base.Logic.{ent, sep, ex_e, ex_i, mono_l, mono_r, via, id⊢}
+use base.Logic.{ent, sep, ex_e, ex_i, mono_r, snd∗, via}
 use base.Fml.{GName}
 use base.Stored.{Gv}
-use contract.Monad.{fact, fact_i, fact_use}
+use contract.Monad.{fact}
 use types.Logic.{Logic, sem}
 use denote.Follow.{such_by, follows_by}
 
@@ -19,12 +19,15 @@ module _ {M : Type 1} {𝓤 : Ura M} (𝓛 : Logic 𝓤) (D E : Type 0) (c : D �
       (λ (y : (p : (E → D) × D) × ((z : E) → R z (p.0 z)) × Q p.1). sem 𝓛 (follows_by D E c d γ m y.0.0 y.0.1))
       (s.0, s.1, more _ s.2))
 
-  -- the clauses of a call that lends, three of them the trait's own
-  pub lends_more : (first second third mine theirs : Type 0) → (mine → theirs) → ((z : D) → P z → Q z)
-      → ent 𝓤 (sep 𝓤 (fact 𝓤 first) (sep 𝓤 (fact 𝓤 second) (sep 𝓤 (fact 𝓤 third) (sep 𝓤 (fact 𝓤 mine) (sem 𝓛 (such_by D E c d γ m R P))))))
-      (sep 𝓤 (fact 𝓤 first) (sep 𝓤 (fact 𝓤 second) (sep 𝓤 (fact 𝓤 third) (sep 𝓤 (fact 𝓤 theirs) (sem 𝓛 (such_by D E c d γ m R Q))))))
-  lends_more first second third mine theirs plain more =
+  -- the clauses of a call that lends, the trait's law first, and one of its own
+  pub lends_more : (law mine : Type 0) → ((z : D) → P z → Q z)
+      → ent 𝓤 (sep 𝓤 (fact 𝓤 law) (sep 𝓤 (fact 𝓤 mine) (sem 𝓛 (such_by D E c d γ m R P))))
+      (sep 𝓤 (fact 𝓤 law) (sem 𝓛 (such_by D E c d γ m R Q)))
+  lends_more law mine more =
       let after = sem 𝓛 (such_by D E c d γ m R P) in
-      mono_r 𝓤 (fact 𝓤 first) (mono_r 𝓤 (fact 𝓤 second) (mono_r 𝓤 (fact 𝓤 third) (via 𝓤 (sep 𝓤 (fact 𝓤 theirs) after)
-      (mono_l 𝓤 after (fact_use 𝓤 mine (id⊢ 𝓤 (fact 𝓤 mine)) (λ p. fact_i 𝓤 theirs (fact 𝓤 mine) (plain p))))
-      (mono_r 𝓤 (fact 𝓤 theirs) (such_more more)))))
+      mono_r 𝓤 (fact 𝓤 law) (via 𝓤 after (snd∗ 𝓤 (fact 𝓤 mine) after) (such_more more))
+
+  -- a call that lends, with more in what stands after the loan alone
+  pub lends_on : (law : Type 0) → ((z : D) → P z → Q z)
+      → ent 𝓤 (sep 𝓤 (fact 𝓤 law) (sem 𝓛 (such_by D E c d γ m R P))) (sep 𝓤 (fact 𝓤 law) (sem 𝓛 (such_by D E c d γ m R Q)))
+  lends_on law more = mono_r 𝓤 (fact 𝓤 law) (such_more more)

@@ -1,5 +1,5 @@
 -- What a reader has left to give, and what its calls do to that.
-use Rattle.std.specs.Prelude.{◌≡◌, ℕ, zero, suc, ◌+◌, ◌<◌, ◌≤◌, Bool, true, List, [], ◌∷◌, ◌++◌, length, take, ⊤, Ok, Err, Result, ◌⊎◌}
+use Rattle.std.specs.Prelude.{◌≡◌, ℕ, zero, suc, ◌<◌, Bool, true, List, [], ◌∷◌, ◌++◌, length, take, ⊤, Ok, Err, Result, ◌⊎◌}
 use Rattle.no_std_io2_base.specs.declared.error.Error.{Error}
 use Rattle.no_std_io2_base.specs.Errors.{IsInterruption, IsFault, IsUnexpectedEnd, IsOutOfMemory}
 
@@ -83,10 +83,6 @@ abbrev pub FillsRoom : List Event → Result Bool Error → List ℕ → List �
 FillsRoom E (Ok at_end) old new after =
     (P : List Event) × (E ≡ P ++ after) × HasNoFault P × (new ≡ old ++ bytes P) × (at_end ≡ true → after ≡ [])
 FillsRoom E (Err e) old new after = (P : List Event) × (E ≡ P ++ after) × (new ≡ old ++ bytes P) × EndsInFault P e
-
--- E has no fault, and a vector of this length and capacity has room for all its bytes, and for 32 more
-abbrev pub HasRoom : List Event → ℕ → ℕ → Type 0
-HasRoom E len capacity = HasNoFault E × (len + length (bytes E) + 32 ≤ capacity)
 
 -- `read_to_end` turned E into after and appended the bytes that it took: all of them, or those up to the first fault or
 -- to where memory was refused

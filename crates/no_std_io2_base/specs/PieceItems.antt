@@ -1,5 +1,5 @@
 -- What `split`, `lines` and `read_line` do, by the pieces that they read.
-use Rattle.std.specs.Prelude.{◌≡◌, ℕ, suc, ◌<◌, ◌⊎◌, true, false, Bool, if◌then◌else◌, List, [], ◌++◌, Option, None}
+use Rattle.std.specs.Prelude.{◌≡◌, ℕ, suc, ◌<◌, ◌+◌, ◌⊎◌, length, true, false, Bool, if◌then◌else◌, List, [], ◌++◌, Option, None}
 use Rattle.std.specs.Prelude.{Some, Result, Ok, Err, codes, IsUtf8}
 use Rattle.no_std_io2_base.specs.declared.error.Error.{Error}
 use Rattle.no_std_io2_base.specs.declared.error.ErrorKind.TheVariants.{InvalidData, OutOfMemory}
@@ -66,22 +66,29 @@ items_left is_ended turns = if is_ended then 0 else suc turns
 abbrev pub Follows : List ℕ → List ℕ → List ℕ → Type 0
 Follows line old new = IsUtf8 line × (new ≡ old ++ line)
 
--- `read_line` took a line with this answer, and gave its own. A text stays as it is where the line isn't UTF-8, where
--- memory is wanted, and where the reader's own error is want of memory; any other fault is the answer, behind what
--- stood before it.
-abbrev pub AnswersLine : List ℕ → Result ℕ Error → Result ℕ Error → List ℕ → List ℕ → Type 0
-AnswersLine line (Ok n) (Ok m) old new = Follows line old new × (m ≡ n)
-AnswersLine line (Ok n) (Err e) old new = (new ≡ old) × (((IsUtf8 line → ⊥) × IsInvalidText e) ⊎ (IsUtf8 line × IsOutOfMemory e))
-AnswersLine line (Err f) (Ok m) old new = ⊥
-AnswersLine line (Err f) (Err e) old new =
+-- a line is UTF-8, and was refused by a text of this length and capacity: it had no room for it
+abbrev pub HasNoRoom : List ℕ → ℕ → ℕ → Error → Type 0
+HasNoRoom line len capacity e = IsUtf8 line × (capacity < len + length line) × IsOutOfMemory e
+
+-- `read_line` took a line with this answer, and gave its own, by a text of this length and capacity. A text stays as it is where
+-- the line isn't UTF-8, where it was refused the room that it lacks, and where the reader's own error is want of memory; any other
+-- fault is the answer, behind what stood before it.
+abbrev pub AnswersLine : List ℕ → Result ℕ Error → ℕ → ℕ → Result ℕ Error → List ℕ → List ℕ → Type 0
+AnswersLine line (Ok n) len capacity (Ok m) old new = Follows line old new × (m ≡ n)
+AnswersLine line (Ok n) len capacity (Err e) old new =
+    (new ≡ old) × (((IsUtf8 line → ⊥) × IsInvalidText e) ⊎ HasNoRoom line len capacity e)
+AnswersLine line (Err f) len capacity (Ok m) old new = ⊥
+AnswersLine line (Err f) len capacity (Err e) old new =
     ((error_kind f ≡ OutOfMemory) × (e ≡ f) × (new ≡ old))
     ⊎ (((error_kind f ≡ OutOfMemory) → ⊥)
     × ((Follows line old new × (e ≡ f))
-    ⊎ (((IsUtf8 line → ⊥) × (e ≡ f) × (new ≡ old)) ⊎ (IsUtf8 line × IsOutOfMemory e × (new ≡ old)))))
+    ⊎ (((IsUtf8 line → ⊥) × (e ≡ f) × (new ≡ old)) ⊎ (HasNoRoom line len capacity e × (new ≡ old)))))
 
--- `read_line` turned E into after and the text old into new: by a line that `read_until` takes at a newline
-pub record TakesLine (E : List Event) (result : Result ℕ Error) (old new : List ℕ) (after : List Event) : Type 0 where
+-- `read_line` turned E into after, and a text of this length and capacity from old into new: by a line that `read_until` takes at
+-- a newline
+pub record TakesLine (E : List Event) (len capacity : ℕ) (result : Result ℕ Error) (old new : List ℕ) (after : List Event)
+    : Type 0 where
   pub line : List ℕ
   pub read : Result ℕ Error
   pub takes : TakesPiece 10 E read [] line after
-  pub answers : AnswersLine line read result old new
+  pub answers : AnswersLine line read len capacity result old new

@@ -1,6 +1,6 @@
 -- Pieces of bytes, each ended by a delimiter, and what a call that reads one piece does.
 use Rattle.std.specs.Prelude.{◌≡◌, ◌≢◌, ℕ, ◌+◌, ◌<◌, ◌≤◌, ◌==◌, true, false, Bool, List, [], ◌∷◌, ◌++◌, length, take}
-use Rattle.std.specs.Prelude.{filter, if◌then◌else◌, ◌⊎◌, Option, None, Some, Result, Ok, Err}
+use Rattle.std.specs.Prelude.{filter, if◌then◌else◌, ◌⊎◌, ⊤, Option, None, Some, Result, Ok, Err}
 use Rattle.std.specs.List.{AllByRecursion, concat}
 use Rattle.no_std_io2_base.specs.declared.error.Error.{Error}
 use Rattle.no_std_io2_base.specs.Errors.{error_kind, is_interruption, IsOutOfMemory}
@@ -71,14 +71,20 @@ pub record GivesPiece (d : ℕ) (E : List Event) (n : ℕ) (old new : List ℕ) 
   -- d is its last event and the only one; or there is none, and nothing is left
   pub ends : ((front : List Event) × (taken ≡ front ++ byte d ∷ []) × Lacks d (bytes front)) ⊎ (Lacks d (bytes taken) × (after ≡ []))
 
+-- a byte comes next
+abbrev pub IsByteNext : List Event → Type 0
+IsByteNext [] = ⊥
+IsByteNext (byte b ∷ E) = ⊤
+IsByteNext (fails e ∷ E) = ⊥
+
 -- `read_until(d)` answered e: what was taken before has no d, and its bytes were appended
 pub record StopsInPiece (d : ℕ) (E : List Event) (e : Error) (old new : List ℕ) (after : List Event) : Type 0 where
   pub taken : List Event
   pub split : E ≡ taken ++ after
   pub appended : new ≡ old ++ bytes taken
   pub no_end : Lacks d (bytes taken)
-  -- at the first fault, which is taken too, or where memory was refused
-  pub stops : EndsInFault taken e ⊎ (HasNoFault taken × IsOutOfMemory e)
+  -- at the first fault, which is taken too, or where memory was refused for a byte that comes next
+  pub stops : EndsInFault taken e ⊎ (HasNoFault taken × IsOutOfMemory e × IsByteNext after)
 
 -- `read_until(d)` turned E into after and appended the bytes that it took: up to and with the first d, or else all that
 -- is left; a fault stops it, and so does refused memory

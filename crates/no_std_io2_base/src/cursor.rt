@@ -10,7 +10,6 @@ ghost use Rattle.no_std_io2_base.specs.Cursor.{cursor_place, cursor_inner, curso
 mod reading;
 mod seeking;
 mod slices;
-mod tells;
 mod vectors;
 
 use crate::error::Result;
@@ -27,10 +26,6 @@ pub trait AsSlice<T> {
     ghost slice: { Self → List T };
 
     /// The elements, in order.
-    ///
-    /// ```rust
-    /// assert!(rt; AsSlice::as_slice(b"abc") == b"abc".as_slice());
-    /// ```
     fn as_slice(&self) -> &[T]
         ensures { result.now ≡ slice self.now };
 }
@@ -95,12 +90,6 @@ pub struct Cursor<T> {
 
 impl<T> Cursor<T> {
     /// Makes a cursor on this content, at position 0. Follows `std::io::Cursor::new`.
-    ///
-    /// ```rust
-    /// let mut c = Cursor::new(Vec::<u8>::new(rt.alloc()));
-    /// c.write_all(b"abc")?;
-    /// assert!(rt; c.position() == 3);
-    /// ```
     pub fn new(inner: T) -> Cursor<T>
         ensures inner { cursor_inner result ≡ inner }
         ensures position { cursor_place result ≡ 0 }
@@ -123,12 +112,6 @@ impl<T> Cursor<T> {
     }
 
     /// Gets a reference to the content. Follows `std::io::Cursor::get_ref`.
-    ///
-    /// ```rust
-    /// let mut c = Cursor::new(*b"abc");
-    /// c.get_mut()[0] = b'x';
-    /// assert!(rt; *c.get_ref() == *b"xbc");
-    /// ```
     pub fn get_ref(&self) -> &T
         ensures { result.now ≡ cursor_inner self.now }
     {
@@ -137,12 +120,6 @@ impl<T> Cursor<T> {
 
     /// Gets a mutable reference to the content. The position stays. Follows
     /// `std::io::Cursor::get_mut`.
-    ///
-    /// ```rust
-    /// let mut c = Cursor::new(*b"abc");
-    /// c.get_mut()[0] = b'x';
-    /// assert!(rt; *c.get_ref() == *b"xbc");
-    /// ```
     pub fn get_mut(&mut self) -> &mut T
         ensures value { result.now ≡ cursor_inner self.old }
         ensures* writes_back { sem 𝓛 (Lends (cursor-row T.row) T.row self.entry result (cursor_with_inner self.old)) }
@@ -164,12 +141,6 @@ impl<T> Cursor<T> {
     }
 
     /// Moves to this position, past the end too. Follows `std::io::Cursor::set_position`.
-    ///
-    /// ```rust
-    /// let mut c = Cursor::new(*b"abc");
-    /// c.set_position(7); // past the end too
-    /// assert!(rt; c.position() == 7);
-    /// ```
     pub fn set_position(&mut self, pos: u64)
         ensures position { cursor_place self.new ≡ pos }
         ensures inner { cursor_inner self.new ≡ cursor_inner self.old }

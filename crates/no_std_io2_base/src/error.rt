@@ -3,8 +3,9 @@
 ghost use Rattle.std.specs.Prelude.{◌≡◌, Some, None};
 ghost use Rattle.std.specs.Option.{option_map};
 ghost use Rattle.no_std_io2_base.specs.Errors.{kind_text, error_kind, error_text, error_display, is_interruption};
-ghost use Rattle.no_std_io2_base.specs.Errors.{IsPlain, IsOutOfMemory, IsUnexpectedEnd, IsUnwritten};
+ghost use Rattle.no_std_io2_base.specs.Errors.{IsPlain, IsOutOfMemory};
 
+pub(crate) use crate::shared::{failed_to_fill, failed_to_write};
 use std::alloc::AllocError;
 use std::fmt;
 
@@ -124,12 +125,6 @@ pub type Result<T> = std::result::Result<T, Error>;
 
 impl Error {
     /// Makes an error of this kind, with this text. Follows `std::io::Error::new`.
-    ///
-    /// ```rust
-    /// let e = Error::new(ErrorKind::InvalidData, "no header");
-    /// assert!(rt; e.kind() == ErrorKind::InvalidData);
-    /// assert!(rt; e.get_ref().is_some());
-    /// ```
     pub fn new(kind: ErrorKind, text: &'static str) -> Error
         ensures kind { error_kind result ≡ kind }
         ensures text { error_text result ≡ Some text.entry.now }
@@ -154,11 +149,6 @@ impl Error {
     }
 
     /// Returns the kind. Follows `std::io::Error::kind`.
-    ///
-    /// ```rust
-    /// let e = Error::other("no carrier");
-    /// assert!(rt; e.kind() == ErrorKind::Other);
-    /// ```
     pub fn kind(&self) -> ErrorKind
         ensures { result ≡ error_kind self.now }
     {
@@ -178,12 +168,6 @@ impl Error {
     }
 
     /// Returns the text, where there is one. Follows `std::io::Error::into_inner`.
-    ///
-    /// ```rust
-    /// let e = Error::other("no carrier");
-    /// assert!(rt; e.get_ref().is_some());
-    /// assert!(rt; e.into_inner() == Some("no carrier"));
-    /// ```
     pub fn into_inner(self) -> Option<&'static str>
         ensures { option_map (λ s. s.now) result ≡ error_text self }
     {
@@ -238,19 +222,3 @@ impl fmt::Display for Error {
 }
 
 impl std::error::Error for Error {}
-
-// The refusals that the library words itself, each in one place. Users meet them as errors alone.
-
-/// The bytes ended before the buffer was full.
-pub fn failed_to_fill() -> Error
-    ensures { IsUnexpectedEnd result }
-{
-    Error::new(ErrorKind::UnexpectedEof, "failed to fill whole buffer")
-}
-
-/// The device took no byte of some.
-pub fn failed_to_write() -> Error
-    ensures { IsUnwritten result }
-{
-    Error::new(ErrorKind::WriteZero, "failed to write whole buffer")
-}

@@ -4,8 +4,8 @@
 
 pub mod cursor;
 pub mod error;
-pub mod impls;
+mod impls;
+mod laws;
 mod piece_laws;
-mod reader_tells;
-mod tells;
+pub mod shared;
 pub mod traits;

@@ -1,5 +1,5 @@
 //! Reads a text by `read_line`, `split` and `lines` through a small buffer, and sends and reads frames and lines of a log,
-//! for runs in each of which one allocation fails (`scripts/check_refusals`).
+//! for runs in each of which one allocation fails (`scripts/check_memory`).
 //!
 //! The status is 0 where all was read, and 1 where memory was refused and nothing else went wrong. An answer in
 //! place of the refusal is printed, and the status is 0, so that the run differs from one with memory by its output.

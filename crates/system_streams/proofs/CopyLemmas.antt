@@ -8,8 +8,8 @@ use Rattle.no_std_io2.specs.Errors.{error_kind, kind_number, is_interruption, Is
 use Rattle.no_std_io2.specs.Events.{Event, byte, fails, bytes, HasNoFault}
 use Rattle.no_std_io2.specs.Writes.{Told, Moves, HasSpent}
 use Rattle.no_std_io2.proofs.MovesLemmas.{Moves-then, Moves-ends, Moves-steady}
-use Rattle.no_std_io2.specs.Buffered.{with_buffer}
-use Rattle.no_std_io2.proofs.BufferLemmas.{Moves-bare}
+use Rattle.no_std_io2.specs.BufWriter.{with_buffer}
+use Rattle.no_std_io2.proofs.BufWriterLemmas.{Moves-bare}
 use Rattle.no_std_io2.specs.Copy.{Copies, CopyEnds, CopyMoves}
 use Rattle.system_streams.specs.Copies.{Passes, PassesSome, HasFirstFault, HasFailed, MayFail, TellsMishap}
 

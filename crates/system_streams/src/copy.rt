@@ -1,9 +1,11 @@
 // The copy from a reader to a writer, with a buffer at each.
 ghost use Rattle.std.specs.Prelude.{◌≡◌, ◌⊎◌, [], Some, IfOk, IsOk, IfErr};
 ghost use Rattle.no_std_io2.specs.Events.{bytes, HasNoFault};
-ghost use Rattle.no_std_io2.specs.Reading.{reader_inner, reader_events};
+ghost use Rattle.no_std_io2.specs.BufReader.{reader_inner, reader_events};
 ghost use Rattle.system_streams.specs.Copies.{Passes, PassesSome, HasFirstFault, HasFailed, MayFail};
-ghost use Rattle.no_std_io2.specs.Fits.{BufReaderFits, BufWriterFits, LineWriterFits};
+ghost use Rattle.no_std_io2.specs.BufReader.{BufReaderFits};
+ghost use Rattle.no_std_io2.specs.BufWriter.{BufWriterFits};
+ghost use Rattle.no_std_io2.specs.LineWriter.{LineWriterFits};
 
 use no_std_io2::io::{BufReader, BufWriter, LineWriter, Read, Result, Write, copy};
 
@@ -67,8 +69,8 @@ fn through_lines<R: Read, W: Write + Drop>(
 ///
 /// ```rust
 /// let (count, out) = copy_through(&b"abc\nde"[..], Vec::<u8>::new(rt.alloc()), true)?;
-/// assert_eq!(rt; count, 6);
-/// assert_eq!(rt; out.as_slice(), b"abc\nde".as_slice());
+/// assert!(rt; count == 6);
+/// assert!(rt; out.as_slice() == b"abc\nde".as_slice());
 /// ```
 pub fn copy_through<R: Read + Drop, W: Write + Drop>(
     input: R,

@@ -13,8 +13,8 @@
 #![tactic(auto)]
 
 mod copy;
+mod laws;
 mod patient;
-mod tells;
 
 pub use copy::copy_through;
 pub use patient::Patient;

@@ -1,9 +1,10 @@
 // A reader or a writer of the system's, with a number of turns that bounds every loop over it.
 ghost use Rattle.std.specs.Prelude.{◌≡◌, ℕ, List, ◌+◌, ◌<◌, ◌≤◌, ◌⊎◌, ◌++◌, [], Ok, IsOk, IfOk, IfErr, IsErrAnd, length, OnOk};
 ghost use Rattle.std.specs.Io.KnownBytes.{ReadConsumes, WriteAppends, Keeps};
-ghost use Rattle.no_std_io2.specs.Events.{SpendsTurn};
-ghost use Rattle.no_std_io2.specs.Errors.{IsFault, IsNoInterruption, IsUnwritten, IsUnexpectedEnd};
-ghost use Rattle.no_std_io2.specs.Writes.{Moves, MovesFront, Sends, taken, write_mishap, call_mishap};
+ghost use Rattle.no_std_io2.specs.ReadLaws.{ReadLaw, ReadExactLaw};
+ghost use Rattle.no_std_io2.specs.Errors.{IsNoInterruption, IsUnwritten, IsUnexpectedEnd};
+ghost use Rattle.no_std_io2.specs.WriteLaws.{WriteLaw, FlushLaw, WriteAllLaw, WriteRestLaw};
+ghost use Rattle.no_std_io2.specs.Writes.{taken};
 ghost use Rattle.system_streams.specs.Turns.{IsOutOfTurns, IsPlainInterruption, IsDeviceFault, AnswersRead};
 ghost use Rattle.system_streams.specs.Turns.{AnswersWrite, EndsReads, EndsWrites, Gives, Got};
 
@@ -26,10 +27,10 @@ use std::io::ErrorKind as SystemKind;
 /// ```rust
 /// let mut p = Patient::new(&b"abcdef"[..], 3);
 /// let mut buf = [0u8; 4];
-/// assert_eq!(rt; p.read(&mut buf)?, 4);
-/// assert_eq!(rt; p.read(&mut buf)?, 2);
+/// assert!(rt; p.read(&mut buf)? == 4);
+/// assert!(rt; p.read(&mut buf)? == 2);
 /// assert!(rt; p.read(&mut buf).is_err()); // no turns left
-/// assert_eq!(rt; p.read(&mut buf)?, 0);
+/// assert!(rt; p.read(&mut buf)? == 0);
 /// ```
 #[derive(Drop)]
 pub struct Patient<D> {
@@ -43,15 +44,6 @@ impl<D> Patient<D> {
 
     /// The device with this many turns, from 0 up. A reader's last turn is the error that no turns
     /// are left.
-    ///
-    /// ```rust
-    /// let mut p = Patient::new(&b"abcdef"[..], 3);
-    /// let mut buf = [0u8; 4];
-    /// assert_eq!(rt; p.read(&mut buf)?, 4);
-    /// assert_eq!(rt; p.read(&mut buf)?, 2);
-    /// assert!(rt; p.read(&mut buf).is_err()); // no turns left
-    /// assert_eq!(rt; p.read(&mut buf)?, 0);
-    /// ```
     pub fn new(device: D, turns: u64) -> Patient<D>
         ensures device { patient_device result ≡ device }
         ensures turns { patient_turns result ≡ turns }
@@ -69,7 +61,7 @@ impl<D> Patient<D> {
     /// ```rust
     /// let mut p = Patient::new(&b"abcdef"[..], 3);
     /// p.read(&mut [0u8; 4])?;
-    /// assert_eq!(rt; p.into_inner(), b"ef".as_slice());
+    /// assert!(rt; p.into_inner() == b"ef".as_slice());
     /// ```
     pub fn into_inner(self) -> D
         ensures { result ≡ patient_device self }
@@ -159,19 +151,10 @@ impl<D: io::Read> Read for Patient<D> {
 
     ghost turns = { patient_turns };
 
-    ghost cost = { λ _. 0 };
-
-    ghost is_metered = { λ _. ⊥ };
-
-    ghost is_filling = { λ _. ⊥ };
-
     ghost may_take_none = { λ _. ⊥ };
 
     fn read(&mut self, buf: &mut [u8]) -> Result<usize>
-        // The trait's.
-        ensures bound { IfOk result (λ n. n ≤ length buf.new) }
-        ensures turns { patient_turns self.new ≤ patient_turns self.old }
-        ensures turn { SpendsTurn result (patient_turns self.old) (patient_turns self.new) }
+        ensures law { ReadLaw ⟦<Self as Read>⟧ self.old buf.old result buf.new self.new }
 
         // Into an empty buffer, or with no turns, it reads nothing.
         ensures empty { length buf.old ≡ 0 → (result ≡ Ok 0) × (self.new ≡ self.old) }
@@ -209,15 +192,12 @@ impl<D: io::Read> Read for Patient<D> {
     }
 
     fn read_exact(&mut self, buf: &mut [u8]) -> Result<()>
-        // The trait's.
-        ensures fault { IfErr result IsFault }
-        ensures turns { patient_turns self.new ≤ patient_turns self.old }
+        ensures law { ReadExactLaw ⟦<Self as Read>⟧ self.old buf.old result buf.new self.new }
 
         // What was read is what the device gave, and each answer of it but its end spent a turn.
         ensures bytes { Got (D.remaining (patient_device self.old)) (D.remaining (patient_device self.new))
             result buf.new }
         ensures ends { EndsReads (length buf.old) result (patient_turns self.old) (patient_turns self.new) }
-        ensures empty { length buf.old ≡ 0 → IsOk result × (self.new ≡ self.old) }
         ensures taken { patient_taken self.new ≡ patient_taken self.old }
     {
         let mut at = 0;
@@ -245,17 +225,9 @@ impl<D: io::Write> Write for Patient<D> {
 
     ghost told = { patient_told };
 
-    ghost takes_all = { λ _. ⊥ };
-
-    ghost cost = { λ _. 0 };
-
-    ghost is_metered = { λ _. ⊥ };
-
     fn write(&mut self, buf: &[u8]) -> Result<usize>
-        // The trait's.
-        ensures bound { IfOk result (λ n. n ≤ length buf.now) }
-        ensures moves { Moves (patient_told self.old) (taken result buf.now) (write_mishap result buf.now)
-            (patient_told self.new) }
+        ensures law { let P = ⟦<Self as Write>⟧ in
+            WriteLaw P.told P.takes_all P.cost P.is_metered self.old buf.now result self.new }
 
         // What the device answered for is out.
         ensures taken { patient_taken self.new ≡ patient_taken self.old ++ taken result buf.now }
@@ -273,9 +245,8 @@ impl<D: io::Write> Write for Patient<D> {
     }
 
     fn flush(&mut self) -> Result<()>
-        // The trait's.
-        ensures empty { OnOk result ((patient_told self.new).held ≡ []) }
-        ensures moves { Moves (patient_told self.old) [] (call_mishap result) (patient_told self.new) }
+        ensures law { let P = ⟦<Self as Write>⟧ in
+            FlushLaw P.told P.takes_all P.cost P.is_metered self.old result self.new }
 
         // It takes no byte.
         ensures taken { patient_taken self.new ≡ patient_taken self.old }
@@ -289,9 +260,8 @@ impl<D: io::Write> Write for Patient<D> {
     }
 
     fn write_all(&mut self, buf: &[u8]) -> Result<()>
-        // The trait's.
-        ensures fault { IsNoInterruption result }
-        ensures moves { MovesFront (patient_told self.old) buf.now result (patient_told self.new) }
+        ensures law { let P = ⟦<Self as Write>⟧ in
+            WriteAllLaw P.told P.takes_all P.cost P.is_metered self.old buf.now result self.new }
 
         // What the device answered for is out: all of it at `Ok`.
         ensures bytes { (left : List ℕ) × OnOk result (left ≡ []) × Gives buf.now left
@@ -304,10 +274,8 @@ impl<D: io::Write> Write for Patient<D> {
     }
 
     fn write_rest(&mut self, rest: &mut &[u8]) -> Result<()>
-        // The trait's.
-        ensures fault { IsNoInterruption result }
-        ensures sends { Sends (patient_told self.old) rest.old.now result (patient_told self.new) rest.new.now }
-        ensures done { OnOk result (rest.new.now ≡ []) }
+        ensures law { let P = ⟦<Self as Write>⟧ in
+            WriteRestLaw P.told P.takes_all P.cost P.is_metered self.old rest.old.now result self.new rest.new.now }
 
         // What the device answered for is out.
         ensures bytes { Gives rest.old.now rest.new.now (patient_taken self.old) (patient_taken self.new)

@@ -1,16 +1,8 @@
 // A buffer in front of a reader.
-ghost use Rattle.std.specs.Prelude.{◌≡◌, ◌+◌, ◌-◌, ◌<◌, ◌≤◌, ◌^◌, [], ◌++◌, min, length, take, drop, IsOk, OnOk, OnErr};
+ghost use Rattle.std.specs.Prelude.{◌≡◌, ◌<◌, ◌≤◌, ◌^◌, [], length};
 ghost use Rattle.std.specs.Borrow.{Lends, sem};
-ghost use Rattle.no_std_io2_base.specs.Events.{events_of};
-ghost use Rattle.no_std_io2_base.specs.Lending.{IsNotEmpty, reads_needed};
-ghost use Rattle.no_std_io2.specs.contracts.buffered.buf_reader.BufReader.{the_row as reader-row};
-ghost use Rattle.no_std_io2.specs.ReaderCalls.{FillsBuffer};
-ghost use Rattle.no_std_io2.specs.Reading.{reader_held, reader_behind, reader_inner, reader_events, reader_turns};
-ghost use Rattle.no_std_io2.specs.Reading.{reader_has_store, reader_is_sound, reader_position, reader_lent_length};
-ghost use Rattle.no_std_io2.specs.Reading.{reader_with_inner, FillsFrom};
 
-use super::read_ahead::ReadAhead;
-use no_std_io2_base::error::Result;
+use super::buffer::Buffer;
 use no_std_io2_base::traits::{Read, Stored};
 use std::fmt::{self, Debug, Formatter};
 
@@ -35,19 +27,16 @@ mod seeks;
 #[derive(Drop)]
 pub struct BufReader<R, const S: usize> {
     inner: R,
-    ahead: ReadAhead<S>,
+    buffer: Buffer<S>,
+    ghost some_room: { 0 < S },
+    ghost in_memory: { S < 2 ^ 63 },
 }
 
 impl<R: Read, const S: usize> BufReader<R, S> {
+    ghost use Rattle.no_std_io2.specs.BufReader.{reader_held, reader_behind, reader_inner, reader_events};
+
     /// Puts an empty buffer of `S` bytes in front of `inner`. `S` is from 1 to 2^63 - 1. Follows
     /// `std::io::BufReader::with_capacity`.
-    ///
-    /// ```rust
-    /// let mut r = BufReader::<_, 4>::new(Cursor::new(*b"abcdefgh"));
-    /// let mut two = [0u8; 2];
-    /// r.read_exact(&mut two)?; // one inner read, of four bytes
-    /// assert!(rt; r.buffer() == b"cd".as_slice());
-    /// ```
     pub fn new(inner: R) -> BufReader<R, S>
         requires some_room { 0 < S }
         requires in_memory { S < 2 ^ 63 }
@@ -58,12 +47,15 @@ impl<R: Read, const S: usize> BufReader<R, S> {
     {
         BufReader {
             inner,
-            ahead: ReadAhead::new(),
+            buffer: Buffer::new(),
         }
     }
 }
 
 impl<R, const S: usize> BufReader<R, S> {
+    ghost use Rattle.no_std_io2.specs.contracts.buffered.buf_reader.BufReader.{the_row as reader-row};
+    ghost use Rattle.no_std_io2.specs.BufReader.{reader_held, reader_behind, reader_inner, reader_with_inner};
+
     /// Gets a reference to the inner reader. It is ahead of this one by the bytes held. Follows
     /// `std::io::BufReader::get_ref`.
     ///
@@ -81,15 +73,6 @@ impl<R, const S: usize> BufReader<R, S> {
 
     /// Gets a mutable reference to the inner reader. The bytes held stay. Follows
     /// `std::io::BufReader::get_mut`.
-    ///
-    /// ```rust
-    /// let mut r = BufReader::<_, 4>::new(Cursor::new(*b"abcdefgh"));
-    /// assert!(rt; r.capacity() == 4);
-    /// r.read_exact(&mut [0u8; 2])?;
-    /// assert!(rt; r.get_ref().position() == 4); // ahead by the two bytes held
-    /// r.get_mut().set_position(6);
-    /// assert!(rt; r.buffer() == b"cd".as_slice()); // what is held stays
-    /// ```
     pub fn get_mut(&mut self) -> &mut R
         ensures value { result.now ≡ reader_inner self.old }
         ensures* writes_back { sem 𝓛 (Lends (reader-row R.row S.row) R.row self.entry result
@@ -100,49 +83,29 @@ impl<R, const S: usize> BufReader<R, S> {
 
     /// Returns the bytes held: read and not yet given, at most `S`. Follows
     /// `std::io::BufReader::buffer`.
-    ///
-    /// ```rust
-    /// let mut r = BufReader::<_, 4>::new(Cursor::new(*b"abcdefgh"));
-    /// let mut two = [0u8; 2];
-    /// r.read_exact(&mut two)?; // one inner read, of four bytes
-    /// assert!(rt; r.buffer() == b"cd".as_slice());
-    /// ```
     pub fn buffer(&self) -> &[u8]
         ensures value { result.now ≡ reader_held self.now }
         ensures bound { length result.now ≤ S }
     {
-        self.ahead.as_slice()
+        self.buffer.as_slice()
     }
 
     /// Returns the bytes given since the last inner read that lie right before those held: as far
     /// back as [`seek_relative`](BufReader::seek_relative) goes without a seek of the inner reader.
     /// They are no more there after an inner read, whatever it returns, after a `read_to_end`, and
     /// after a seek that drops the buffer. Rust's `BufReader` keeps them and doesn't show them.
-    ///
-    /// ```rust
-    /// let mut r = BufReader::<_, 4>::new(Cursor::new(*b"abcdefgh"));
-    /// let mut two = [0u8; 2];
-    /// r.read_exact(&mut two)?; // one inner read, of four bytes
-    /// assert!(rt; r.buffer() == b"cd".as_slice());
-    /// assert!(rt; r.behind() == b"ab".as_slice());
-    /// ```
     pub fn behind(&self) -> &[u8]
         ensures value { result.now ≡ reader_behind self.now }
         ensures bound { length result.now ≤ S }
     {
-        self.ahead.behind()
+        self.buffer.behind()
     }
 
     /// Returns the buffer's size in bytes, `S`. Follows `std::io::BufReader::capacity`.
-    ///
-    /// ```rust
-    /// let mut r = BufReader::<_, 4>::new(Cursor::new(*b"abcdefgh"));
-    /// assert!(rt; r.capacity() == 4);
-    /// ```
     pub fn capacity(&self) -> usize
         ensures { result ≡ S }
     {
-        self.ahead.capacity()
+        S
     }
 
     /// Returns the inner reader. The bytes held are lost. Follows `std::io::BufReader::into_inner`.
@@ -160,52 +123,10 @@ impl<R, const S: usize> BufReader<R, S> {
     }
 }
 
-impl<R: Read, const S: usize> BufReader<R, S> {
-    // Moves as many of the held bytes as fit in `buf`.
-    #[inline(always)]
-    fn give(&mut self, buf: &mut [u8]) -> usize
-        ensures count { result ≡ min (length (reader_held self.old)) (length buf.old) }
-        ensures gave { take result buf.new ≡ take result (reader_held self.old) }
-        ensures held { reader_held self.new ≡ drop result (reader_held self.old) }
-        ensures behind { reader_behind self.new ≡ reader_behind self.old ++ take result buf.new }
-        ensures sound { reader_is_sound R.has_store R.position R.content self.old
-            → reader_is_sound R.has_store R.position R.content self.new }
-        ensures inner { reader_inner self.new ≡ reader_inner self.old }
-        ensures told { reader_events R.events self.old
-            ≡ events_of (take result buf.new) ++ reader_events R.events self.new }
-        ensures turns { reader_turns R.turns self.new + result ≡ reader_turns R.turns self.old }
-        ensures store { reader_has_store R.has_store R.position R.content self.old
-            → reader_has_store R.has_store R.position R.content self.new
-            × (reader_position R.position self.new ≡ reader_position R.position self.old + result) }
-    {
-        self.ahead.give(buf)
-    }
-
-    // Reads once, where nothing is held.
-    #[inline(always)]
-    fn fill_empty(&mut self) -> Result<()>
-        requires { length (reader_held self.old) ≡ 0 }
-        ensures { FillsBuffer R.tells R.events R.turns R.has_store R.position R.content R.is_metered
-            R.cost R.is_filling self.old result self.new }
-    {
-        self.ahead.fill(&mut self.inner)
-    }
-
-    // Reads once, unless some bytes are held.
-    #[inline(always)]
-    fn fill(&mut self) -> Result<()>
-        ensures { FillsBuffer R.tells R.events R.turns R.has_store R.position R.content R.is_metered
-            R.cost R.is_filling self.old result self.new }
-    {
-        if self.ahead.len() > 0 {
-            return Ok(());
-        }
-        self.fill_empty()
-    }
-}
-
 // The inner's store, less what is held.
 impl<R: Stored, const S: usize> Stored for BufReader<R, S> {
+    ghost use Rattle.no_std_io2.specs.BufReader.{reader_inner, reader_has_store, reader_position};
+
     ghost has_store = { reader_has_store R.has_store R.position R.content };
 
     ghost content = { λ r. R.content (reader_inner r) };
@@ -216,7 +137,7 @@ impl<R: Stored, const S: usize> Stored for BufReader<R, S> {
 /// Of the buffer it shows how much is held, and how much could be.
 impl<R: Debug, const S: usize> Debug for BufReader<R, S> {
     fn fmt<W: fmt::Write>(&self, f: &mut Formatter<W>) -> fmt::Result {
-        let held = self.ahead.len();
+        let held = self.buffer.len();
         f.debug_struct("BufReader")
             .field("reader", &self.inner)
             .field("buffer", &format_args!("{held}/{S}"))

@@ -3,11 +3,12 @@ ghost use Rattle.std.specs.Prelude.{Some, ◌≡◌, ◌+◌, ◌<◌, ◌≤◌
 ghost use Rattle.std.specs.Prelude.{IsOkAnd, OnOk, OnErr, false};
 ghost use Rattle.std.specs.Borrow.{Lends, sem};
 ghost use Rattle.no_std_io2.specs.contracts.buffered.buf_writer.BufWriter.{the_row as writer-row};
+ghost use Rattle.no_std_io2_base.specs.WriteLaws.{WriteLaw, FlushLaw, WriteAllLaw};
 ghost use Rattle.no_std_io2_base.specs.Errors.{error_kind, IsFault, IsNoInterruption};
 ghost use Rattle.no_std_io2_base.specs.Writes.{Moves, MovesFront, taken, write_mishap, call_mishap, Sends, calls_for};
-ghost use Rattle.no_std_io2.specs.Buffered.{writer_inner, writer_buffer, writer_told, into_inner_error_writer};
-ghost use Rattle.no_std_io2.specs.Buffered.{into_inner_error_cause, writing_calls, buffer_after, IsEnd};
-ghost use Rattle.no_std_io2.specs.Buffered.{writer_with_inner};
+ghost use Rattle.no_std_io2.specs.BufWriter.{writer_inner, writer_buffer, writer_told, into_inner_error_writer};
+ghost use Rattle.no_std_io2.specs.BufWriter.{into_inner_error_cause, writing_calls, buffer_after, writer_with_inner};
+ghost use Rattle.no_std_io2.specs.Buffer.{IsEnd};
 
 mod seeking;
 
@@ -65,13 +66,6 @@ impl<W: Write + Drop, const S: usize> BufWriter<W, S> {
     }
 
     /// Gets a reference to the inner writer. Follows `std::io::BufWriter::get_ref`.
-    ///
-    /// ```rust
-    /// let mut w = BufWriter::<_, 8>::new(Cursor::new(Vec::<u8>::new(rt.alloc())));
-    /// w.write_all(b"abc")?;
-    /// assert!(rt; w.buffer() == b"abc".as_slice());
-    /// assert!(rt; w.get_ref().position() == 0);
-    /// ```
     pub fn get_ref(&self) -> &W
         ensures { result.now ≡ writer_inner self.now }
     {
@@ -80,15 +74,6 @@ impl<W: Write + Drop, const S: usize> BufWriter<W, S> {
 
     /// Gets a mutable reference to the inner writer. The buffer stays. Bytes that are written here go
     /// out before those that are held. Follows `std::io::BufWriter::get_mut`.
-    ///
-    /// ```rust
-    /// let mut w = BufWriter::<_, 8>::new(Cursor::new(Vec::<u8>::new(rt.alloc())));
-    /// w.write_all(b"abc")?;
-    /// assert!(rt; w.buffer() == b"abc".as_slice());
-    /// assert!(rt; w.get_ref().position() == 0);
-    /// w.get_mut().set_position(2);
-    /// assert!(rt; w.buffer() == b"abc".as_slice()); // what is held stays
-    /// ```
     pub fn get_mut(&mut self) -> &mut W
         ensures value { result.now ≡ writer_inner self.old }
         ensures* writes_back { sem 𝓛 (Lends (writer-row W.row S.row) W.row self.entry result
@@ -98,12 +83,6 @@ impl<W: Write + Drop, const S: usize> BufWriter<W, S> {
     }
 
     /// Returns the held bytes, at most `S`. Follows `std::io::BufWriter::buffer`.
-    ///
-    /// ```rust
-    /// let mut w = BufWriter::<_, 8>::new(Cursor::new(Vec::<u8>::new(rt.alloc())));
-    /// w.write_all(b"abc")?;
-    /// assert!(rt; w.buffer() == b"abc".as_slice());
-    /// ```
     pub fn buffer(&self) -> &[u8]
         ensures value { result.now ≡ writer_buffer self.now }
         ensures bound { length result.now ≤ S }
@@ -132,15 +111,7 @@ impl<W: Write + Drop, const S: usize> BufWriter<W, S> {
     ///
     /// In a `match`, bind the error to a name: the borrow check refuses `Err(_)` here, and passes
     /// `Err(_e)`.
-    ///
-    /// ```rust
-    /// let mut w = BufWriter::<Vec<u8>, 8>::new(Vec::new(rt.alloc()));
-    /// assert!(rt; w.capacity() == 8);
-    /// w.write_all(b"abc")?;
-    /// let device = w.into_inner()?; // sends `abc`
-    /// assert!(rt; device.as_slice() == b"abc".as_slice());
-    /// ```
-    pub fn into_inner(mut self) -> std::result::Result<W, IntoInnerError<BufWriter<W, S>>>
+    pub fn into_inner(self) -> std::result::Result<W, IntoInnerError<BufWriter<W, S>>>
         // No byte is lost.
         ensures ok { IfOk result (λ w. Moves (writer_told W.told self) [] [] (W.told w)) }
         ensures err { IfErr result (λ e. Moves (writer_told W.told self) []
@@ -159,12 +130,13 @@ impl<W: Write + Drop, const S: usize> BufWriter<W, S> {
             → IfOk result (λ w. W.is_metered w
             × (W.cost w ≡ W.cost (writer_inner self) + calls_for (writer_buffer self))) }
     {
-        match self.core.send() {
-            Ok(()) => {
-                let BufWriter { core } = self;
-                Ok(core.into_parts())
+        let BufWriter { core } = self;
+        match core.into_inner() {
+            Ok(inner) => Ok(inner),
+            Err(e) => {
+                let (error, core) = e.into_parts();
+                Err(IntoInnerError::new(BufWriter { core }, error))
             }
-            Err(error) => Err(IntoInnerError::new(self, error)),
         }
     }
 }
@@ -196,8 +168,6 @@ impl<W: Write + Drop, const S: usize> Write for BufWriter<W, S> {
 
     ghost cost = { λ w. W.cost (writer_inner w) };
 
-    ghost is_metered = { λ _. ⊥ };
-
     /// Holds `buf` where it is shorter than `S`, else hands it to the inner `write`. What is held is
     /// sent first where both together are above `S`; a refusal there accepts nothing of `buf`.
     ///
@@ -205,14 +175,8 @@ impl<W: Write + Drop, const S: usize> Write for BufWriter<W, S> {
     /// Sending's fault, or the inner `write`'s error. What was not sent is still held.
     #[inline(always)]
     fn write(&mut self, buf: &[u8]) -> Result<usize>
-        // The trait's.
-        ensures bound { IfOk result (λ n. n ≤ length buf.now) }
-        ensures moves { Moves (writer_told W.told self.old) (taken result buf.now)
-            (write_mishap result buf.now) (writer_told W.told self.new) }
-        ensures all { W.takes_all (writer_inner self.old)
-            → W.takes_all (writer_inner self.new) × (result ≡ Ok (length buf.now)) }
-        ensures cost { ⊥ → W.takes_all (writer_inner self.old)
-            → ⊥ × (W.cost (writer_inner self.new) ≡ W.cost (writer_inner self.old) + 1) }
+        ensures law { let B = ⟦<Self as Write>⟧ in
+            WriteLaw B.told B.takes_all B.cost B.is_metered self.old buf.now result self.new }
 
         // What is held then.
         ensures rest { IsEnd (writer_buffer self.old ++ taken result buf.now) (writer_buffer self.new) }
@@ -240,13 +204,8 @@ impl<W: Write + Drop, const S: usize> Write for BufWriter<W, S> {
     /// Sending's fault, with the inner writer not flushed, or the inner `flush`'s error. What was
     /// not sent is still held.
     fn flush(&mut self) -> Result<()>
-        // The trait's.
-        ensures empty { OnOk result ((writer_told W.told self.new).held ≡ []) }
-        ensures moves { Moves (writer_told W.told self.old) [] (call_mishap result)
-            (writer_told W.told self.new) }
-        ensures all { W.takes_all (writer_inner self.old) → W.takes_all (writer_inner self.new) }
-        ensures cost { ⊥ → W.takes_all (writer_inner self.old)
-            → ⊥ × (W.cost (writer_inner self.new) ≡ W.cost (writer_inner self.old)) }
+        ensures law { let B = ⟦<Self as Write>⟧ in
+            FlushLaw B.told B.takes_all B.cost B.is_metered self.old result self.new }
 
         // What is held then, and what it costs.
         ensures ok { W.takes_all (writer_inner self.old) → IsOk result }
@@ -265,12 +224,8 @@ impl<W: Write + Drop, const S: usize> Write for BufWriter<W, S> {
     /// Sending's fault, or the inner `write_all`'s error. What was not sent is still held.
     #[inline(always)]
     fn write_all(&mut self, buf: &[u8]) -> Result<()>
-        // The trait's.
-        ensures fault { IsNoInterruption result }
-        ensures moves { MovesFront (writer_told W.told self.old) buf.now result (writer_told W.told self.new) }
-        ensures all { W.takes_all (writer_inner self.old) → W.takes_all (writer_inner self.new) }
-        ensures cost { ⊥ → W.takes_all (writer_inner self.old)
-            → ⊥ × (W.cost (writer_inner self.new) ≡ W.cost (writer_inner self.old) + calls_for buf.now) }
+        ensures law { let B = ⟦<Self as Write>⟧ in
+            WriteAllLaw B.told B.takes_all B.cost B.is_metered self.old buf.now result self.new }
 
         // What is held then.
         ensures ok { W.takes_all (writer_inner self.old) → IsOk result }

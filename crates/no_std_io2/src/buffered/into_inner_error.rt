@@ -1,7 +1,7 @@
 //! The error of `into_inner` of a buffered writer.
 ghost use Rattle.std.specs.Prelude.{Some, ◌≡◌};
 ghost use Rattle.no_std_io2_base.specs.Errors.{error_display};
-ghost use Rattle.no_std_io2.specs.Buffered.{into_inner_error_writer, into_inner_error_cause};
+ghost use Rattle.no_std_io2.specs.BufWriter.{into_inner_error_writer, into_inner_error_cause};
 
 use no_std_io2_base::error::Error;
 use std::fmt;
@@ -36,17 +36,6 @@ impl<W> IntoInnerError<W> {
     }
 
     /// Returns the error that stopped the sending. Follows `std::io::IntoInnerError::error`.
-    ///
-    /// ```rust
-    /// let taken = Vec::new(rt.alloc());
-    /// let mut w = BufWriter::<_, 8>::new(Narrow { taken, most: 0 }); // a device that takes no byte
-    /// w.write_all(b"abc")?;
-    /// if let Err(failed) = w.into_inner() {
-    ///     assert!(rt; failed.error().kind() == ErrorKind::WriteZero);
-    ///     let w = failed.into_inner();
-    ///     assert!(rt; w.buffer() == b"abc".as_slice());
-    /// }
-    /// ```
     pub fn error(&self) -> &Error
         ensures { result.now ≡ into_inner_error_cause self.now }
     {
@@ -54,17 +43,6 @@ impl<W> IntoInnerError<W> {
     }
 
     /// Returns the buffered writer, to be used again. Follows `std::io::IntoInnerError::into_inner`.
-    ///
-    /// ```rust
-    /// let taken = Vec::new(rt.alloc());
-    /// let mut w = BufWriter::<_, 8>::new(Narrow { taken, most: 0 }); // a device that takes no byte
-    /// w.write_all(b"abc")?;
-    /// if let Err(failed) = w.into_inner() {
-    ///     assert!(rt; failed.error().kind() == ErrorKind::WriteZero);
-    ///     let w = failed.into_inner();
-    ///     assert!(rt; w.buffer() == b"abc".as_slice());
-    /// }
-    /// ```
     pub fn into_inner(self) -> W
         ensures { result ≡ into_inner_error_writer self }
     {

@@ -3,16 +3,16 @@ ghost use Rattle.std.specs.Prelude.{◌≡◌, ◌+◌, ◌-◌, ◌<◌, ◌≤
 ghost use Rattle.std.specs.Prelude.{IsOkAnd, OnOk, OnErr};
 ghost use Rattle.std.specs.Borrow.{Lends, sem};
 ghost use Rattle.no_std_io2.specs.contracts.buffered.line_writer.LineWriter.{the_row as line-row};
-ghost use Rattle.no_std_io2.specs.LineState.{IsLineState, HasNoNewline};
-ghost use Rattle.no_std_io2.specs.LineWriter.{line_inner, line_buffer, line_told, line_with_inner};
-ghost use Rattle.no_std_io2.specs.Lines.{HasNewline, WritesLines, unfinished_line, whole_if_short};
-ghost use Rattle.no_std_io2.specs.Buffered.{IsEnd, HoldsEnd, buffer_after, into_inner_error_writer, into_inner_error_cause};
+ghost use Rattle.no_std_io2.specs.Lines.{IsLineState, HasNoNewline, HasNewline, unfinished_line, whole_if_short};
+ghost use Rattle.no_std_io2.specs.LineWriter.{line_inner, line_buffer, line_told, line_with_inner, WritesLines};
+ghost use Rattle.no_std_io2.specs.Buffer.{IsEnd};
+ghost use Rattle.no_std_io2.specs.BufWriter.{HoldsEnd, buffer_after, into_inner_error_writer, into_inner_error_cause};
+ghost use Rattle.no_std_io2_base.specs.WriteLaws.{WriteLaw, FlushLaw, WriteAllLaw};
 ghost use Rattle.no_std_io2_base.specs.Errors.{error_kind, IsFault, IsNoInterruption};
 ghost use Rattle.no_std_io2_base.specs.Writes.{Moves, MovesFront, taken, write_mishap, call_mishap, calls_for};
 
 mod state;
 mod steps;
-mod tells;
 
 use super::into_inner_error::IntoInnerError;
 use super::sender::Sender;
@@ -47,12 +47,6 @@ pub struct LineWriter<W: Write + Drop, const S: usize> {
 impl<W: Write + Drop, const S: usize> LineWriter<W, S> {
     /// Puts an empty buffer of `S` bytes in front of `inner`. Follows
     /// `std::io::LineWriter::with_capacity`.
-    ///
-    /// ```rust
-    /// let mut w = LineWriter::<Vec<u8>, 16>::new(Vec::new(rt.alloc()));
-    /// w.write_all(b"one\ntw")?;
-    /// assert!(rt; w.get_ref().as_slice() == b"one\n".as_slice());
-    /// ```
     pub fn new(inner: W) -> LineWriter<W, S>
         ensures inner { line_inner result ≡ inner }
         ensures empty { line_buffer result ≡ [] }
@@ -63,12 +57,6 @@ impl<W: Write + Drop, const S: usize> LineWriter<W, S> {
     }
 
     /// Gets a reference to the inner writer. Follows `std::io::LineWriter::get_ref`.
-    ///
-    /// ```rust
-    /// let mut w = LineWriter::<Vec<u8>, 16>::new(Vec::new(rt.alloc()));
-    /// w.write_all(b"one\ntw")?;
-    /// assert!(rt; w.get_ref().as_slice() == b"one\n".as_slice());
-    /// ```
     pub fn get_ref(&self) -> &W
         ensures { result.now ≡ line_inner self.now }
     {
@@ -93,13 +81,6 @@ impl<W: Write + Drop, const S: usize> LineWriter<W, S> {
 
     /// Returns the held bytes, at most `S`: they have no newline, or end in one. Rust's
     /// `LineWriter` has no such call; `std::io::BufWriter::buffer` is its like.
-    ///
-    /// ```rust
-    /// let mut w = LineWriter::<Vec<u8>, 16>::new(Vec::new(rt.alloc()));
-    /// w.write_all(b"one\ntw")?;
-    /// assert!(rt; w.get_ref().as_slice() == b"one\n".as_slice());
-    /// assert!(rt; w.buffer() == b"tw".as_slice());
-    /// ```
     pub fn buffer(&self) -> &[u8]
         ensures value { result.now ≡ line_buffer self.now }
         ensures bound { length result.now ≤ S }
@@ -115,15 +96,7 @@ impl<W: Write + Drop, const S: usize> LineWriter<W, S> {
     /// The fault that stopped the sending, never an interruption: the inner writer's own, or
     /// `WriteZero` where it took no byte of some. The error holds this writer, with the bytes that
     /// are not yet sent; they have no newline, or end in one.
-    ///
-    /// ```rust
-    /// let mut w = LineWriter::<Vec<u8>, 16>::new(Vec::new(rt.alloc()));
-    /// w.write_all(b"one\ntw")?;
-    /// w.get_mut().clear(); // forgets `one\n`; `tw` is still held
-    /// let device = w.into_inner()?; // sends `tw`
-    /// assert!(rt; device.as_slice() == b"tw".as_slice());
-    /// ```
-    pub fn into_inner(mut self) -> std::result::Result<W, IntoInnerError<LineWriter<W, S>>>
+    pub fn into_inner(self) -> std::result::Result<W, IntoInnerError<LineWriter<W, S>>>
         // No byte is lost.
         ensures ok { IfOk result (λ w. Moves (line_told W.told self) [] [] (W.told w)) }
         ensures err { IfErr result (λ e. Moves (line_told W.told self) []
@@ -143,13 +116,15 @@ impl<W: Write + Drop, const S: usize> LineWriter<W, S> {
             → IfOk result (λ w. W.is_metered w
             × (W.cost w ≡ W.cost (line_inner self) + calls_for (line_buffer self))) }
     {
-        match self.core.buffered.send() {
-            Ok(()) => {
-                let LineWriter { core } = self;
-                let LineSender { buffered } = core;
-                Ok(buffered.into_parts())
+        let LineWriter { core } = self;
+        let LineSender { buffered } = core;
+        match buffered.into_inner() {
+            Ok(inner) => Ok(inner),
+            Err(e) => {
+                let (error, buffered) = e.into_parts();
+                let core = LineSender { buffered };
+                Err(IntoInnerError::new(LineWriter { core }, error))
             }
-            Err(error) => Err(IntoInnerError::new(self, error)),
         }
     }
 }
@@ -178,11 +153,7 @@ impl<W: Write + Drop + fmt::Debug, const S: usize> fmt::Debug for LineWriter<W, 
 impl<W: Write + Drop, const S: usize> Write for LineWriter<W, S> {
     ghost told = { line_told W.told };
 
-    ghost takes_all = { λ _. ⊥ };
-
     ghost cost = { λ w. W.cost (line_inner w) };
-
-    ghost is_metered = { λ _. ⊥ };
 
     /// Writes some front of `buf`. Held complete lines are sent first. Without a newline in `buf`, it is
     /// held where it fits behind what is held, else that is sent first, and a `buf` of at least `S`
@@ -194,12 +165,8 @@ impl<W: Write + Drop, const S: usize> Write for LineWriter<W, S> {
     /// The inner writer's own, or `WriteZero` where it took no byte of some that were held. Nothing
     /// of `buf` was accepted then, and what was not sent is still held.
     fn write(&mut self, buf: &[u8]) -> Result<usize>
-        ensures bound { IfOk result (λ n. n ≤ length buf.now) }
-        ensures moves { Moves (line_told W.told self.old) (taken result buf.now)
-            (write_mishap result buf.now) (line_told W.told self.new) }
-        ensures all { ⊥ → ⊥ × (result ≡ Ok (length buf.now)) }
-        ensures cost { ⊥ → ⊥
-            → ⊥ × (W.cost (line_inner self.new) ≡ W.cost (line_inner self.old) + 1) }
+        ensures law { let B = ⟦<Self as Write>⟧ in
+            WriteLaw B.told B.takes_all B.cost B.is_metered self.old buf.now result self.new }
         ensures fits { HasNoNewline buf.now → HasNoNewline (line_buffer self.old)
             → length buf.now < S → length (line_buffer self.old) + length buf.now ≤ S
             → IsOk result × (line_inner self.new ≡ line_inner self.old)
@@ -235,12 +202,8 @@ impl<W: Write + Drop, const S: usize> Write for LineWriter<W, S> {
     /// The inner writer's own, or `WriteZero` where it took no byte of some that were held. What was
     /// not sent is still held, and a later flush goes on there.
     fn flush(&mut self) -> Result<()>
-        ensures empty { OnOk result ((line_told W.told self.new).held ≡ []) }
-        ensures moves { Moves (line_told W.told self.old) [] (call_mishap result)
-            (line_told W.told self.new) }
-        ensures all { ⊥ → ⊥ }
-        ensures cost { ⊥ → ⊥
-            → ⊥ × (W.cost (line_inner self.new) ≡ W.cost (line_inner self.old)) }
+        ensures law { let B = ⟦<Self as Write>⟧ in
+            FlushLaw B.told B.takes_all B.cost B.is_metered self.old result self.new }
         ensures sent { OnOk result (line_buffer self.new ≡ []) }
         ensures lasts { W.takes_all (line_inner self.old)
             → W.takes_all (line_inner self.new) × IsOk result }
@@ -261,12 +224,8 @@ impl<W: Write + Drop, const S: usize> Write for LineWriter<W, S> {
     /// `Interrupted`. Some front of `buf`, possibly empty or whole, was accepted then: it is out or
     /// held.
     fn write_all(&mut self, buf: &[u8]) -> Result<()>
-        ensures fault { IsNoInterruption result }
-        ensures moves { MovesFront (line_told W.told self.old) buf.now result
-            (line_told W.told self.new) }
-        ensures all { ⊥ → ⊥ }
-        ensures cost { ⊥ → ⊥ → ⊥ × (W.cost (line_inner self.new)
-            ≡ W.cost (line_inner self.old) + calls_for buf.now) }
+        ensures law { let B = ⟦<Self as Write>⟧ in
+            WriteAllLaw B.told B.takes_all B.cost B.is_metered self.old buf.now result self.new }
         ensures open { OnOk result (HasNoNewline (line_buffer self.new)) }
         ensures fits { HasNoNewline buf.now → HasNoNewline (line_buffer self.old)
             → length buf.now < S → length (line_buffer self.old) + length buf.now ≤ S

@@ -1,12 +1,13 @@
-//! A writer with a window of held bytes in front: what both buffered writers stand on.
+//! A writer with a buffer in front: what both buffered writers stand on.
 ghost use Rattle.std.specs.Prelude.{◌≡◌, ◌+◌, ◌<◌, ◌≤◌, [], ◌++◌, length};
 ghost use Rattle.std.specs.Bool.{OnTrue, OnFalse};
 ghost use Rattle.std.specs.Borrow.{Lends, sem};
 ghost use Rattle.no_std_io2.specs.contracts.buffered.sender.Sender.{the_row as sender-row};
-ghost use Rattle.no_std_io2.specs.Buffered.{sender_inner, sender_buffer, sender_with_inner};
-ghost use Rattle.no_std_io2.specs.Sending.{Sent, MakesWay, Buffers, BuffersAll, Flushes};
+ghost use Rattle.no_std_io2.specs.BufWriter.{sender_inner, sender_buffer, sender_with_inner, Sent, MakesWay, Buffers};
+ghost use Rattle.no_std_io2.specs.BufWriter.{BuffersAll, Flushes, Unwraps};
 
-use super::window::Window;
+use super::buffer::Buffer;
+use super::into_inner_error::IntoInnerError;
 use no_std_io2_base::error::{Error, ErrorKind, Result};
 use no_std_io2_base::traits::Write;
 
@@ -15,7 +16,7 @@ use no_std_io2_base::traits::Write;
 #[derive(Drop)]
 pub struct Sender<W, const S: usize> {
     pub(super) inner: W,
-    window: Window<S>,
+    buffer: Buffer<S>,
 }
 
 impl<W: Write + Drop, const S: usize> Sender<W, S> {
@@ -25,7 +26,7 @@ impl<W: Write + Drop, const S: usize> Sender<W, S> {
     {
         Sender {
             inner,
-            window: Window::new(),
+            buffer: Buffer::new(),
         }
     }
 
@@ -48,20 +49,13 @@ impl<W: Write + Drop, const S: usize> Sender<W, S> {
         ensures value { result.now ≡ sender_buffer self.now }
         ensures bound { length result.now ≤ S }
     {
-        self.window.as_slice()
+        self.buffer.as_slice()
     }
 
     pub fn capacity(&self) -> usize
         ensures { result ≡ S }
     {
         S
-    }
-
-    /// The inner writer; what is held is lost.
-    pub(crate) fn into_parts(self) -> W
-        ensures { result ≡ sender_inner self }
-    {
-        self.inner
     }
 
     /// Sends the held bytes: repeats the inner `write` with all that is held, and passes over
@@ -80,13 +74,13 @@ impl<W: Write + Drop, const S: usize> Sender<W, S> {
     fn send_held(&mut self) -> Result<()>
         ensures { Sent W.told W.takes_all W.is_metered W.cost self.old result self.new }
     {
-        while self.window.len() > 0 {
-            match self.inner.write(self.window.as_slice()) {
+        'sends: while self.buffer.len() > 0 {
+            match self.inner.write(self.buffer.as_slice()) {
                 Ok(0) => {
                     let text = "failed to write the buffered data";
                     return Err(Error::new(ErrorKind::WriteZero, text));
                 }
-                Ok(n) => self.window.drop_front(n),
+                Ok(n) => self.buffer.drop_front(n),
                 Err(e) if e.is_interrupted() => {}
                 Err(e) => return Err(e),
             }
@@ -100,7 +94,7 @@ impl<W: Write + Drop, const S: usize> Sender<W, S> {
         ensures same { sender_inner self.new ≡ sender_inner self.old }
         ensures buffer { sender_buffer self.new ≡ sender_buffer self.old ++ more.now }
     {
-        self.window.push(more);
+        self.buffer.push(more);
     }
 
     /// Sends what is held, where `more` bytes don't fit beside it.
@@ -111,7 +105,7 @@ impl<W: Write + Drop, const S: usize> Sender<W, S> {
     fn make_way(&mut self, more: usize) -> Result<()>
         ensures { MakesWay W.told W.takes_all W.is_metered W.cost self.old more result self.new }
     {
-        if more > S - self.window.len() {
+        if more > S - self.buffer.len() {
             return self.send_held();
         }
         Ok(())
@@ -126,7 +120,7 @@ impl<W: Write + Drop, const S: usize> Sender<W, S> {
             × (sender_buffer self.new ≡ sender_buffer self.old ++ buf.now)) }
         ensures same { OnFalse result (self.new ≡ self.old) }
     {
-        self.window.append_if_room(buf)
+        self.buffer.append_if_room(buf)
     }
 
     /// Holds `buf` where it is shorter than `S`, else hands it to the inner `write`. What is held is
@@ -141,7 +135,7 @@ impl<W: Write + Drop, const S: usize> Sender<W, S> {
         if self.hold_if_room(buf) {
             return Ok(buf.len());
         }
-        if buf.len() >= S && self.window.len() == 0 {
+        if buf.len() >= S && self.buffer.len() == 0 {
             return self.inner.write(buf);
         }
         self.write_slowly(buf)
@@ -165,7 +159,7 @@ impl<W: Write + Drop, const S: usize> Sender<W, S> {
         if buf.len() >= S {
             return self.inner.write(buf);
         }
-        self.window.push(buf);
+        self.buffer.push(buf);
         Ok(buf.len())
     }
 
@@ -181,7 +175,7 @@ impl<W: Write + Drop, const S: usize> Sender<W, S> {
         if self.hold_if_room(buf) {
             return Ok(());
         }
-        if buf.len() >= S && self.window.len() == 0 {
+        if buf.len() >= S && self.buffer.len() == 0 {
             return self.inner.write_all(buf);
         }
         self.write_all_slowly(buf)
@@ -205,7 +199,7 @@ impl<W: Write + Drop, const S: usize> Sender<W, S> {
         if buf.len() >= S {
             return self.inner.write_all(buf);
         }
-        self.window.push(buf);
+        self.buffer.push(buf);
         Ok(())
     }
 
@@ -218,5 +212,18 @@ impl<W: Write + Drop, const S: usize> Sender<W, S> {
     {
         self.send()?;
         self.inner.flush()
+    }
+
+    /// Sends what is held and returns the inner writer, which is not flushed.
+    ///
+    /// # Errors
+    /// As `send`, with this writer, which holds what was not sent.
+    pub(crate) fn into_inner(mut self) -> std::result::Result<W, IntoInnerError<Sender<W, S>>>
+        ensures { Unwraps W.told W.takes_all W.is_metered W.cost self result }
+    {
+        match self.send() {
+            Ok(()) => Ok(self.inner),
+            Err(error) => Err(IntoInnerError::new(self, error)),
+        }
     }
 }

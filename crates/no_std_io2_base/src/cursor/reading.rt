@@ -1,13 +1,15 @@
 ghost use Rattle.std.specs.Prelude.{◌≡◌, ◌+◌, ◌++◌, ◌≤◌, ◌<◌, ◌^◌, ◌↔◌, min, length, take, IsOk, IsOkAnd, IfOk, IfErr, OnErr};
 ghost use Rattle.no_std_io2_base.specs.Cursor.{cursor_place, cursor_inner, cursor_left, cursor_stores};
+ghost use Rattle.no_std_io2_base.specs.BufReadLaws.{ConsumeLaw};
 ghost use Rattle.no_std_io2_base.specs.Errors.{IsUnexpectedEnd};
-ghost use Rattle.no_std_io2_base.specs.Events.{events_of, given, Reads, ReadsExact, SpendsTurn};
+ghost use Rattle.no_std_io2_base.specs.Events.{events_of, given};
 ghost use Rattle.no_std_io2_base.specs.Laws.{bytes_alone};
+ghost use Rattle.no_std_io2_base.specs.ReadLaws.{ReadLaw, ReadExactLaw};
 ghost use Rattle.std.proofs.Common.{rules};
 
 use super::{AsSlice, Cursor};
 use crate::error::{Result, failed_to_fill};
-use crate::impls::{append_rest, copy_one, copy_prefix};
+use crate::impls::{append_rest, copy_prefix};
 use crate::traits::{BufRead, Read, Stored};
 use std::alloc::Allocator;
 
@@ -38,45 +40,24 @@ impl<T: AsSlice<u8>> Read for Cursor<T> {
 
     ghost turns = { λ c. length (cursor_left T.slice c) };
 
-    ghost cost = { λ _. 0 };
-
-    ghost is_metered = { λ _. ⊥ };
-
     ghost is_filling = { λ _. Unit {0} };
-
-    ghost may_take_none = { λ _. Unit {0} };
 
     #[inline(always)]
     fn read(&mut self, buf: &mut [u8]) -> Result<usize>
-        // The trait's.
-        ensures bound { IfOk result (λ n. n ≤ length buf.new) }
-        ensures told { Reads (events_of (cursor_left T.slice self.old)) result buf.new (events_of (cursor_left T.slice self.new)) }
-        ensures fills { IsOkAnd result (λ n. n ≡ min (length buf.old) (length (events_of (cursor_left T.slice self.old)))) }
+        ensures law { ReadLaw ⟦<Self as Read>⟧ self.old buf.old result buf.new self.new }
 
         // It never fails, and gives as many bytes as there are and fit.
         ensures answer { IsOkAnd result (λ n. n ≡ min (length buf.old) (length (cursor_left T.slice self.old))) }
         ensures position { cursor_place self.new ≡ cursor_place self.old + given result }
         ensures inner { cursor_inner self.new ≡ cursor_inner self.old }
     {
-        // Where a read is a call, this way saves no register for the copies of the others.
-        if buf.len() == 1 {
-            let n = copy_one(self.left(), buf);
-            self.pos += n as u64;
-            return Ok(n);
-        }
         let n = copy_prefix(self.left(), buf);
         self.pos += n as u64;
         Ok(n)
     }
 
     fn read_exact(&mut self, buf: &mut [u8]) -> Result<()>
-        // The trait's.
-        ensures told { ReadsExact (Unit {0}) (events_of (cursor_left T.slice self.old)) result buf.new
-            (events_of (cursor_left T.slice self.new)) }
-        ensures store { cursor_stores T.slice self.old → cursor_stores T.slice self.new
-            × (T.slice (cursor_inner self.new) ≡ T.slice (cursor_inner self.old))
-            × (cursor_place self.new + length (events_of (cursor_left T.slice self.new))
-            ≡ cursor_place self.old + length (events_of (cursor_left T.slice self.old))) }
+        ensures law { ReadExactLaw ⟦<Self as Read>⟧ self.old buf.old result buf.new self.new }
 
         // It fails exactly where too few bytes are left, and changes nothing then.
         ensures variant { IsOk result ↔ (length buf.old ≤ length (cursor_left T.slice self.old)) }
@@ -115,10 +96,6 @@ impl<T: AsSlice<u8>> Read for Cursor<T> {
 impl<T: AsSlice<u8>> BufRead for Cursor<T> {
     ghost held = { cursor_left T.slice };
 
-    ghost counts_fills = { λ _. ⊥ };
-
-    ghost fills = { λ _. 0 };
-
     ghost lends_surely = { λ _. Unit {0} };
 
     ghost lent_length = { λ c. length (cursor_left T.slice c) };
@@ -130,9 +107,7 @@ impl<T: AsSlice<u8>> BufRead for Cursor<T> {
 
     fn consume(&mut self, amount: usize)
         requires { amount ≤ length (cursor_left T.slice self.old) }
-        // The trait's.
-        ensures told { events_of (cursor_left T.slice self.old)
-            ≡ events_of (take amount (cursor_left T.slice self.old)) ++ events_of (cursor_left T.slice self.new) }
+        ensures law { ConsumeLaw ⟦<Self as BufRead>⟧ self.old amount self.new }
 
         // It moves the position.
         ensures position { cursor_place self.new ≡ cursor_place self.old + amount }

@@ -1,6 +1,7 @@
-ghost use Rattle.std.specs.Prelude.{◌≡◌, length, Ok, IfOk};
-ghost use Rattle.no_std_io2_base.specs.Cursor.{cursor_place, cursor_inner, cursor_stores};
+ghost use Rattle.std.specs.Prelude.{◌≡◌, length, Ok};
+ghost use Rattle.no_std_io2_base.specs.Cursor.{cursor_place, cursor_inner};
 ghost use Rattle.no_std_io2_base.specs.Seek.{Seeks};
+ghost use Rattle.no_std_io2_base.specs.SeekLaws.{SeekLaw, StreamPositionLaw, RewindLaw, StreamLenLaw};
 
 use super::{AsSlice, Cursor};
 use crate::error::{Error, ErrorKind, Result};
@@ -8,13 +9,9 @@ use crate::traits::{Seek, SeekFrom};
 
 impl<T: AsSlice<u8>> Seek for Cursor<T> {
     fn seek(&mut self, pos: SeekFrom) -> Result<u64>
-        // The trait's.
-        ensures store { cursor_stores T.slice self.old → cursor_stores T.slice self.new
-            × (T.slice (cursor_inner self.new) ≡ T.slice (cursor_inner self.old))
-            × Seeks (length (T.slice (cursor_inner self.old))) (cursor_place self.old) pos result (cursor_place self.new) }
-        ensures position { IfOk result (λ n. cursor_stores T.slice self.new → cursor_place self.new ≡ n) }
+        ensures law { SeekLaw ⟦<Self as Seek>⟧ self.old pos result self.new }
 
-        // The same, whatever the content, which stays.
+        // It goes where it should, whatever the content, which stays.
         ensures seeks { Seeks (length (T.slice (cursor_inner self.old))) (cursor_place self.old) pos result (cursor_place self.new) }
         ensures inner { cursor_inner self.new ≡ cursor_inner self.old }
     {
@@ -42,6 +39,7 @@ impl<T: AsSlice<u8>> Seek for Cursor<T> {
     }
 
     fn stream_position(&mut self) -> Result<u64>
+        ensures law { StreamPositionLaw ⟦<Self as Seek>⟧ self.old result self.new }
         ensures same { self.new ≡ self.old }
         ensures position { result ≡ Ok (cursor_place self.old) }
     {
@@ -49,6 +47,7 @@ impl<T: AsSlice<u8>> Seek for Cursor<T> {
     }
 
     fn rewind(&mut self) -> Result<()>
+        ensures law { RewindLaw ⟦<Self as Seek>⟧ self.old result self.new }
         ensures inner { cursor_inner self.new ≡ cursor_inner self.old }
         ensures position { cursor_place self.new ≡ 0 }
         ensures ok { result ≡ Ok tt }
@@ -59,6 +58,7 @@ impl<T: AsSlice<u8>> Seek for Cursor<T> {
 
     // Nothing moves.
     fn stream_len(&mut self) -> Result<u64>
+        ensures law { StreamLenLaw ⟦<Self as Seek>⟧ self.old result self.new }
         ensures same { self.new ≡ self.old }
         ensures len { result ≡ Ok (length (T.slice (cursor_inner self.old))) }
     {

@@ -1,9 +1,8 @@
 ghost use Rattle.std.specs.Prelude.{[]};
 
+use super::vectors::append;
 use crate::error::Result;
-use crate::traits::{
-    BufRead, LEAST_ROOM, Read, Stored, append, find_piece, open_room, reserve_room,
-};
+use crate::traits::{BufRead, LEAST_ROOM, Read, Stored, find_piece, open_room, reserve_room};
 use std::alloc::Allocator;
 
 // A boxed trait object tells no store. The bodies of `read_to_end` and `read_until` are the traits',
@@ -23,12 +22,6 @@ impl<A: Allocator> Read for Box<dyn BufRead + Drop, A> {
     ghost events = { λ b. (BufRead-box b).Read.events b.value };
 
     ghost turns = { λ b. (BufRead-box b).Read.turns b.value };
-
-    ghost cost = { λ _. 0 };
-
-    ghost is_metered = { λ _. ⊥ };
-
-    ghost is_filling = { λ _. ⊥ };
 
     ghost may_take_none = { λ b. (BufRead-box b).Read.may_take_none b.value };
 
@@ -70,14 +63,6 @@ impl<A: Allocator> Read for Box<dyn BufRead + Drop, A> {
 
 impl<A: Allocator> BufRead for Box<dyn BufRead + Drop, A> {
     ghost held = { λ b. (BufRead-box b).BufRead.held b.value };
-
-    ghost counts_fills = { λ _. ⊥ };
-
-    ghost fills = { λ _. 0 };
-
-    ghost lends_surely = { λ _. ⊥ };
-
-    ghost lent_length = { λ _. 0 };
 
     fn fill_buf(&mut self) -> Result<&[u8]> {
         (**self).fill_buf()

@@ -8,12 +8,6 @@ use std::alloc::Allocator;
 impl<A: Allocator> Write for Box<dyn Write + Drop, A> {
     ghost told = { λ b. (Write-box b).told b.value };
 
-    ghost takes_all = { λ _. ⊥ };
-
-    ghost cost = { λ _. 0 };
-
-    ghost is_metered = { λ _. ⊥ };
-
     fn write(&mut self, buf: &[u8]) -> Result<usize> {
         (**self).write(buf)
     }

@@ -22,12 +22,6 @@ impl<A: Allocator> Read for Box<dyn Read + Drop, A> {
 
     ghost turns = { λ b. (Read-box b).Read.turns b.value };
 
-    ghost cost = { λ _. 0 };
-
-    ghost is_metered = { λ _. ⊥ };
-
-    ghost is_filling = { λ _. ⊥ };
-
     ghost may_take_none = { λ b. (Read-box b).Read.may_take_none b.value };
 
     fn read(&mut self, buf: &mut [u8]) -> Result<usize> {

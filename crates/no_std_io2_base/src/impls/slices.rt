@@ -1,7 +1,8 @@
-ghost use Rattle.std.specs.Prelude.{◌≡◌, ◌≤◌, ◌<◌, ◌+◌, ◌++◌, length, [], IfErr, IsOk, OnOk, OnErr, vec_len, vec_capacity};
-ghost use Rattle.no_std_io2_base.specs.Errors.{IsFault, IsOutOfMemory};
-ghost use Rattle.no_std_io2_base.specs.Events.{events_of, ReadsExact};
+ghost use Rattle.std.specs.Prelude.{◌≡◌, ◌≤◌, ◌<◌, ◌+◌, ◌++◌, length, [], IfErr, OnOk, OnErr, vec_len, vec_capacity};
+ghost use Rattle.no_std_io2_base.specs.Errors.{IsOutOfMemory};
+ghost use Rattle.no_std_io2_base.specs.Events.{events_of};
 ghost use Rattle.no_std_io2_base.specs.Laws.{bytes_alone};
+ghost use Rattle.no_std_io2_base.specs.ReadLaws.{ReadExactLaw};
 ghost use Rattle.no_std_io2_base.specs.Slices.{HasMoved};
 
 use super::copying::copy_prefix;
@@ -53,13 +54,7 @@ impl Read for &[u8] {
 
     ghost turns = { λ s. length s.now };
 
-    ghost cost = { λ _. 0 };
-
-    ghost is_metered = { λ _. ⊥ };
-
     ghost is_filling = { λ _. Unit {0} };
-
-    ghost may_take_none = { λ _. Unit {0} };
 
     #[inline(always)]
     fn read(&mut self, buf: &mut [u8]) -> Result<usize> {
@@ -71,11 +66,7 @@ impl Read for &[u8] {
 
     // Where the bytes are too few, nothing is taken and the buffer is as it was.
     fn read_exact(&mut self, buf: &mut [u8]) -> Result<()>
-        // The trait's.
-        ensures told { ReadsExact (Unit {0}) (events_of self.old.now) result buf.new (events_of self.new.now) }
-        ensures fault { IfErr result IsFault }
-        ensures empty { length buf.old ≡ 0 → IsOk result × (self.new ≡ self.old) }
-        ensures turns { length self.new.now ≤ length self.old.now }
+        ensures law { ReadExactLaw ⟦<Self as Read>⟧ self.old buf.old result buf.new self.new }
 
         // Its own.
         ensures ok { OnOk result (self.old.now ≡ buf.new ++ self.new.now) }
@@ -105,10 +96,6 @@ impl Read for &[u8] {
 
 impl BufRead for &[u8] {
     ghost held = { λ s. s.now };
-
-    ghost counts_fills = { λ _. ⊥ };
-
-    ghost fills = { λ _. 0 };
 
     ghost lends_surely = { λ _. Unit {0} };
 

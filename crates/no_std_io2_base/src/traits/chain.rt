@@ -1,18 +1,18 @@
-ghost use Rattle.std.specs.Prelude.{◌≡◌, ◌+◌, ◌≤◌, ◌<◌, ◌++◌, true, false, [], length, take, drop, IfOk, IfErr, IsOk};
-ghost use Rattle.std.specs.Prelude.{OnOk, vec_len, vec_capacity};
+ghost use Rattle.std.specs.Prelude.{◌≡◌, ◌≤◌, ◌<◌, ◌++◌, true, false, [], length, take, drop, OnOk};
 ghost use types.Logic.{sem};
 ghost use Rattle.std.specs.Borrow.{LendsBoth};
 ghost use Rattle.no_std_io2_base.specs.contracts.traits.chain.Chain.{the_row as chain-row};
 ghost use Rattle.no_std_io2_base.specs.Chain.{chain_first, chain_second, chain_is_done, chain_with_readers};
 ghost use Rattle.no_std_io2_base.specs.Chain.{chain_tells, chain_events, chain_turns, chain_held, InTurn};
-ghost use Rattle.no_std_io2_base.specs.Errors.{IsFault};
-ghost use Rattle.no_std_io2_base.specs.Events.{events_of, HasRoom, Reads, ReadsToEnd, SpendsTurn};
+ghost use Rattle.no_std_io2_base.specs.BufReadLaws.{ConsumeLaw};
+ghost use Rattle.no_std_io2_base.specs.Events.{events_of};
+ghost use Rattle.no_std_io2_base.specs.ReadLaws.{ReadLaw, ReadExactLaw, ReadToEndLaw};
 
 use super::buf_read::BufRead;
 use super::read::Read;
 use super::room::fill_room;
 use super::stored::Stored;
-use crate::error::Result;
+use crate::error::{Result, failed_to_fill};
 use std::alloc::Allocator;
 
 /// Two readers, one after the other. Made by [`Read::chain`]; follows Rust's `std::io::Chain`.
@@ -64,14 +64,6 @@ impl<T, U> Chain<T, U> {
     }
 
     /// Gets references to the two readers. Follows `std::io::Chain::get_ref`.
-    ///
-    /// ```rust
-    /// let mut r = Cursor::new(*b"ab").chain(Cursor::new(*b"cd"));
-    /// let mut three = [0u8; 3];
-    /// r.read_exact(&mut three)?;
-    /// let (first, second) = r.get_ref();
-    /// assert!(rt; (first.position(), second.position()) == (2, 1));
-    /// ```
     pub fn get_ref(&self) -> (&T, &U)
         ensures first { result.0.now ≡ chain_first self.now }
         ensures second { result.1.now ≡ chain_second self.now }
@@ -114,24 +106,14 @@ impl<T: Read, U: Read> Read for Chain<T, U> {
 
     ghost turns = { chain_turns T.turns U.turns };
 
-    ghost cost = { λ _. 0 };
-
-    ghost is_metered = { λ _. ⊥ };
-
-    ghost is_filling = { λ _. ⊥ };
-
     ghost may_take_none = { λ _. ⊥ };
 
     fn read(&mut self, buf: &mut [u8]) -> Result<usize>
-        // The trait's.
-        ensures bound { IfOk result (λ n. n ≤ length buf.new) }
-        ensures told { chain_tells T.tells U.tells self.old → chain_tells T.tells U.tells self.new
-            × Reads (chain_events T.events U.events self.old) result buf.new (chain_events T.events U.events self.new) }
-        ensures turns { chain_turns T.turns U.turns self.new ≤ chain_turns T.turns U.turns self.old }
-        ensures turn { SpendsTurn result (chain_turns T.turns U.turns self.old) (chain_turns T.turns U.turns self.new) }
+        ensures law { ReadLaw ⟦<Self as Read>⟧ self.old buf.old result buf.new self.new }
 
-        // One reader after the other, and the first is done where it had nothing left.
+        // One reader after the other, and the first is done where it had nothing left, but by no empty read.
         ensures in_turn { InTurn self.old self.new }
+        ensures empty { length buf.old ≡ 0 → chain_is_done self.new ≡ chain_is_done self.old }
         ensures ended { T.tells (chain_first self.old) → T.events (chain_first self.old) ≡ [] → 0 < length buf.old
             → chain_is_done self.new ≡ true }
     {
@@ -144,19 +126,27 @@ impl<T: Read, U: Read> Read for Chain<T, U> {
         self.second.read(buf)
     }
 
+    fn read_exact(&mut self, buf: &mut [u8]) -> Result<()>
+        ensures law { ReadExactLaw ⟦<Self as Read>⟧ self.old buf.old result buf.new self.new }
+
+        // One reader after the other.
+        ensures in_turn { InTurn self.old self.new }
+    {
+        let mut at = 0;
+        'reads: while at < buf.len() {
+            match self.read(&mut buf[at..]) {
+                Ok(0) => return Err(failed_to_fill()),
+                Ok(n) => at += n,
+                Err(e) if e.is_interrupted() => {}
+                Err(e) => return Err(e),
+            }
+        }
+        Ok(())
+    }
+
     // Each reader fills the vector in its own way, but for the room that the first has left.
     fn read_to_end<A: Allocator>(&mut self, buf: &mut Vec<u8, A>) -> Result<usize>
-        // The trait's.
-        ensures told { chain_tells T.tells U.tells self.old → chain_tells T.tells U.tells self.new
-            × ReadsToEnd (chain_events T.events U.events self.old) result buf.old.items buf.new.items
-            (chain_events T.events U.events self.new) }
-        ensures appends { take (vec_len buf.old) buf.new.items ≡ buf.old.items }
-        ensures count { IfOk result (λ n. vec_len buf.new ≡ vec_len buf.old + n) }
-        ensures capacity { vec_capacity buf.old ≤ vec_capacity buf.new }
-        ensures room { chain_tells T.tells U.tells self.old
-            → HasRoom (chain_events T.events U.events self.old) (vec_len buf.old) (vec_capacity buf.old) → IsOk result }
-        ensures fault { IfErr result IsFault }
-        ensures turns { chain_turns T.turns U.turns self.new ≤ chain_turns T.turns U.turns self.old }
+        ensures law { ReadToEndLaw ⟦<Self as Read>⟧ self.old buf.old result buf.new self.new }
 
         // One reader after the other, to the end of both.
         ensures in_turn { InTurn self.old self.new }
@@ -186,14 +176,6 @@ impl<T: Read, U: Read> Read for Chain<T, U> {
 impl<T: BufRead, U: BufRead> BufRead for Chain<T, U> {
     ghost held = { chain_held T.held U.held };
 
-    ghost counts_fills = { λ _. ⊥ };
-
-    ghost fills = { λ _. 0 };
-
-    ghost lends_surely = { λ _. ⊥ };
-
-    ghost lent_length = { λ _. 0 };
-
     #[tactic(auto, using(crate::proofs::Held::begins_append))]
     fn fill_buf(&mut self) -> Result<&[u8]> {
         if !self.done_first {
@@ -207,14 +189,8 @@ impl<T: BufRead, U: BufRead> BufRead for Chain<T, U> {
     }
 
     fn consume(&mut self, amount: usize)
-        // The trait's.
         requires { amount ≤ length (chain_held T.held U.held self.old) }
-        ensures held { chain_held T.held U.held self.new ≡ drop amount (chain_held T.held U.held self.old) }
-        ensures told { chain_tells T.tells U.tells self.old → chain_tells T.tells U.tells self.new
-            × (chain_events T.events U.events self.old
-            ≡ events_of (take amount (chain_held T.held U.held self.old)) ++ chain_events T.events U.events self.new) }
-        ensures turns { chain_turns T.turns U.turns self.new ≤ chain_turns T.turns U.turns self.old }
-        ensures turn { 0 < amount → chain_turns T.turns U.turns self.new < chain_turns T.turns U.turns self.old }
+        ensures law { ConsumeLaw ⟦<Self as BufRead>⟧ self.old amount self.new }
 
         // Of the reader that is read now.
         ensures in_turn { InTurn self.old self.new }

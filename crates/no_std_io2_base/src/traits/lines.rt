@@ -16,14 +16,6 @@ use std::alloc::Global;
 /// A last line without a newline is an item too, and keeps its carriage return. A line that isn't
 /// UTF-8 is the item `InvalidData`. After an error it has ended and stays ended, unlike Rust's: what
 /// was taken for that item is lost.
-///
-/// ```rust
-/// let mut text = String::new(rt.alloc());
-/// for line in Cursor::new(*b"one\r\ntwo\n").lines(rt.alloc()) {
-///     text.push_str(line?.as_str())?;
-/// }
-/// assert!(rt; text.as_str() == "onetwo");
-/// ```
 #[derive(Drop)]
 pub struct Lines<R> {
     inner: R,

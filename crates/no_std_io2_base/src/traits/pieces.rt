@@ -1,15 +1,14 @@
 // What the calls that read pieces are made of.
 ghost use Rattle.std.specs.Prelude.{◌≡◌, ◌≢◌, ◌<◌, ◌≤◌, ◌+◌, ◌++◌, false, All, length, take, slice_index, IfSome};
 ghost use Rattle.std.specs.Prelude.{IfNone, OnOk, OnErr, IfErr, IfOk, IsOk, IsUtf8, vec_len, vec_capacity};
-ghost use Rattle.std.specs.Prelude.{string_bytes, string_len};
+ghost use Rattle.std.specs.Prelude.{string_bytes, string_len, string_capacity};
 ghost use Rattle.std.specs.List.{AllWithin};
 ghost use Rattle.no_std_io2_base.specs.Pieces.{FindsPiece, ends_in, without, line_text};
 ghost use Rattle.no_std_io2_base.specs.PieceItems.{IsInvalidText, AnswersLine};
-ghost use Rattle.no_std_io2_base.specs.Errors.{IsFault, IsOutOfMemory};
+ghost use Rattle.no_std_io2_base.specs.Errors.{IsFault};
 ghost use Rattle.no_std_io2_base.specs.Writes.{IsFront};
 
 use crate::error::{Error, ErrorKind, Result};
-use std::alloc::Allocator;
 
 // How many bytes are looked at in one step.
 const STEP: usize = 16;
@@ -40,47 +39,17 @@ fn skip_steps(bytes: &[u8], wanted: u8) -> usize
     at
 }
 
-// Where this byte stands first.
-fn find_byte(bytes: &[u8], wanted: u8) -> Option<usize>
-    ensures some { IfSome result (λ at. (at < length bytes.now) × (slice_index bytes.now at ≡ wanted)
-        × All (λ b. b ≢ wanted) (take at bytes.now)) }
-    ensures none { IfNone result (All (λ b. b ≢ wanted) bytes.now) }
-{
-    'bytes: for i in skip_steps(bytes, wanted)..bytes.len() {
-        if bytes[i] == wanted {
-            return Some(i);
-        }
-    }
-    None
-}
-
 // How many of the lent bytes belong to a piece, and whether it is whole with them: they end in its
 // delimiter, or nothing was lent.
 pub(crate) fn find_piece(lent: &[u8], delim: u8) -> (usize, bool)
     ensures { FindsPiece delim lent.now result.0 result.1 }
 {
-    match find_byte(lent, delim) {
-        Some(at) => (at + 1, true),
-        None => (lent.len(), lent.is_empty()),
+    'bytes: for i in skip_steps(lent, delim)..lent.len() {
+        if lent[i] == delim {
+            return (i + 1, true);
+        }
     }
-}
-
-/// Appends these bytes.
-///
-/// # Errors
-/// `OutOfMemory` where the growth was refused: `buf` is as it was.
-pub fn append<A: Allocator>(buf: &mut Vec<u8, A>, bytes: &[u8]) -> Result<()>
-    ensures ok { OnOk result (buf.new.items ≡ buf.old.items ++ bytes.now) }
-    ensures err { OnErr result (buf.new.items ≡ buf.old.items) }
-    ensures len { OnOk result (vec_len buf.new ≡ vec_len buf.old + length bytes.now) }
-    ensures refused { IfErr result IsOutOfMemory }
-    ensures full { OnErr result (vec_capacity buf.old < vec_len buf.old + length bytes.now) }
-    ensures grows { vec_capacity buf.old ≤ vec_capacity buf.new }
-{
-    match buf.extend_from_slice(bytes) {
-        Ok(()) => Ok(()),
-        Err(_refused) => Err(Error::from(ErrorKind::OutOfMemory)),
-    }
+    (lent.len(), lent.is_empty())
 }
 
 // Drops the last byte, where it is this one; answers whether it was.
@@ -122,7 +91,8 @@ pub(super) fn text_of(bytes: Vec<u8>) -> Result<String>
 // Appends a line's bytes to a text, where they are UTF-8, and answers as its read did. After want
 // of memory, the read's too, and where the bytes are no text, it leaves the text as it was.
 pub(super) fn append_line(buf: &mut String, line: &[u8], read: Result<usize>) -> Result<usize>
-    ensures answers { AnswersLine line.now read result (string_bytes buf.old) (string_bytes buf.new) }
+    ensures answers { AnswersLine line.now read (string_len buf.old) (string_capacity buf.old) result
+        (string_bytes buf.old) (string_bytes buf.new) }
     ensures appends { IsFront (string_bytes buf.old) (string_bytes buf.new) }
     ensures read { IsOk result → result ≡ read }
     ensures count { OnOk result (string_len buf.new ≡ string_len buf.old + length line.now) }

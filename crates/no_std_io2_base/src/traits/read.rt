@@ -1,8 +1,7 @@
-ghost use Rattle.std.specs.Prelude.{◌≡◌, ℕ, false, List, ◌++◌, take, drop, ◌+◌, ◌≤◌, ◌<◌, ◌^◌, min, length, IfOk};
-ghost use Rattle.std.specs.Prelude.{IfErr, OnOk, OnErr, IsOk, IsOkAnd, vec_len, vec_capacity};
-ghost use Rattle.no_std_io2_base.specs.Errors.{IsFault, IsOutOfMemory};
-ghost use Rattle.no_std_io2_base.specs.Events.{Event, cut, bytes, events_of, given, HasRoom, Reads, ReadsExact, ReadsToEnd, SpendsTurn};
+ghost use Rattle.std.specs.Prelude.{◌≡◌, ℕ, false, List, ◌++◌, drop, ◌<◌, ◌^◌, length};
 ghost use Rattle.no_std_io2_base.specs.Chain.{chain_first, chain_second, chain_is_done, chain_tells, chain_events};
+ghost use Rattle.no_std_io2_base.specs.Events.{Event, cut, bytes, events_of};
+ghost use Rattle.no_std_io2_base.specs.ReadLaws.{ReadLaw, ReadExactLaw, ReadToEndLaw};
 ghost use Rattle.no_std_io2_base.specs.SingleBytes.{bytes_reader};
 ghost use Rattle.no_std_io2_base.specs.Take.{take_inner, take_limit, take_events};
 
@@ -37,15 +36,15 @@ pub trait Read: Stored {
     ghost turns: { Self → ℕ };
 
     // How many reads into some room were made, and whether they are counted.
-    ghost cost: { Self → ℕ };
+    ghost cost: { Self → ℕ } = { λ _. 0 };
 
-    ghost is_metered: { Self → Type 0 };
+    ghost is_metered: { Self → Type 0 } = { λ _. ⊥ };
 
     // Bytes alone are to come, and each read gives as many of them as fit.
-    ghost is_filling: { Self → Type 0 };
+    ghost is_filling: { Self → Type 0 } = { λ _. ⊥ };
 
     // A `read_exact` that falls short may leave all that there was. Else it has taken it.
-    ghost may_take_none: { Self → Type 0 };
+    ghost may_take_none: { Self → Type 0 } = { λ _. Unit {0} };
 
     /// Reads some bytes into the front of `buf`: `Ok(n)` gave `n` bytes, `n` at most its length.
     /// Where `buf` has room, `Ok(0)` means the end, and a reader that tells its events stays there.
@@ -53,27 +52,8 @@ pub trait Read: Stored {
     ///
     /// # Errors
     /// The device's own; no byte was taken then. After an interruption the call may be made again.
-    ///
-    /// ```rust
-    /// let mut r = Cursor::new(*b"abc");
-    /// let mut buf = [0u8; 2];
-    /// assert!(rt; r.read(&mut buf)? == 2); // `ab`
-    /// assert!(rt; r.read(&mut buf)? == 1); // `c`
-    /// assert!(rt; r.read(&mut buf)? == 0); // the end
-    /// ```
     fn read(&mut self, buf: &mut [u8]) -> Result<usize>
-        ensures bound { IfOk result (λ n. n ≤ length buf.new) }
-        ensures told { tells self.old → tells self.new
-            × Reads (events self.old) result buf.new (events self.new) }
-        ensures turns { turns self.new ≤ turns self.old }
-        ensures turn { SpendsTurn result (turns self.old) (turns self.new) }
-        ensures cost { is_metered self.old → is_metered self.new
-            × (cost self.new ≡ cost self.old + min 1 (length buf.old)) }
-        ensures fills { is_filling self.old → is_filling self.new
-            × IsOkAnd result (λ n. n ≡ min (length buf.old) (length (events self.old))) }
-        ensures store { Self.has_store self.old → Self.has_store self.new
-            × (Self.content self.new ≡ Self.content self.old)
-            × (Self.position self.new ≡ Self.position self.old + given result) };
+        ensures law { ReadLaw ⟦<Self as Read>⟧ self.old buf.old result buf.new self.new };
 
     /// Fills the whole of `buf`, passing over interruptions. An empty buffer makes no call. Follows
     /// `std::io::Read::read_exact`.
@@ -91,16 +71,7 @@ pub trait Read: Stored {
     /// assert!(rt; r.read_exact(&mut header).is_err()); // one byte is left: `UnexpectedEof`
     /// ```
     fn read_exact(&mut self, buf: &mut [u8]) -> Result<()>
-        ensures told { tells self.old → tells self.new
-            × ReadsExact (may_take_none self.old) (events self.old) result buf.new (events self.new) }
-        ensures fault { IfErr result IsFault }
-        ensures empty { length buf.old ≡ 0 → IsOk result × (self.new ≡ self.old) }
-        ensures turns { turns self.new ≤ turns self.old }
-        ensures metered { is_metered self.old → is_metered self.new }
-        ensures filling { is_filling self.old → is_filling self.new }
-        ensures store { Self.has_store self.old → Self.has_store self.new
-            × (Self.content self.new ≡ Self.content self.old)
-            × (Self.position self.new + length (events self.new) ≡ Self.position self.old + length (events self.old)) }
+        ensures law { ReadExactLaw ⟦<Self as Read>⟧ self.old buf.old result buf.new self.new }
     {
         let mut at = 0;
         'reads: while at < buf.len() {
@@ -116,8 +87,8 @@ pub trait Read: Stored {
 
     /// Appends all bytes to come to `buf`, passing over interruptions, and returns their number.
     /// Before its first read, and whenever no room is left, it makes room for at least 32 bytes; a
-    /// slice and a cursor make room for all of their rest once these are full. Where no fault is to
-    /// come, and `buf` has room for all that is and for 32 bytes more, it is never refused any.
+    /// slice and a cursor make room for all of their rest once these are full. Where `buf` has room for
+    /// the bytes before the first fault and for 32 more, it is never refused any.
     /// Follows `std::io::Read::read_to_end`.
     ///
     /// # Errors
@@ -134,21 +105,7 @@ pub trait Read: Stored {
     fn read_to_end<A: Allocator>(&mut self, buf: &mut Vec<u8, A>) -> Result<usize>
     where
         Self: Sized,
-        ensures told { tells self.old → tells self.new
-            × ReadsToEnd (events self.old) result buf.old.items buf.new.items (events self.new) }
-        ensures appends { take (vec_len buf.old) buf.new.items ≡ buf.old.items }
-        ensures count { IfOk result (λ n. vec_len buf.new ≡ vec_len buf.old + n) }
-        ensures capacity { vec_capacity buf.old ≤ vec_capacity buf.new }
-        ensures room { tells self.old → HasRoom (events self.old) (vec_len buf.old) (vec_capacity buf.old)
-            → IsOk result }
-        ensures fault { IfErr result IsFault }
-        ensures turns { turns self.new ≤ turns self.old }
-        ensures metered { is_metered self.old → is_metered self.new }
-        ensures filling { is_filling self.old → is_filling self.new }
-        ensures store { Self.has_store self.old → Self.has_store self.new
-            × (Self.content self.new ≡ Self.content self.old)
-            × (Self.position self.new + length (events self.new)
-            ≡ Self.position self.old + length (events self.old)) }
+        ensures law { ReadToEndLaw ⟦<Self as Read>⟧ self.old buf.old result buf.new self.new }
     {
         let start = buf.len();
         let mut filled = start;
@@ -189,14 +146,6 @@ pub trait Read: Stored {
     }
 
     /// Turns this reader into an iterator over its bytes. Follows `std::io::Read::bytes`.
-    ///
-    /// ```rust
-    /// let mut content = Vec::<u8>::new(rt.alloc());
-    /// for byte in Cursor::new(*b"abc").bytes() {
-    ///     content.push(byte?)?;
-    /// }
-    /// assert!(rt; content.as_slice() == b"abc".as_slice());
-    /// ```
     final fn bytes(self) -> Bytes<Self>
     where
         Self: Sized,
@@ -206,13 +155,6 @@ pub trait Read: Stored {
     }
 
     /// Returns a reader of this one and, after its end, of `next`. Follows `std::io::Read::chain`.
-    ///
-    /// ```rust
-    /// let mut r = Cursor::new(*b"ab").chain(Cursor::new(*b"cd"));
-    /// let mut content = Vec::<u8>::new(rt.alloc());
-    /// r.read_to_end(&mut content)?;
-    /// assert!(rt; content.as_slice() == b"abcd".as_slice());
-    /// ```
     final fn chain<R: Read>(self, next: R) -> Chain<Self, R>
     where
         Self: Sized,

@@ -1,7 +1,8 @@
 // Room in a vector for the reads of `read_to_end`.
-ghost use Rattle.std.specs.Prelude.{◌≡◌, take, ◌+◌, ◌≤◌, ◌<◌, false, length, IfOk, IfErr, OnOk, OnErr, vec_len, vec_capacity};
+ghost use Rattle.std.specs.Prelude.{◌≡◌, take, ◌+◌, ◌≤◌, ◌<◌, false, IfOk, IfErr, OnOk, OnErr, vec_len, vec_capacity};
 ghost use Rattle.no_std_io2_base.specs.Errors.{IsFault, IsOutOfMemory};
 ghost use Rattle.no_std_io2_base.specs.Events.{FillsRoom};
+ghost use Rattle.no_std_io2_base.specs.ReadLaws.{GoesOn};
 
 use super::read::Read;
 use crate::error::Result;
@@ -81,10 +82,8 @@ pub fn fill_room<R: Read, A: Allocator>(reader: &mut R, buf: &mut Vec<u8, A>) ->
     ensures full { IfOk result (λ at_end. at_end ≡ false → vec_len buf.new ≡ vec_capacity buf.new) }
     ensures fault { IfErr result IsFault }
     ensures turns { R.turns reader.new ≤ R.turns reader.old }
-    ensures store { R.has_store reader.old → R.has_store reader.new
-        × (R.content reader.new ≡ R.content reader.old)
-        × (R.position reader.new + length (R.events reader.new)
-        ≡ R.position reader.old + length (R.events reader.old)) }
+    ensures turn { vec_len buf.old < vec_len buf.new → R.turns reader.new < R.turns reader.old }
+    ensures store { GoesOn R.Read reader.old reader.new }
 {
     let start = buf.len();
     let mut filled = start;

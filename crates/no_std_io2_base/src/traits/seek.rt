@@ -1,4 +1,4 @@
-ghost use Rattle.std.specs.Prelude.{◌≡◌, ◌<◌, ◌^◌, ℕ, ⊤, Result, length, IfOk, IsOkAnd, IsOk};
+ghost use Rattle.std.specs.Prelude.{◌<◌, ◌^◌, ℕ, ⊤, Result, length};
 
 use super::stored::Stored;
 use crate::error::Result;
@@ -23,17 +23,10 @@ pub enum SeekFrom {
 }
 
 /// A stream with a position that can be moved. Follows Rust's `std::io::Seek`.
-///
-/// ```rust
-/// let mut r = Cursor::new(*b"abcde");
-/// assert!(rt; r.seek(SeekFrom::Start(1))? == 1);
-/// assert!(rt; r.seek(SeekFrom::Current(2))? == 3);
-/// assert!(rt; r.seek(SeekFrom::End(-1))? == 4);
-/// ```
 pub trait Seek: Stored {
     ghost use Rattle.no_std_io2_base.specs.declared.error.Error.{Error};
     ghost use Rattle.no_std_io2_base.specs.declared.traits.seek.SeekFrom.{SeekFrom};
-    ghost use Rattle.no_std_io2_base.specs.Seek.{Seeks, WithoutPosition, here};
+    ghost use Rattle.no_std_io2_base.specs.SeekLaws.{SeekLaw, StreamPositionLaw, RewindLaw, StreamLenLaw};
 
     // What one `seek` of this type may do: the state before, the target, the state after, the answer. Left out, anything.
     ghost may_seek: { Self → SeekFrom → Self → Result ℕ Error → Type 0 } = { λ old pos new reply. ⊤ };
@@ -45,20 +38,8 @@ pub trait Seek: Stored {
     /// `InvalidInput`, `invalid seek to a negative or overflowing position`, where the target is
     /// below 0 or above the greatest `u64`: a told store is as it was. Where no store is told, the
     /// device's own.
-    ///
-    /// ```rust
-    /// let mut r = Cursor::new(*b"abcde");
-    /// assert!(rt; r.seek(SeekFrom::Start(1))? == 1);
-    /// assert!(rt; r.seek(SeekFrom::Current(2))? == 3);
-    /// assert!(rt; r.seek(SeekFrom::End(-1))? == 4);
-    /// assert!(rt; r.seek(SeekFrom::Current(-5)).is_err()); // before the start: it stays at 4
-    /// ```
     fn seek(&mut self, pos: SeekFrom) -> Result<u64>
-        ensures store { Self.has_store self.old → Self.has_store self.new
-            × (Self.content self.new ≡ Self.content self.old)
-            × Seeks (length (Self.content self.old)) (Self.position self.old) pos result (Self.position self.new) }
-        ensures position { IfOk result (λ n. Self.has_store self.new → Self.position self.new ≡ n) }
-        ensures sought { Self.may_seek self.old pos self.new result };
+        ensures law { SeekLaw ⟦<Self as Seek>⟧ self.old pos result self.new };
 
     /// Returns the position from the start. Follows `std::io::Seek::stream_position`.
     ///
@@ -71,12 +52,7 @@ pub trait Seek: Stored {
     /// assert!(rt; r.stream_position()? == 3);
     /// ```
     fn stream_position(&mut self) -> Result<u64>
-        ensures store { Self.has_store self.old → Self.has_store self.new
-            × (Self.content self.new ≡ Self.content self.old)
-            × (Self.position self.new ≡ Self.position self.old)
-            × IsOkAnd result (λ n. n ≡ Self.position self.old) }
-        ensures position { IfOk result (λ n. Self.has_store self.new → Self.position self.new ≡ n) }
-        ensures sought { Self.may_seek self.old here self.new result }
+        ensures law { StreamPositionLaw ⟦<Self as Seek>⟧ self.old result self.new }
     {
         self.seek(SeekFrom::Current(0))
     }
@@ -85,20 +61,8 @@ pub trait Seek: Stored {
     ///
     /// # Errors
     /// Those of `seek(SeekFrom::Start(0))`: none over a told store.
-    ///
-    /// ```rust
-    /// let mut r = Cursor::new(*b"abcde");
-    /// r.seek(SeekFrom::Start(3))?;
-    /// assert!(rt; r.stream_position()? == 3);
-    /// assert!(rt; r.stream_len()? == 5);
-    /// r.rewind()?;
-    /// assert!(rt; r.stream_position()? == 0);
-    /// ```
     fn rewind(&mut self) -> Result<()>
-        ensures store { Self.has_store self.old → Self.has_store self.new
-            × (Self.content self.new ≡ Self.content self.old)
-            × (Self.position self.new ≡ 0) × IsOk result }
-        ensures sought { WithoutPosition (Self.may_seek self.old (SeekFrom.Start 0) self.new) result }
+        ensures law { RewindLaw ⟦<Self as Seek>⟧ self.old result self.new }
     {
         self.seek(SeekFrom::Start(0))?;
         Ok(())
@@ -110,18 +74,8 @@ pub trait Seek: Stored {
     /// # Errors
     /// The first error of these seeks, after which the position may be the end: none over a told
     /// store, which is as it was.
-    ///
-    /// ```rust
-    /// let mut r = Cursor::new(*b"abcde");
-    /// r.seek(SeekFrom::Start(3))?;
-    /// assert!(rt; r.stream_position()? == 3);
-    /// assert!(rt; r.stream_len()? == 5);
-    /// ```
     fn stream_len(&mut self) -> Result<u64>
-        ensures store { Self.has_store self.old → Self.has_store self.new
-            × (Self.content self.new ≡ Self.content self.old)
-            × (Self.position self.new ≡ Self.position self.old)
-            × IsOkAnd result (λ n. n ≡ length (Self.content self.old)) }
+        ensures law { StreamLenLaw ⟦<Self as Seek>⟧ self.old result self.new }
     {
         let old = self.stream_position()?;
         let end = self.seek(SeekFrom::End(0))?;

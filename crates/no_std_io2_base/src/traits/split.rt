@@ -16,14 +16,6 @@ use std::alloc::Global;
 /// Where the last piece has no delimiter it is an item too, unless it is empty. After an error, a
 /// fault of the reader or `OutOfMemory`, it has ended and stays ended, unlike Rust's: what was taken
 /// for that item is lost.
-///
-/// ```rust
-/// let mut lens = Vec::<usize>::new(rt.alloc());
-/// for piece in Cursor::new(*b"ab,,c").split(rt.alloc(), b',') {
-///     lens.push(piece?.len())?;
-/// }
-/// assert!(rt; lens.as_slice() == [2, 0, 1].as_slice());
-/// ```
 #[derive(Drop)]
 pub struct Split<R> {
     inner: R,

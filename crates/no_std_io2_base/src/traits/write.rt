@@ -1,5 +1,6 @@
 ghost use Rattle.std.specs.Prelude.{◌≡◌, ℕ, ◌+◌, ◌≤◌, [], Some, Ok, OnOk, IfOk, IsOk, length};
 ghost use Rattle.no_std_io2_base.specs.Errors.{IsNoInterruption};
+ghost use Rattle.no_std_io2_base.specs.WriteLaws.{WriteLaw, FlushLaw, WriteAllLaw, WriteRestLaw};
 ghost use Rattle.no_std_io2_base.specs.Writes.{Told, Moves, MovesFront, Sends, taken, write_mishap, call_mishap, calls_for};
 
 use crate::error::{Result, failed_to_write};
@@ -25,13 +26,13 @@ pub trait Write {
     // What it tells of itself.
     ghost told: { Self → Told };
 
-    // It takes all that it is given from here on, and never fails.
-    ghost takes_all: { Self → Type 0 };
+    // It takes all that it is given from here on, and never fails. Left out, that isn't claimed.
+    ghost takes_all: { Self → Type 0 } = { λ _. ⊥ };
 
-    // How many calls were counted, and whether each one is.
-    ghost cost: { Self → ℕ };
+    // How many calls were counted, and whether each one is. Left out, none was, and none is.
+    ghost cost: { Self → ℕ } = { λ _. 0 };
 
-    ghost is_metered: { Self → Type 0 };
+    ghost is_metered: { Self → Type 0 } = { λ _. ⊥ };
 
     /// Writes some front of `buf`: `Ok(n)` accepted its first `n` bytes, `n` at most its length,
     /// and `Err` accepted none. Follows `std::io::Write::write`.
@@ -46,12 +47,7 @@ pub trait Write {
     /// assert!(rt; w.write(b"def")? == 1); // `ef` was not accepted
     /// ```
     fn write(&mut self, buf: &[u8]) -> Result<usize>
-        ensures bound { IfOk result (λ n. n ≤ length buf.now) }
-        ensures moves { Moves (told self.old) (taken result buf.now) (write_mishap result buf.now)
-            (told self.new) }
-        ensures all { takes_all self.old → takes_all self.new × (result ≡ Ok (length buf.now)) }
-        ensures cost { is_metered self.old → takes_all self.old
-            → is_metered self.new × (cost self.new ≡ cost self.old + 1) };
+        ensures law { WriteLaw told takes_all cost is_metered self.old buf.now result self.new };
 
     /// Hands on all that is held: after `Ok` nothing is held, and after `Err` the accepted bytes
     /// are the same. Follows `std::io::Write::flush`.
@@ -68,11 +64,7 @@ pub trait Write {
     /// assert!(rt; w.get_ref().as_slice() == b"abc".as_slice());
     /// ```
     fn flush(&mut self) -> Result<()>
-        ensures empty { OnOk result ((told self.new).held ≡ []) }
-        ensures moves { Moves (told self.old) [] (call_mishap result) (told self.new) }
-        ensures all { takes_all self.old → takes_all self.new }
-        ensures cost { is_metered self.old → takes_all self.old
-            → is_metered self.new × (cost self.new ≡ cost self.old) };
+        ensures law { FlushLaw told takes_all cost is_metered self.old result self.new };
 
     /// Writes the whole of `buf`, passing over interruptions. An empty buffer makes no call. Follows
     /// `std::io::Write::write_all`.
@@ -89,11 +81,7 @@ pub trait Write {
     /// assert!(rt; w.write_all(b"e").is_err()); // no room: `WriteZero`
     /// ```
     fn write_all(&mut self, buf: &[u8]) -> Result<()>
-        ensures fault { IsNoInterruption result }
-        ensures moves { MovesFront (told self.old) buf.now result (told self.new) }
-        ensures all { takes_all self.old → takes_all self.new }
-        ensures cost { is_metered self.old → takes_all self.old → is_metered self.new
-            × (cost self.new ≡ cost self.old + calls_for buf.now) }
+        ensures law { WriteAllLaw told takes_all cost is_metered self.old buf.now result self.new }
     {
         let mut rest = buf;
         self.write_rest(&mut rest)
@@ -120,12 +108,7 @@ pub trait Write {
     /// }
     /// ```
     fn write_rest(&mut self, rest: &mut &[u8]) -> Result<()>
-        ensures fault { IsNoInterruption result }
-        ensures sends { Sends (told self.old) rest.old.now result (told self.new) rest.new.now }
-        ensures done { OnOk result (rest.new.now ≡ []) }
-        ensures all { takes_all self.old → takes_all self.new × IsOk result }
-        ensures cost { is_metered self.old → takes_all self.old → is_metered self.new
-            × (cost self.new ≡ cost self.old + calls_for rest.old.now) }
+        ensures law { WriteRestLaw told takes_all cost is_metered self.old rest.old.now result self.new rest.new.now }
     {
         'writes: while !rest.is_empty() {
             match self.write(rest) {

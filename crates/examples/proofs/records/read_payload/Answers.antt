@@ -1,7 +1,7 @@
 use Rattle.std.proofs.Common.{◌≡◌, ◌≤◌, ◌++◌, length, take, drop, sym, ap, ◌∙◌, arith, length-drop}
 use Rattle.std.proofs.Math.Seq.{take-append_seam}
 use Rattle.std.proofs.lemmas.List.{length-take-le}
-use Rattle.no_std_io2.specs.Reading.{reader_held, reader_behind}
+use Rattle.no_std_io2.specs.BufReader.{reader_held, reader_behind}
 use Rattle.examples.proofs.SteppedBack.{moved_on}
 use Rattle.examples.proofs.records.read_payload.Goals as goal
 

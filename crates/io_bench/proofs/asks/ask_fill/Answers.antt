@@ -1,8 +1,8 @@
 use Rattle.std.proofs.Common.{length, take, arith, refl, sym, ap, ◌∙◌, length-take-le, length-drop}
 use Rattle.no_std_io2_base.specs.Events.{events_of}
-use Rattle.no_std_io2.specs.Reading.{reader_held, reader_inner, reader_events}
-use Rattle.no_std_io2.proofs.ReaderRoom.{some_room}
-use Rattle.no_std_io2.proofs.Exact.{length-events}
+use Rattle.no_std_io2.specs.BufReader.{reader_held, reader_inner, reader_events}
+use Rattle.no_std_io2.proofs.BufReaderRoom.{some_room}
+use Rattle.no_std_io2.proofs.BufReaderExact.{length-events}
 use Rattle.io_bench.proofs.AskLemmas.{fill_asked, lent_error, lent_held, lent_to_come}
 use Rattle.io_bench.proofs.asks.ask_fill.Goals as goal
 
@@ -19,7 +19,7 @@ returns-clause-asked g c = λ m f.
     let lent = c.in_ok-lent.field-0.now in
     let n = c.min.result in
     let after = c.fill_buf.follows.holds-at-none in
-    let dropped = c.consume.ensures in
+    let dropped = c.consume.ensures.law in
     let tells = g.met.R.Read.filling_tells _ f in
     let told = after.told tells.0 in
     let rest = dropped.told told.0 in
@@ -35,5 +35,5 @@ returns-clause-asked g c = λ m f.
       fill_asked g.row.S c.args.most (length (reader_held r)) (length (g.R.Read.events (reader_inner r))) (g.R.Read.cost (reader_inner r))
           (length (reader_held new)) (length lent) (some_room r) (events_of (take n (reader_held mid)), sym same ∙ rest.1)
           (omega (arith, ap length same, gone, within, c.min.ensures)) (length-events (reader_held r) (g.R.Read.events (reader_inner r)))
-          (c.in_ok-lent.ensures.lends_surely f) (omega (arith, left, ap length held, c.min.ensures)) (last.1 ∙ counted.1) refl,
+          (c.in_ok-lent.ensures.law.lends_surely f) (omega (arith, left, ap length held, c.min.ensures)) (last.1 ∙ counted.1) refl,
     )

@@ -1,7 +1,7 @@
 use Rattle.std.proofs.Common.{Bool, true, false, if◌then◌else◌, ◌≡◌, ◌+◌, ◌<◌, ◌≤◌, length, get_or, rules, arith, refl, sym, ap, subst, ◌∙◌}
-use Rattle.no_std_io2.specs.Reading.{reader_held, reader_inner, reader_events}
-use Rattle.no_std_io2.proofs.ReaderRoom.{some_room, held-le}
-use Rattle.no_std_io2.proofs.Exact.{length-events}
+use Rattle.no_std_io2.specs.BufReader.{reader_held, reader_inner, reader_events}
+use Rattle.no_std_io2.proofs.BufReaderRoom.{some_room, held-le}
+use Rattle.no_std_io2.proofs.BufReaderExact.{length-events}
 use Rattle.io_bench.specs.declared.asks.Ask.TheVariants.{Read}
 use Rattle.io_bench.specs.Asks.{Fits, asked_reads}
 use Rattle.io_bench.specs.Tally.{tally_inner}

@@ -1,6 +1,6 @@
 -- The asks so far took their steps, and are paid for.
 use Rattle.std.proofs.Common.{◌≡◌, ℕ, ◌+◌, ◌-◌, ◌≤◌, [], length, take}
-use Rattle.no_std_io2.specs.Reading.{reader_held, reader_inner, reader_events}
+use Rattle.no_std_io2.specs.BufReader.{reader_held, reader_inner, reader_events}
 use Rattle.io_bench.specs.Asks.{Steps, TakesFront}
 use Rattle.io_bench.specs.Tally.{tally_inner, tally_reads}
 use Rattle.io_bench.proofs.ReadsPaid.{ReadsPaid}

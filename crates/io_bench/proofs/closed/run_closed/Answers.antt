@@ -2,8 +2,8 @@ use Rattle.std.proofs.Common.{◌<◌, ◌++◌, ◌∷◌, [], length, rules, a
 use Rattle.no_std_io2_base.proofs.MovesLemmas.{Moves-ends}
 use Rattle.no_std_io2_base.specs.Writes.{Moves}
 use Rattle.io_bench.specs.Closed.{given_bytes}
-use Rattle.no_std_io2.proofs.BufferLemmas.{buffer-le, Moves-bare}
-use Rattle.no_std_io2.specs.Buffered.{writer_inner, writer_buffer}
+use Rattle.no_std_io2.proofs.BufWriterLemmas.{buffer-le, Moves-bare}
+use Rattle.no_std_io2.specs.BufWriter.{writer_inner, writer_buffer}
 use Rattle.io_bench.specs.Runs.{AreWhole}
 use Rattle.io_bench.specs.Tally.{tally_inner, tally_writes}
 use Rattle.io_bench.proofs.RunLemmas.{Ran-next, AreWhole-next, Ran-none, all_made, appended_back}

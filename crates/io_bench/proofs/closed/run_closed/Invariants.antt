@@ -1,7 +1,7 @@
 -- The calls so far were a run that took all, and are paid for; there is room for the replies to the others.
 use Rattle.std.proofs.Common.{◌≡◌, ℕ, ◌+◌, ◌-◌, ◌≤◌, List, ◌++◌, length, take, vec_len}
 use Rattle.std.specs.Vec.{vec_capacity}
-use Rattle.no_std_io2.specs.Buffered.{writer_inner, writer_buffer, writer_told}
+use Rattle.no_std_io2.specs.BufWriter.{writer_inner, writer_buffer, writer_told}
 use Rattle.io_bench.specs.declared.runs.Reply.{Reply}
 use Rattle.io_bench.specs.Runs.{Ran, AreWhole}
 use Rattle.io_bench.specs.Tally.{tally_inner, tally_writes}

@@ -1,6 +1,6 @@
 use Rattle.std.proofs.Common.{◌≡◌, ◌++◌, ◌∷◌, length, map, string_bytes, refl, sym, ap, ◌∙◌, subst}
 use Rattle.std.proofs.lemmas.Result.{err_from_is_err_and}
-use Rattle.no_std_io2.specs.LineState.{HasNoNewline}
+use Rattle.no_std_io2.specs.Lines.{HasNoNewline}
 use Rattle.line_log.specs.Lines.{lines_of}
 use Rattle.line_log.proofs.LogLemmas.{goes_none, goes_on, goes_stopped, goes_refused, goes_all, goes_shown, off_none}
 use Rattle.line_log.proofs.LogLemmas.{off_more, none_left, staged}

@@ -2,14 +2,14 @@ use Rattle.std.proofs.Common.{rules, ◌∙◌, le_trans, inl}
 use Rattle.std.proofs.lemmas.Result.{err_from_is_err_and}
 use Rattle.no_std_io2_base.proofs.Taken.{moved_read, no_error}
 use Rattle.no_std_io2.proofs.CopyReads.{read_length, one_read, last_read}
-use Rattle.no_std_io2.proofs.Copied.{written_more, copied_more, copied_interruption, copied_end, copied_fault}
-use Rattle.no_std_io2.proofs.Copied.{copied_refused, written_refused}
+use Rattle.no_std_io2.proofs.CopyLemmas.{written_more, copied_more, copied_interruption, copied_end, copied_fault}
+use Rattle.no_std_io2.proofs.CopyLemmas.{copied_refused, written_refused}
 use Rattle.no_std_io2.proofs.util.copy.Goals as goal
 
 pub reads-preserved : goal.reads-preserved
 reads-preserved g c =
     let before = c.reads.invariant in
-    let read = c.in-Err.ensures in
+    let read = c.in-Err.ensures.law in
     record {
       long = search rules;
       written = before.written;
@@ -20,7 +20,7 @@ reads-preserved g c =
       same = before.same;
       all = before.all;
       turns = le_trans read.turns before.turns;
-      metered = λ m. (read.cost (before.metered m)).0;
+      metered = λ m. (read.counts (before.metered m)).0;
       reads = λ _ _ f. absurd (read.fills (before.filling f)).1;
       filling = λ f. (read.fills (before.filling f)).0;
       store = λ s.
@@ -31,8 +31,8 @@ reads-preserved g c =
 pub reads-preserved-in-Ok : goal.reads-preserved-in-Ok
 reads-preserved-in-Ok g c =
     let before = c.reads.invariant in
-    let read = c.in-Ok.ensures in
-    let wrote = c.in_ok-write_all-in-Ok.ensures in
+    let read = c.in-Ok.ensures.law in
+    let wrote = c.in_ok-write_all-in-Ok.ensures.law in
     record {
       long = search rules;
       written = written_more c.in-Ok.n _ _ c.read.new.buf before.written wrote.moves read.bound (search rules);
@@ -43,9 +43,9 @@ reads-preserved-in-Ok g c =
       same = λ z. absurd (search rules);
       all = λ t. wrote.all (before.all t);
       turns = le_trans read.turns before.turns;
-      metered = λ m. (read.cost (before.metered m)).0;
+      metered = λ m. (read.counts (before.metered m)).0;
       reads = λ some m f.
-          let paid = (read.cost (before.metered m)).1 in
+          let paid = (read.counts (before.metered m)).1 in
           let gave = (read.fills (before.filling f)).1 in
           let tells = g.met.R.Read.filling_tells _ (before.filling f) in
           let fewer = read_length _ _ c.in-Ok.n c.read.new.buf read.bound (read.told tells.0).1.0 in
@@ -62,7 +62,7 @@ reads-preserved-in-Ok g c =
 pub returns-in-Ok-eq0-clause-told : goal.returns-in-Ok-eq0-clause-told
 returns-in-Ok-eq0-clause-told g c = λ t.
     let so_far = c.reads.invariant.told t in
-    let now = c.read.ensures.told so_far.0 in (
+    let now = c.read.ensures.law.told so_far.0 in (
       now.0,
       copied_end g.row.S c.read.new.buf so_far.1 (rw c.in-Ok-eq0.is at now.1)
           (search rules) (search rules) (λ z. (c.reads.invariant.same z).1),
@@ -78,46 +78,46 @@ pub returns-in-Ok-eq0-clause-all : goal.returns-in-Ok-eq0-clause-all
 returns-in-Ok-eq0-clause-all g c = c.reads.invariant.all
 
 pub returns-in-Ok-eq0-clause-turns : goal.returns-in-Ok-eq0-clause-turns
-returns-in-Ok-eq0-clause-turns g c = le_trans c.read.ensures.turns c.reads.invariant.turns
+returns-in-Ok-eq0-clause-turns g c = le_trans c.read.ensures.law.turns c.reads.invariant.turns
 
 pub returns-in-Ok-eq0-clause-metered : goal.returns-in-Ok-eq0-clause-metered
-returns-in-Ok-eq0-clause-metered g c = λ m. (c.read.ensures.cost (c.reads.invariant.metered m)).0
+returns-in-Ok-eq0-clause-metered g c = λ m. (c.read.ensures.law.counts (c.reads.invariant.metered m)).0
 
 pub returns-in-Ok-eq0-clause-filling : goal.returns-in-Ok-eq0-clause-filling
-returns-in-Ok-eq0-clause-filling g c = λ f. (c.read.ensures.fills (c.reads.invariant.filling f)).0
+returns-in-Ok-eq0-clause-filling g c = λ f. (c.read.ensures.law.fills (c.reads.invariant.filling f)).0
 
 pub returns-in-Ok-eq0-clause-reads : goal.returns-in-Ok-eq0-clause-reads
 returns-in-Ok-eq0-clause-reads g c = λ some m f.
     let before = c.reads.invariant in
-    let paid = (c.read.ensures.cost (before.metered m)).1 in
-    let gave = rw c.in-Ok-eq0.is at (c.read.ensures.fills (before.filling f)).1 in
+    let paid = (c.read.ensures.law.counts (before.metered m)).1 in
+    let gave = rw c.in-Ok-eq0.is at (c.read.ensures.law.fills (before.filling f)).1 in
     last_read g.row.S _ _ _ _ some before.long gave (search rules) paid (before.reads some m f)
 
 pub returns-in-Ok-eq0-clause-store : goal.returns-in-Ok-eq0-clause-store
 returns-in-Ok-eq0-clause-store g c = λ s.
     let so_far = c.reads.invariant.store s in
-    let now = rw c.in-Ok-eq0.is at c.read.ensures.store so_far.0 in
+    let now = rw c.in-Ok-eq0.is at c.read.ensures.law.store so_far.0 in
     let tells = g.met.R.Read.store_tells _ so_far.0 in
-    let told = rw c.in-Ok-eq0.is at c.read.ensures.told tells.0 in
-    (now.0, now.1 ∙ so_far.1, moved_read _ _ c.read.new.buf _ (rw c.in-Ok-eq0.is at c.read.ensures.bound) told.1.0 now.2 so_far.2)
+    let told = rw c.in-Ok-eq0.is at c.read.ensures.law.told tells.0 in
+    (now.0, now.1 ∙ so_far.1, moved_read _ _ c.read.new.buf _ (rw c.in-Ok-eq0.is at c.read.ensures.law.bound) told.1.0 now.2 so_far.2)
 
 -- the writer's fault
 pub returns-in_err-write_all-in-Ok-clause-unchanged : goal.returns-in_err-write_all-in-Ok-clause-unchanged
 returns-in_err-write_all-in-Ok-clause-unchanged g c = λ z. absurd (search rules)
 
 pub returns-in_err-write_all-in-Ok-clause-all : goal.returns-in_err-write_all-in-Ok-clause-all
-returns-in_err-write_all-in-Ok-clause-all g c = λ t. c.in_err-write_all-in-Ok.ensures.all (c.reads.invariant.all t)
+returns-in_err-write_all-in-Ok-clause-all g c = λ t. c.in_err-write_all-in-Ok.ensures.law.all (c.reads.invariant.all t)
 
 pub returns-in_err-write_all-in-Ok-clause-fault : goal.returns-in_err-write_all-in-Ok-clause-fault
 returns-in_err-write_all-in-Ok-clause-fault g c =
     let p = err_from_is_err_and c.from_residual.result c.from_residual.ensures.1 in
-    rw (p.1, p.2) c.in_err-write_all-in-Ok.ensures.fault
+    rw (p.1, p.2) c.in_err-write_all-in-Ok.ensures.law.fault
 
 pub returns-in_err-write_all-in-Ok-clause-turns : goal.returns-in_err-write_all-in-Ok-clause-turns
-returns-in_err-write_all-in-Ok-clause-turns g c = le_trans c.in-Ok.ensures.turns c.reads.invariant.turns
+returns-in_err-write_all-in-Ok-clause-turns g c = le_trans c.in-Ok.ensures.law.turns c.reads.invariant.turns
 
 pub returns-in_err-write_all-in-Ok-clause-metered : goal.returns-in_err-write_all-in-Ok-clause-metered
-returns-in_err-write_all-in-Ok-clause-metered g c = λ m. (c.in-Ok.ensures.cost (c.reads.invariant.metered m)).0
+returns-in_err-write_all-in-Ok-clause-metered g c = λ m. (c.in-Ok.ensures.law.counts (c.reads.invariant.metered m)).0
 
 pub returns-in_err-write_all-in-Ok-clause-reads : goal.returns-in_err-write_all-in-Ok-clause-reads
 returns-in_err-write_all-in-Ok-clause-reads g c = λ _ _ _.
@@ -125,11 +125,11 @@ returns-in_err-write_all-in-Ok-clause-reads g c = λ _ _ _.
     rw p.1 tt
 
 pub returns-in_err-write_all-in-Ok-clause-filling : goal.returns-in_err-write_all-in-Ok-clause-filling
-returns-in_err-write_all-in-Ok-clause-filling g c = λ f. (c.in-Ok.ensures.fills (c.reads.invariant.filling f)).0
+returns-in_err-write_all-in-Ok-clause-filling g c = λ f. (c.in-Ok.ensures.law.fills (c.reads.invariant.filling f)).0
 
 pub returns-in_err-write_all-in-Ok-clause-store : goal.returns-in_err-write_all-in-Ok-clause-store
 returns-in_err-write_all-in-Ok-clause-store g c = λ s.
-    let read = c.in-Ok.ensures in
+    let read = c.in-Ok.ensures.law in
     let so_far = c.reads.invariant.store s in
     let now = read.store so_far.0 in
     let tells = g.met.R.Read.store_tells _ so_far.0 in
@@ -140,18 +140,18 @@ returns-in_err-write_all-in-Ok-clause-moves g c =
     let p = err_from_is_err_and c.from_residual.result c.from_residual.ensures.1 in
     rw (p.1, p.2)
     (written_refused c.in_err-write_all-in-Ok.field-0.0 c.reads.invariant.written
-    c.in_err-write_all-in-Ok.ensures.moves)
+    c.in_err-write_all-in-Ok.ensures.law.moves)
 
 pub returns-in_err-write_all-in-Ok-clause-told : goal.returns-in_err-write_all-in-Ok-clause-told
 returns-in_err-write_all-in-Ok-clause-told g c = λ t.
     let so_far = c.reads.invariant.told t in
-    let now = c.in-Ok.ensures.told so_far.0 in
+    let now = c.in-Ok.ensures.law.told so_far.0 in
     let p = err_from_is_err_and c.from_residual.result c.from_residual.ensures.1 in
     let e = c.in_err-write_all-in-Ok.field-0.0 in (
       now.0,
       rw (p.1, p.2)
           (copied_refused g.row.S c.in-Ok.n c.read.new.buf e so_far.1 now.1 (search rules)
-          c.in-Ok.ensures.bound (search rules) c.in_err-write_all-in-Ok.ensures.moves),
+          c.in-Ok.ensures.law.bound (search rules) c.in_err-write_all-in-Ok.ensures.law.moves),
     )
 
 -- the reader's fault
@@ -165,24 +165,24 @@ pub returns-in-Err-2-clause-all : goal.returns-in-Err-2-clause-all
 returns-in-Err-2-clause-all g c = c.reads.invariant.all
 
 pub returns-in-Err-2-clause-turns : goal.returns-in-Err-2-clause-turns
-returns-in-Err-2-clause-turns g c = le_trans c.in-Err.ensures.turns c.reads.invariant.turns
+returns-in-Err-2-clause-turns g c = le_trans c.in-Err.ensures.law.turns c.reads.invariant.turns
 
 pub returns-in-Err-2-clause-metered : goal.returns-in-Err-2-clause-metered
-returns-in-Err-2-clause-metered g c = λ m. (c.in-Err.ensures.cost (c.reads.invariant.metered m)).0
+returns-in-Err-2-clause-metered g c = λ m. (c.in-Err.ensures.law.counts (c.reads.invariant.metered m)).0
 
 pub returns-in-Err-2-clause-reads : goal.returns-in-Err-2-clause-reads
 returns-in-Err-2-clause-reads g c = λ _ _ _. tt
 
 pub returns-in-Err-2-clause-filling : goal.returns-in-Err-2-clause-filling
-returns-in-Err-2-clause-filling g c = λ f. (c.in-Err.ensures.fills (c.reads.invariant.filling f)).0
+returns-in-Err-2-clause-filling g c = λ f. (c.in-Err.ensures.law.fills (c.reads.invariant.filling f)).0
 
 pub returns-in-Err-2-clause-store : goal.returns-in-Err-2-clause-store
 returns-in-Err-2-clause-store g c = λ s.
     let tells = g.met.R.Read.store_tells _ (c.reads.invariant.store s).0 in
-    absurd (no_error _ tells.1 (c.in-Err.ensures.told tells.0).1)
+    absurd (no_error _ tells.1 (c.in-Err.ensures.law.told tells.0).1)
 
 pub returns-in-Err-2-clause-told : goal.returns-in-Err-2-clause-told
 returns-in-Err-2-clause-told g c = λ t.
     let so_far = c.reads.invariant.told t in
-    let now = c.in-Err.ensures.told so_far.0 in
+    let now = c.in-Err.ensures.law.told so_far.0 in
     (now.0, copied_fault g.row.S c.in-Err.e so_far.1 now.1 (search rules) (λ z. (c.reads.invariant.same z).1))

@@ -1,7 +1,7 @@
 -- `copy` ends with its reader's turns, and the writer accepted the bytes that the reader lost.
 use Rattle.std.proofs.Common.{◌≡◌, ◌≤◌, ◌<◌, ◌+◌, length}
 use Rattle.std.specs.Int.{div_ceil}
-use Rattle.no_std_io2.proofs.Copied.{Written, Copied}
+use Rattle.no_std_io2.proofs.CopyLemmas.{Written, Copied}
 use Rattle.no_std_io2.proofs.util.copy.Given as goal
 
 abbrev pub invariant-reads : goal.invariant-reads

@@ -1,16 +1,19 @@
 // A `BufReader` as a reader that lends.
-ghost use Rattle.std.specs.Prelude.{◌≡◌, ◌+◌, ◌-◌, ◌<◌, ◌≤◌, [], ◌++◌, min, length, take, drop, IfOk, IsOkAnd};
+ghost use Rattle.std.specs.Prelude.{◌≡◌, ◌+◌, ◌-◌, ◌<◌, ◌≤◌, [], ◌++◌, min, length, take, drop, Some, IfOk, IfErr};
+ghost use Rattle.std.specs.Prelude.{IsOkAnd, vec_len, vec_capacity};
+ghost use Rattle.no_std_io2.specs.Buffer.{IsEnd};
 ghost use Rattle.std.specs.Borrow.{sem};
-ghost use Rattle.no_std_io2_base.specs.Events.{events_of};
-ghost use Rattle.no_std_io2_base.specs.Lending.{Rests, IsNotEmpty, Lends, LendsFrom, LendingTurn, BeginsWith, reads_needed};
+ghost use Rattle.no_std_io2_base.specs.BufReadLaws.{FillBufLaw, ConsumeLaw, ReadUntilLaw};
+ghost use Rattle.no_std_io2_base.specs.Lending.{Rests, IsNotEmpty, Lends, LendsFrom, LendingTurn, reads_needed};
 ghost use Rattle.no_std_io2.specs.contracts.buffered.buf_reader.BufReader.{the_row as reader-row};
-ghost use Rattle.no_std_io2.specs.Reading.{reader_held, reader_behind, reader_inner, reader_events, reader_turns};
-ghost use Rattle.no_std_io2.specs.Reading.{reader_has_store, reader_is_sound, reader_position, reader_lent_length};
+ghost use Rattle.no_std_io2.specs.BufReader.{reader_held, reader_behind, reader_inner, reader_events, reader_turns};
+ghost use Rattle.no_std_io2.specs.BufReader.{reader_has_store, reader_is_sound, reader_position, reader_lent_length};
 
 use super::BufReader;
 use super::pieces::find_piece;
 use no_std_io2_base::error::Result;
-use no_std_io2_base::traits::{BufRead, Read, append};
+use no_std_io2_base::shared::append;
+use no_std_io2_base::traits::{BufRead, Read};
 use std::alloc::Allocator;
 
 impl<R: Read, const S: usize> BufRead for BufReader<R, S> {
@@ -24,16 +27,9 @@ impl<R: Read, const S: usize> BufRead for BufReader<R, S> {
 
     ghost lent_length = { reader_lent_length R.events };
 
-    #[tactic(auto, using(crate::proofs::Sounds::begins_held))]
+    #[tactic(auto, using(crate::proofs::BufReaderSound::begins_held))]
     fn fill_buf(&mut self) -> Result<&[u8]>
-        // The trait's.
-        ensures held { IsNotEmpty (reader_held self.old) → IsOkAnd result (λ s. s.now ≡ reader_held self.old) }
-        ensures front { R.tells (reader_inner self.old)
-            → IfOk result (λ s. BeginsWith (reader_events R.events self.old) s.now) }
-        ensures end { R.tells (reader_inner self.old)
-            → IfOk result (λ s. s.now ≡ [] → reader_events R.events self.old ≡ []) }
-        ensures lends_surely { R.is_filling (reader_inner self.old)
-            → IsOkAnd result (λ s. length s.now ≡ reader_lent_length R.events self.old) }
+        ensures law { FillBufLaw ⟦<Self as BufRead>⟧ self.old result }
 
         // The trait's, and at the end its own: what stands after the loan.
         ensures* after_borrow { sem 𝓛 (Rests (reader-row R.row S.row) self.entry (λ new. record {
@@ -55,28 +51,15 @@ impl<R: Read, const S: usize> BufRead for BufReader<R, S> {
               → reader_is_sound R.has_store R.position R.content new;
         })) }
     {
-        self.fill()?;
+        if self.buffer.len() == 0 {
+            self.read_ahead()?;
+        }
         Ok(self.buffer())
     }
 
     fn consume(&mut self, amount: usize)
         requires { amount ≤ length (reader_held self.old) }
-        // The trait's.
-        ensures held { reader_held self.new ≡ drop amount (reader_held self.old) }
-        ensures told { R.tells (reader_inner self.old) → R.tells (reader_inner self.new)
-            × (reader_events R.events self.old
-            ≡ events_of (take amount (reader_held self.old)) ++ reader_events R.events self.new) }
-        ensures turns { reader_turns R.turns self.new ≤ reader_turns R.turns self.old }
-        ensures turn { 0 < amount → reader_turns R.turns self.new < reader_turns R.turns self.old }
-        ensures cost { ⊥ → ⊥ × (R.cost (reader_inner self.new) ≡ R.cost (reader_inner self.old)) }
-        ensures filling { ⊥ → ⊥ }
-        ensures counts { R.is_metered (reader_inner self.old) → R.is_metered (reader_inner self.new)
-            × (R.cost (reader_inner self.new) ≡ R.cost (reader_inner self.old)) }
-        ensures lends_surely { R.is_filling (reader_inner self.old) → R.is_filling (reader_inner self.new) }
-        ensures store { reader_has_store R.has_store R.position R.content self.old
-            → reader_has_store R.has_store R.position R.content self.new
-            × (R.content (reader_inner self.new) ≡ R.content (reader_inner self.old))
-            × (reader_position R.position self.new ≡ reader_position R.position self.old + amount) }
+        ensures law { ConsumeLaw ⟦<Self as BufRead>⟧ self.old amount self.new }
 
         // Held bytes alone are dropped.
         ensures inner { reader_inner self.new ≡ reader_inner self.old }
@@ -84,11 +67,18 @@ impl<R: Read, const S: usize> BufRead for BufReader<R, S> {
         ensures sound { reader_is_sound R.has_store R.position R.content self.old
             → reader_is_sound R.has_store R.position R.content self.new }
     {
-        self.ahead.drop_front(amount);
+        self.buffer.consume(amount);
     }
 
     // The trait's body, with a faster search.
-    fn read_until<A: Allocator>(&mut self, delim: u8, buf: &mut Vec<u8, A>) -> Result<usize> {
+    fn read_until<A: Allocator>(&mut self, delim: u8, buf: &mut Vec<u8, A>) -> Result<usize>
+        ensures law { ReadUntilLaw ⟦<Self as BufRead>⟧ self.old delim buf.old result buf.new self.new }
+
+        // What then lies behind is an end of what lay there and what was appended.
+        ensures behind { IsEnd (reader_behind self.old ++ drop (vec_len buf.old) buf.new.items) (reader_behind self.new) }
+        ensures sound { reader_is_sound R.has_store R.position R.content self.old
+            → reader_is_sound R.has_store R.position R.content self.new }
+    {
         let start = buf.len();
         'pieces: loop {
             match self.fill_buf() {

@@ -1,13 +1,13 @@
 // A `BufReader` as a seeker.
 ghost use Rattle.std.specs.Prelude.{FitsSigned, SomeIff, ◌≡◌, ◌<◌, ◌^◌, ◌⊎◌, ◌-ℤ◌, pos, [], List, length, IfOk, IsOk, IsOkAnd, OnOk, OnErr};
 ghost use Rattle.std.specs.Int.{w64};
-ghost use Rattle.no_std_io2_base.specs.Seek.{Seeks, WithoutPosition, here};
+ghost use Rattle.no_std_io2_base.specs.Seek.{Seeks, WithoutPosition};
+ghost use Rattle.no_std_io2_base.specs.SeekLaws.{SeekLaw, StreamPositionLaw, RewindLaw, StreamLenLaw};
 ghost use Rattle.no_std_io2_base.specs.Events.{Event};
-ghost use Rattle.no_std_io2.specs.Behind.{IsInBuffer, IsCutOn, MovesEvents, led_to};
-ghost use Rattle.no_std_io2.specs.Reading.{reader_held, reader_behind, reader_inner, reader_events, reader_has_store};
-ghost use Rattle.no_std_io2.specs.Reading.{reader_is_sound, reader_position, KeepsBuffer, HasNoBuffer, IsTooFarBack};
-ghost use Rattle.no_std_io2.specs.BufferedSeek.{SeeksInner, ReaderSeeks, at_start, back_by};
-ghost use Rattle.no_std_io2.specs.Sound.{sound_fits};
+ghost use Rattle.no_std_io2.specs.Buffer.{IsInBuffer, IsCutOn, MovesEvents};
+ghost use Rattle.no_std_io2.specs.BufReader.{reader_held, reader_behind, reader_inner, reader_events, reader_has_store};
+ghost use Rattle.no_std_io2.specs.BufReader.{reader_is_sound, reader_position, KeepsBuffer, HasNoBuffer, IsTooFarBack};
+ghost use Rattle.no_std_io2.specs.BufReader.{SeeksInner, ReaderSeeks, at_start, back_by, led_to, sound_fits};
 
 use super::BufReader;
 use no_std_io2_base::error::Result;
@@ -39,7 +39,7 @@ impl<R: Seek, const S: usize> BufReader<R, S> {
             → reader_is_sound R.has_store R.position R.content self.new }
     {
         let at = self.inner.seek(target)?;
-        self.ahead.clear();
+        self.buffer.clear();
         Ok(at)
     }
 
@@ -58,7 +58,7 @@ impl<R: Seek, const S: usize> BufReader<R, S> {
         ensures sound { reader_is_sound R.has_store R.position R.content self.old
             → reader_is_sound R.has_store R.position R.content self.new }
     {
-        let held = self.ahead.len();
+        let held = self.buffer.len();
         self.seek_inner(SeekFrom::Current(-(held as i64)))?;
         Ok(())
     }
@@ -85,7 +85,7 @@ impl<R: Seek, const S: usize> BufReader<R, S> {
         ensures sound { reader_is_sound R.has_store R.position R.content self.old
             → reader_is_sound R.has_store R.position R.content self.new }
     {
-        let held = self.ahead.len();
+        let held = self.buffer.len();
         match offset_behind(offset, held) {
             Some(rest) => self.seek_inner(SeekFrom::Current(rest)),
             None => {
@@ -107,16 +107,6 @@ impl<R: Seek, const S: usize> BufReader<R, S> {
     /// the greatest `u64`, with the text of the inner reader's. The position is as it was, and so is
     /// the buffer, unless the offset is too far back for one seek of the inner reader; then the
     /// buffer is dropped.
-    ///
-    /// ```rust
-    /// let mut r = BufReader::<_, 4>::new(Cursor::new(*b"abcdefgh"));
-    /// let mut two = [0u8; 2];
-    /// r.read_exact(&mut two)?; // one inner read, of four bytes
-    /// assert!(rt; r.buffer() == b"cd".as_slice());
-    /// assert!(rt; r.behind() == b"ab".as_slice());
-    /// r.seek_relative(-1)?; // inside the buffer: the inner reader is left alone
-    /// assert!(rt; r.buffer() == b"bcd".as_slice());
-    /// ```
     pub fn seek_relative(&mut self, offset: i64) -> Result<()>
         // In the buffer the border between behind and held moves.
         ensures within { IsInBuffer offset (length (reader_behind self.old)) (length (reader_held self.old))
@@ -132,6 +122,8 @@ impl<R: Seek, const S: usize> BufReader<R, S> {
         ensures outside { ¬ IsInBuffer offset (length (reader_behind self.old)) (length (reader_held self.old))
             → OnOk result (HasNoBuffer self.new) × OnErr result (KeepsBuffer self.old self.new
             ⊎ (IsTooFarBack (SeekFrom.Current offset) (length (reader_held self.old)) × HasNoBuffer self.new)) }
+        ensures far { ¬ IsInBuffer offset (length (reader_behind self.old)) (length (reader_held self.old))
+            → WithoutPosition (ReaderSeeks R.may_seek self.old (SeekFrom.Current offset) self.new) result }
         ensures sought { ¬ IsInBuffer offset (length (reader_behind self.old)) (length (reader_held self.old))
             → reader_has_store R.has_store R.position R.content self.old
             → reader_has_store R.has_store R.position R.content self.new
@@ -148,7 +140,7 @@ impl<R: Seek, const S: usize> BufReader<R, S> {
             (SeekFrom.Current offset) (led_to (reader_position R.position self.new) result)
             (reader_position R.position self.new) }
     {
-        if self.ahead.shift(offset) {
+        if self.buffer.shift(offset) {
             return Ok(());
         }
         match self.seek_current(offset) {
@@ -165,15 +157,7 @@ impl<R: Seek, const S: usize> BufReader<R, S> {
 /// seek keeps them. Each error is the inner reader's own, with its text.
 impl<R: Seek, const S: usize> Seek for BufReader<R, S> {
     fn seek(&mut self, pos: SeekFrom) -> Result<u64>
-        // The trait's.
-        ensures store { reader_has_store R.has_store R.position R.content self.old
-            → reader_has_store R.has_store R.position R.content self.new
-            × (R.content (reader_inner self.new) ≡ R.content (reader_inner self.old))
-            × Seeks (length (R.content (reader_inner self.old))) (reader_position R.position self.old)
-            pos result (reader_position R.position self.new) }
-        ensures position { IfOk result (λ n. reader_has_store R.has_store R.position R.content self.new
-            → reader_position R.position self.new ≡ n) }
-        ensures sought { ReaderSeeks R.may_seek self.old pos self.new result }
+        ensures law { SeekLaw ⟦<Self as Seek>⟧ self.old pos result self.new }
 
         // The buffer is dropped by success, and kept by a refusal of the first or only seek.
         ensures empty { OnOk result (reader_held self.new ≡ []) }
@@ -193,14 +177,7 @@ impl<R: Seek, const S: usize> Seek for BufReader<R, S> {
 
     // Both drop the buffer, as `seek` does.
     fn stream_position(&mut self) -> Result<u64>
-        ensures store { reader_has_store R.has_store R.position R.content self.old
-            → reader_has_store R.has_store R.position R.content self.new
-            × (R.content (reader_inner self.new) ≡ R.content (reader_inner self.old))
-            × (reader_position R.position self.new ≡ reader_position R.position self.old)
-            × IsOkAnd result (λ n. n ≡ reader_position R.position self.old) }
-        ensures position { IfOk result (λ n. reader_has_store R.has_store R.position R.content self.new
-            → reader_position R.position self.new ≡ n) }
-        ensures sought { ReaderSeeks R.may_seek self.old here self.new result }
+        ensures law { StreamPositionLaw ⟦<Self as Seek>⟧ self.old result self.new }
         ensures empty { OnOk result (reader_held self.new ≡ []) }
         ensures behind { OnOk result (reader_behind self.new ≡ []) }
         ensures kept { OnErr result (KeepsBuffer self.old self.new) }
@@ -211,11 +188,7 @@ impl<R: Seek, const S: usize> Seek for BufReader<R, S> {
     }
 
     fn rewind(&mut self) -> Result<()>
-        ensures store { reader_has_store R.has_store R.position R.content self.old
-            → reader_has_store R.has_store R.position R.content self.new
-            × (R.content (reader_inner self.new) ≡ R.content (reader_inner self.old))
-            × (reader_position R.position self.new ≡ 0) × IsOk result }
-        ensures sought { WithoutPosition (ReaderSeeks R.may_seek self.old at_start self.new) result }
+        ensures law { RewindLaw ⟦<Self as Seek>⟧ self.old result self.new }
         ensures empty { OnOk result (reader_held self.new ≡ []) }
         ensures behind { OnOk result (reader_behind self.new ≡ []) }
         ensures kept { OnErr result (KeepsBuffer self.old self.new) }
@@ -228,11 +201,7 @@ impl<R: Seek, const S: usize> Seek for BufReader<R, S> {
 
     // Asks the inner reader, and leaves the buffer as it is.
     fn stream_len(&mut self) -> Result<u64>
-        ensures store { reader_has_store R.has_store R.position R.content self.old
-            → reader_has_store R.has_store R.position R.content self.new
-            × (R.content (reader_inner self.new) ≡ R.content (reader_inner self.old))
-            × (reader_position R.position self.new ≡ reader_position R.position self.old)
-            × IsOkAnd result (λ n. n ≡ length (R.content (reader_inner self.old))) }
+        ensures law { StreamLenLaw ⟦<Self as Seek>⟧ self.old result self.new }
         ensures buffer { KeepsBuffer self.old self.new }
         ensures sound { reader_is_sound R.has_store R.position R.content self.old
             → reader_is_sound R.has_store R.position R.content self.new }

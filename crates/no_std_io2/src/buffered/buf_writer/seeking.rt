@@ -1,9 +1,12 @@
 ghost use Rattle.std.specs.Prelude.{◌≡◌, ◌<◌, [], ◌∷◌, length, IsOk, IfOk, IfErr, OnOk, IsOkAnd};
 ghost use Rattle.no_std_io2_base.specs.Errors.{error_kind, IsFault};
-ghost use Rattle.no_std_io2_base.specs.Seek.{Seeks, WithoutPosition, here};
+ghost use Rattle.no_std_io2_base.specs.Seek.{WithoutPosition, here};
+ghost use Rattle.no_std_io2_base.specs.SeekLaws.{SeekLaw, StreamPositionLaw, RewindLaw, StreamLenLaw};
 ghost use Rattle.no_std_io2_base.specs.Writes.{Moves};
-ghost use Rattle.no_std_io2.specs.Buffered.{writer_inner, writer_buffer, writer_told, IsEnd};
-ghost use Rattle.no_std_io2.specs.BufferedSeek.{SeeksAfterSending, WriterSeeks, MeasuredAfterSending, at_start};
+ghost use Rattle.no_std_io2.specs.BufWriter.{writer_inner, writer_buffer, writer_told, SeeksAfterSending, WriterSeeks};
+ghost use Rattle.no_std_io2.specs.BufWriter.{MeasuredAfterSending};
+ghost use Rattle.no_std_io2.specs.Buffer.{IsEnd};
+ghost use Rattle.no_std_io2.specs.BufReader.{at_start};
 
 use super::BufWriter;
 use no_std_io2_base::error::Result;
@@ -41,16 +44,7 @@ impl<W: Write + Seek + Drop, const S: usize> Seek for BufWriter<W, S> {
     /// Sending's fault, never `Interrupted`, with the rest still held and no seek made, or the inner
     /// `seek`'s error as it is, with nothing held.
     fn seek(&mut self, pos: SeekFrom) -> Result<u64>
-        // The trait's.
-        ensures store { (writer_buffer self.old ≡ []) × W.has_store (writer_inner self.old)
-            → ((writer_buffer self.new ≡ []) × W.has_store (writer_inner self.new))
-            × (W.content (writer_inner self.new) ≡ W.content (writer_inner self.old))
-            × Seeks (length (W.content (writer_inner self.old))) (W.position (writer_inner self.old)) pos
-            result (W.position (writer_inner self.new)) }
-        ensures position { IfOk result (λ n. (writer_buffer self.new ≡ []) × W.has_store (writer_inner self.new)
-            → W.position (writer_inner self.new) ≡ n) }
-        ensures sought { WriterSeeks W.told W.has_store W.content W.position W.may_seek (writer_told W.told self.old) pos
-            (writer_buffer self.new) (writer_inner self.new) result }
+        ensures law { SeekLaw ⟦<Self as Seek>⟧ self.old pos result self.new }
 
         // Refused by the sending, with bytes still held.
         ensures rest { IsEnd (writer_buffer self.old) (writer_buffer self.new) }
@@ -69,16 +63,7 @@ impl<W: Write + Seek + Drop, const S: usize> Seek for BufWriter<W, S> {
 
     // Both send what is held, as `seek` does.
     fn stream_position(&mut self) -> Result<u64>
-        // The trait's.
-        ensures store { (writer_buffer self.old ≡ []) × W.has_store (writer_inner self.old)
-            → ((writer_buffer self.new ≡ []) × W.has_store (writer_inner self.new))
-            × (W.content (writer_inner self.new) ≡ W.content (writer_inner self.old))
-            × (W.position (writer_inner self.new) ≡ W.position (writer_inner self.old))
-            × IsOkAnd result (λ n. n ≡ W.position (writer_inner self.old)) }
-        ensures position { IfOk result (λ n. (writer_buffer self.new ≡ []) × W.has_store (writer_inner self.new)
-            → W.position (writer_inner self.new) ≡ n) }
-        ensures sought { WriterSeeks W.told W.has_store W.content W.position W.may_seek (writer_told W.told self.old) here
-            (writer_buffer self.new) (writer_inner self.new) result }
+        ensures law { StreamPositionLaw ⟦<Self as Seek>⟧ self.old result self.new }
 
         // Those of `seek`.
         ensures rest { IsEnd (writer_buffer self.old) (writer_buffer self.new) }
@@ -93,13 +78,7 @@ impl<W: Write + Seek + Drop, const S: usize> Seek for BufWriter<W, S> {
     }
 
     fn rewind(&mut self) -> Result<()>
-        // The trait's.
-        ensures store { (writer_buffer self.old ≡ []) × W.has_store (writer_inner self.old)
-            → ((writer_buffer self.new ≡ []) × W.has_store (writer_inner self.new))
-            × (W.content (writer_inner self.new) ≡ W.content (writer_inner self.old))
-            × (W.position (writer_inner self.new) ≡ 0) × IsOk result }
-        ensures sought { WithoutPosition (WriterSeeks W.told W.has_store W.content W.position W.may_seek
-            (writer_told W.told self.old) at_start (writer_buffer self.new) (writer_inner self.new)) result }
+        ensures law { RewindLaw ⟦<Self as Seek>⟧ self.old result self.new }
 
         // Those of `seek`.
         ensures rest { IsEnd (writer_buffer self.old) (writer_buffer self.new) }
@@ -116,12 +95,7 @@ impl<W: Write + Seek + Drop, const S: usize> Seek for BufWriter<W, S> {
 
     // Sends what is held, and then makes the seeks of the trait's body.
     fn stream_len(&mut self) -> Result<u64>
-        // The trait's.
-        ensures store { (writer_buffer self.old ≡ []) × W.has_store (writer_inner self.old)
-            → ((writer_buffer self.new ≡ []) × W.has_store (writer_inner self.new))
-            × (W.content (writer_inner self.new) ≡ W.content (writer_inner self.old))
-            × (W.position (writer_inner self.new) ≡ W.position (writer_inner self.old))
-            × IsOkAnd result (λ n. n ≡ length (W.content (writer_inner self.old))) }
+        ensures law { StreamLenLaw ⟦<Self as Seek>⟧ self.old result self.new }
 
         // Those of `seek`.
         ensures rest { IsEnd (writer_buffer self.old) (writer_buffer self.new) }

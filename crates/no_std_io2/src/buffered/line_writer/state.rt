@@ -2,8 +2,8 @@
 ghost use Rattle.std.specs.Prelude.{◌≡◌};
 ghost use Rattle.std.specs.Borrow.{Lends, sem};
 ghost use Rattle.std.proofs.Props.{props};
-ghost use Rattle.no_std_io2.specs.LineState.{IsLineState};
-ghost use Rattle.no_std_io2.specs.Buffered.{sender_inner, sender_buffer};
+ghost use Rattle.no_std_io2.specs.Lines.{IsLineState};
+ghost use Rattle.no_std_io2.specs.BufWriter.{sender_inner, sender_buffer};
 
 use crate::buffered::sender::Sender;
 use no_std_io2_base::traits::Write;
@@ -16,7 +16,7 @@ pub struct LineSender<W, const S: usize> {
 }
 
 impl<W: Write + Drop, const S: usize> LineSender<W, S> {
-    ghost use Rattle.no_std_io2.specs.LineSender.{line_sender_with_inner};
+    ghost use Rattle.no_std_io2.specs.LineWriter.{line_sender_with_inner};
     ghost use Rattle.no_std_io2.specs.contracts.buffered.line_writer.state.LineSender.{the_row as sender-row};
 
     // Of a sender that holds such a buffer.

@@ -2,8 +2,8 @@ use Rattle.std.proofs.Common.{◌≡◌, ◌+◌, ◌<◌, [], length, sym, ap, 
 use Rattle.std.proofs.lemmas.Result.{err_from_is_err_and}
 use Rattle.std.specs.Int.{w32, from_le_bytes}
 use Rattle.framing.specs.Part.{part_bytes, part_header, part_payload, most}
-use Rattle.framing.proofs.TakingLemmas.{gathered_none, gathered_then, gathered_passes}
-use Rattle.framing.proofs.EventLemmas.{some_lent, none_of}
+use Rattle.no_std_io2.proofs.EventLemmas.{Gathered-none, Gathered-then, Gathered-passes}
+use Rattle.no_std_io2.proofs.EventLemmas.{some_lent, none_of}
 use Rattle.framing.proofs.FrameLemmas.{told_behind, stopped, ended, no_frame, whole_part, too_long, frame_whole}
 use Rattle.framing.proofs.FrameLemmas.{passes_as, part_short, turn_spent}
 use Rattle.framing.proofs.reader.FrameReader.gather_frame.Goals as goal
@@ -14,7 +14,7 @@ returns-in_err-fill_header-clause-told g c = λ t.
     let said = c.in_err-fill_header.ensures.told t in (
       said.0,
       rw (p.1, p.2)
-          (stopped (most c.args.self.now) 4 c.in_err-fill_header.field-0.0 (gathered_none _ _) said.1
+          (stopped (most c.args.self.now) 4 c.in_err-fill_header.field-0.0 (Gathered-none _ _) said.1
           (λ h. inl h)),
     )
 
@@ -30,7 +30,7 @@ returns-then-not-branch-clause-told g c = λ t.
     let some : 0 < length (part_bytes c.fill_header.new.self) = some_lent _ _ c.is_empty.ensures c.if-is_empty.false in (
       said.0,
       ended (most c.args.self.now) 4 _ _ c.in_ok-fill_header.field-0 c.ended_inside.result c.if-not-branch.true
-          (gathered_none _ _) said.1 (λ h. inl h) some c.ended_inside.ensures,
+          (Gathered-none _ _) said.1 (λ h. inl h) some c.ended_inside.ensures,
     )
 
 pub told_len-len-requires : goal.told_len-len-requires
@@ -97,7 +97,7 @@ returns-clause-told g c = λ t.
     let is =
     frame_whole c.told_len-len.result (part_header part) (part_payload part)
     (c.told_len-len.ensures.back ∙ sym c.in_ok-fill_payload.ensures.header) long in
-    (said.0, (passes_as (gathered_passes (gathered_then first.0 whole.0)) is, omega (arith, long, c.if-len-self.false)))
+    (said.0, (passes_as (Gathered-passes (Gathered-then first.0 whole.0)) is, omega (arith, long, c.if-len-self.false)))
 
 pub returns-clause-turn : goal.returns-clause-turn
 returns-clause-turn g c = λ h.

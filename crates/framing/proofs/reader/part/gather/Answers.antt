@@ -1,6 +1,5 @@
 use Rattle.std.proofs.Common.{◌≡◌, ◌<◌, ◌≤◌, length, take, sym, ◌∙◌, arith, le_trans, length-take-le}
-use Rattle.framing.proofs.EventLemmas.{part_taken, error_taken, some_lent}
-use Rattle.framing.proofs.TakingLemmas.{gathered_bytes, gathered_interruption}
+use Rattle.no_std_io2.proofs.EventLemmas.{part_taken, error_taken, some_lent, Gathered-more, Gathered-still, Passes-interruption}
 use Rattle.framing.proofs.reader.part.gather.Goals as goal
 
 pub pieces-preserved-in-Ok : goal.pieces-preserved-in-Ok
@@ -8,7 +7,7 @@ pieces-preserved-in-Ok g c =
     let events = g.B.Read.events in
     let before = c.pieces.invariant in
     let filled = c.fill_buf.follows.holds-at-none in
-    let dropped = c.consume.ensures in
+    let dropped = c.consume.ensures.law in
     let len = c.min-len.result in
     let lent = c.in-Ok.lent.now in
     let appended = c.in_ok-extend_from_slice-in-Ok.ensures in
@@ -22,7 +21,7 @@ pieces-preserved-in-Ok g c =
           let rest = dropped.told loan.0 in
           let part = part_taken c.in-Ok.lent _ (events c.consume.new.self) len c.in-Ok.is filled.lends loan.1 rest.1 in (
             rest.0,
-            gathered_bytes (take len lent) c.extend_from_slice.new.self.items (events c.consume.new.self) so_far.1 part
+            Gathered-more (take len lent) c.extend_from_slice.new.self.items (events c.consume.new.self) so_far.1 part
                 appended.items,
           );
       grows = omega (arith, before.grows, appended.len);
@@ -42,8 +41,8 @@ pieces-preserved g c =
           let so_far = before.told t in
           let loan = filled.told so_far.0 in (
             loan.0,
-            gathered_interruption c.in-Err.e _ so_far.1 (error_taken c.in-Err.is loan.1)
-                (sym c.is_interrupted.ensures ∙ c.if-is_interrupted.true),
+            Gathered-still so_far.1
+                (Passes-interruption (error_taken c.in-Err.is loan.1) (sym c.is_interrupted.ensures ∙ c.if-is_interrupted.true)),
           );
       grows = before.grows;
       len = before.len;

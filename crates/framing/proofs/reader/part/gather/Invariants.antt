@@ -1,6 +1,6 @@
 -- What was gathered so far is what is gone from what was to come, and has no fault.
 use Rattle.std.proofs.Common.{◌≤◌, ◌<◌, vec_len}
-use Rattle.framing.specs.Taking.{Gathered}
+use Rattle.no_std_io2.specs.Passing.{Gathered}
 use Rattle.framing.proofs.reader.part.gather.Given as goal
 
 abbrev pub invariant-pieces : goal.invariant-pieces

@@ -21,15 +21,20 @@ returns-in-Ok-eq0 g c =
     let none = c.in-Ok-eq0.field-0-test in
     let some = not_empty _ c.writes.rest.now c.is_empty.ensures c.writes-test.true in
     record {
-      fault = search rules;
-      sends = sends_zero before.sent c.write.ensures.moves is none some cc;
-      done = tt;
-      all = λ a. absurd (takes_some _ (c.write.ensures.all (before.all a)).1 is none some);
-      acts = spent_stop before.acts c.write.ensures.acts some (omega (arith, c.write.ensures.moves.turns));
+      law = record {
+        fault = search rules;
+        sends = sends_zero before.sent c.write.ensures.law.moves is none some cc;
+        done = tt;
+        all = λ a. absurd (takes_some _ (c.write.ensures.law.all (before.all a)).1 is none some);
+        counts = λ no. absurd no;
+      };
+      acts = spent_stop before.acts c.write.ensures.acts some (omega (arith, c.write.ensures.law.moves.turns));
     }
 
 pub writes-smaller-in-Ok : goal.writes-smaller-in-Ok
-writes-smaller-in-Ok g c = fewer_left c.in-Ok.n _ _ c.writes.rest.now c.in-Ok.n-test.1 c.in-Ok.ensures.bound c.in-Ok.ensures.moves.turns
+writes-smaller-in-Ok g c =
+    let wrote = c.in-Ok.ensures.law in
+    fewer_left c.in-Ok.n _ _ c.writes.rest.now c.in-Ok.n-test.1 wrote.bound wrote.moves.turns
 
 pub writes-preserved-in-Ok : goal.writes-preserved-in-Ok
 writes-preserved-in-Ok g c =
@@ -37,32 +42,32 @@ writes-preserved-in-Ok g c =
     let wrote = c.in-Ok.ensures in
     let left = c.writes.rest.now in
     let n = c.in-Ok.n in
-    let fewer = fewer_left n _ _ left c.in-Ok.n-test.1 wrote.bound wrote.moves.turns in
+    let fewer = fewer_left n _ _ left c.in-Ok.n-test.1 wrote.law.bound wrote.law.moves.turns in
     let went = went_on_by (acts_left c.writes.self) n left c.in-Ok.n-test.1
     (λ kind is. (wrote.fail kind is).0) (λ is. (wrote.zero is).0) (λ is. (wrote.take_none is).0)
     (λ m some is. (wrote.take m some is).bound) in
     record {
-      sent = sent_more left _ n before.sent wrote.moves;
-      all = λ a. (wrote.all (before.all a)).0;
-      acts = spent_more n before.acts went wrote.acts (left_of n left wrote.bound) (omega (arith, fewer));
+      sent = sent_more left _ n before.sent wrote.law.moves;
+      all = λ a. (wrote.law.all (before.all a)).0;
+      acts = spent_more n before.acts went wrote.acts (left_of n left wrote.law.bound) (omega (arith, fewer));
     }
 
 -- how the test of an interruption is written is not named here
 pub writes-smaller : goal.writes-smaller
-writes-smaller g c = fewer_turns c.in-Err.e _ _ (length c.writes.rest.now) c.in-Err.ensures.moves.turns
+writes-smaller g c = fewer_turns c.in-Err.e _ _ (length c.writes.rest.now) c.in-Err.ensures.law.moves.turns
     cc
 
 pub writes-preserved : goal.writes-preserved
 writes-preserved g c =
     let before = c.writes.invariant in
     let wrote = c.in-Err.ensures in
-    let fewer = fewer_turns c.in-Err.e _ _ (length c.writes.rest.now) wrote.moves.turns cc in
+    let fewer = fewer_turns c.in-Err.e _ _ (length c.writes.rest.now) wrote.law.moves.turns cc in
     let again : IsInterruption c.in-Err.e = cc in
     let went = interrupted_by (acts_left c.writes.self) c.in-Err.e again
     (λ kind is. (wrote.fail kind is).0) (λ is. (wrote.zero is).0) (λ is. (wrote.take_none is).0) in
     record {
-      sent = sent_interruption before.sent wrote.moves;
-      all = λ a. (wrote.all (before.all a)).0;
+      sent = sent_interruption before.sent wrote.law.moves;
+      all = λ a. (wrote.law.all (before.all a)).0;
       acts = spent_more 0 before.acts went wrote.acts (omega arith) (omega (arith, fewer));
     }
 
@@ -72,11 +77,14 @@ returns-in-Err-2 g c =
     let wrote = c.in-Err.ensures in
     let some = not_empty _ c.writes.rest.now c.is_empty.ensures c.writes-test.true in
     record {
-      fault = cc;
-      sends = sends_fault before.sent wrote.moves;
-      done = tt;
-      all = λ a. absurd (no_error_there _ _ (wrote.all (before.all a)).1);
-      acts = spent_stop before.acts wrote.acts some (omega (arith, wrote.moves.turns));
+      law = record {
+        fault = cc;
+        sends = sends_fault before.sent wrote.law.moves;
+        done = tt;
+        all = λ a. absurd (no_error_there _ _ (wrote.law.all (before.all a)).1);
+        counts = λ no. absurd no;
+      };
+      acts = spent_stop before.acts wrote.acts some (omega (arith, wrote.law.moves.turns));
     }
 
 pub returns : goal.returns
@@ -84,9 +92,12 @@ returns g c =
     let before = c.writes.invariant in
     let none = is_empty _ c.writes.rest.now c.is_empty.ensures c.writes-test.false in
     record {
-      sends = sends_done before.sent;
-      fault = tt;
-      done = none;
-      all = λ a. (before.all a, refl);
+      law = record {
+        sends = sends_done before.sent;
+        fault = tt;
+        done = none;
+        all = λ a. (before.all a, refl);
+        counts = λ no. absurd no;
+      };
       acts = spent_done before.acts (ap length none);
     }

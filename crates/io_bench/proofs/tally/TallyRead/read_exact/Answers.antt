@@ -1,109 +1,50 @@
-use Rattle.std.proofs.Common.{◌-◌, length, rules, arith, refl, sym, ◌∙◌, le_refl, le_trans, inl, inr}
-use Rattle.std.proofs.lemmas.Slice.{take-put_mid_below}
-use Rattle.no_std_io2_base.proofs.Parts.{take-put_mid}
-use Rattle.no_std_io2_base.proofs.ReadExactExits.{length_stays, short_before, some_part, some_bytes, within_part}
-use Rattle.no_std_io2_base.proofs.ReadExactExits.{le_same, exact_short, exact_done}
-use Rattle.no_std_io2_base.proofs.ReadsToEndExits.{stays_at_end}
-use Rattle.no_std_io2_base.proofs.Taken.{taken_none, taken_read, taken_interruption, taken_fault, moved_read, no_error}
+use Rattle.std.proofs.Common.{rules, arith, refl, sym, ◌∙◌}
+use Rattle.no_std_io2_base.proofs.ExactLoop.{exact_none, exact_read, exact_interruption, exact_end, exact_fault, exact_all}
+use Rattle.no_std_io2_base.proofs.ReadExactExits.{some_bytes}
 use Rattle.io_bench.proofs.CountLemmas.{counted_none, counted_stop, counted_done, counted_more, handed_once, one_read, part_room}
 use Rattle.io_bench.proofs.tally.TallyRead.read_exact.Goals as goal
 
 pub reads-init : goal.reads-init
-reads-init g c = record {
-  long = refl;
-  within = omega arith;
-  turns = le_refl _;
-  told = λ t. (t, taken_none _ _);
-  is_filling = λ f. f;
-  store = λ s. (s, refl, refl);
-  counts = counted_none (omega arith);
-  handed = λ m. (m, refl);
-  none = λ e. refl;
-  writes = refl;
-}
+reads-init g c = record { law = exact_none; counts = counted_none (omega arith); handed = λ m. (m, refl); writes = refl }
 
 pub returns-in-Ok-eq0 : goal.returns-in-Ok-eq0
 returns-in-Ok-eq0 g c =
     let before = c.reads.invariant in
     let read = c.read.ensures in
-    let is = c.in-Ok-eq0.is in
-    let none = c.in-Ok-eq0.field-0-test in
-    let at = c.reads.at in
-    let old = c.reads.buf in
-    let below = c.reads-test.true in
-    let stays = length_stays at old c.read.new.buf c.read.auto.buf in
-    let some = some_part at old c.read.new.buf below c.read.auto.buf in
     record {
-      told = λ t.
-          let so_far = before.told t in
-          let now = read.told so_far.0 in (
-            now.0,
-            inr (exact_short _ so_far.1 now.1 is none some (search rules) (sym before.long ∙ sym stays)
-                (short_before at _ old below stays)),
-          );
-      fault = search rules;
-      turns = le_trans read.turns before.turns;
-      filling = λ f. (read.fills (before.is_filling f)).0;
-      store = λ s.
-          let so_far = before.store s in
-          let now = read.store so_far.0 in
-          let tells = g.met.T.Read.store_tells _ so_far.0 in
-          (now.0, now.1 ∙ so_far.1, stays_at_end _ _ _ _ (read.told tells.0).1 is none now.2 so_far.2);
-      counts = counted_stop before.counts (one_read _ (part_room at old c.reads-test.true) read.reads) read.turns;
-      handed = λ m. handed_once _ _ _ _ _ (before.handed m) (read.handed.counted (before.handed m).0) read.reads;
-      empty = λ e. absurd (omega (arith, e, before.long, c.reads-test.true));
+      law = exact_end before.law (λ t told. g.met.T.Read.store_tells _ told) c.reads-test.true c.read.auto.buf read.law
+          c.in-Ok-eq0.is c.in-Ok-eq0.field-0-test (search rules);
+      counts = counted_stop before.counts (one_read _ (part_room c.reads.at c.reads.buf c.reads-test.true) read.reads) read.law.turns;
+      handed = λ m. handed_once _ _ _ _ _ (before.handed m) (read.handed.counts (before.handed m).0) read.reads;
       writes = read.writes ∙ before.writes;
     }
 
 pub returns : goal.returns
 returns g c =
     let before = c.reads.invariant in
-    let test = c.reads-test.false in
     record {
-      told = λ t. let so_far = before.told t in (so_far.0, exact_done so_far.1 before.long test);
-      fault = tt;
-      turns = before.turns;
-      filling = before.is_filling;
-      store = before.store;
-      counts = counted_done before.counts (omega (arith, test));
+      law = exact_all before.law c.reads-test.false;
+      counts = counted_done before.counts (omega (arith, c.reads-test.false));
       handed = before.handed;
-      empty = λ e. (refl, before.none e);
       writes = before.writes;
     }
 
 pub reads-smaller-in-Ok : goal.reads-smaller-in-Ok
-reads-smaller-in-Ok g c = c.in-Ok.ensures.turn (some_bytes c.in-Ok.n c.in-Ok.n-test.1)
+reads-smaller-in-Ok g c = c.in-Ok.ensures.law.turn (some_bytes c.in-Ok.n c.in-Ok.n-test.1)
 
 pub reads-smaller : goal.reads-smaller
-reads-smaller g c = c.in-Err.ensures.turn
+reads-smaller g c = c.in-Err.ensures.law.turn
 
 pub reads-preserved-in-Ok : goal.reads-preserved-in-Ok
 reads-preserved-in-Ok g c =
-    let at = c.reads.at in
-    let old = c.reads.buf in
-    let read = c.in-Ok.ensures in
     let before = c.reads.invariant in
-    let n = c.in-Ok.n in
-    let stays = length_stays at old c.read.new.buf c.read.auto.buf in
-    let shown = take-put_mid at (length old - at) n old c.read.new.buf before.within read.bound in
+    let read = c.in-Ok.ensures in
     record {
-      long = stays ∙ before.long;
-      within = within_part at n old _ _ before.within read.bound c.read.auto.buf stays;
-      turns = le_trans read.turns before.turns;
-      told = λ t.
-          let so_far = before.told t in
-          let now = read.told so_far.0 in
-          (now.0, taken_read _ so_far.1 now.1 read.bound (some_bytes n c.in-Ok.n-test.1) shown);
-      is_filling = λ f. (read.fills (before.is_filling f)).0;
-      store = λ s.
-          let so_far = before.store s in
-          let now = read.store so_far.0 in
-          let tells = g.met.T.Read.store_tells _ so_far.0 in
-          (now.0, now.1 ∙ so_far.1, moved_read _ _ _ _ read.bound (read.told tells.0).1.0 now.2 so_far.2);
-      counts = counted_more before.counts (one_read _ (part_room at old c.reads-test.true) read.reads)
-          (c.in-Ok.ensures.turn (some_bytes c.in-Ok.n c.in-Ok.n-test.1));
-      handed = λ m. handed_once _ _ _ _ _ (before.handed m) (read.handed.counted (before.handed m).0) read.reads;
-      none = λ e. absurd (omega (arith, e, before.long, c.reads-test.true));
+      law = exact_read before.law (λ t told. g.met.T.Read.store_tells _ told) c.reads-test.true c.read.auto.buf read.law
+          c.in-Ok.n-test.1;
+      counts = counted_more before.counts (one_read _ (part_room c.reads.at c.reads.buf c.reads-test.true) read.reads)
+          (read.law.turn (some_bytes c.in-Ok.n c.in-Ok.n-test.1));
+      handed = λ m. handed_once _ _ _ _ _ (before.handed m) (read.handed.counts (before.handed m).0) read.reads;
       writes = read.writes ∙ before.writes;
     }
 
@@ -111,27 +52,11 @@ pub returns-in-Err-2 : goal.returns-in-Err-2
 returns-in-Err-2 g c =
     let before = c.reads.invariant in
     let read = c.in-Err.ensures in
-    let fault = sym c.is_interrupted.ensures ∙ c.if-is_interrupted.false in
-    let at = c.reads.at in
-    let old = c.reads.buf in
     record {
-      told = λ t.
-          let so_far = before.told t in
-          let now = read.told so_far.0 in (
-            now.0,
-            inl (taken_fault so_far.1 now.1 fault
-                (short_before at _ old c.reads-test.true (length_stays at old c.read.new.buf c.read.auto.buf))),
-          );
-      fault = fault;
-      turns = le_trans read.turns before.turns;
-      filling = λ f. (read.fills (before.is_filling f)).0;
-      store = λ s.
-          let so_far = before.store s in
-          let tells = g.met.T.Read.store_tells _ so_far.0 in
-          absurd (no_error _ tells.1 (read.told tells.0).1);
-      counts = counted_stop before.counts (one_read _ (part_room at old c.reads-test.true) read.reads) read.turns;
-      handed = λ m. handed_once _ _ _ _ _ (before.handed m) (read.handed.counted (before.handed m).0) read.reads;
-      empty = λ e. absurd (omega (arith, e, before.long, c.reads-test.true));
+      law = exact_fault before.law (λ t told. g.met.T.Read.store_tells _ told) c.reads-test.true c.read.auto.buf read.law
+          (sym c.is_interrupted.ensures ∙ c.if-is_interrupted.false);
+      counts = counted_stop before.counts (one_read _ (part_room c.reads.at c.reads.buf c.reads-test.true) read.reads) read.law.turns;
+      handed = λ m. handed_once _ _ _ _ _ (before.handed m) (read.handed.counts (before.handed m).0) read.reads;
       writes = read.writes ∙ before.writes;
     }
 
@@ -139,27 +64,10 @@ pub reads-preserved : goal.reads-preserved
 reads-preserved g c =
     let before = c.reads.invariant in
     let read = c.in-Err.ensures in
-    let at = c.reads.at in
-    let old = c.reads.buf in
-    let stays = length_stays at old c.read.new.buf c.read.auto.buf in
-    let again = sym c.is_interrupted.ensures ∙ c.if-is_interrupted.true in
     record {
-      long = stays ∙ before.long;
-      within = le_same at _ _ before.within stays;
-      turns = le_trans read.turns before.turns;
-      told = λ t.
-          let so_far = before.told t in
-          let now = read.told so_far.0 in
-          let short = short_before at _ old c.reads-test.true (sym before.long) in
-          (now.0, taken_interruption so_far.1 now.1 again short (take-put_mid_below _ _ _ _ _ (le_refl _) before.within));
-      is_filling = λ f. (read.fills (before.is_filling f)).0;
-      store = λ s.
-          let so_far = before.store s in
-          let tells = g.met.T.Read.store_tells _ so_far.0 in
-          absurd (no_error _ tells.1 (read.told tells.0).1);
-      counts = counted_more before.counts (one_read _ (part_room at old c.reads-test.true) read.reads)
-          c.in-Err.ensures.turn;
-      handed = λ m. handed_once _ _ _ _ _ (before.handed m) (read.handed.counted (before.handed m).0) read.reads;
-      none = λ e. absurd (omega (arith, e, before.long, c.reads-test.true));
+      law = exact_interruption before.law (λ t told. g.met.T.Read.store_tells _ told) c.reads-test.true c.read.auto.buf read.law
+          (sym c.is_interrupted.ensures ∙ c.if-is_interrupted.true);
+      counts = counted_more before.counts (one_read _ (part_room c.reads.at c.reads.buf c.reads-test.true) read.reads) read.law.turn;
+      handed = λ m. handed_once _ _ _ _ _ (before.handed m) (read.handed.counts (before.handed m).0) read.reads;
       writes = read.writes ∙ before.writes;
     }

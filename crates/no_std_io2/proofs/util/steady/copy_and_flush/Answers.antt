@@ -3,7 +3,7 @@ use Rattle.no_std_io2_base.specs.Events.{bytes}
 use Rattle.no_std_io2_base.specs.Writes.{Moves}
 use Rattle.no_std_io2_base.proofs.MovesLemmas.{Moves-steady}
 use Rattle.no_std_io2.specs.Copy.{counted}
-use Rattle.no_std_io2.proofs.Copied.{copies_steadily, stays_steady, flushed}
+use Rattle.no_std_io2.proofs.CopyLemmas.{copies_steadily, stays_steady, flushed}
 use Rattle.no_std_io2.proofs.util.steady.copy_and_flush.Goals as goal
 
 pub returns : goal.returns
@@ -14,7 +14,7 @@ returns g c = λ some t whole steady.
     (g.W.Write.told c.copy.new.writer) =
     subst (λ E. Moves (g.W.Write.told c.args.writer.now) (bytes E) [] (g.W.Write.told c.copy.new.writer)) (sym all)
     done.3.3 in
-    let flush = c.in_ok-flush.ensures in (
+    let flush = c.in_ok-flush.ensures.law in (
       done.3.2 ∙ ap (λ E. counted (bytes E)) (sym all),
       done.3.1 some,
       stays_steady (stays_steady steady moved) flush.moves,
@@ -29,4 +29,4 @@ returns-in_err-n g c = λ some t whole steady.
 pub returns-in_err-flush : goal.returns-in_err-flush
 returns-in_err-flush g c = λ some t whole steady.
     let done = (c.in_ok-n.ensures.told t).1 in
-    absurd (Moves-steady (stays_steady steady done.3.3) c.in_err-flush.ensures.moves)
+    absurd (Moves-steady (stays_steady steady done.3.3) c.in_err-flush.ensures.law.moves)

@@ -1,8 +1,11 @@
-use Rattle.no_std_io2_base.proofs.PieceLemmas.{found_at, found_none}
+use Rattle.std.proofs.Common.{◌<◌, ◌≢◌, length, rules, arith}
+use Rattle.no_std_io2_base.proofs.PieceLemmas.{all_before, found_at, found_none}
 use Rattle.no_std_io2_base.proofs.traits.pieces.find_piece.Goals as goal
 
-pub returns-in-Some : goal.returns-in-Some
-returns-in-Some c = let found = c.in-Some.ensures.some in found_at _ _ c.in-Some.at found.0 found.1 found.2
+pub returns-then-lent-i : goal.returns-then-lent-i
+returns-then-lent-i c =
+    let within : c.bytes.i < length c.args.lent.now = omega arith in
+    found_at _ _ c.bytes.i within (search rules) (all_before (λ b. b ≢ c.args.delim) _ _ within c.bytes.invariant)
 
-pub returns-in-None : goal.returns-in-None
-returns-in-None c = found_none c.is_empty.ensures c.in-None.ensures.none
+pub returns : goal.returns
+returns c = found_none c.is_empty.ensures (search rules)

@@ -29,24 +29,31 @@ returns-in-Ok-eq0 g c =
     (λ e. ap (λ p. known (patient_device p)) (read.over e).1)
     (λ e. (read.last room e).0) read.bytes in
     record {
-      fault = search rules;
-      turns = omega (arith, read.turns, before.turns);
+      law = record {
+        told = λ t. absurd t;
+        fault = search rules;
+        empty = λ e. absurd (omega (arith, e, before.long, c.reads-test.true));
+        turns = omega (arith, read.law.turns, before.turns);
+        turn = λ some. tt;
+        metered = λ m. m;
+        filling = λ f. f;
+        store = λ s. absurd s;
+      };
       bytes = record {
         count = at;
         within = omega (arith, stays, before.within);
         whole = tt;
         device = got_none at (length old - at) old c.read.new.buf _ _ _ before.within before.got none;
       };
-      ends = (omega (arith, read.turns, before.turns), inr (inr c.gave_too_little.ensures));
-      empty = λ e. absurd (omega (arith, e, before.long, c.reads-test.true));
+      ends = (omega (arith, read.law.turns, before.turns), inr (inr c.gave_too_little.ensures));
       taken = read.taken ∙ before.taken;
     }
 
 pub reads-smaller-in-Ok : goal.reads-smaller-in-Ok
-reads-smaller-in-Ok g c = c.in-Ok.ensures.turn (omega (arith, c.in-Ok.n-test.1))
+reads-smaller-in-Ok g c = c.in-Ok.ensures.law.turn (omega (arith, c.in-Ok.n-test.1))
 
 pub reads-smaller : goal.reads-smaller
-reads-smaller g c = c.in-Err.ensures.turn
+reads-smaller g c = c.in-Err.ensures.law.turn
 
 pub reads-preserved-in-Ok : goal.reads-preserved-in-Ok
 reads-preserved-in-Ok g c =
@@ -57,12 +64,12 @@ reads-preserved-in-Ok g c =
     let old = c.reads.buf in
     let room = part_room at old c.reads-test.true in
     let stays = length_stays at old c.read.new.buf c.read.auto.buf in
-    let spent = read.turn (omega (arith, c.in-Ok.n-test.1)) in
+    let spent = read.law.turn (omega (arith, c.in-Ok.n-test.1)) in
     let gave = consumed_some n _ _ _ c.in-Ok.n-test.1 read.over (λ e. (read.last room e).0) read.bytes in
     record {
       long = stays ∙ before.long;
-      within = within_part at n old _ _ before.within read.bound c.read.auto.buf stays;
-      got = got_more at (length old - at) n old c.read.new.buf _ _ _ before.within read.bound before.got gave;
+      within = within_part at n old _ _ before.within read.law.bound c.read.auto.buf stays;
+      got = got_more at (length old - at) n old c.read.new.buf _ _ _ before.within read.law.bound before.got gave;
       turns = omega (arith, spent, before.turns);
       spent = λ some. omega (arith, spent, before.turns);
       empty = λ e. absurd (omega (arith, e, before.long, c.reads-test.true));
@@ -83,8 +90,8 @@ reads-preserved g c =
       long = stays ∙ before.long;
       within = omega (arith, stays, before.within);
       got = got_same at (length old - at) old c.read.new.buf _ _ _ before.within before.got kept;
-      turns = omega (arith, read.turn, before.turns);
-      spent = λ some. omega (arith, read.turn, before.turns);
+      turns = omega (arith, read.law.turn, before.turns);
+      spent = λ some. omega (arith, read.law.turn, before.turns);
       empty = λ e. absurd (omega (arith, e, before.long, c.reads-test.true));
       taken = read.taken ∙ before.taken;
     }
@@ -101,16 +108,23 @@ returns-in-Err-2 g c =
     let kept = consumed_none c.in-Err.e read.over (λ e. let l = read.last room e in (l.0, l.1, ap known l.2)) read.bytes in
     let fault : IsFault c.in-Err.e = cc in
     record {
-      fault = fault;
-      turns = omega (arith, read.turn, before.turns);
+      law = record {
+        told = λ t. absurd t;
+        fault = fault;
+        empty = λ e. absurd (omega (arith, e, before.long, c.reads-test.true));
+        turns = omega (arith, read.law.turn, before.turns);
+        turn = λ some. tt;
+        metered = λ m. m;
+        filling = λ f. f;
+        store = λ s. absurd s;
+      };
       bytes = record {
         count = at;
         within = omega (arith, stays, before.within);
         whole = tt;
         device = got_same at (length old - at) old c.read.new.buf _ _ _ before.within before.got kept;
       };
-      ends = ends_reads (length c.args.buf.now) c.in-Err.e fault before.turns read.turn (read.last room) (read.asked room);
-      empty = λ e. absurd (omega (arith, e, before.long, c.reads-test.true));
+      ends = ends_reads (length c.args.buf.now) c.in-Err.e fault before.turns read.law.turn (read.last room) (read.asked room);
       taken = read.taken ∙ before.taken;
     }
 
@@ -118,8 +132,16 @@ pub returns : goal.returns
 returns g c =
     let before = c.reads.invariant in
     record {
-      fault = tt;
-      turns = before.turns;
+      law = record {
+        told = λ t. absurd t;
+        fault = tt;
+        empty = λ e. (refl, before.empty e);
+        turns = before.turns;
+        turn = λ some. before.spent (omega (arith, some, c.reads-test.false, before.long));
+        metered = λ m. m;
+        filling = λ f. f;
+        store = λ s. absurd s;
+      };
       bytes = record {
         count = c.reads.at;
         within = before.within;
@@ -127,6 +149,5 @@ returns g c =
         device = before.got;
       };
       ends = (before.turns, λ some. before.spent (omega (arith, some, c.reads-test.false, before.long)));
-      empty = λ e. (refl, before.empty e);
       taken = before.taken;
     }

@@ -16,15 +16,19 @@ returns-in-Ok-eq0 g c =
     let gives = gives_zero before.gives is c.in-Ok-eq0.field-0-test wrote.taken wrote.bytes in
     let ends = ends_zero c.took_nothing.result c.took_nothing.ensures before.turns is wrote.asked in
     record {
-      fault = fault;
-      sends = gives_sends (Err c.took_nothing.result) gives (no_turn c.took_nothing.result _ _ fault ends.0);
-      done = tt;
+      law = record {
+        fault = fault;
+        sends = gives_sends (Err c.took_nothing.result) gives (no_turn c.took_nothing.result _ _ fault ends.0);
+        done = tt;
+        all = λ no. absurd no;
+        counts = λ no. absurd no;
+      };
       bytes = gives;
       ends = ends;
     }
 
 pub writes-smaller-in-Ok : goal.writes-smaller-in-Ok
-writes-smaller-in-Ok g c = fewer_left c.in-Ok.n _ _ c.writes.rest.now c.in-Ok.n-test.1 c.in-Ok.ensures.bound c.in-Ok.ensures.asked
+writes-smaller-in-Ok g c = fewer_left c.in-Ok.n _ _ c.writes.rest.now c.in-Ok.n-test.1 c.in-Ok.ensures.law.bound c.in-Ok.ensures.asked
 
 pub writes-preserved-in-Ok : goal.writes-preserved-in-Ok
 writes-preserved-in-Ok g c =
@@ -59,9 +63,13 @@ returns-in-Err-2 g c =
     let gives = gives_same before.gives wrote.taken wrote.bytes in
     let ends = ends_writes c.in-Err.e fault before.turns wrote.asked in
     record {
-      fault = fault;
-      sends = gives_sends (Err c.in-Err.e) gives (no_turn c.in-Err.e _ _ fault ends.0);
-      done = tt;
+      law = record {
+        fault = fault;
+        sends = gives_sends (Err c.in-Err.e) gives (no_turn c.in-Err.e _ _ fault ends.0);
+        done = tt;
+        all = λ no. absurd no;
+        counts = λ no. absurd no;
+      };
       bytes = gives;
       ends = ends;
     }
@@ -70,9 +78,13 @@ pub returns : goal.returns
 returns g c =
     let before = c.writes.invariant in
     record {
-      fault = tt;
-      sends = gives_sends _ before.gives (omega (arith, before.turns));
-      done = is_empty _ c.writes.rest.now c.is_empty.ensures c.writes-test.false;
+      law = record {
+        fault = tt;
+        sends = gives_sends _ before.gives (omega (arith, before.turns));
+        done = is_empty _ c.writes.rest.now c.is_empty.ensures c.writes-test.false;
+        all = λ no. absurd no;
+        counts = λ no. absurd no;
+      };
       bytes = before.gives;
       ends = before.turns;
     }

@@ -3,8 +3,8 @@ use Rattle.std.proofs.lemmas.Int.{ints}
 use Rattle.std.proofs.lemmas.Bool.{false≢true}
 use Rattle.std.specs.Int.{w64}
 use mir.Val.{to_z, of_z}
-use Rattle.no_std_io2.specs.Reading.{reader_held, reader_inner}
-use Rattle.no_std_io2.proofs.Seeks.{back_arrives}
+use Rattle.no_std_io2.specs.BufReader.{reader_held, reader_inner}
+use Rattle.no_std_io2.proofs.BufReaderSeeks.{back_arrives}
 use Rattle.no_std_io2.proofs.buffered.buf_reader.BufReader.seek_back.Goals as goal
 
 pub returns-clause-store : goal.returns-clause-store

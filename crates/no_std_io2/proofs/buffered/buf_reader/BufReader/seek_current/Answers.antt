@@ -1,13 +1,14 @@
 -- A seek from the next byte, by its three ends: one inner seek, two, and a first of two that failed.
-use Rattle.std.proofs.Common.{◌≡◌, ◌-ℤ◌, ℤ, pos, length, FitsSigned, rules, arith, refl, ◌∙◌, subst, inl, inr}
+use Rattle.std.proofs.Common.{◌≡◌, ◌<◌, ◌^◌, ◌-ℤ◌, ℤ, pos, length, FitsSigned, rules, arith, refl, ◌∙◌, subst, inl, inr}
 use Rattle.std.proofs.lemmas.Int.{ints, to_z-of_z}
 use Rattle.std.proofs.lemmas.Result.{err_from_is_err_and}
 use Rattle.std.specs.Int.{w64}
 use mir.Val.{to_z, of_z}
 use Rattle.no_std_io2_base.specs.declared.traits.seek.SeekFrom.TheVariants.{Current}
-use Rattle.no_std_io2.specs.Reading.{reader_held, reader_behind, reader_inner, IsTooFarBack}
-use Rattle.no_std_io2.proofs.ReaderCallLemmas.{not_ok}
-use Rattle.no_std_io2.proofs.Seeks.{sought_current, sought_again, fits_not_far, far_unless_fits, kept_whole, dropped_far, still_none}
+use Rattle.no_std_io2.specs.BufReader.{reader_held, reader_behind, reader_inner, IsTooFarBack}
+use Rattle.no_std_io2.proofs.BufReaderCalls.{not_ok}
+use Rattle.no_std_io2.proofs.BufReaderSeeks.{sought_current, sought_again, fits_not_far, far_unless_fits, kept_whole}
+use Rattle.no_std_io2.proofs.BufReaderSeeks.{dropped_far, still_none}
 use Rattle.no_std_io2.proofs.buffered.buf_reader.BufReader.seek_current.Goals as goal
 
 pub returns-in-Some : goal.returns-in-Some
@@ -49,7 +50,8 @@ returns-in_ok-seek_back-in-None g c =
     let none_behind = still_none answer (reader_behind mid) (reader_behind new) first.behind second.behind second.behind_kept in
     let not_fits : FitsSigned w64 (c.args.offset -ℤ pos c.len-held.result) → ⊥ =
     subst (λ (z : ℤ). FitsSigned w64 (z -ℤ pos c.len-held.result) → ⊥) same c.in-None.ensures in
-    let far = far_unless_fits c.args.offset c.len-held.result c.ranges.offset c.len-held.ensures.in_memory not_fits in
+    let small : c.len-held.result < 2 ^ 63 = omega (arith, c.len-held.ensures.bound, c.args.self.now.in_memory) in
+    let far = far_unless_fits c.args.offset c.len-held.result c.ranges.offset small not_fits in
     let too_far = subst (IsTooFarBack (Current c.args.offset)) c.len-held.ensures.len far in
     let on = λ (z : ℤ). g.R.Seek.may_seek (reader_inner mid) (Current z) (reader_inner new) answer in
     record {
@@ -84,7 +86,8 @@ returns-in_err-seek_back-in-None g c =
     let same = to_z-of_z w64 c.args.offset c.ranges.offset in
     let not_fits : FitsSigned w64 (c.args.offset -ℤ pos c.len-held.result) → ⊥ =
     subst (λ (z : ℤ). FitsSigned w64 (z -ℤ pos c.len-held.result) → ⊥) same c.in-None.ensures in
-    let far = far_unless_fits c.args.offset c.len-held.result c.ranges.offset c.len-held.ensures.in_memory not_fits in
+    let small : c.len-held.result < 2 ^ 63 = omega (arith, c.len-held.ensures.bound, c.args.self.now.in_memory) in
+    let far = far_unless_fits c.args.offset c.len-held.result c.ranges.offset small not_fits in
     let too_far = subst (IsTooFarBack (Current c.args.offset)) c.len-held.ensures.len far in
     rw (p.1, p.2) (record {
       store = λ s. absurd (not_ok failed (first.store s).1);

@@ -2,10 +2,9 @@ use Rattle.std.proofs.Common.{◌++◌, ℤ, length, refl, subst}
 use Rattle.std.proofs.lemmas.Int.{to_z-of_z}
 use Rattle.std.specs.Int.{w64}
 use Rattle.no_std_io2_base.specs.declared.traits.seek.SeekFrom.TheVariants.{Current}
-use Rattle.no_std_io2.specs.Behind.{IsInBuffer, IsCutOn}
-use Rattle.no_std_io2.specs.ReadAhead.{ahead_held, ahead_behind}
-use Rattle.no_std_io2.specs.Reading.{reader_held, reader_behind, reader_inner, reader_position}
-use Rattle.no_std_io2.proofs.Behind.{cut_moves, cut_seeks, sound_stayed, sound_held, numberless}
+use Rattle.no_std_io2.specs.Buffer.{IsInBuffer, IsCutOn, buffer_held, buffer_behind}
+use Rattle.no_std_io2.specs.BufReader.{reader_held, reader_behind, reader_inner, reader_position}
+use Rattle.no_std_io2.proofs.BufReaderBehind.{cut_moves, cut_seeks, sound_stayed, sound_held, numberless}
 use Rattle.no_std_io2.proofs.buffered.buf_reader.BufReader.seek_relative.Goals as goal
 
 pub returns-then-shift : goal.returns-then-shift
@@ -17,26 +16,27 @@ returns-then-shift g c =
     let shifted = c.if-shift.ensures.within in
     let within : IsInBuffer c.args.offset (length (reader_behind old)) (length (reader_held old)) =
     subst (λ (o : ℤ). IsInBuffer o (length (reader_behind old)) (length (reader_held old))) same shifted.0 in
-    let cut : IsCutOn c.args.offset (reader_behind old) (reader_held old) (ahead_behind new) (ahead_held new) =
-    subst (λ (o : ℤ). IsCutOn o (reader_behind old) (reader_held old) (ahead_behind new) (ahead_held new)) same shifted.1 in
+    let cut : IsCutOn c.args.offset (reader_behind old) (reader_held old) (buffer_behind new) (buffer_held new) =
+    subst (λ (o : ℤ). IsCutOn o (reader_behind old) (reader_held old) (buffer_behind new) (buffer_held new)) same shifted.1 in
     record {
       within = λ _. (refl, refl, cut);
       events =
-          λ _ events. cut_moves c.args.offset (reader_behind old) (reader_held old) (ahead_behind new) (ahead_held new)
+          λ _ events. cut_moves c.args.offset (reader_behind old) (reader_held old) (buffer_behind new) (buffer_held new)
           (events inner) cut;
       outside = λ not. absurd (not within);
+      far = λ not. absurd (not within);
       sought = λ not _. absurd (not within);
       store = λ s.
           let small = (g.met.R.Seek.seek_fits inner s.0).1 in (
             (
               s.0,
-              sound_stayed (reader_behind old ++ reader_held old) (ahead_behind new ++ ahead_held new)
+              sound_stayed (reader_behind old ++ reader_held old) (buffer_behind new ++ buffer_held new)
                   (g.R.Stored.position inner) (g.R.Stored.position inner) (g.R.Stored.content inner)
                   (g.R.Stored.content inner) cut.0 refl refl s.1,
             ),
             refl,
             cut_seeks c.args.offset (length (g.R.Stored.content inner)) (g.R.Stored.position inner) (reader_behind old)
-                (reader_held old) (ahead_behind new) (ahead_held new) (g.R.Stored.content inner) s.1 small cut,
+                (reader_held old) (buffer_behind new) (buffer_held new) (g.R.Stored.content inner) s.1 small cut,
           );
     }
 
@@ -56,6 +56,14 @@ returns-in-Ok g c =
       within = λ h. absurd (not h);
       events = λ h events. absurd (not h);
       outside = λ _. ((c.in-Ok.ensures.empty, c.in-Ok.ensures.behind), tt);
+      far = λ _. (
+        c.in-Ok.field-0,
+        record {
+          dropped = (c.in-Ok.ensures.empty, c.in-Ok.ensures.behind);
+          kept = tt;
+          inner = rw (kept.0, same) at c.in-Ok.ensures.sought;
+        },
+      );
       sought = λ _ s.
           let now = store s in
           (now.0, now.1, led now.2);
@@ -77,6 +85,11 @@ returns-in-Err g c =
       within = λ h. absurd (not h);
       events = λ h events. absurd (not h);
       outside = λ _. (tt, rw (kept.0, same) at c.in-Err.ensures.kept);
+      far = λ _. record {
+        dropped = tt;
+        kept = rw (kept.0, same) at c.in-Err.ensures.kept;
+        inner = rw (kept.0, same) at c.in-Err.ensures.sought;
+      };
       sought = λ _ s. store s;
       store = λ s.
           let now = store (s.0, sound_held (reader_behind old) (reader_held old) _ _ s.1) in

@@ -4,10 +4,7 @@ pub returns : goal.returns
 returns g c =
     let core = c.write.ensures in
     record {
-      bound = core.bound;
-      moves = core.moves;
-      all = core.all;
-      cost = λ no. absurd no;
+      law = record { bound = core.bound; moves = core.moves; all = core.all; counts = λ no. absurd no };
       rest = core.rest;
       fits = core.fits;
       sent = core.sent;

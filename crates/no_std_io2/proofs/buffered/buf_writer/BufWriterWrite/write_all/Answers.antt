@@ -4,10 +4,7 @@ pub returns : goal.returns
 returns g c =
     let core = c.write_all.ensures in
     record {
-      fault = core.fault;
-      moves = core.moves;
-      all = λ takes. (core.all takes).0;
-      cost = λ no. absurd no;
+      law = record { fault = core.fault; moves = core.moves; all = λ takes. (core.all takes).0; counts = λ no. absurd no };
       ok = λ takes. (core.all takes).1;
       rest = core.rest;
       fits = core.fits;

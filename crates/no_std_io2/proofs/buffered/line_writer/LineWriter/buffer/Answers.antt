@@ -1,5 +1,5 @@
 use Rattle.std.proofs.Common.{sym, subst}
-use Rattle.no_std_io2.specs.LineState.{IsLineState}
+use Rattle.no_std_io2.specs.Lines.{IsLineState}
 use Rattle.no_std_io2.proofs.buffered.line_writer.LineWriter.buffer.Goals as goal
 
 pub returns-clause-value : goal.returns-clause-value

@@ -1,4 +1,4 @@
-use Rattle.no_std_io2.proofs.LineLemmas.{IsLineState-end}
+use Rattle.no_std_io2.proofs.LineWriterLemmas.{IsLineState-end}
 use Rattle.no_std_io2.proofs.buffered.line_writer.LineWriter.drop.Goals as goal
 
 pub invariant_of-self : goal.invariant_of-self

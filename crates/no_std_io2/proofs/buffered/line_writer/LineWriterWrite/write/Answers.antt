@@ -1,22 +1,13 @@
 use Rattle.std.proofs.Common.{arith, rules}
 use Rattle.no_std_io2.proofs.AnswerLemmas.{IsOk-from_value, IsOk-from_and}
-use Rattle.no_std_io2.proofs.LastNewline.{none_or_some, none_or_lines}
+use Rattle.no_std_io2.proofs.LinesLast.{none_or_some, none_or_lines}
 use Rattle.no_std_io2.proofs.buffered.line_writer.LineWriterWrite.write.Goals as goal
 
 pub invariant_of-self : goal.invariant_of-self
 invariant_of-self g c = record { line = c.write_plain.ensures.line }
 
-pub returns-then-len-eq0-clause-bound : goal.returns-then-len-eq0-clause-bound
-returns-then-len-eq0-clause-bound g c = c.write_plain.ensures.bound
-
-pub returns-then-len-eq0-clause-moves : goal.returns-then-len-eq0-clause-moves
-returns-then-len-eq0-clause-moves g c = c.write_plain.ensures.moves
-
-pub returns-then-len-eq0-clause-all : goal.returns-then-len-eq0-clause-all
-returns-then-len-eq0-clause-all g c = λ no. absurd no
-
-pub returns-then-len-eq0-clause-cost : goal.returns-then-len-eq0-clause-cost
-returns-then-len-eq0-clause-cost g c = λ no. absurd no
+pub returns-then-len-eq0-clause-law : goal.returns-then-len-eq0-clause-law
+returns-then-len-eq0-clause-law g c = record { bound = c.write_plain.ensures.bound; moves = c.write_plain.ensures.moves; all = λ no. absurd no; counts = λ no. absurd no }
 
 pub returns-then-len-eq0-clause-fits : goal.returns-then-len-eq0-clause-fits
 returns-then-len-eq0-clause-fits g c = λ _ none short room. c.write_plain.ensures.fits none short room
@@ -43,17 +34,8 @@ returns-then-len-eq0-clause-calls g c = λ m t. c.write_plain.ensures.calls m t
 pub invariant_of-self-2 : goal.invariant_of-self-2
 invariant_of-self-2 g c = record { line = c.write_lines.ensures.line }
 
-pub returns-clause-bound : goal.returns-clause-bound
-returns-clause-bound g c = c.write_lines.ensures.bound
-
-pub returns-clause-moves : goal.returns-clause-moves
-returns-clause-moves g c = c.write_lines.ensures.moves
-
-pub returns-clause-all : goal.returns-clause-all
-returns-clause-all g c = λ no. absurd no
-
-pub returns-clause-cost : goal.returns-clause-cost
-returns-clause-cost g c = λ no. absurd no
+pub returns-clause-law : goal.returns-clause-law
+returns-clause-law g c = record { bound = c.write_lines.ensures.bound; moves = c.write_lines.ensures.moves; all = λ no. absurd no; counts = λ no. absurd no }
 
 pub returns-clause-fits : goal.returns-clause-fits
 returns-clause-fits g c = λ none.

@@ -1,22 +1,13 @@
 use Rattle.std.proofs.Common.{arith, rules}
-use Rattle.no_std_io2.proofs.BufferLemmas.{HoldsEnd-whole}
-use Rattle.no_std_io2.proofs.LastNewline.{none_or_some, none_or_lines}
+use Rattle.no_std_io2.proofs.BufWriterLemmas.{HoldsEnd-whole}
+use Rattle.no_std_io2.proofs.LinesLast.{none_or_some, none_or_lines}
 use Rattle.no_std_io2.proofs.buffered.line_writer.LineWriterWrite.write_all.Goals as goal
 
 pub invariant_of-self : goal.invariant_of-self
 invariant_of-self g c = record { line = c.write_all_plain.ensures.line }
 
-pub returns-then-len-eq0-clause-fault : goal.returns-then-len-eq0-clause-fault
-returns-then-len-eq0-clause-fault g c = c.write_all_plain.ensures.fault
-
-pub returns-then-len-eq0-clause-moves : goal.returns-then-len-eq0-clause-moves
-returns-then-len-eq0-clause-moves g c = c.write_all_plain.ensures.moves
-
-pub returns-then-len-eq0-clause-all : goal.returns-then-len-eq0-clause-all
-returns-then-len-eq0-clause-all g c = λ no. absurd no
-
-pub returns-then-len-eq0-clause-cost : goal.returns-then-len-eq0-clause-cost
-returns-then-len-eq0-clause-cost g c = λ no. absurd no
+pub returns-then-len-eq0-clause-law : goal.returns-then-len-eq0-clause-law
+returns-then-len-eq0-clause-law g c = record { fault = c.write_all_plain.ensures.fault; moves = c.write_all_plain.ensures.moves; all = λ no. absurd no; counts = λ no. absurd no }
 
 pub returns-then-len-eq0-clause-open : goal.returns-then-len-eq0-clause-open
 returns-then-len-eq0-clause-open g c = c.write_all_plain.ensures.open
@@ -36,17 +27,8 @@ returns-then-len-eq0-clause-calls g c = λ m t. c.write_all_plain.ensures.calls 
 pub invariant_of-self-2 : goal.invariant_of-self-2
 invariant_of-self-2 g c = record { line = c.write_all_lines.ensures.line }
 
-pub returns-clause-fault : goal.returns-clause-fault
-returns-clause-fault g c = c.write_all_lines.ensures.fault
-
-pub returns-clause-moves : goal.returns-clause-moves
-returns-clause-moves g c = c.write_all_lines.ensures.moves
-
-pub returns-clause-all : goal.returns-clause-all
-returns-clause-all g c = λ no. absurd no
-
-pub returns-clause-cost : goal.returns-clause-cost
-returns-clause-cost g c = λ no. absurd no
+pub returns-clause-law : goal.returns-clause-law
+returns-clause-law g c = record { fault = c.write_all_lines.ensures.fault; moves = c.write_all_lines.ensures.moves; all = λ no. absurd no; counts = λ no. absurd no }
 
 pub returns-clause-open : goal.returns-clause-open
 returns-clause-open g c = c.write_all_lines.ensures.open

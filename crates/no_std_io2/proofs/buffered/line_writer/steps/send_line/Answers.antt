@@ -1,9 +1,9 @@
 use Rattle.std.proofs.Common.{refl, [], ◌≡◌, ◌≢◌, ◌-◌, ◌<◌, length, slice_index, sym, ◌∙◌, arith, subst}
-use Rattle.no_std_io2.specs.LineState.{HasNoNewline}
-use Rattle.no_std_io2.specs.Buffered.{sender_buffer}
-use Rattle.no_std_io2.proofs.BufferLemmas.{Moves-sent_part}
-use Rattle.no_std_io2.proofs.LastNewline.{unfinished_line-none, unfinished_line-ended}
-use Rattle.no_std_io2.proofs.LineLemmas.{IsLineState-end, HasNoNewline-none, HasNoNewline-unended, onok_map}
+use Rattle.no_std_io2.specs.Lines.{HasNoNewline}
+use Rattle.no_std_io2.specs.BufWriter.{sender_buffer}
+use Rattle.no_std_io2.proofs.BufWriterLemmas.{Moves-sent_part}
+use Rattle.no_std_io2.proofs.LinesLast.{unfinished_line-none, unfinished_line-ended}
+use Rattle.no_std_io2.proofs.LineWriterLemmas.{IsLineState-end, HasNoNewline-none, HasNoNewline-unended, onok_map}
 use Rattle.no_std_io2.proofs.buffered.line_writer.steps.send_line.Goals as goal
 
 -- the held bytes end in a newline

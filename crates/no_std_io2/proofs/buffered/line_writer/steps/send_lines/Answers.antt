@@ -1,22 +1,22 @@
 use Rattle.std.proofs.Common.{refl, inr, ◌≡◌, ◌<◌, [], rules, arith, ap}
-use Rattle.no_std_io2.specs.Buffered.{sender_buffer}
+use Rattle.no_std_io2.specs.BufWriter.{sender_buffer}
 use Rattle.no_std_io2_base.specs.Writes.{calls_for}
-use Rattle.no_std_io2.proofs.CountLemmas.{writing_then_sending}
+use Rattle.no_std_io2.proofs.BufWriterCounts.{writing_then_sending}
 use Rattle.std.proofs.lemmas.Result.{err_from_is_err_and}
-use Rattle.no_std_io2.proofs.SendingLemmas.{no_ok}
-use Rattle.no_std_io2.proofs.BufferLemmas.{Moves-sent_part, none_of_length, call_steady, IsEnd-sent}
-use Rattle.no_std_io2.proofs.LineLemmas.{IsLineState-end, IsLineState-after, IsLineState-ended, MovesFront-passed}
-use Rattle.no_std_io2.proofs.LineLemmas.{MovesFront-ends, MovesFront-whole, onok}
+use Rattle.no_std_io2.proofs.BufWriterCalls.{no_ok}
+use Rattle.no_std_io2.proofs.BufWriterLemmas.{Moves-sent_part, none_of_length, call_steady, IsEnd-sent}
+use Rattle.no_std_io2.proofs.LineWriterLemmas.{IsLineState-end, IsLineState-after, IsLineState-ended, MovesFront-passed}
+use Rattle.no_std_io2.proofs.LineWriterLemmas.{MovesFront-ends, MovesFront-whole, onok}
 use Rattle.no_std_io2.proofs.buffered.line_writer.steps.send_lines.Goals as goal
 
 pub returns-then-is_empty-clause-moves : goal.returns-then-is_empty-clause-moves
 returns-then-is_empty-clause-moves g c =
     let empty : sender_buffer c.args.w.now ≡ [] = none_of_length _ (search rules) in
-    MovesFront-passed c.args.x.now c.write_all.result _ _ empty refl c.write_all.ensures.moves
+    MovesFront-passed c.args.x.now c.write_all.result _ _ empty refl c.write_all.ensures.law.moves
 
 pub returns-then-is_empty-clause-all : goal.returns-then-is_empty-clause-all
 returns-then-is_empty-clause-all g c = λ t.
-    (c.write_all.ensures.all t, call_steady c.write_all.result (g.met.W.Write.steady _ t) c.write_all.ensures.moves.moves)
+    (c.write_all.ensures.law.all t, call_steady c.write_all.result (g.met.W.Write.steady _ t) c.write_all.ensures.law.moves.moves)
 
 pub returns-in_err-write_all-clause-line : goal.returns-in_err-write_all-clause-line
 returns-in_err-write_all-clause-line g c =
@@ -52,7 +52,7 @@ pub returns-then-is_empty-clause-line : goal.returns-then-is_empty-clause-line
 returns-then-is_empty-clause-line g c = c.requires.line
 
 pub returns-then-is_empty-clause-fault : goal.returns-then-is_empty-clause-fault
-returns-then-is_empty-clause-fault g c = c.write_all.ensures.fault
+returns-then-is_empty-clause-fault g c = c.write_all.ensures.law.fault
 
 pub returns-then-is_empty-clause-sent : goal.returns-then-is_empty-clause-sent
 returns-then-is_empty-clause-sent g c = onok c.write_all.result _ (none_of_length _ (search rules))

@@ -1,6 +1,6 @@
 use Rattle.std.proofs.Common.{sym, ◌∙◌, arith}
-use Rattle.no_std_io2.proofs.LastNewline.{lines_len-is, held_tail-all, held_tail-rest, window_all, tail_part}
-use Rattle.no_std_io2.proofs.LastNewline.{IsLineState-all, IsLineState-rest, IsLineState-part}
+use Rattle.no_std_io2.proofs.LinesLast.{lines_len-is, held_tail-all, held_tail-rest, window_all, tail_part}
+use Rattle.no_std_io2.proofs.LinesLast.{IsLineState-all, IsLineState-rest, IsLineState-part}
 use Rattle.no_std_io2.proofs.buffered.line_writer.steps.tail_end.Goals as goal
 
 pub returns-then-sent-len-clause-tail : goal.returns-then-sent-len-clause-tail

@@ -1,13 +1,13 @@
 use Rattle.std.proofs.Common.{◌-◌, [], take, drop, length, sym, ap, ◌∙◌, take-append-drop}
 use Rattle.std.proofs.lemmas.List.{take_rest}
 use Rattle.std.proofs.lemmas.Result.{err_from_is_err_and}
-use Rattle.no_std_io2.specs.LineState.{HasNoNewline}
-use Rattle.no_std_io2.specs.Buffered.{sender_buffer, buffer_after}
-use Rattle.no_std_io2.proofs.LineLemmas.{MovesFront-part, MovesFront-whole, MovesFront-rest, HasNoNewline-none}
-use Rattle.no_std_io2.proofs.LineLemmas.{HasNoNewline-take, HasNoNewline-after, IsLineState-plain, onok, onok_map}
-use Rattle.no_std_io2.proofs.BufferLemmas.{HoldsEnd-front, HoldsEnd-rest}
-use Rattle.no_std_io2.proofs.CountLemmas.{buffer_after-none}
-use Rattle.no_std_io2.proofs.LastNewline.{unfinished_line-is}
+use Rattle.no_std_io2.specs.Lines.{HasNoNewline}
+use Rattle.no_std_io2.specs.BufWriter.{sender_buffer, buffer_after}
+use Rattle.no_std_io2.proofs.LineWriterLemmas.{MovesFront-part, MovesFront-whole, MovesFront-rest, HasNoNewline-none}
+use Rattle.no_std_io2.proofs.LineWriterLemmas.{HasNoNewline-take, HasNoNewline-after, IsLineState-plain, onok, onok_map}
+use Rattle.no_std_io2.proofs.BufWriterLemmas.{HoldsEnd-front, HoldsEnd-rest}
+use Rattle.no_std_io2.proofs.BufWriterCounts.{buffer_after-none}
+use Rattle.no_std_io2.proofs.LinesLast.{unfinished_line-is}
 use Rattle.no_std_io2.proofs.buffered.line_writer.steps.write_all_lines.Goals as goal
 
 pub returns-in_err-send_lines-clause-moves : goal.returns-in_err-send_lines-clause-moves

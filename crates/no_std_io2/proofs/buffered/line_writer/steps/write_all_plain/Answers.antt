@@ -1,10 +1,10 @@
 use Rattle.std.proofs.Common.{◌++◌, ◌∙◌, length, ap, arith, inr}
 use Rattle.std.proofs.lemmas.Result.{err_from_is_err_and}
-use Rattle.no_std_io2.specs.Buffered.{sender_buffer, buffer_after}
-use Rattle.no_std_io2.proofs.CountLemmas.{calls_for-le}
-use Rattle.no_std_io2.proofs.LineLemmas.{IsLineState-plain, HasNoNewline-after, MovesFront-then, onok, onok_map, onerr_map}
+use Rattle.no_std_io2.specs.BufWriter.{sender_buffer, buffer_after}
+use Rattle.no_std_io2.proofs.BufWriterCounts.{calls_for-le}
+use Rattle.no_std_io2.proofs.LineWriterLemmas.{IsLineState-plain, HasNoNewline-after, MovesFront-then, onok, onok_map, onerr_map}
 use Rattle.no_std_io2_base.proofs.MovesLemmas.{Moves-then}
-use Rattle.no_std_io2.proofs.BufferLemmas.{IsEnd-either, IsEnd-trans}
+use Rattle.no_std_io2.proofs.BufWriterLemmas.{IsEnd-either, IsEnd-trans}
 use Rattle.no_std_io2.proofs.buffered.line_writer.steps.write_all_plain.Goals as goal
 
 pub returns-clause-line : goal.returns-clause-line

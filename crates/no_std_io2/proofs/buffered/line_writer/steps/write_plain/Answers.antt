@@ -1,10 +1,10 @@
 use Rattle.std.proofs.Common.{◌++◌, ◌∙◌, length, ap, arith, append-nil}
 use Rattle.std.proofs.lemmas.Result.{err_from_is_err_and}
-use Rattle.no_std_io2.specs.Buffered.{sender_buffer, buffer_after}
-use Rattle.no_std_io2.proofs.CountLemmas.{writing_calls-le}
+use Rattle.no_std_io2.specs.BufWriter.{sender_buffer, buffer_after}
+use Rattle.no_std_io2.proofs.BufWriterCounts.{writing_calls-le}
 use Rattle.no_std_io2_base.proofs.MovesLemmas.{Moves-then}
-use Rattle.no_std_io2.proofs.LineLemmas.{IsLineState-end, IsLineState-plain, HasNoNewline-append, HasNoNewline-taken, onok_map}
-use Rattle.no_std_io2.proofs.BufferLemmas.{IsEnd-through}
+use Rattle.no_std_io2.proofs.LineWriterLemmas.{IsLineState-end, IsLineState-plain, HasNoNewline-append, HasNoNewline-taken, onok_map}
+use Rattle.no_std_io2.proofs.BufWriterLemmas.{IsEnd-through}
 use Rattle.no_std_io2.proofs.buffered.line_writer.steps.write_plain.Goals as goal
 
 pub returns-clause-line : goal.returns-clause-line

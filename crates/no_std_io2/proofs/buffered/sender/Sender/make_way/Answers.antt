@@ -1,6 +1,6 @@
 -- What is held was sent, or there was room beside it.
 use Rattle.std.proofs.Common.{arith}
-use Rattle.no_std_io2.proofs.SendingLemmas.{way_kept, way_sent}
+use Rattle.no_std_io2.proofs.BufWriterCalls.{way_kept, way_sent}
 use Rattle.no_std_io2.proofs.buffered.sender.Sender.make_way.Goals as goal
 
 pub overflow_sub-len : goal.overflow_sub-len

@@ -1,7 +1,7 @@
 -- A `write_all` past the hot path, by its three ends.
 use Rattle.std.proofs.Common.{refl, arith}
 use Rattle.std.proofs.lemmas.Result.{err_from_is_err_and}
-use Rattle.no_std_io2.proofs.SendingLemmas.{refused_all, passed_all, held_all}
+use Rattle.no_std_io2.proofs.BufWriterCalls.{refused_all, passed_all, held_all}
 use Rattle.no_std_io2.proofs.buffered.sender.Sender.write_all_cold.Goals as goal
 
 pub returns-in_err-make_way : goal.returns-in_err-make_way
@@ -11,10 +11,10 @@ returns-in_err-make_way g c =
 
 pub returns-then-buf : goal.returns-then-buf
 returns-then-buf g c =
-    let inner = c.write_all.ensures in
+    let inner = c.write_all.ensures.law in
     passed_all c.args.self.now c.make_way.new.self c.args.buf.now c.write_all.result c.write_all.new.self
     (λ w h. g.met.W.Write.steady w h) c.in_ok-make_way.ensures c.if-buf.true inner.fault inner.moves inner.all
-    inner.cost
+    inner.counts
 
 pub returns : goal.returns
 returns g c =

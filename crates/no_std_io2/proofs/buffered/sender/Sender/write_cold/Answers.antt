@@ -1,7 +1,7 @@
 -- A write past the hot path, by its three ends.
 use Rattle.std.proofs.Common.{refl, arith}
 use Rattle.std.proofs.lemmas.Result.{err_from_is_err_and}
-use Rattle.no_std_io2.proofs.SendingLemmas.{refused, passed, held}
+use Rattle.no_std_io2.proofs.BufWriterCalls.{refused, passed, held}
 use Rattle.no_std_io2.proofs.buffered.sender.Sender.write_cold.Goals as goal
 
 pub returns-in_err-make_way : goal.returns-in_err-make_way
@@ -11,9 +11,9 @@ returns-in_err-make_way g c =
 
 pub returns-then-buf : goal.returns-then-buf
 returns-then-buf g c =
-    let inner = c.write.ensures in
+    let inner = c.write.ensures.law in
     passed c.args.self.now c.make_way.new.self c.args.buf.now c.write.result c.write.new.self c.in_ok-make_way.ensures
-    c.if-buf.true inner.bound inner.moves inner.all inner.cost
+    c.if-buf.true inner.bound inner.moves inner.all inner.counts
 
 pub returns : goal.returns
 returns g c =

@@ -1,13 +1,29 @@
-use Rattle.std.proofs.Common.{sym, ap, ◌∙◌, ◌++◌, take}
+use Rattle.std.proofs.Common.{sym, refl, ap, ◌∙◌, ◌++◌, take, arith, length-drop}
+use Rattle.std.proofs.lemmas.Grind.{common_steps}
 use Rattle.no_std_io2_base.specs.Events.{events_of}
 use Rattle.no_std_io2_base.specs.Cursor.{cursor_left}
 use Rattle.no_std_io2_base.proofs.Slices.{events_of-split}
 use Rattle.no_std_io2_base.proofs.CursorLemmas.{left_after}
 use Rattle.no_std_io2_base.proofs.cursor.reading.CursorBufRead.consume.Goals as goal
 
-pub returns-clause-told : goal.returns-clause-told
-returns-clause-told g c =
+pub returns-clause-law : goal.returns-clause-law
+returns-clause-law g c =
     let here = c.args.self.now in
     let n = c.args.amount in
     let left = cursor_left g.T.AsSlice.slice here in
-    events_of-split left n ∙ ap (λ l. events_of (take n left) ++ events_of l) (sym (left_after (g.T.AsSlice.slice here.inner) here.pos n))
+    let after = left_after (g.T.AsSlice.slice here.inner) here.pos n in
+    record {
+      held = after;
+      told = λ t. (t, events_of-split left n ∙ ap (λ l. events_of (take n left) ++ events_of l) (sym after));
+      turns = grind (arith, common_steps);
+      turn = λ some. grind (arith, common_steps);
+      cost = λ no. absurd no;
+      counts = λ no. absurd no;
+      filling = λ fills. fills;
+      lends_surely = λ sure. sure;
+      store = λ fits. (
+        (fits.0, omega (arith, c.requires, fits.0, fits.1, length-drop here.pos (g.T.AsSlice.slice here.inner))),
+        refl,
+        refl,
+      );
+    }

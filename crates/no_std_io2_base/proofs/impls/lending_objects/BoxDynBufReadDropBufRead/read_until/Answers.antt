@@ -1,7 +1,7 @@
 use Rattle.std.proofs.Common.{◌∙◌, refl, sym, arith, append-nil, [], le_refl, le_trans, lt_of_lt_of_le, lt_of_le_of_lt}
 use Rattle.std.proofs.lemmas.Result.{err_from_is_err_and}
 use Rattle.no_std_io2_base.proofs.PieceLemmas.{piece_none, piece_more, piece_interruption, piece_ended, piece_fault}
-use Rattle.no_std_io2_base.proofs.PieceLemmas.{piece_memory, part_taken, none_taken, error_taken, error_turn}
+use Rattle.no_std_io2_base.proofs.PieceLemmas.{byte_next, piece_memory, part_taken, none_taken, error_taken, error_turn}
 use Rattle.no_std_io2_base.proofs.PieceLemmas.{whole_part, front_more, front_same, spent_more, part_fits, memory_fault}
 use Rattle.no_std_io2_base.proofs.PieceRoom.{part_has_room, fault_is_first}
 use Rattle.no_std_io2_base.proofs.impls.lending_objects.BoxDynBufReadDropBufRead.read_until.Goals as goal
@@ -22,44 +22,46 @@ pub returns-then-is_whole : goal.returns-then-is_whole
 returns-then-is_whole g c =
     let before = c.pieces.invariant in
     let filled = c.fill_buf.follows.holds-at-none in
-    let dropped = c.consume.ensures in
+    let dropped = c.consume.ensures.law in
     let found = c.find_piece-len.ensures in
     let appended = c.in_ok-append-in-Ok.ensures.ok in
     let grown = part_fits _ _ c.in_ok-append-in-Ok.ensures.len found.within in
     record {
-      told = λ t.
-          let so_far = before.told t in
-          let lent = filled.told so_far.0 in
-          let rest = dropped.told lent.0 in
-          let part =
-          part_taken c.in-Ok.lent _
-          ((goal.BufRead-dyn g (c.consume.new.self.vtable, c.consume.new.self.value)).Read.events
-          c.consume.new.self.value)
-          c.find_piece-len.result.0 c.in-Ok.is filled.lends lent.1 rest.1 in (
-            rest.0,
-            piece_ended so_far.1 part
-                (whole_part found c.if-is_whole.true (c.in-Ok.ensures.end so_far.0)) appended
-                (omega (arith, c.append.new.buf.ok.0, c.args.buf.now.ok.0, c.len.ensures, before.start)),
-          );
-      appends = front_more _ _ before.front appended;
-      count = omega (arith, c.len.ensures, before.start, before.grows, c.in_ok-append-in-Ok.ensures.len);
-      capacity = le_trans before.capacity c.append.ensures.grows;
-      room = λ t enough. tt;
-      fault = tt;
-      turns = omega (arith, dropped.turns, filled.turns, before.turns);
-      turn =
-          λ some. spent_more before.spent before.turns filled.turns dropped.turns dropped.turn grown
-          (omega (arith, some, c.len.ensures, before.start));
-      metered = λ h. absurd h;
-      filling = λ h. absurd h;
-      store = λ h. absurd h;
+      law = record {
+        told = λ t.
+            let so_far = before.told t in
+            let lent = filled.told so_far.0 in
+            let rest = dropped.told lent.0 in
+            let part =
+            part_taken c.in-Ok.lent _
+            ((goal.BufRead-dyn g (c.consume.new.self.vtable, c.consume.new.self.value)).Read.events
+            c.consume.new.self.value)
+            c.find_piece-len.result.0 c.in-Ok.is filled.lends lent.1 rest.1 in (
+              rest.0,
+              piece_ended so_far.1 part
+                  (whole_part found c.if-is_whole.true (c.in-Ok.ensures.law.end so_far.0)) appended
+                  (omega (arith, c.append.new.buf.ok.0, c.args.buf.now.ok.0, c.len.ensures, before.start)),
+            );
+        appends = front_more _ _ before.front appended;
+        count = omega (arith, c.len.ensures, before.start, before.grows, c.in_ok-append-in-Ok.ensures.len);
+        capacity = le_trans before.capacity c.append.ensures.grows;
+        room = λ t enough. tt;
+        fault = tt;
+        turns = omega (arith, dropped.turns, filled.turns, before.turns);
+        turn =
+            λ some. spent_more before.spent before.turns filled.turns dropped.turns dropped.turn grown
+            (omega (arith, some, c.len.ensures, before.start));
+        metered = λ h. absurd h;
+        filling = λ h. absurd h;
+        store = λ h. absurd h;
+      };
     }
 
 pub pieces-preserved-else-is_whole : goal.pieces-preserved-else-is_whole
 pieces-preserved-else-is_whole g c =
     let before = c.pieces.invariant in
     let filled = c.fill_buf.follows.holds-at-none in
-    let dropped = c.consume.ensures in
+    let dropped = c.consume.ensures.law in
     let found = c.find_piece-len.ensures in
     let appended = c.in_ok-append-in-Ok.ensures.ok in
     record {
@@ -86,7 +88,7 @@ pieces-preserved-else-is_whole g c =
 pub pieces-smaller-else-is_whole : goal.pieces-smaller-else-is_whole
 pieces-smaller-else-is_whole g c =
     let filled = c.fill_buf.follows.holds-at-none in
-    lt_of_lt_of_le (c.consume.ensures.turn (c.find_piece-len.ensures.open_ended c.if-is_whole.false).0) filled.turns
+    lt_of_lt_of_le (c.consume.ensures.law.turn (c.find_piece-len.ensures.open_ended c.if-is_whole.false).0) filled.turns
 
 pub pieces-preserved : goal.pieces-preserved
 pieces-preserved g c =
@@ -117,22 +119,24 @@ returns-in-Err-2 g c =
     let filled = c.fill_buf.follows.holds-at-none in
     let fault = sym c.is_interrupted.ensures ∙ c.if-is_interrupted.false in
     record {
-      told = λ t.
-          let so_far = before.told t in
-          let lent = filled.told so_far.0 in
-          (lent.0, piece_fault so_far.1 (error_taken c.in-Err.is lent.1) fault);
-      appends = before.front;
-      count = tt;
-      capacity = before.capacity;
-      room = λ t enough.
-          let so_far = before.told t in
-          fault_is_first so_far.1 (error_taken c.in-Err.is (filled.told so_far.0).1) fault;
-      fault = fault;
-      turns = le_trans filled.turns before.turns;
-      turn = tt;
-      metered = λ h. absurd h;
-      filling = λ h. absurd h;
-      store = λ h. absurd h;
+      law = record {
+        told = λ t.
+            let so_far = before.told t in
+            let lent = filled.told so_far.0 in
+            (lent.0, piece_fault so_far.1 (error_taken c.in-Err.is lent.1) fault);
+        appends = before.front;
+        count = tt;
+        capacity = before.capacity;
+        room = λ t enough.
+            let so_far = before.told t in
+            fault_is_first so_far.1 (error_taken c.in-Err.is (filled.told so_far.0).1) fault;
+        fault = fault;
+        turns = le_trans filled.turns before.turns;
+        turn = tt;
+        metered = λ h. absurd h;
+        filling = λ h. absurd h;
+        store = λ h. absurd h;
+      };
     }
 
 pub returns-in_err-append-in-Ok : goal.returns-in_err-append-in-Ok
@@ -142,23 +146,28 @@ returns-in_err-append-in-Ok g c =
     let p = err_from_is_err_and c.from_residual.result c.from_residual.ensures.1 in
     let refused = c.in_err-append-in-Ok.ensures in
     rw (p.1, p.2) (record {
-      told = λ t.
-          let so_far = before.told t in
-          let lent = filled.told so_far.0 in
-          (lent.0, piece_memory so_far.1 (none_taken c.in-Ok.lent c.in-Ok.is lent.1) refused.err refused.refused);
-      appends = front_same _ before.front refused.err;
-      count = tt;
-      capacity = le_trans before.capacity c.append.ensures.grows;
-      room = λ t enough.
-          let so_far = before.told t in
-          let found = c.find_piece-len.ensures in
-          absurd
-          (part_has_room so_far.1 (c.in-Ok.ensures.front so_far.0) found enough
-          before.capacity c.args.buf.now.ok.0 c.pieces.buf.ok.0 refused.full);
-      fault = memory_fault _ refused.refused;
-      turns = le_trans filled.turns before.turns;
-      turn = tt;
-      metered = λ h. absurd h;
-      filling = λ h. absurd h;
-      store = λ h. absurd h;
+      law = record {
+        told = λ t.
+            let so_far = before.told t in
+            let lent = filled.told so_far.0 in (
+              lent.0,
+              piece_memory so_far.1 (none_taken c.in-Ok.lent c.in-Ok.is lent.1) refused.err refused.refused
+                  (byte_next (c.in-Ok.ensures.law.front so_far.0) c.find_piece-len.ensures (omega (arith, c.pieces.buf.ok.1)) refused.full),
+            );
+        appends = front_same _ before.front refused.err;
+        count = tt;
+        capacity = le_trans before.capacity c.append.ensures.grows;
+        room = λ t enough.
+            let so_far = before.told t in
+            let found = c.find_piece-len.ensures in
+            absurd
+            (part_has_room so_far.1 (c.in-Ok.ensures.law.front so_far.0) found enough
+            before.capacity c.args.buf.now.ok.0 c.pieces.buf.ok.0 refused.full);
+        fault = memory_fault _ refused.refused;
+        turns = le_trans filled.turns before.turns;
+        turn = tt;
+        metered = λ h. absurd h;
+        filling = λ h. absurd h;
+        store = λ h. absurd h;
+      };
     })

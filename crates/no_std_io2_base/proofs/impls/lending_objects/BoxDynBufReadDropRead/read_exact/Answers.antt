@@ -1,9 +1,14 @@
--- An empty buffer makes no call.
+-- What the call did to the value in the box, it did to the box.
 use Rattle.std.proofs.Common.{rules}
-use Rattle.no_std_io2_base.proofs.BoxedObjects.{same_box}
+use Rattle.no_std_io2_base.proofs.BoxedObjects.{exact_box}
 use Rattle.no_std_io2_base.proofs.impls.lending_objects.BoxDynBufReadDropRead.read_exact.Goals as goal
 
-pub returns-clause-empty : goal.returns-clause-empty
-returns-clause-empty g c = λ none.
-    let done = c.read_exact.ensures.1.1.0 none in
-    (done.0, search (rules, same_box))
+pub returns : goal.returns
+returns g c =
+    let o = goal.BufRead-dyn g in
+    let read = c.read_exact.ensures in
+    record {
+      law = exact_box (λ p. (o p).Read.tells p.1) (λ p. (o p).Read.events p.1) (λ p. (o p).Read.turns p.1)
+          (λ p. (o p).Read.may_take_none p.1) c.args.self.now c.args.buf.now c.read_exact.new.buf c.read_exact.result c.deref_box_mut-1.result.now (search rules) c.read_exact.new.self
+          read.told read.fault read.empty read.turns read.turn;
+    }

@@ -1,21 +1,13 @@
--- As the trait's: it ends with its reader's turns, and the bytes up to `filled` are what it took.
-use Rattle.std.proofs.Common.{◌≡◌, ◌≤◌, take, vec_len, vec_capacity}
-use Rattle.no_std_io2_base.proofs.Gathered.{Gathered}
+-- As the trait's: it ends with its reader's turns.
+use Rattle.no_std_io2_base.proofs.Readers.{box_reader}
+use Rattle.no_std_io2_base.proofs.ToEndLoop.{ToEndSoFar}
 use Rattle.no_std_io2_base.proofs.impls.reading_objects.BoxDynReadDropRead.read_to_end.Given as goal
 
 abbrev pub invariant-reads : goal.invariant-reads
 invariant-reads g l =
-    let was = goal.Read-dyn g (l.fn.self.vtable, l.fn.self.value) in
-    let is = goal.Read-dyn g (l.self.vtable, l.self.value) in
-    record {
-      grows : vec_len l.fn.buf ≤ l.filled;
-      within : l.filled ≤ vec_len l.buf;
-      capacity : vec_capacity l.fn.buf ≤ vec_capacity l.buf;
-      front : take (vec_len l.fn.buf) l.buf.items ≡ l.fn.buf.items;
-      turns : is.Read.turns l.self.value ≤ was.Read.turns l.fn.self.value;
-      told : was.Read.tells l.fn.self.value → is.Read.tells l.self.value
-          × Gathered (was.Read.events l.fn.self.value) l.fn.buf.items (take l.filled l.buf.items) (is.Read.events l.self.value);
-    }
+    let o = goal.Read-dyn g in
+    ToEndSoFar (box_reader (λ p. (o p).Read.tells p.1) (λ p. (o p).Read.events p.1) (λ p. (o p).Read.turns p.1)
+    (λ p. (o p).Read.may_take_none p.1)) l.fn.self l.fn.buf l.filled l.buf l.self
 
 abbrev pub decreases-reads : goal.decreases-reads
 decreases-reads g l = (goal.Read-dyn g (l.self.vtable, l.self.value)).Read.turns l.self.value

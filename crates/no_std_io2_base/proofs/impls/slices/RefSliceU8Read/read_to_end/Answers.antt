@@ -1,19 +1,46 @@
 -- What was appended is a front of the slice, and the rest stays.
 use Rattle.std.proofs.lemmas.Result.{err_from_is_err_and}
-use Rattle.no_std_io2_base.proofs.SliceReads.{moved_whole, moved_part, never_refused}
+use Rattle.no_std_io2_base.proofs.PieceLemmas.{memory_fault}
+use Rattle.no_std_io2_base.proofs.SliceReads.{moved_whole, moved_part, never_refused, front_stays, longer_by, left_of, fewer_left}
 use Rattle.no_std_io2_base.proofs.impls.slices.RefSliceU8Read.read_to_end.Goals as goal
 
-pub returns-in_err-append_rest-clause-told : goal.returns-in_err-append_rest-clause-told
-returns-in_err-append_rest-clause-told g c = λ _.
+pub returns-in_err-append_rest : goal.returns-in_err-append_rest
+returns-in_err-append_rest g c =
     let p = err_from_is_err_and c.from_residual.result c.from_residual.ensures.1 in
     let said = c.in_err-append_rest.ensures in
-    rw (p.1, p.2) (tt, moved_part _ said.moved said.refused)
+    let new = c.append_rest.new.buf in
+    rw (p.1, p.2) (record {
+      law = record {
+        told = λ _. (tt, moved_part _ said.moved said.refused);
+        appends = front_stays said.moved c.args.buf.now.ok.0;
+        count = tt;
+        capacity = said.grows;
+        room = λ _ enough. absurd (never_refused c.args.self.now.now _ enough said.full);
+        fault = memory_fault _ said.refused;
+        turns = left_of _ said.moved;
+        turn = fewer_left _ said.moved c.args.buf.now.ok.0 new.ok.0;
+        metered = λ m. m;
+        filling = λ f. f;
+        store = λ s. absurd s;
+      };
+    })
 
-pub returns-in_err-append_rest-clause-room : goal.returns-in_err-append_rest-clause-room
-returns-in_err-append_rest-clause-room g c = λ _. λ enough.
-    absurd (never_refused c.args.self.now.now _ enough c.in_err-append_rest.ensures.full)
-
-pub returns-clause-told : goal.returns-clause-told
-returns-clause-told g c = λ _.
+pub returns : goal.returns
+returns g c =
     let said = c.in_ok-append_rest.ensures in
-    (tt, moved_whole _ said.moved said.done)
+    let new = c.append_rest.new.buf in
+    record {
+      law = record {
+        told = λ _. (tt, moved_whole _ said.moved said.done);
+        appends = front_stays said.moved c.args.buf.now.ok.0;
+        count = longer_by _ said.moved said.done c.args.buf.now.ok.0 new.ok.0;
+        capacity = said.grows;
+        room = λ _ enough. tt;
+        fault = tt;
+        turns = left_of _ said.moved;
+        turn = fewer_left _ said.moved c.args.buf.now.ok.0 new.ok.0;
+        metered = λ m. m;
+        filling = λ f. f;
+        store = λ s. absurd s;
+      };
+    }

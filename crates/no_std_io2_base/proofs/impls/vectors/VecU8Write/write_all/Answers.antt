@@ -1,7 +1,8 @@
--- A refused growth has accepted nothing.
 use Rattle.std.proofs.Common.{rules}
-use Rattle.no_std_io2_base.proofs.CursorLemmas.{refused_moves}
+use Rattle.no_std_io2_base.proofs.CursorLemmas.{append_moves}
 use Rattle.no_std_io2_base.proofs.impls.vectors.VecU8Write.write_all.Goals as goal
 
-pub returns-clause-moves : goal.returns-clause-moves
-returns-clause-moves g c = refused_moves c.from.result (search rules) (search rules)
+pub returns-clause-law : goal.returns-clause-law
+returns-clause-law g c =
+    let said = c.append.ensures in
+    record { fault = search rules; moves = append_moves _ said.ok said.err said.refused; all = λ h. h; counts = λ h. absurd h }

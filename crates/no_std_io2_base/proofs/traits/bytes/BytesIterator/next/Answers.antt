@@ -4,7 +4,7 @@ use Rattle.no_std_io2_base.proofs.traits.bytes.BytesIterator.next.Goals as goal
 
 pub reads-preserved : goal.reads-preserved
 reads-preserved g c =
-    let read = c.in-Err.ensures in
+    let read = c.in-Err.ensures.law in
     record {
       long = search rules;
       turns = search rules;

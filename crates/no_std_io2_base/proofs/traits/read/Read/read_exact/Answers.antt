@@ -1,150 +1,37 @@
-use Rattle.std.proofs.Common.{◌-◌, length, rules, arith, refl, sym, ◌∙◌, le_refl, le_trans, inl, inr}
-use Rattle.std.proofs.lemmas.Slice.{take-put_mid_below}
-use Rattle.no_std_io2_base.proofs.Parts.{take-put_mid}
-use Rattle.no_std_io2_base.proofs.ReadExactExits.{length_stays, short_before, some_part, some_bytes, within_part}
-use Rattle.no_std_io2_base.proofs.ReadExactExits.{le_same, exact_short, exact_done}
-use Rattle.no_std_io2_base.proofs.ReadsToEndExits.{stays_at_end}
-use Rattle.no_std_io2_base.proofs.Taken.{taken_none, taken_read, taken_interruption, taken_fault, moved_read, no_error}
+use Rattle.std.proofs.Common.{rules, sym, ◌∙◌}
+use Rattle.no_std_io2_base.proofs.ExactLoop.{exact_none, exact_read, exact_interruption, exact_end, exact_fault, exact_all}
+use Rattle.no_std_io2_base.proofs.ReadExactExits.{some_bytes}
 use Rattle.no_std_io2_base.proofs.traits.read.Read.read_exact.Goals as goal
 
 pub reads-init : goal.reads-init
-reads-init g c = record {
-  long = refl;
-  within = omega arith;
-  untouched = λ none. refl;
-  turns = le_refl _;
-  told = λ t. (t, taken_none _ _);
-  is_metered = λ m. m;
-  is_filling = λ f. f;
-  store = λ s. (s, refl, refl);
-}
+reads-init g c = exact_none
 
 pub returns-in-Ok-eq0 : goal.returns-in-Ok-eq0
-returns-in-Ok-eq0 g c =
-    let before = c.reads.invariant in
-    let read = c.read.ensures in
-    let is = c.in-Ok-eq0.is in
-    let none = c.in-Ok-eq0.field-0-test in
-    let at = c.reads.at in
-    let old = c.reads.buf in
-    let below = c.reads-test.true in
-    let stays = length_stays at old c.read.new.buf c.read.auto.buf in
-    let some = some_part at old c.read.new.buf below c.read.auto.buf in
-    record {
-      told = λ t.
-          let so_far = before.told t in
-          let now = read.told so_far.0 in (
-            now.0,
-            inr (exact_short _ so_far.1 now.1 is none some (search rules) (sym before.long ∙ sym stays)
-                (short_before at _ old below stays)),
-          );
-      fault = search rules;
-      empty = λ none. absurd (omega (arith, none, before.long, below));
-      turns = le_trans read.turns before.turns;
-      metered = λ m. (read.cost (before.is_metered m)).0;
-      filling = λ f. (read.fills (before.is_filling f)).0;
-      store = λ s.
-          let so_far = before.store s in
-          let now = read.store so_far.0 in
-          let tells = g.met.Self.Read.store_tells _ so_far.0 in
-          (now.0, now.1 ∙ so_far.1, stays_at_end _ _ _ _ (read.told tells.0).1 is none now.2 so_far.2);
-    }
+returns-in-Ok-eq0 g c = record {
+  law = exact_end c.reads.invariant g.met.Self.Read.store_tells c.reads-test.true c.read.auto.buf c.read.ensures.law
+      c.in-Ok-eq0.is c.in-Ok-eq0.field-0-test (search rules);
+}
 
 pub returns : goal.returns
-returns g c =
-    let before = c.reads.invariant in
-    let test = c.reads-test.false in
-    record {
-      told = λ t. let so_far = before.told t in (so_far.0, exact_done so_far.1 before.long test);
-      fault = tt;
-      empty = λ none. (refl, before.untouched none);
-      turns = before.turns;
-      metered = before.is_metered;
-      filling = before.is_filling;
-      store = before.store;
-    }
+returns g c = record { law = exact_all c.reads.invariant c.reads-test.false }
 
 pub reads-smaller-in-Ok : goal.reads-smaller-in-Ok
-reads-smaller-in-Ok g c = c.in-Ok.ensures.turn (some_bytes c.in-Ok.n c.in-Ok.n-test.1)
+reads-smaller-in-Ok g c = c.in-Ok.ensures.law.turn (some_bytes c.in-Ok.n c.in-Ok.n-test.1)
 
 pub reads-smaller : goal.reads-smaller
-reads-smaller g c = c.in-Err.ensures.turn
+reads-smaller g c = c.in-Err.ensures.law.turn
 
 pub reads-preserved-in-Ok : goal.reads-preserved-in-Ok
 reads-preserved-in-Ok g c =
-    let at = c.reads.at in
-    let old = c.reads.buf in
-    let read = c.in-Ok.ensures in
-    let before = c.reads.invariant in
-    let n = c.in-Ok.n in
-    let stays = length_stays at old c.read.new.buf c.read.auto.buf in
-    let shown = take-put_mid at (length old - at) n old c.read.new.buf before.within read.bound in
-    record {
-      long = stays ∙ before.long;
-      within = within_part at n old _ _ before.within read.bound c.read.auto.buf stays;
-      untouched = λ none. absurd (omega (arith, none, before.long, c.reads-test.true));
-      turns = le_trans read.turns before.turns;
-      told = λ t.
-          let so_far = before.told t in
-          let now = read.told so_far.0 in
-          (now.0, taken_read _ so_far.1 now.1 read.bound (some_bytes n c.in-Ok.n-test.1) shown);
-      is_metered = λ m. (read.cost (before.is_metered m)).0;
-      is_filling = λ f. (read.fills (before.is_filling f)).0;
-      store = λ s.
-          let so_far = before.store s in
-          let now = read.store so_far.0 in
-          let tells = g.met.Self.Read.store_tells _ so_far.0 in
-          (now.0, now.1 ∙ so_far.1, moved_read _ _ _ _ read.bound (read.told tells.0).1.0 now.2 so_far.2);
-    }
+    exact_read c.reads.invariant g.met.Self.Read.store_tells c.reads-test.true c.read.auto.buf c.in-Ok.ensures.law c.in-Ok.n-test.1
 
 pub returns-in-Err-2 : goal.returns-in-Err-2
-returns-in-Err-2 g c =
-    let before = c.reads.invariant in
-    let read = c.in-Err.ensures in
-    let fault = sym c.is_interrupted.ensures ∙ c.if-is_interrupted.false in
-    let at = c.reads.at in
-    let old = c.reads.buf in
-    record {
-      told = λ t.
-          let so_far = before.told t in
-          let now = read.told so_far.0 in (
-            now.0,
-            inl (taken_fault so_far.1 now.1 fault
-                (short_before at _ old c.reads-test.true (length_stays at old c.read.new.buf c.read.auto.buf))),
-          );
-      fault = fault;
-      empty = λ none. absurd (omega (arith, none, before.long, c.reads-test.true));
-      turns = le_trans read.turns before.turns;
-      metered = λ m. (read.cost (before.is_metered m)).0;
-      filling = λ f. (read.fills (before.is_filling f)).0;
-      store = λ s.
-          let so_far = before.store s in
-          let tells = g.met.Self.Read.store_tells _ so_far.0 in
-          absurd (no_error _ tells.1 (read.told tells.0).1);
-    }
+returns-in-Err-2 g c = record {
+  law = exact_fault c.reads.invariant g.met.Self.Read.store_tells c.reads-test.true c.read.auto.buf c.in-Err.ensures.law
+      (sym c.is_interrupted.ensures ∙ c.if-is_interrupted.false);
+}
 
 pub reads-preserved : goal.reads-preserved
 reads-preserved g c =
-    let before = c.reads.invariant in
-    let read = c.in-Err.ensures in
-    let at = c.reads.at in
-    let old = c.reads.buf in
-    let stays = length_stays at old c.read.new.buf c.read.auto.buf in
-    let again = sym c.is_interrupted.ensures ∙ c.if-is_interrupted.true in
-    record {
-      long = stays ∙ before.long;
-      within = le_same at _ _ before.within stays;
-      untouched = λ none. absurd (omega (arith, none, before.long, c.reads-test.true));
-      turns = le_trans read.turns before.turns;
-      told = λ t.
-          let so_far = before.told t in
-          let now = read.told so_far.0 in
-          let short = short_before at _ old c.reads-test.true (sym before.long) in
-          (now.0, taken_interruption so_far.1 now.1 again short (take-put_mid_below _ _ _ _ _ (le_refl _) before.within));
-      is_metered = λ m. (read.cost (before.is_metered m)).0;
-      is_filling = λ f. (read.fills (before.is_filling f)).0;
-      store = λ s.
-          let so_far = before.store s in
-          let tells = g.met.Self.Read.store_tells _ so_far.0 in
-          absurd (no_error _ tells.1 (read.told tells.0).1);
-    }
+    exact_interruption c.reads.invariant g.met.Self.Read.store_tells c.reads-test.true c.read.auto.buf c.in-Err.ensures.law
+    (sym c.is_interrupted.ensures ∙ c.if-is_interrupted.true)

@@ -1,210 +1,75 @@
-use Rattle.std.proofs.Common.{◌+◌, ◌≤◌, ◌++◌, length, take, arith, ap, refl, sym, ◌∙◌, le_refl, le_trans}
+use Rattle.std.proofs.Common.{sym, arith, ◌∙◌}
 use Rattle.std.proofs.lemmas.Result.{err_from_is_err_and}
-use Rattle.no_std_io2_base.proofs.Gathered.{gathered_none, gathered_same, gathered_read, gathered_interruption}
-use Rattle.no_std_io2_base.proofs.Gathered.{gathered_fault, gathered_memory, gathered_fits, gathered_no_fault}
-use Rattle.no_std_io2_base.proofs.Parts.{take-written, take-written_below, take-stays}
-use Rattle.no_std_io2_base.proofs.PieceLemmas.{memory_fault}
-use Rattle.no_std_io2_base.proofs.ReadsToEndExits.{front_whole, filled_bytes, front_cut, none_opened, count_cut}
-use Rattle.no_std_io2_base.proofs.ReadsToEndExits.{len_cut, some_room, gathered_stops, stays_at_end}
-use Rattle.no_std_io2_base.proofs.Taken.{moved_read, no_error}
+use Rattle.no_std_io2_base.proofs.ReadExactExits.{some_bytes}
+use Rattle.no_std_io2_base.proofs.ReadsToEndExits.{some_room}
+use Rattle.no_std_io2_base.proofs.ToEndLoop.{wrote, to_end_none, to_end_no_room, to_end_refused, to_end_read}
+use Rattle.no_std_io2_base.proofs.ToEndLoop.{to_end_interruption, to_end_done, to_end_fault}
 use Rattle.no_std_io2_base.proofs.traits.read.Read.read_to_end.Goals as goal
 
 pub returns-in_err-reserve_room : goal.returns-in_err-reserve_room
 returns-in_err-reserve_room g c =
     let p = err_from_is_err_and c.from_residual.result c.from_residual.ensures.1 in
-    let refused = c.in_err-reserve_room.ensures.refused in
-    let same = c.reserve_room.ensures.items in
-    rw (p.1, p.2) (record {
-      told = λ t. (t, gathered_memory (gathered_none same) refused);
-      appends = front_whole c.args.buf.now.ok.0 same;
-      count = tt;
-      capacity = c.reserve_room.ensures.grows;
-      room = λ t enough. absurd (omega (arith, enough.1, c.in_err-reserve_room.ensures.full));
-      fault = memory_fault _ refused;
-      turns = le_refl _;
-      metered = λ m. m;
-      filling = λ f. f;
-      store = λ s. (s, refl, refl);
-    })
+    let room = c.reserve_room.ensures in
+    let refused = c.in_err-reserve_room.ensures in
+    rw (p.1, p.2) (record { law = to_end_no_room refused.refused room.items room.len room.grows refused.full })
 
 pub reads-init : goal.reads-init
 reads-init g c =
-    let start = c.len-start.ensures in
-    let same = c.reserve_room.ensures.items in
-    record {
-      grows = omega arith;
-      within = omega arith;
-      capacity = c.reserve_room.ensures.grows;
-      front = front_whole c.args.buf.now.ok.0 same;
-      turns = le_refl _;
-      told = λ t. (t, gathered_none (front_whole (start ∙ c.args.buf.now.ok.0) same));
-      is_metered = λ m. m;
-      is_filling = λ f. f;
-      store = λ s. (s, refl, refl);
-    }
+    let room = c.reserve_room.ensures in to_end_none c.len-start.ensures room.items room.len room.grows
 
 pub returns-in_err-open_room : goal.returns-in_err-open_room
 returns-in_err-open_room g c =
     let p = err_from_is_err_and c.from_residual-in_err-open_room.result c.from_residual-in_err-open_room.ensures.1 in
-    let before = c.reads.invariant in
-    let filled = c.reads.filled in
-    let opened = c.open_room.new.buf in
-    let full = c.in_err-open_room.ensures.full in
-    let refused = c.in_err-open_room.ensures.refused in
-    let same = none_opened filled opened.len opened.items c.reads.buf.items full.1 opened.ok.0 c.open_room.ensures.front in
-    rw (p.1, p.2) (record {
-      told = λ t.
-          let so_far = before.told t in
-          (so_far.0, gathered_memory (gathered_same so_far.1 same) refused);
-      appends = front_cut _ filled c.reads.buf.items before.grows same before.front;
-      count = tt;
-      capacity = le_trans before.capacity c.open_room.ensures.grows;
-      room = λ t enough.
-          let left = gathered_fits (before.told t).1 enough c.args.buf.now.ok.0 before.capacity in
-          absurd (omega (arith, full.0, left, filled_bytes filled _ _ before.within c.reads.buf.ok.0));
-      fault = memory_fault _ refused;
-      turns = before.turns;
-      metered = before.is_metered;
-      filling = before.is_filling;
-      store = before.store;
-    })
+    let room = c.open_room.ensures in
+    let refused = c.in_err-open_room.ensures in
+    rw (p.1, p.2)
+    (record { law = to_end_refused c.reads.invariant refused.refused refused.full.1 room.front room.grows refused.full.0 })
 
 pub returns-in-Ok-eq0 : goal.returns-in-Ok-eq0
 returns-in-Ok-eq0 g c =
-    let before = c.reads.invariant in
-    let read = c.read.ensures in
-    let is = c.in-Ok-eq0.is in
-    let none = c.in-Ok-eq0.field-0-test in
-    let filled = c.reads.filled in
+    let room = c.open_room.ensures in
     let opened = c.open_room.new.buf in
-    let mid = c.reads.buf.items in
-    let new = c.truncate.new.self in
-    let kept = take-written_below filled opened.len filled c.deref_mut.result.now opened.items c.read.new.buf
-    (le_refl _) c.open_room.ensures.within opened.ok.0 c.deref_mut.ensures.value in
-    let same = c.truncate.ensures.items ∙ kept ∙ c.open_room.ensures.front in
-    let within : filled ≤ length mid = omega (arith, before.within, c.reads.buf.ok.0) in
-    let some = some_room filled opened.len _ c.read.new.buf c.in_ok-open_room.ensures.room c.deref_mut.ensures.len c.read.auto.buf in
-    let count = count_cut c.len-start.result filled _ mid _ (c.len-start.ensures ∙ c.args.buf.now.ok.0) same within in
+    let w = wrote c.reads.filled opened.len c.deref_mut.result.now opened.items c.read.new.buf room.within opened.ok.0
+    c.deref_mut.ensures.value c.read.auto.buf room.front in
+    let some = some_room c.reads.filled opened.len _ c.read.new.buf c.in_ok-open_room.ensures.room c.deref_mut.ensures.len
+    c.read.auto.buf in
     record {
-      told = λ t.
-          let so_far = before.told t in
-          let now = read.told so_far.0 in
-          (now.0, gathered_stops _ (gathered_same so_far.1 same) now.1 is none some count);
-      appends = front_cut _ filled mid before.grows same before.front;
-      count = len_cut c.len-start.result filled new.len _ _ mid c.len-start.ensures before.grows new.ok.0 same within;
-      capacity = omega (arith, before.capacity, c.open_room.ensures.grows, c.truncate.ensures.capacity);
-      room = λ t enough. refl;
-      fault = tt;
-      turns = le_trans read.turns before.turns;
-      metered = λ m. (read.cost (before.is_metered m)).0;
-      filling = λ f. (read.fills (before.is_filling f)).0;
-      store = λ s.
-          let so_far = before.store s in
-          let now = read.store so_far.0 in
-          let tells = g.met.Self.Read.store_tells _ so_far.0 in
-          (now.0, now.1 ∙ so_far.1, stays_at_end _ _ _ _ (read.told tells.0).1 is none now.2 so_far.2);
+      law = to_end_done c.reads.invariant g.met.Self.Read.store_tells w c.truncate.ensures.items
+          (omega (arith, room.grows, c.truncate.ensures.capacity)) c.read.ensures.law c.in-Ok-eq0.is c.in-Ok-eq0.field-0-test some
+          c.len-start.ensures;
     }
 
 pub reads-smaller-in-Ok : goal.reads-smaller-in-Ok
-reads-smaller-in-Ok g c = c.in-Ok.ensures.turn (omega arith)
+reads-smaller-in-Ok g c = c.in-Ok.ensures.law.turn (some_bytes c.in-Ok.n c.in-Ok.n-test.1)
 
 pub reads-smaller : goal.reads-smaller
-reads-smaller g c = c.in-Err.ensures.turn
+reads-smaller g c = c.in-Err.ensures.law.turn
 
 pub returns-in-Err-2 : goal.returns-in-Err-2
 returns-in-Err-2 g c =
-    let before = c.reads.invariant in
-    let read = c.in-Err.ensures in
-    let filled = c.reads.filled in
-    let start = c.args.buf.now.len in
+    let room = c.open_room.ensures in
     let opened = c.open_room.new.buf in
-    let kept = take-written_below filled opened.len filled c.deref_mut.result.now opened.items c.read.new.buf
-    (le_refl _) c.open_room.ensures.within opened.ok.0 c.deref_mut.ensures.value in
-    let same = c.truncate-in-Err-2.ensures.items ∙ kept ∙ c.open_room.ensures.front in
-    let fault = sym c.is_interrupted.ensures ∙ c.if-is_interrupted.false in
+    let w = wrote c.reads.filled opened.len c.deref_mut.result.now opened.items c.read.new.buf room.within opened.ok.0
+    c.deref_mut.ensures.value c.read.auto.buf room.front in
     record {
-      told = λ t.
-          let so_far = before.told t in
-          let now = read.told so_far.0 in
-          (now.0, gathered_fault (gathered_same so_far.1 same) now.1 fault);
-      appends = front_cut start filled c.reads.buf.items before.grows same before.front;
-      count = tt;
-      capacity = omega (arith, before.capacity, c.open_room.ensures.grows, c.truncate-in-Err-2.ensures.capacity);
-      room = λ t enough.
-          let so_far = before.told t in
-          absurd (gathered_no_fault so_far.1 (read.told so_far.0).1 fault enough.0);
-      fault = fault;
-      turns = le_trans read.turns before.turns;
-      metered = λ m. (read.cost (before.is_metered m)).0;
-      filling = λ f. (read.fills (before.is_filling f)).0;
-      store = λ s.
-          let so_far = before.store s in
-          let tells = g.met.Self.Read.store_tells _ so_far.0 in
-          absurd (no_error _ tells.1 (read.told tells.0).1);
+      law = to_end_fault c.reads.invariant g.met.Self.Read.store_tells w c.truncate-in-Err-2.ensures.items
+          (omega (arith, room.grows, c.truncate-in-Err-2.ensures.capacity)) c.in-Err.ensures.law
+          (sym c.is_interrupted.ensures ∙ c.if-is_interrupted.false);
     }
 
 pub reads-preserved-in-Ok : goal.reads-preserved-in-Ok
 reads-preserved-in-Ok g c =
-    let before = c.reads.invariant in
-    let read = c.in-Ok.ensures in
-    let n = c.in-Ok.n in
-    let filled = c.reads.filled in
-    let start = c.args.buf.now.len in
+    let room = c.open_room.ensures in
     let opened = c.open_room.new.buf in
-    let slice = c.deref_mut.result.now in
-    let value = c.deref_mut.ensures.value in
-    let within = c.open_room.ensures.within in
-    let fits : filled + n ≤ opened.len = omega (arith, read.bound, c.read.auto.buf) in
-    let front = take-written_below start opened.len filled slice opened.items c.read.new.buf before.grows within opened.ok.0 value in
-    let shown = take-written n opened.len filled slice opened.items c.read.new.buf fits read.bound opened.ok.0 value in
-    record {
-      grows = omega (arith, before.grows);
-      within = fits;
-      capacity = le_trans before.capacity c.open_room.ensures.grows;
-      front = front ∙ take-stays start filled _ _ before.grows c.open_room.ensures.front ∙ before.front;
-      turns = le_trans read.turns before.turns;
-      told = λ t.
-          let so_far = before.told t in
-          let now = read.told so_far.0 in
-          (now.0, gathered_read _ so_far.1 now.1 (shown ∙ ap (λ l. l ++ take n c.read.new.buf) c.open_room.ensures.front));
-      is_metered = λ m. (read.cost (before.is_metered m)).0;
-      is_filling = λ f. (read.fills (before.is_filling f)).0;
-      store = λ s.
-          let so_far = before.store s in
-          let now = read.store so_far.0 in
-          let tells = g.met.Self.Read.store_tells _ so_far.0 in
-          (now.0, now.1 ∙ so_far.1, moved_read _ _ _ _ read.bound (read.told tells.0).1.0 now.2 so_far.2);
-    }
+    let w = wrote c.reads.filled opened.len c.deref_mut.result.now opened.items c.read.new.buf room.within opened.ok.0
+    c.deref_mut.ensures.value c.read.auto.buf room.front in
+    to_end_read c.reads.invariant g.met.Self.Read.store_tells c.in-Ok.ensures.law c.in-Ok.n-test.1 w room.grows
 
 pub reads-preserved : goal.reads-preserved
 reads-preserved g c =
-    let before = c.reads.invariant in
-    let read = c.in-Err.ensures in
-    let filled = c.reads.filled in
-    let start = c.args.buf.now.len in
+    let room = c.open_room.ensures in
     let opened = c.open_room.new.buf in
-    let slice = c.deref_mut.result.now in
-    let value = c.deref_mut.ensures.value in
-    let within = c.open_room.ensures.within in
-    let front = take-written_below start opened.len filled slice opened.items c.read.new.buf before.grows within opened.ok.0 value in
-    let kept = take-written_below filled opened.len filled slice opened.items c.read.new.buf (le_refl _) within opened.ok.0 value in
-    record {
-      grows = before.grows;
-      within = within;
-      capacity = le_trans before.capacity c.open_room.ensures.grows;
-      front = front ∙ take-stays start filled _ _ before.grows c.open_room.ensures.front ∙ before.front;
-      turns = le_trans read.turns before.turns;
-      told = λ t.
-          let so_far = before.told t in
-          let now = read.told so_far.0 in (
-            now.0,
-            gathered_interruption (gathered_same so_far.1 (kept ∙ c.open_room.ensures.front)) now.1
-                (sym c.is_interrupted.ensures ∙ c.if-is_interrupted.true),
-          );
-      is_metered = λ m. (read.cost (before.is_metered m)).0;
-      is_filling = λ f. (read.fills (before.is_filling f)).0;
-      store = λ s.
-          let so_far = before.store s in
-          let tells = g.met.Self.Read.store_tells _ so_far.0 in
-          absurd (no_error _ tells.1 (read.told tells.0).1);
-    }
+    let w = wrote c.reads.filled opened.len c.deref_mut.result.now opened.items c.read.new.buf room.within opened.ok.0
+    c.deref_mut.ensures.value c.read.auto.buf room.front in
+    to_end_interruption c.reads.invariant g.met.Self.Read.store_tells c.in-Err.ensures.law (sym c.is_interrupted.ensures ∙ c.if-is_interrupted.true) w
+    room.grows

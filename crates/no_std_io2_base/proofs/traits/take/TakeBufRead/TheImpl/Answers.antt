@@ -12,8 +12,7 @@ use Rattle.no_std_io2_base.specs.contracts.traits.take.TakeStored.TheImpl as Sto
 use Rattle.no_std_io2_base.proofs.Strengthened.{lends_more}
 use Rattle.no_std_io2_base.proofs.traits.take.TakeBufRead.TheImpl.Goals as goal
 
--- `Take` promises more of `fill_buf` than the trait asks, in a starred clause: so what it gives is turned into what is asked here,
--- field by field. Nothing is owed under a member that is false of every `Take`: it counts no fills, and has no meter and no store.
+-- `Take` promises more of `fill_buf` than the trait asks, in a starred clause: so what it gives is turned into what is asked here.
 pub fill_buf-meets : goal.fill_buf-meets
 fill_buf-meets g c =
     let w = g.world in
@@ -35,18 +34,5 @@ fill_buf-meets g c =
     w.𝓛 w.𝓜.mem w.𝓡.returns c.lifetimes (c.args.self, tt)).ensures c.ghost in
     by_parts w.𝓤 [] [] (emp w.𝓤) (emp w.𝓤) _ _ (λ r e. []) (λ r e. []) more (λ r e. less r (e.0, tt))
     (fact_i w.𝓤 _ _ tt) (λ _. id⊢ w.𝓤 (emp w.𝓤)) (λ r e. fact_i w.𝓤 _ _ tt)
-    (λ r e _. lends_more w.𝓛 _ _ _ _ _ _ _ _ _ _ _ _ _ _ (λ _ h. absurd h)
-    (λ new h.
-    record {
-      lends = h.lends;
-      told = h.told;
-      turns = h.turns;
-      turn = h.turn;
-      quiet = h.quiet;
-      counts = λ n. absurd n;
-      stays_sure = λ n. absurd n;
-      metered = λ n. absurd n;
-      filling = h.filling;
-      store = λ n. absurd n;
-    }))
+    (λ r e _. lends_more w.𝓛 _ _ _ _ _ _ _ _ _ _ _ (λ new h. h.law))
     (λ _. tt) (λ _ r e _. tt)

@@ -7,9 +7,12 @@ pub returns : goal.returns
 returns g c = (
   grind (arith, common_steps),
   record {
-    held = grind (arith, common_steps);
-    front = λ t. begins_cut _ _ (omega arith) (c.in_ok-available.ensures.front t);
-    end = grind (arith, common_steps);
+    law = record {
+      held = grind (arith, common_steps);
+      front = λ t. begins_cut _ _ (omega arith) (c.in_ok-available.ensures.law.front t);
+      end = grind (arith, common_steps);
+      lends_surely = λ n. absurd n;
+    };
     at_limit = grind (arith, common_steps);
     after_borrow = tt;
   },

@@ -12,11 +12,15 @@ returns-then-self-eq0 g c =
     let E = g.T.Read.events c.args.self.now.inner in
     let zero : c.args.self.now.limit ≡ 0 = c.if-self-eq0.true in
     record {
-      bound = omega arith;
-      told = λ t. (t, (refl, λ _ _. ap (λ k. cut k E) zero));
-      turns = le_refl _;
-      turn = λ some. absurd (omega arith);
-      fills = λ f. (f, omega (arith, ap (λ k. length (cut k E)) zero));
+      law = record {
+        bound = omega arith;
+        told = λ t. (t, (refl, λ _ _. ap (λ k. cut k E) zero));
+        turns = le_refl _;
+        turn = λ some. absurd (omega arith);
+        counts = λ m. absurd m;
+        fills = λ f. (f, omega (arith, ap (λ k. length (cut k E)) zero));
+        store = λ s. absurd s;
+      };
       limit = omega arith;
       at_limit = λ _. (refl, refl);
       along = λ t. along_none refl refl;
@@ -25,14 +29,18 @@ returns-then-self-eq0 g c =
 pub returns-in_err-n : goal.returns-in_err-n
 returns-in_err-n g c =
     let p = err_from_is_err_and c.from_residual-in_err-n.result c.from_residual-in_err-n.ensures.1 in
-    let read = c.in_err-n.ensures in
+    let read = c.in_err-n.ensures.law in
     let some = some_bytes _ c.if-self-eq0.false in
     rw (p.1, p.2) (record {
-      bound = tt;
-      told = λ t. let now = read.told t in (now.0, cut_error now.1 some);
-      turns = read.turns;
-      turn = read.turn;
-      fills = λ f. absurd (read.fills f).1;
+      law = record {
+        bound = tt;
+        told = λ t. let now = read.told t in (now.0, cut_error now.1 some);
+        turns = read.turns;
+        turn = read.turn;
+        counts = λ m. absurd m;
+        fills = λ f. absurd (read.fills f).1;
+        store = λ s. absurd s;
+      };
       limit = omega arith;
       at_limit = λ zero. absurd (c.if-self-eq0.false zero);
       along = λ t. along_error (read.told t).1 some;
@@ -44,47 +52,73 @@ returns g c =
     let limit = c.args.self.now.limit in
     let most = c.min_with_limit-most.result in
     let part = c.read-2.new.buf in
-    let read = c.in_ok-n.ensures in
+    let read = c.in_ok-n.ensures.law in
     let some = some_bytes _ c.if-self-eq0.false in
     let within = part_within most limit buf part c.min_with_limit-most.ensures c.read-2.auto.buf in
     let falls = limit_falls limit c.in_ok-n.n _ read.bound within in
     record {
-      bound = fits_whole _ part _ read.bound;
-      told = λ t.
-          let now = read.told t in (
-            now.0,
-            cut_reads _ limit part _ read.bound within
-                (part_room most limit buf part c.min_with_limit-most.ensures c.read-2.auto.buf some) now.1,
-          );
-      turns = read.turns;
-      turn = read.turn;
-      fills = λ f.
-          let now = read.fills f in
-          let alone = g.met.T.Read.filling_tells _ f in
-          let long = length-take-le most buf (omega arith) in
-          (now.0, omega (arith, long, now.1, cut-length limit _ alone.1));
+      law = record {
+        bound = fits_whole _ part _ read.bound;
+        told = λ t.
+            let now = read.told t in (
+              now.0,
+              cut_reads _ limit part _ read.bound within
+                  (part_room most limit buf part c.min_with_limit-most.ensures c.read-2.auto.buf some) now.1,
+            );
+        turns = read.turns;
+        turn = read.turn;
+        counts = λ m. absurd m;
+        fills = λ f.
+            let now = read.fills f in
+            let alone = g.met.T.Read.filling_tells _ f in
+            let long = length-take-le most buf (omega arith) in
+            (now.0, omega (arith, long, now.1, cut-length limit _ alone.1));
+        store = λ s. absurd s;
+      };
       limit = falls;
       at_limit = λ zero. absurd (c.if-self-eq0.false zero);
       along = λ t. along_read _ (read.told t).1 read.bound falls;
     }
 
+pub returns-in_err-given-clause-law : goal.returns-in_err-given-clause-law
+returns-in_err-given-clause-law g c =
+    let p = err_from_is_err_and c.from_residual.result c.from_residual.ensures.1 in
+    let read = c.in_err-given.ensures.law in
+    rw (p.1, p.2) (record {
+      bound = tt;
+      told = λ t. let now = read.told t in (now.0, cut_error now.1 (omega (arith, c.if-buf-self.true)));
+      turns = read.turns;
+      turn = read.turn;
+      counts = λ m. absurd m;
+      fills = λ f. absurd (read.fills f).1;
+      store = λ s. absurd s;
+    })
+
 pub returns-in_err-given-clause-along : goal.returns-in_err-given-clause-along
-returns-in_err-given-clause-along g c = λ t. along_error (c.in_err-given.ensures.told t).1 (omega (arith, c.if-buf-self.true))
+returns-in_err-given-clause-along g c = λ t.
+    along_error (c.in_err-given.ensures.law.told t).1 (omega (arith, c.if-buf-self.true))
 
-pub returns-then-buf-self-clause-told : goal.returns-then-buf-self-clause-told
-returns-then-buf-self-clause-told g c = λ t.
-    let read = c.in_ok-given.ensures in
-    let now = read.told t in
-    (now.0, cut_reads_whole _ c.args.self.now.limit c.read.new.buf read.bound (omega (arith, c.if-buf-self.true, c.read.auto.buf)) now.1)
-
-pub returns-then-buf-self-clause-fills : goal.returns-then-buf-self-clause-fills
-returns-then-buf-self-clause-fills g c = λ f.
-    let now = c.in_ok-given.ensures.fills f in
-    let alone = g.met.T.Read.filling_tells _ f in
-    (now.0, omega (arith, now.1, c.if-buf-self.true, cut-length c.args.self.now.limit _ alone.1))
+pub returns-then-buf-self-clause-law : goal.returns-then-buf-self-clause-law
+returns-then-buf-self-clause-law g c =
+    let read = c.in_ok-given.ensures.law in
+    let limit = c.args.self.now.limit in
+    record {
+      bound = read.bound;
+      told = λ t.
+          let now = read.told t in
+          (now.0, cut_reads_whole _ limit c.read.new.buf read.bound (omega (arith, c.if-buf-self.true, c.read.auto.buf)) now.1);
+      turns = read.turns;
+      turn = read.turn;
+      counts = λ m. absurd m;
+      fills = λ f.
+          let now = read.fills f in
+          let alone = g.met.T.Read.filling_tells _ f in
+          (now.0, omega (arith, now.1, c.if-buf-self.true, cut-length limit _ alone.1));
+      store = λ s. absurd s;
+    }
 
 pub returns-then-buf-self-clause-along : goal.returns-then-buf-self-clause-along
 returns-then-buf-self-clause-along g c = λ t.
-    let read = c.in_ok-given.ensures in
+    let read = c.in_ok-given.ensures.law in
     along_read _ (read.told t).1 read.bound (limit_falls c.args.self.now.limit c.in_ok-given.given (length c.read.new.buf) read.bound
     (omega (arith, c.if-buf-self.true, c.read.auto.buf)))

@@ -1,49 +1,36 @@
-use Rattle.std.proofs.Common.{◌≡◌, ◌+◌, ◌≤◌, ◌++◌, length, take, vec_capacity, arith, ap, refl, sym, subst, ◌∙◌, le_refl, le_trans}
+use Rattle.std.proofs.Common.{◌≡◌, ◌+◌, ◌≤◌, length, take, vec_capacity, arith, ap, refl, sym, subst, ◌∙◌, le_refl, le_trans}
 use Rattle.std.proofs.lemmas.Result.{err_from_is_err_and}
 use Rattle.no_std_io2_base.proofs.Along.{along_none, along_then}
-use Rattle.no_std_io2_base.proofs.Gathered.{gathered_none, gathered_same, gathered_read, gathered_interruption}
-use Rattle.no_std_io2_base.proofs.Gathered.{gathered_fault, gathered_memory, gathered_fits, gathered_no_fault}
-use Rattle.no_std_io2_base.proofs.Parts.{take-written, take-written_below, take-stays}
-use Rattle.no_std_io2_base.proofs.PieceLemmas.{memory_fault}
-use Rattle.no_std_io2_base.proofs.ReadsToEndExits.{front_whole, filled_bytes, front_cut, none_opened, count_cut}
-use Rattle.no_std_io2_base.proofs.ReadsToEndExits.{len_cut, filled_length, some_room}
+use Rattle.no_std_io2_base.proofs.Gathered.{gathered_same, gathered_first_fault, gathered_fits}
+use Rattle.no_std_io2_base.proofs.Parts.{take-written_below}
+use Rattle.no_std_io2_base.proofs.ReadExactExits.{some_bytes}
+use Rattle.no_std_io2_base.proofs.ReadsToEndExits.{filled_bytes, front_cut, count_cut, len_cut, filled_length, some_room}
 use Rattle.no_std_io2_base.proofs.TakenToEnd.{Ended, ended_at_limit, nothing_read, given_none, gathered_done}
 use Rattle.no_std_io2_base.proofs.TakenToEnd.{limit_same, limit_cut, no_turn, none_filled}
+use Rattle.no_std_io2_base.proofs.ToEndLoop.{wrote, to_end_none, to_end_no_room, to_end_refused, to_end_read}
+use Rattle.no_std_io2_base.proofs.ToEndLoop.{to_end_interruption, to_end_fault}
 use Rattle.no_std_io2_base.proofs.traits.take.TakeRead.read_to_end.Goals as goal
 use Rattle.no_std_io2_base.proofs.traits.take.TakeRead.read_to_end.Goals.{else-reads-test, then-reads-test+in_ok-open_room+in-Ok-eq0}
 
 pub returns-in_err-reserve_room : goal.returns-in_err-reserve_room
 returns-in_err-reserve_room g c =
     let p = err_from_is_err_and c.from_residual.result c.from_residual.ensures.1 in
-    let refused = c.in_err-reserve_room.ensures.refused in
-    let same = c.reserve_room.ensures.items in
+    let room = c.reserve_room.ensures in
+    let refused = c.in_err-reserve_room.ensures in
     rw (p.1, p.2) (record {
-      told = λ t. (t, gathered_memory (gathered_none same) refused);
-      appends = front_whole c.args.buf.now.ok.0 same;
-      count = tt;
-      capacity = c.reserve_room.ensures.grows;
-      room = λ t enough. absurd (omega (arith, enough.1, c.in_err-reserve_room.ensures.full));
-      fault = memory_fault _ refused;
-      turns = le_refl _;
-      filling = λ f. f;
-      limit = ap (λ n. c.args.self.now.limit + n) c.reserve_room.ensures.len;
-      at_limit = λ none. absurd (omega (arith, c.args.buf.now.ok.1, c.in_err-reserve_room.ensures.full));
+      law = to_end_no_room refused.refused room.items room.len room.grows (omega (arith, refused.full));
+      small_room = λ t enough. absurd (omega (arith, enough, refused.full));
+      limit = ap (λ n. c.args.self.now.limit + n) room.len;
+      at_limit = λ none. absurd (omega (arith, c.args.buf.now.ok.1, refused.full));
       along = λ t. along_none refl refl;
     })
 
 pub reads-init : goal.reads-init
 reads-init g c =
-    let start = c.len-start.ensures in
-    let same = c.reserve_room.ensures.items in
+    let room = c.reserve_room.ensures in
     record {
-      grows = omega arith;
-      within = omega arith;
-      capacity = c.reserve_room.ensures.grows;
-      front = front_whole c.args.buf.now.ok.0 same;
-      turns = le_refl _;
-      told = λ t. (t, gathered_none (front_whole (start ∙ c.args.buf.now.ok.0) same));
-      is_filling = λ f. f;
-      limit = ap (λ n. c.args.self.now.limit + n) start;
+      law = to_end_none c.len-start.ensures room.items room.len room.grows;
+      limit = ap (λ n. c.args.self.now.limit + n) c.len-start.ensures;
       at_limit = λ none. refl;
       along = λ t. along_none refl refl;
     }
@@ -52,128 +39,79 @@ pub returns-in_err-open_room : goal.returns-in_err-open_room
 returns-in_err-open_room g c =
     let p = err_from_is_err_and c.from_residual-in_err-open_room.result c.from_residual-in_err-open_room.ensures.1 in
     let before = c.reads.invariant in
-    let filled = c.reads.filled in
-    let opened = c.open_room.new.buf in
-    let full = c.in_err-open_room.ensures.full in
-    let refused = c.in_err-open_room.ensures.refused in
-    let same = none_opened filled opened.len opened.items c.reads.buf.items full.1 opened.ok.0 c.open_room.ensures.front in
+    let room = c.open_room.ensures in
+    let refused = c.in_err-open_room.ensures in
+    let full = refused.full in
+    let within = filled_bytes c.reads.filled _ c.reads.buf.items before.law.within c.reads.buf.ok.0 in
     rw (p.1, p.2) (record {
-      told = λ t.
-          let so_far = before.told t in
-          (so_far.0, gathered_memory (gathered_same so_far.1 same) refused);
-      appends = front_cut _ filled c.reads.buf.items before.grows same before.front;
-      count = tt;
-      capacity = le_trans before.capacity c.open_room.ensures.grows;
-      room = λ t enough.
-          let left = gathered_fits (before.told t).1 enough c.args.buf.now.ok.0 before.capacity in
-          absurd (omega (arith, full.0, left, filled_bytes filled _ _ before.within c.reads.buf.ok.0));
-      fault = memory_fault _ refused;
-      turns = before.turns;
-      filling = before.is_filling;
+      law = to_end_refused before.law refused.refused full.1 room.front room.grows full.0;
+      small_room = λ t enough.
+          let left = gathered_fits (before.law.told t).1 enough (omega (arith, before.limit, before.law.grows, c.reads-test.true))
+          c.args.buf.now.ok.0 before.law.capacity in
+          absurd (omega (arith, full.0, left, within));
       limit = ap (λ n. c.reads.self.limit + n) full.1 ∙ before.limit;
-      at_limit = λ none. absurd (no_turn before.limit before.grows none c.reads-test.true);
+      at_limit = λ none. absurd (no_turn before.limit before.law.grows none c.reads-test.true);
       along = before.along;
     })
 
 pub reads-smaller-in-Ok : goal.reads-smaller-in-Ok
-reads-smaller-in-Ok g c = c.in-Ok.ensures.turn (omega arith)
+reads-smaller-in-Ok g c = c.in-Ok.ensures.law.turn (some_bytes c.in-Ok.n c.in-Ok.n-test.1)
 
 pub reads-smaller : goal.reads-smaller
-reads-smaller g c = c.in-Err.ensures.turn
+reads-smaller g c = c.in-Err.ensures.law.turn
 
 pub reads-preserved-in-Ok : goal.reads-preserved-in-Ok
 reads-preserved-in-Ok g c =
     let before = c.reads.invariant in
     let read = c.in-Ok.ensures in
-    let n = c.in-Ok.n in
-    let filled = c.reads.filled in
-    let start = c.args.buf.now.len in
+    let room = c.open_room.ensures in
     let opened = c.open_room.new.buf in
-    let slice = c.deref_mut.result.now in
-    let value = c.deref_mut.ensures.value in
-    let within = c.open_room.ensures.within in
-    let fits : filled + n ≤ opened.len = omega (arith, read.bound, c.read.auto.buf) in
-    let front = take-written_below start opened.len filled slice opened.items c.read.new.buf before.grows within opened.ok.0 value in
-    let shown = take-written n opened.len filled slice opened.items c.read.new.buf fits read.bound opened.ok.0 value in
+    let w = wrote c.reads.filled opened.len c.deref_mut.result.now opened.items c.read.new.buf room.within opened.ok.0
+    c.deref_mut.ensures.value c.read.auto.buf room.front in
     record {
-      grows = omega (arith, before.grows);
-      within = fits;
-      capacity = le_trans before.capacity c.open_room.ensures.grows;
-      front = front ∙ take-stays start filled _ _ before.grows c.open_room.ensures.front ∙ before.front;
-      turns = le_trans read.turns before.turns;
-      told = λ t.
-          let so_far = before.told t in
-          let now = read.told so_far.0 in
-          (now.0, gathered_read _ so_far.1 now.1 (shown ∙ ap (λ l. l ++ take n c.read.new.buf) c.open_room.ensures.front));
-      is_filling = λ f. (read.fills (before.is_filling f)).0;
+      law = to_end_read before.law (λ x told. absurd told) read.law c.in-Ok.n-test.1 w room.grows;
       limit = omega (arith, before.limit, read.limit);
-      at_limit = λ none. (read.at_limit (omega (arith, before.limit, before.grows, none))).1 ∙ before.at_limit none;
-      along = λ t. along_then (before.along t) (read.along (before.told t).0);
+      at_limit = λ none. (read.at_limit (omega (arith, before.limit, before.law.grows, none))).1 ∙ before.at_limit none;
+      along = λ t. along_then (before.along t) (read.along (before.law.told t).0);
     }
 
 pub returns-in-Err-2 : goal.returns-in-Err-2
 returns-in-Err-2 g c =
     let before = c.reads.invariant in
     let read = c.in-Err.ensures in
-    let filled = c.reads.filled in
-    let start = c.args.buf.now.len in
+    let room = c.open_room.ensures in
     let opened = c.open_room.new.buf in
-    let kept = take-written_below filled opened.len filled c.deref_mut.result.now opened.items c.read.new.buf
-    (le_refl _) c.open_room.ensures.within opened.ok.0 c.deref_mut.ensures.value in
-    let same = c.truncate.ensures.items ∙ kept ∙ c.open_room.ensures.front in
+    let w = wrote c.reads.filled opened.len c.deref_mut.result.now opened.items c.read.new.buf room.within opened.ok.0
+    c.deref_mut.ensures.value c.read.auto.buf room.front in
     let fault = sym c.is_interrupted.ensures ∙ c.if-is_interrupted.false in
-    let mid = c.reads.buf.items in
     let new = c.truncate.new.self in
-    let within : filled ≤ length mid = omega (arith, before.within, c.reads.buf.ok.0) in
+    let cut = c.truncate.ensures.items in
+    let within : c.reads.filled ≤ length c.reads.buf.items = omega (arith, before.law.within, c.reads.buf.ok.0) in
+    let long = filled_length c.reads.filled new.len new.items c.reads.buf.items new.ok.0 (cut ∙ w.kept) within in
     record {
-      told = λ t.
-          let so_far = before.told t in
-          let now = read.told so_far.0 in
-          (now.0, gathered_fault (gathered_same so_far.1 same) now.1 fault);
-      appends = front_cut start filled c.reads.buf.items before.grows same before.front;
-      count = tt;
-      capacity = omega (arith, before.capacity, c.open_room.ensures.grows, c.truncate.ensures.capacity);
-      room = λ t enough.
-          let so_far = before.told t in
-          absurd (gathered_no_fault so_far.1 (read.told so_far.0).1 fault enough.0);
-      fault = fault;
-      turns = le_trans read.turns before.turns;
-      filling = λ f. (read.fills (before.is_filling f)).0;
-      limit = limit_cut _ _ (limit_same read.limit refl)
-          (filled_length filled new.len _ mid new.ok.0 same within) before.limit;
-      at_limit = λ none. absurd (no_turn before.limit before.grows none c.reads-test.true);
-      along = λ t. along_then (before.along t) (read.along (before.told t).0);
+      law = to_end_fault before.law (λ x told. absurd told) w cut (omega (arith, room.grows, c.truncate.ensures.capacity)) read.law
+          fault;
+      small_room = λ t enough.
+          let so_far = before.law.told t in gathered_first_fault so_far.1 (read.law.told so_far.0).1 fault;
+      limit = limit_cut _ _ (limit_same read.limit refl) long before.limit;
+      at_limit = λ none. absurd (no_turn before.limit before.law.grows none c.reads-test.true);
+      along = λ t. along_then (before.along t) (read.along (before.law.told t).0);
     }
 
 pub reads-preserved : goal.reads-preserved
 reads-preserved g c =
     let before = c.reads.invariant in
     let read = c.in-Err.ensures in
-    let filled = c.reads.filled in
-    let start = c.args.buf.now.len in
+    let room = c.open_room.ensures in
     let opened = c.open_room.new.buf in
-    let slice = c.deref_mut.result.now in
-    let value = c.deref_mut.ensures.value in
-    let within = c.open_room.ensures.within in
-    let front = take-written_below start opened.len filled slice opened.items c.read.new.buf before.grows within opened.ok.0 value in
-    let kept = take-written_below filled opened.len filled slice opened.items c.read.new.buf (le_refl _) within opened.ok.0 value in
+    let w = wrote c.reads.filled opened.len c.deref_mut.result.now opened.items c.read.new.buf room.within opened.ok.0
+    c.deref_mut.ensures.value c.read.auto.buf room.front in
     record {
-      grows = before.grows;
-      within = within;
-      capacity = le_trans before.capacity c.open_room.ensures.grows;
-      front = front ∙ take-stays start filled _ _ before.grows c.open_room.ensures.front ∙ before.front;
-      turns = le_trans read.turns before.turns;
-      told = λ t.
-          let so_far = before.told t in
-          let now = read.told so_far.0 in (
-            now.0,
-            gathered_interruption (gathered_same so_far.1 (kept ∙ c.open_room.ensures.front)) now.1
-                (sym c.is_interrupted.ensures ∙ c.if-is_interrupted.true),
-          );
-      is_filling = λ f. (read.fills (before.is_filling f)).0;
+      law = to_end_interruption before.law (λ x told. absurd told) read.law (sym c.is_interrupted.ensures ∙ c.if-is_interrupted.true) w
+          room.grows;
       limit = omega (arith, before.limit, read.limit);
-      at_limit = λ none. absurd (read.at_limit (omega (arith, before.limit, before.grows, none))).0;
-      along = λ t. along_then (before.along t) (read.along (before.told t).0);
+      at_limit = λ none. absurd (read.at_limit (omega (arith, before.limit, before.law.grows, none))).0;
+      along = λ t. along_then (before.along t) (read.along (before.law.told t).0);
     }
 
 pub returns : goal.returns
@@ -197,7 +135,7 @@ returns g c =
     let ended : Ended T.tells T.is_filling T.turns T.events c.reads.self c.reads-test.self = elim c.reads-test.branch [
       | else-reads-test w ↦ ended_at_limit w.self-is (omega (arith, w.reads-test.false))
       | then-reads-test+in_ok-open_room+in-Ok-eq0 w ↦
-          let read = w.read.ensures in
+          let read = w.read.ensures.law in
           let is = w.in-Ok-eq0.is in
           let none = w.in-Ok-eq0.field-0-test in
           let some = some_room filled w.open_room.new.buf.len _ w.read.new.buf w.in_ok-open_room.ensures.room w.deref_mut.ensures.len
@@ -209,29 +147,36 @@ returns g c =
                 let empty = nothing_read _ _ _ _ _ now.1 is none some in
                 (now.0, empty.0, empty.1);
             fill = λ f. (read.fills f).0;
-            same = limit_same read.limit (given_none _ _ is none);
-            at_limit = λ zero. (read.at_limit zero).1;
-            along = read.along;
+            same = limit_same w.read.ensures.limit (given_none _ _ is none);
+            at_limit = λ zero. (w.read.ensures.at_limit zero).1;
+            along = w.read.ensures.along;
           })
     ] in
     let same = c.truncate-2.ensures.items ∙ front in
-    let within : filled ≤ length mid = omega (arith, before.within, c.reads.buf.ok.0) in
+    let within : filled ≤ length mid = omega (arith, before.law.within, c.reads.buf.ok.0) in
     let count = count_cut c.len-start.result filled _ mid _ (c.len-start.ensures ∙ c.args.buf.now.ok.0) same within in
+    let long = filled_length filled new.len new.items mid new.ok.0 same within in
     record {
-      told = λ t.
-          let so_far = before.told t in
-          let now = ended.told so_far.0 in
-          (now.0, gathered_done _ (gathered_same so_far.1 same) now.1 now.2 count);
-      appends = front_cut _ filled mid before.grows same before.front;
-      count = len_cut c.len-start.result filled new.len _ _ mid c.len-start.ensures before.grows new.ok.0 same within;
-      capacity = omega (arith, before.capacity, grown, c.truncate-2.ensures.capacity);
-      room = λ t enough. refl;
-      fault = tt;
-      turns = le_trans ended.spent before.turns;
-      filling = λ f. ended.fill (before.is_filling f);
-      limit = limit_cut _ _ ended.same (filled_length filled new.len _ mid new.ok.0 same within) before.limit;
+      law = record {
+        told = λ t.
+            let so_far = before.law.told t in
+            let now = ended.told so_far.0 in
+            (now.0, gathered_done _ (gathered_same so_far.1 same) now.1 now.2 count);
+        appends = front_cut _ filled mid before.law.grows same before.law.front;
+        count = len_cut c.len-start.result filled new.len _ _ mid c.len-start.ensures before.law.grows new.ok.0 same within;
+        capacity = omega (arith, before.law.capacity, grown, c.truncate-2.ensures.capacity);
+        room = λ t enough. tt;
+        fault = tt;
+        turns = le_trans ended.spent before.law.turns;
+        turn = λ more. let spent = before.law.turn (omega (arith, more, long)) in omega (arith, spent, ended.spent);
+        metered = λ m. m;
+        filling = λ f. ended.fill (before.law.filling f);
+        store = λ s. absurd s;
+      };
+      small_room = λ t enough. tt;
+      limit = limit_cut _ _ ended.same long before.limit;
       at_limit = λ none.
-          let zero = none_filled c.len-start.result _ before.limit before.grows c.len-start.ensures none in
+          let zero = none_filled c.len-start.result _ before.limit before.law.grows c.len-start.ensures none in
           (zero.0, ended.at_limit zero.1 ∙ before.at_limit none);
-      along = λ t. along_then (before.along t) (ended.along (before.told t).0);
+      along = λ t. along_then (before.along t) (ended.along (before.law.told t).0);
     }

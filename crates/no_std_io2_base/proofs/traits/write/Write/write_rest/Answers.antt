@@ -18,20 +18,22 @@ returns-in-Ok-eq0 g c =
     let none = c.in-Ok-eq0.field-0-test in
     let some = not_empty _ c.writes.rest.now c.is_empty.ensures c.writes-test.true in
     record {
-      fault = search rules;
-      sends = sends_zero before.sent c.write.ensures.moves is none some cc;
-      done = tt;
-      all = λ a. absurd (takes_some _ (c.write.ensures.all (before.all a)).1 is none some);
-      cost = λ m a. absurd (takes_some _ (c.write.ensures.all (before.all a)).1 is none some);
+      law = record {
+        fault = search rules;
+        sends = sends_zero before.sent c.write.ensures.law.moves is none some cc;
+        done = tt;
+        all = λ a. absurd (takes_some _ (c.write.ensures.law.all (before.all a)).1 is none some);
+        counts = λ m a. absurd (takes_some _ (c.write.ensures.law.all (before.all a)).1 is none some);
+      };
     }
 
 pub writes-smaller-in-Ok : goal.writes-smaller-in-Ok
-writes-smaller-in-Ok g c = fewer_left c.in-Ok.n _ _ c.writes.rest.now c.in-Ok.n-test.1 c.in-Ok.ensures.bound c.in-Ok.ensures.moves.turns
+writes-smaller-in-Ok g c = fewer_left c.in-Ok.n _ _ c.writes.rest.now c.in-Ok.n-test.1 c.in-Ok.ensures.law.bound c.in-Ok.ensures.law.moves.turns
 
 pub writes-preserved-in-Ok : goal.writes-preserved-in-Ok
 writes-preserved-in-Ok g c =
     let before = c.writes.invariant in
-    let wrote = c.in-Ok.ensures in
+    let wrote = c.in-Ok.ensures.law in
     let left = c.writes.rest.now in
     let n = c.in-Ok.n in
     record {
@@ -39,7 +41,7 @@ writes-preserved-in-Ok g c =
       all = λ a. (wrote.all (before.all a)).0;
       cost = λ m a.
           let so_far = before.cost m a in
-          let now = wrote.cost so_far.0 (before.all a) in (
+          let now = wrote.counts so_far.0 (before.all a) in (
             now.0,
             one_call n left _ _ _ (same_count refl (wrote.all (before.all a)).1)
                 (not_empty _ left c.is_empty.ensures c.writes-test.true) now.1 so_far.1,
@@ -48,13 +50,13 @@ writes-preserved-in-Ok g c =
 
 -- how the test of an interruption is written is not named here
 pub writes-smaller : goal.writes-smaller
-writes-smaller g c = fewer_turns c.in-Err.e _ _ (length c.writes.rest.now) c.in-Err.ensures.moves.turns
+writes-smaller g c = fewer_turns c.in-Err.e _ _ (length c.writes.rest.now) c.in-Err.ensures.law.moves.turns
     cc
 
 pub writes-preserved : goal.writes-preserved
 writes-preserved g c =
     let before = c.writes.invariant in
-    let wrote = c.in-Err.ensures in
+    let wrote = c.in-Err.ensures.law in
     record {
       sent = sent_interruption before.sent wrote.moves;
       all = λ a. (wrote.all (before.all a)).0;
@@ -64,13 +66,15 @@ writes-preserved g c =
 pub returns-in-Err-2 : goal.returns-in-Err-2
 returns-in-Err-2 g c =
     let before = c.writes.invariant in
-    let wrote = c.in-Err.ensures in
+    let wrote = c.in-Err.ensures.law in
     record {
-      fault = cc;
-      sends = sends_fault before.sent wrote.moves;
-      done = tt;
-      all = λ a. absurd (no_error_there _ _ (wrote.all (before.all a)).1);
-      cost = λ m a. absurd (no_error_there _ _ (wrote.all (before.all a)).1);
+      law = record {
+        fault = cc;
+        sends = sends_fault before.sent wrote.moves;
+        done = tt;
+        all = λ a. absurd (no_error_there _ _ (wrote.all (before.all a)).1);
+        counts = λ m a. absurd (no_error_there _ _ (wrote.all (before.all a)).1);
+      };
     }
 
 pub returns : goal.returns
@@ -78,9 +82,11 @@ returns g c =
     let before = c.writes.invariant in
     let none = is_empty _ c.writes.rest.now c.is_empty.ensures c.writes-test.false in
     record {
-      sends = sends_done before.sent;
-      fault = tt;
-      done = none;
-      all = λ a. (before.all a, refl);
-      cost = λ m a. let so_far = before.cost m a in (so_far.0, no_call none so_far.1);
+      law = record {
+        sends = sends_done before.sent;
+        fault = tt;
+        done = none;
+        all = λ a. (before.all a, refl);
+        counts = λ m a. let so_far = before.cost m a in (so_far.0, no_call none so_far.1);
+      };
     }

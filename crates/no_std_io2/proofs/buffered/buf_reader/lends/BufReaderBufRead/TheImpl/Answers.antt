@@ -4,14 +4,14 @@ use contract.Monad.{fact_i}
 use borrow.Fn.Refines.{by_parts}
 use denote.Param.{param, number}
 use Rattle.std.proofs.Common.{ap}
-use Rattle.no_std_io2.specs.Reading.{reader_inner, reader_turns}
+use Rattle.no_std_io2.specs.BufReader.{reader_inner, reader_turns}
 use Rattle.no_std_io2_base.specs.contracts.traits.buf_read.BufRead.fill_buf.{clauses as asked}
 use Rattle.no_std_io2.specs.contracts.buffered.buf_reader.BufReader.{the_row}
 use Rattle.no_std_io2.specs.contracts.buffered.buf_reader.lends.BufReaderBufRead.fill_buf.{clauses as given}
 use Rattle.no_std_io2.specs.contracts.buffered.buf_reader.lends.BufReaderBufRead.TheImpl as BufReads
 use Rattle.no_std_io2.specs.contracts.buffered.buf_reader.reads.BufReaderRead.TheImpl as Reads
 use Rattle.no_std_io2.specs.contracts.buffered.buf_reader.BufReaderStored.TheImpl as Stores
-use Rattle.no_std_io2_base.proofs.Strengthened.{lends_more}
+use Rattle.no_std_io2_base.proofs.Strengthened.{lends_on}
 use Rattle.no_std_io2.proofs.buffered.buf_reader.lends.BufReaderBufRead.TheImpl.Goals as goal
 
 pub fill_buf-meets : goal.fill_buf-meets
@@ -34,7 +34,7 @@ fill_buf-meets g c =
     w.𝓛 w.𝓜.mem w.𝓡.returns c.lifetimes (c.args.self, tt)).ensures c.ghost in
     by_parts w.𝓤 [] [] (emp w.𝓤) (emp w.𝓤) _ _ (λ r e. []) (λ r e. []) more (λ r e. less r (e.0, tt))
     (fact_i w.𝓤 _ _ tt) (λ _. id⊢ w.𝓤 (emp w.𝓤)) (λ r e. fact_i w.𝓤 _ _ tt)
-    (λ r e _. lends_more w.𝓛 _ _ _ _ _ _ _ _ _ _ _ _ _ _ (λ h. h)
+    (λ r e _. lends_on w.𝓛 _ _ _ _ _ _ _ _ _ _
     (λ new h.
     record {
       lends = h.lends;

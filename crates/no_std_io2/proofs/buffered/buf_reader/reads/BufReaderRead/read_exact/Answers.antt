@@ -1,35 +1,42 @@
 -- An exact read, by its two ends: past what is held, and out of it.
 use Rattle.std.proofs.Common.{◌≡◌, ◌-◌, ◌<◌, ◌≤◌, ◌++◌, length, arith, ap, refl, ◌∙◌, length-drop, length-take-le}
 use Rattle.no_std_io2_base.specs.Events.{events_of}
-use Rattle.no_std_io2.specs.ReadAhead.{ahead_held, ahead_behind}
-use Rattle.no_std_io2.specs.Reading.{reader_held, reader_behind, reader_inner}
-use Rattle.no_std_io2.proofs.Behind.{sound_moved}
-use Rattle.no_std_io2.proofs.Exact.{length-events, moved_length, fills_front, exact_left-held, exact_reads-held}
-use Rattle.no_std_io2.proofs.Sounds.{give_events, give_sound}
+use Rattle.no_std_io2.specs.Buffer.{buffer_held, buffer_behind}
+use Rattle.no_std_io2.specs.BufReader.{reader_held, reader_behind, reader_inner}
+use Rattle.no_std_io2.proofs.BufReaderBehind.{sound_moved}
+use Rattle.no_std_io2.proofs.BufReaderExact.{length-events, moved_length, fills_front, exact_left-held, exact_reads-held}
+use Rattle.no_std_io2.proofs.BufReaderSound.{give_events, give_sound}
+use Rattle.no_std_io2.proofs.BufReaderRoom.{same_buffer}
 use Rattle.no_std_io2.proofs.buffered.buf_reader.reads.BufReaderRead.read_exact.Goals as goal
 
 pub returns-then-buf-len : goal.returns-then-buf-len
 returns-then-buf-len g c =
-    let read = c.read_exact_slowly.ensures in
+    let read = c.read_on.ensures in
     let more : length (reader_held c.args.self.now) < length c.args.buf.now = omega arith in
     record {
-      told = read.told;
-      fault = read.fault;
-      turns = read.no_later;
-      metered = λ h. h;
-      filling = λ h. h;
-      store = read.store;
+      law = record {
+        told = read.told;
+        fault = read.fault;
+        turns = read.no_later;
+        turn = λ some. read.turn;
+        metered = λ h. h;
+        filling = λ h. h;
+        store = read.store;
+        empty = λ none. absurd (omega (arith, none, more));
+      };
       held = λ fits. absurd (omega (arith, fits, more));
-      empty = λ none. absurd (omega (arith, none, more));
       asks = read.asks;
       left = read.left;
+      behind = λ past. read.behind;
+      failed = read.failed;
+      behind_length = λ f past. read.behind_length f;
       sound = read.sound;
     }
 
 pub returns : goal.returns
 returns g c =
     let old = reader_held c.args.self.now in
-    let new = ahead_held c.give_whole.new.self in
+    let new = buffer_held c.give_whole.new.self in
     let inner = g.R.Read.events (reader_inner c.args.self.now) in
     let n = length c.args.buf.now in
     let gave = c.give_whole.ensures in
@@ -37,17 +44,20 @@ returns g c =
     let left : length new ≡ length old - n = ap length gave.held ∙ length-drop n old in
     let told = give_events old new c.give_whole.new.buf inner n gave.held gave.gave in
     record {
-      told = λ t. (t, fills_front _ _ c.give_whole.new.buf told);
-      fault = tt;
-      turns = omega (arith, left);
-      metered = λ h. h;
-      filling = λ h. h;
-      store = λ s.
-          let sound = give_sound old new _ _ n gave.held most s.1 in
-          let moved = moved_length old new c.give_whole.new.buf inner inner n told (ap length gave.gave ∙ length-take-le n old most) in
-          ((s.0, sound.0), refl, omega (arith, sound.1, moved, length-events old inner, length-events new inner));
+      law = record {
+        told = λ t. (t, fills_front _ _ c.give_whole.new.buf told);
+        fault = tt;
+        turns = omega (arith, left);
+        turn = λ some. omega (arith, left, some, most);
+        metered = λ h. h;
+        filling = λ h. h;
+        store = λ s.
+            let sound = give_sound old new _ _ n gave.held most s.1 in
+            let moved = moved_length old new c.give_whole.new.buf inner inner n told (ap length gave.gave ∙ length-take-le n old most) in
+            ((s.0, sound.0), refl, omega (arith, sound.1, moved, length-events old inner, length-events new inner));
+        empty = λ none. (refl, same_buffer c.args.self.now _ _ _ (gave.empty none));
+      };
       held = λ fits. (refl, gave.gave, gave.held, gave.behind, refl);
-      empty = λ none. (refl, ap (λ a. record c.args.self.now { ahead = a }) (gave.empty none));
       asks = λ m f. (m, omega (arith, exact_reads-held n (length old) (length (events_of old ++ inner)) most));
       left = λ f. (
         f,
@@ -59,9 +69,12 @@ returns g c =
           length-events new inner,
         ),
       );
+      behind = λ past. absurd (omega (arith, past, most));
+      failed = tt;
+      behind_length = λ f past. absurd (omega (arith, past, most));
       sound = λ s. (
         s.0,
-        sound_moved (reader_behind c.args.self.now) old (ahead_behind c.give_whole.new.self) new _ n gave.behind
+        sound_moved (reader_behind c.args.self.now) old (buffer_behind c.give_whole.new.self) new _ n gave.behind
             gave.gave gave.held s.1,
       );
     }

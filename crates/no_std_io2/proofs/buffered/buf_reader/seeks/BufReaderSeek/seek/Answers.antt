@@ -4,54 +4,54 @@ use Rattle.std.specs.Int.{w64}
 use Rattle.no_std_io2_base.specs.declared.traits.seek.SeekFrom.{SeekFrom}
 use Rattle.no_std_io2_base.specs.declared.traits.seek.SeekFrom.TheVariants.{Current}
 use Rattle.no_std_io2_base.specs.Seek.{Seeks}
-use Rattle.no_std_io2.specs.BufferedSeek.{ReaderSeeks}
-use Rattle.no_std_io2.specs.Reading.{reader_held, reader_inner, reader_position}
-use Rattle.no_std_io2.proofs.Seeks.{sought, elsewhere, not_far, one_inner, dropped_whole, kept_whole}
+use Rattle.no_std_io2.specs.BufReader.{ReaderSeeks, reader_held, reader_inner, reader_position}
+use Rattle.no_std_io2.proofs.BufReaderSeeks.{arrives_at, sought, elsewhere, not_far, one_inner, dropped_whole, kept_whole}
 use Rattle.no_std_io2.proofs.buffered.buf_reader.seeks.BufReaderSeek.seek.Goals as goal
 
-pub returns-in-Current-clause-store : goal.returns-in-Current-clause-store
-returns-in-Current-clause-store g c = λ s.
-    let now = c.seek_current.ensures.store s in
-    let fits : FitsSigned w64 c.in-Current.offset = search rules in
-    let same = ap Current (to_z-of_z w64 c.in-Current.offset fits) ∙ sym c.in-Current.is in
-    let place = reader_position g.R.Stored.position in
-    let sought_here =
-    λ (target : SeekFrom). Seeks (length (g.R.Stored.content (reader_inner c.args.self.now))) (place c.args.self.now)
-    target c.seek_current.result (place c.seek_current.new.self) in
-    (now.0, now.1, subst sought_here same now.2)
-
-pub returns-in-Start-clause-store : goal.returns-in-Start-clause-store
-returns-in-Start-clause-store g c = λ s.
-    let held = reader_held c.args.self.now in
-    let new = reader_held c.seek_inner.new.self in
-    let seek = c.seek_inner.ensures in
-    let now = seek.store s.0 in
-    let there = elsewhere c.args.pos c.in-Start.is in
-    let done =
-    sought c.args.pos c.args.pos c.seek_inner.result held new _ _ _ _ (λ n. there _ _ _ n) (λ n. there _ _ _ n) s.1
-    now.1 now.2 seek.empty seek.kept in
-    ((now.0, done.0), now.1, done.1)
-
-pub returns-in-Start-clause-dropped : goal.returns-in-Start-clause-dropped
-returns-in-Start-clause-dropped g c = λ s far. absurd (not_far c.args.pos _ c.in-Start.is far)
-
-pub returns-in-Current-clause-sought : goal.returns-in-Current-clause-sought
-returns-in-Current-clause-sought g c =
+pub returns-in-Current-clause-law : goal.returns-in-Current-clause-law
+returns-in-Current-clause-law g c =
     let seek = c.seek_current.ensures in
     let fits : FitsSigned w64 c.in-Current.offset = search rules in
     let same = ap Current (to_z-of_z w64 c.in-Current.offset fits) ∙ sym c.in-Current.is in
-    let sought_to =
-    λ (target : SeekFrom). ReaderSeeks g.R.Seek.may_seek c.args.self.now target c.seek_current.new.self c.seek_current.result in
-    subst sought_to same (record {
-      dropped = dropped_whole c.seek_current.result _ _ seek.empty seek.behind;
-      kept = seek.kept;
-      inner = seek.sought;
-    })
-
-pub returns-in-Start-clause-sought : goal.returns-in-Start-clause-sought
-returns-in-Start-clause-sought g c =
-    let seek = c.seek_inner.ensures in record {
-      dropped = dropped_whole c.seek_inner.result _ _ seek.empty seek.behind;
-      kept = kept_whole c.seek_inner.result _ _ _ seek.kept seek.behind_kept;
-      inner = one_inner g.R.Seek.may_seek _ c.seek_inner.result c.args.pos c.in-Start.is seek.sought;
+    let place = reader_position g.R.Stored.position in
+    record {
+      store = λ s.
+          let now = seek.store s in
+          let sought_here =
+          λ (target : SeekFrom). Seeks (length (g.R.Stored.content (reader_inner c.args.self.now))) (place c.args.self.now)
+          target c.seek_current.result (place c.seek_current.new.self) in
+          (now.0, now.1, subst sought_here same now.2);
+      position = arrives_at c.seek_current.result _ _ _ _ seek.position seek.empty;
+      sought =
+          let sought_to =
+          λ (target : SeekFrom). ReaderSeeks g.R.Seek.may_seek c.args.self.now target c.seek_current.new.self c.seek_current.result in
+          subst sought_to same (record {
+            dropped = dropped_whole c.seek_current.result _ _ seek.empty seek.behind;
+            kept = seek.kept;
+            inner = seek.sought;
+          });
     }
+
+pub returns-in-Start-clause-law : goal.returns-in-Start-clause-law
+returns-in-Start-clause-law g c =
+    let seek = c.seek_inner.ensures in
+    record {
+      store = λ s.
+          let held = reader_held c.args.self.now in
+          let new = reader_held c.seek_inner.new.self in
+          let now = seek.store s.0 in
+          let there = elsewhere c.args.pos c.in-Start.is in
+          let done =
+          sought c.args.pos c.args.pos c.seek_inner.result held new _ _ _ _ (λ n. there _ _ _ n) (λ n. there _ _ _ n) s.1
+          now.1 now.2 seek.empty seek.kept in
+          ((now.0, done.0), now.1, done.1);
+      position = arrives_at c.seek_inner.result _ _ _ _ seek.position seek.empty;
+      sought = record {
+        dropped = dropped_whole c.seek_inner.result _ _ seek.empty seek.behind;
+        kept = kept_whole c.seek_inner.result _ _ _ seek.kept seek.behind_kept;
+        inner = one_inner g.R.Seek.may_seek _ c.seek_inner.result c.args.pos c.in-Start.is seek.sought;
+      };
+    }
+
+pub returns-in-Start-clause-dropped : goal.returns-in-Start-clause-dropped
+returns-in-Start-clause-dropped g c = λ s far. absurd (not_far c.args.pos _ c.in-Start.is far)

@@ -1,19 +1,12 @@
 -- Sending failed, with bytes still held, or nothing is held, and the inner writer was sought.
 use Rattle.std.proofs.Common.{[], arith, ap, length}
 use Rattle.std.proofs.lemmas.Result.{err_from_is_err_and}
-use Rattle.no_std_io2.specs.Buffered.{sender_inner}
+use Rattle.no_std_io2.specs.BufWriter.{sender_inner}
 use Rattle.no_std_io2.proofs.AnswerLemmas.{ifok_map, iferr}
-use Rattle.no_std_io2.proofs.BufferLemmas.{Moves-out, Moves-sent_part, IsEnd-none}
-use Rattle.no_std_io2.proofs.LineLemmas.{onok}
-use Rattle.no_std_io2.proofs.SendingLemmas.{no_ok}
+use Rattle.no_std_io2.proofs.BufWriterLemmas.{Moves-out, Moves-sent_part, IsEnd-none}
+use Rattle.no_std_io2.proofs.LineWriterLemmas.{onok}
+use Rattle.no_std_io2.proofs.BufWriterCalls.{no_ok}
 use Rattle.no_std_io2.proofs.buffered.buf_writer.seeking.BufWriterSeek.seek.Goals as goal
-
-pub returns-in_err-send-clause-store : goal.returns-in_err-send-clause-store
-returns-in_err-send-clause-store g c = λ s. no_ok (c.in_err-send.ensures.idle s.0).1
-
-pub returns-in_err-send-clause-position : goal.returns-in_err-send-clause-position
-returns-in_err-send-clause-position g c =
-    rw (err_from_is_err_and c.from_residual.result c.from_residual.ensures.1).1 tt
 
 pub returns-in_err-send-clause-rest : goal.returns-in_err-send-clause-rest
 returns-in_err-send-clause-rest g c = (c.in_err-send.ensures.sends.sent, c.in_err-send.ensures.sends.split)
@@ -30,16 +23,6 @@ returns-in_err-send-clause-empty g c =
 
 pub returns-in_err-send-clause-sent : goal.returns-in_err-send-clause-sent
 returns-in_err-send-clause-sent g c = λ none. absurd (omega (arith, c.in_err-send.ensures.left, ap length none))
-
-pub returns-clause-store : goal.returns-clause-store
-returns-clause-store g c = λ s.
-    let sent = c.in_ok-send.ensures in
-    let sought = rw (c.get_mut.ensures.value, (sent.idle s.0).0) at c.seek.ensures.store in
-    let now = sought s.1 in
-    ((sent.empty, now.0), now.1, now.2)
-
-pub returns-clause-position : goal.returns-clause-position
-returns-clause-position g c = ifok_map c.seek.result (λ n at store. at store.1) c.seek.ensures.position
 
 pub returns-clause-rest : goal.returns-clause-rest
 returns-clause-rest g c = IsEnd-none _ _ c.in_ok-send.ensures.empty
@@ -58,8 +41,8 @@ returns-clause-sent g c =
     λ empty. record {
       sent = sender_inner c.send.new.self;
       moves = Moves-out {k = []} _ sends.sent _ sends.split none sends.moves;
-      sought = rw c.get_mut.ensures.value at c.seek.ensures.sought;
-      seeks = rw c.get_mut.ensures.value at c.seek.ensures.store;
+      sought = rw c.get_mut.ensures.value at c.seek.ensures.law.sought;
+      seeks = rw c.get_mut.ensures.value at c.seek.ensures.law.store;
     }
 
 pub returns-in_err-send-clause-fault : goal.returns-in_err-send-clause-fault
@@ -71,16 +54,30 @@ pub returns-clause-fault : goal.returns-clause-fault
 returns-clause-fault g c =
     iferr c.seek.result (λ e some. absurd (omega (arith, some, ap length c.in_ok-send.ensures.empty)))
 
-pub returns-in_err-send-clause-sought : goal.returns-in_err-send-clause-sought
-returns-in_err-send-clause-sought g c = record {
-  empty = returns-in_err-send-clause-empty g c;
-  fault = returns-in_err-send-clause-fault g c;
-  sent = returns-in_err-send-clause-sent g c;
+pub returns-in_err-send-clause-law : goal.returns-in_err-send-clause-law
+returns-in_err-send-clause-law g c = record {
+  store = λ s. no_ok (c.in_err-send.ensures.idle s.0).1;
+  position = rw (err_from_is_err_and c.from_residual.result c.from_residual.ensures.1).1 tt;
+  sought = record {
+    empty = returns-in_err-send-clause-empty g c;
+    fault = returns-in_err-send-clause-fault g c;
+    sent = returns-in_err-send-clause-sent g c;
+  };
 }
 
-pub returns-clause-sought : goal.returns-clause-sought
-returns-clause-sought g c = record {
-  empty = returns-clause-empty g c;
-  fault = returns-clause-fault g c;
-  sent = returns-clause-sent g c;
-}
+pub returns-clause-law : goal.returns-clause-law
+returns-clause-law g c =
+    let inner = c.seek.ensures.law in
+    record {
+      store = λ s.
+          let sent = c.in_ok-send.ensures in
+          let sought = rw (c.get_mut.ensures.value, (sent.idle s.0).0) at inner.store in
+          let now = sought s.1 in
+          ((sent.empty, now.0), now.1, now.2);
+      position = ifok_map c.seek.result (λ n at store. at store.1) inner.position;
+      sought = record {
+        empty = returns-clause-empty g c;
+        fault = returns-clause-fault g c;
+        sent = returns-clause-sent g c;
+      };
+    }

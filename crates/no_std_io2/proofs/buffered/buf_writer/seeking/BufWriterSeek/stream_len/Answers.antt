@@ -1,18 +1,20 @@
 -- Sending failed, with bytes still held, or nothing is held, and the inner writer was measured.
 use Rattle.std.proofs.Common.{[], arith, ap, length}
-use Rattle.no_std_io2.specs.Buffered.{sender_inner}
+use Rattle.no_std_io2.specs.BufWriter.{sender_inner}
 use Rattle.no_std_io2.proofs.AnswerLemmas.{iferr}
-use Rattle.no_std_io2.proofs.BufferLemmas.{Moves-out, Moves-sent_part, IsEnd-none}
-use Rattle.no_std_io2.proofs.LineLemmas.{onok}
-use Rattle.no_std_io2.proofs.SendingLemmas.{no_ok}
+use Rattle.no_std_io2.proofs.BufWriterLemmas.{Moves-out, Moves-sent_part, IsEnd-none}
+use Rattle.no_std_io2.proofs.LineWriterLemmas.{onok}
+use Rattle.no_std_io2.proofs.BufWriterCalls.{no_ok}
 use Rattle.no_std_io2.proofs.buffered.buf_writer.seeking.BufWriterSeek.stream_len.Goals as goal
 
-pub returns-in-Ok-clause-store : goal.returns-in-Ok-clause-store
-returns-in-Ok-clause-store g c = λ s.
-    let sent = c.in-Ok.ensures in
-    let measured = rw (c.get_mut.ensures.value, (sent.idle s.0).0) at c.length_by_seeks.ensures in
-    let now = measured s.1 in
-    ((sent.empty, now.0), now.1, now.2, now.3)
+pub returns-in-Ok-clause-law : goal.returns-in-Ok-clause-law
+returns-in-Ok-clause-law g c = record {
+  store = λ s.
+      let sent = c.in-Ok.ensures in
+      let measured = rw (c.get_mut.ensures.value, (sent.idle s.0).0) at c.length_by_seeks.ensures in
+      let now = measured s.1 in
+      ((sent.empty, now.0), now.1, now.2, now.3);
+}
 
 pub returns-in-Ok-clause-rest : goal.returns-in-Ok-clause-rest
 returns-in-Ok-clause-rest g c = IsEnd-none _ _ c.in-Ok.ensures.empty
@@ -33,8 +35,8 @@ returns-in-Ok-clause-sent g c =
       measured = rw c.get_mut.ensures.value at c.length_by_seeks.ensures;
     }
 
-pub returns-in-Err-clause-store : goal.returns-in-Err-clause-store
-returns-in-Err-clause-store g c = λ s. no_ok (c.in-Err.ensures.idle s.0).1
+pub returns-in-Err-clause-law : goal.returns-in-Err-clause-law
+returns-in-Err-clause-law g c = record { store = λ s. no_ok (c.in-Err.ensures.idle s.0).1 }
 
 pub returns-in-Err-clause-rest : goal.returns-in-Err-clause-rest
 returns-in-Err-clause-rest g c = (c.in-Err.ensures.sends.sent, c.in-Err.ensures.sends.split)

@@ -1,18 +1,21 @@
 use Rattle.std.proofs.Common.{length}
-use Rattle.no_std_io2.specs.Buffered.{writer_inner}
-use Rattle.no_std_io2.proofs.Seeks.{stays}
+use Rattle.no_std_io2.specs.BufWriter.{writer_inner}
+use Rattle.no_std_io2.proofs.BufReaderSeeks.{stays}
 use Rattle.no_std_io2.proofs.buffered.buf_writer.seeking.BufWriterSeek.stream_position.Goals as goal
 
-pub returns-clause-store : goal.returns-clause-store
-returns-clause-store g c = λ s.
-    let inner = writer_inner c.args.self.now in
-    let now = c.seek.ensures.store s in
-    let fits = g.met.W.Seek.seek_fits inner s.1 in
-    let done = stays c.seek.result (length (g.W.Stored.content inner)) _ _ fits.1 now.2 in
-    (now.0, now.1, done.0, done.1)
-
-pub returns-clause-position : goal.returns-clause-position
-returns-clause-position g c = c.seek.ensures.position
+pub returns-clause-law : goal.returns-clause-law
+returns-clause-law g c =
+    let seek = c.seek.ensures.law in
+    record {
+      store = λ s.
+          let inner = writer_inner c.args.self.now in
+          let now = seek.store s in
+          let fits = g.met.W.Seek.seek_fits inner s.1 in
+          let done = stays c.seek.result (length (g.W.Stored.content inner)) _ _ fits.1 now.2 in
+          (now.0, now.1, done.0, done.1);
+      position = seek.position;
+      sought = seek.sought;
+    }
 
 pub returns-clause-rest : goal.returns-clause-rest
 returns-clause-rest g c = c.seek.ensures.rest
@@ -28,6 +31,3 @@ returns-clause-empty g c = c.seek.ensures.empty
 
 pub returns-clause-sent : goal.returns-clause-sent
 returns-clause-sent g c = c.seek.ensures.sent
-
-pub returns-clause-sought : goal.returns-clause-sought
-returns-clause-sought g c = c.seek.ensures.sought

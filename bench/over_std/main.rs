@@ -1,0 +1,425 @@
+// Plays files of rows over Rust's std::io: the same answers of the device, the same calls, the same columns. It prints each row that
+// comes out otherwise, and for each file how many rows did not and how many it has no stream or call for.
+use std::{cell::RefCell, collections::VecDeque, env, fs, io, io::*, panic, rc::Rc};
+
+#[derive(Default)]
+struct Journal { answers: VecDeque<String>, pending: Vec<u8>, out: Vec<u8>, calls: Vec<String>, writes: usize }
+
+// A device that answers as it is told and notes each call; if it is noted, also those that the traits could make of others.
+#[derive(Clone, Default)]
+struct Device { journal: Rc<RefCell<Journal>>, lent: Vec<u8>, is_noted: bool, is_second: bool }
+
+fn kind_of(name: &str) -> ErrorKind {
+    use ErrorKind::*;
+    [BrokenPipe, WouldBlock, TimedOut, Interrupted, Other, NotFound, InvalidInput, InvalidData, WriteZero, UnexpectedEof, OutOfMemory]
+        .into_iter().find(|kind| format!("{kind:?}") == name).unwrap()
+}
+
+// Long runs of letters, each behind the one before it, or of dots are a count and the first byte.
+fn bytes(bytes: &[u8]) -> String {
+    let next = |b: u8| match b { b'a'..=b'v' => b + 1, b'w' => b'a', b'.' => b, _ => 0 };
+    let one = |b: u8| match b {
+        b'\n' => "\\n".into(), b'\\' => "\\\\".into(), 32..=126 => (b as char).to_string(), _ => format!("\\x{b:02x}") };
+    let (mut text, mut at) = (String::new(), 0);
+    while at < bytes.len() {
+        let mut end = at + 1;
+        while end < bytes.len() && bytes[end] == next(bytes[end - 1]) { end += 1; }
+        if end - at >= 24 { text += &format!("\\*{}", end - at); }
+        text.extend(bytes[at..if end - at >= 24 { at + 1 } else { end }].iter().map(|b| one(*b)));
+        at = end;
+    }
+    if text.is_empty() { "-".into() } else { text }
+}
+
+fn unescape(text: &str) -> Vec<u8> {
+    let (mut rest, mut found) = (text.as_bytes(), vec![]);
+    while let [b, after @ ..] = rest {
+        rest = after;
+        if *b != b'\\' { found.push(*b); continue; }
+        let (mark, after) = (rest[0], &rest[1..]);
+        match mark {
+            b'n' => { found.push(b'\n'); rest = after; }
+            b'x' => { found.push(u8::from_str_radix(std::str::from_utf8(&after[..2]).unwrap(), 16).unwrap()); rest = &after[2..]; }
+            b'*' => {
+                let digits = after.iter().take_while(|b| b.is_ascii_digit()).count();
+                let count: usize = std::str::from_utf8(&after[..digits]).unwrap().parse().unwrap();
+                let first = after[digits];
+                found.extend((0..count).map(|i| if first == b'.' { first } else { b'a' + ((usize::from(first - b'a') + i) % 23) as u8 }));
+                rest = &after[digits + 1..];
+            }
+            _ => { found.push(b'\\'); rest = after; }
+        }
+    }
+    found
+}
+
+fn error(e: &Error) -> String {
+    let kind = format!("{:?}", e.kind());
+    if e.get_ref().is_some() || e.to_string() != e.kind().to_string() { format!("!{kind}: {e}") } else { format!("!{kind}") }
+}
+fn number<T: ToString>(r: &io::Result<T>) -> String { match r { Ok(n) => n.to_string(), Err(e) => error(e) } }
+fn done(r: &io::Result<()>) -> String { match r { Ok(()) => "ok".into(), Err(e) => error(e) } }
+fn told(words: &str) -> VecDeque<String> { words.trim().split(", ").filter(|w| !w.is_empty()).map(String::from).collect() }
+
+impl Device {
+    fn note(&self, call: String) { self.journal.borrow_mut().calls.push(call) }
+    fn name(&self, call: String) { if self.is_noted { self.note(call) } }
+    fn answer(&self) -> io::Result<(String, String)> {
+        let answer = self.journal.borrow_mut().answers.pop_front().unwrap_or("all".into());
+        let (word, rest) = answer.split_once(' ').unwrap_or((&answer, ""));
+        if word != "fail" { return Ok((word.into(), rest.into())); }
+        let (kind, text) = rest.split_once(' ').unwrap_or((rest, ""));
+        Err(if text.is_empty() { kind_of(kind).into() } else { Error::new(kind_of(kind), text) })
+    }
+    fn give(&self, room: usize) -> io::Result<Vec<u8>> {
+        if room == 0 { return Ok(vec![]); }
+        let mut all = std::mem::take(&mut self.journal.borrow_mut().pending);
+        if all.is_empty() { all = match self.answer()? { (word, rest) if word == "give" => unescape(&rest), _ => vec![] }; }
+        let rest = all.split_off(room.min(all.len()));
+        self.journal.borrow_mut().pending = rest;
+        Ok(all)
+    }
+    fn lend(&mut self) -> io::Result<&[u8]> {
+        if self.lent.is_empty() { self.lent = self.ask("fill", 4)?; }
+        Ok(&self.lent)
+    }
+    fn called(&self, call: &str) -> String { format!("{call}{}", if self.is_second { " second" } else { "" }) }
+    fn ask(&self, call: &str, room: usize) -> io::Result<Vec<u8>> {
+        let answer = self.give(room);
+        self.note(format!("{} {room} = {}", self.called(call), match &answer { Ok(b) => bytes(b), Err(e) => error(e) }));
+        answer
+    }
+}
+impl Write for Device {
+    fn write(&mut self, buf: &[u8]) -> io::Result<usize> {
+        let answer = self.answer().map(|(word, n)| if word == "take" { buf.len().min(n.parse().unwrap()) } else { buf.len() });
+        self.journal.borrow_mut().writes += 1;
+        if let Ok(n) = answer { self.journal.borrow_mut().out.extend(&buf[..n]); }
+        self.note(format!("write {} = {}", bytes(buf), number(&answer)));
+        answer
+    }
+    fn write_all(&mut self, mut buf: &[u8]) -> io::Result<()> {
+        self.name(format!("write_all {}", bytes(buf)));
+        while !buf.is_empty() {
+            match self.write(buf) {
+                Ok(0) => return Err(Error::new(ErrorKind::WriteZero, "failed to write whole buffer")),
+                Ok(n) => buf = &buf[n..],
+                Err(e) if e.kind() == ErrorKind::Interrupted => {}
+                Err(e) => return Err(e),
+            }
+        }
+        Ok(())
+    }
+    fn flush(&mut self) -> io::Result<()> {
+        let answer = self.answer().map(|_| ());
+        self.note(format!("flush = {}", done(&answer)));
+        answer
+    }
+}
+impl Read for Device {
+    fn read(&mut self, buf: &mut [u8]) -> io::Result<usize> {
+        let n = buf.len().min(self.lent.len());
+        let given = if self.lent.is_empty() { self.ask("read", buf.len())? } else { self.lent.drain(..n).collect() };
+        buf[..given.len()].copy_from_slice(&given);
+        Ok(given.len())
+    }
+    fn read_exact(&mut self, buf: &mut [u8]) -> io::Result<()> {
+        self.name(format!("read_exact {}", buf.len()));
+        Unnamed(self).read_exact(buf)
+    }
+    fn read_to_end(&mut self, buf: &mut Vec<u8>) -> io::Result<usize> { self.name("read_to_end".into()); Unnamed(self).read_to_end(buf) }
+}
+impl BufRead for Device {
+    fn fill_buf(&mut self) -> io::Result<&[u8]> { self.name("fill_buf".into()); self.lend() }
+    fn consume(&mut self, n: usize) { self.note(format!("{} {n}", self.called("consume"))); self.lent.drain(..n); }
+    fn read_until(&mut self, delim: u8, buf: &mut Vec<u8>) -> io::Result<usize> {
+        self.name(format!("read_until {}", bytes(&[delim])));
+        Unnamed(self).read_until(delim, buf)
+    }
+}
+// The device by the bodies that the traits have.
+struct Unnamed<'a>(&'a mut Device);
+impl Read for Unnamed<'_> { fn read(&mut self, buf: &mut [u8]) -> io::Result<usize> { self.0.read(buf) } }
+impl BufRead for Unnamed<'_> {
+    fn fill_buf(&mut self) -> io::Result<&[u8]> { self.0.lend() }
+    fn consume(&mut self, n: usize) { self.0.consume(n) }
+}
+impl Seek for Device {
+    fn seek(&mut self, pos: SeekFrom) -> io::Result<u64> {
+        let answer = self.answer().map(|(_, n)| n.parse().unwrap());
+        let (from, n) = match pos { SeekFrom::Start(n) => ("start", n.to_string()), SeekFrom::End(n) => ("end", n.to_string()),
+            SeekFrom::Current(n) => ("current", n.to_string()) };
+        self.note(format!("seek {from} {n} = {}", number(&answer)));
+        answer
+    }
+}
+
+fn write_call<W: Write + ?Sized>(w: &mut W, word: &str, rest: &str) -> Option<String> {
+    let b = unescape(rest);
+    Some(match word {
+        "write" => number(&w.write(&b)), "write_all" => done(&w.write_all(&b)), "flush" => done(&w.flush()), _ => return None })
+}
+fn seek_call<S: Seek + ?Sized>(s: &mut S, word: &str, rest: &str) -> Option<String> {
+    Some(match word {
+        "seek" => {
+            let (from, n) = rest.split_once(' ')?;
+            number(&s.seek(match from { "start" => SeekFrom::Start(n.parse().ok()?), "end" => SeekFrom::End(n.parse().ok()?),
+                _ => SeekFrom::Current(n.parse().ok()?) }))
+        }
+        "stream_position" => number(&s.stream_position()), "rewind" => done(&s.rewind()), _ => return None })
+}
+fn read_call<R: BufRead + ?Sized>(r: &mut R, word: &str, rest: &str) -> Option<String> {
+    let count = rest.parse().unwrap_or(0);
+    let mut room = vec![b'.'; count];
+    let mut all = unescape(rest);
+    let (answer, given) = match word {
+        "read" => (number(&r.read(&mut room)), room),
+        "read_exact" => (done(&r.read_exact(&mut room)), room),
+        "read_to_end" => (number(&r.read_to_end(&mut all)), all),
+        "read_into" => { let mut all = Vec::with_capacity(count); (number(&r.read_to_end(&mut all)), all) }
+        "next" => return r.bytes().next().map_or(Some("-".into()), |it| Some(it.map_or_else(|e| error(&e), |b| bytes(&[b])))),
+        "take" => { all.clear(); (number(&Read::by_ref(&mut &mut *r).take(count as u64).read_to_end(&mut all)), all) }
+        "fill_buf" => match r.fill_buf() { Ok(b) => (b.len().to_string(), b.to_vec()), Err(e) => (error(&e), vec![]) },
+        "pass" => { let n = r.fill_buf().map(|b| b.len().min(count)); if let Ok(n) = n { r.consume(n) } (number(&n), vec![]) }
+        "read_until" => { let d = all.first().copied().unwrap_or(b'\n'); all.clear(); (number(&r.read_until(d, &mut all)), all) }
+        "read_line" => { let mut s = String::from_utf8(all).unwrap(); (number(&r.read_line(&mut s)), s.into_bytes()) }
+        _ => return None };
+    Some(format!("{answer} | {}", bytes(&given)))
+}
+
+// A level of a tower of writers. std shows no buffer of a `LineWriter`, so the bytes that one holds are not compared.
+trait Level: Write {
+    fn taken(&self, journal: &Journal) -> String { bytes(&journal.out) }
+    fn held(&self) -> String { String::new() }
+    fn below(&mut self) -> Option<&mut Box<dyn Level>> { None }
+    fn place(&mut self, place: u64) { if let Some(below) = self.below() { below.place(place) } }
+    fn seek_to(&mut self, _: SeekFrom) -> io::Result<u64> { Err(ErrorKind::Unsupported.into()) }
+    fn reads(&mut self, _word: &str, _rest: &str) -> Option<String> { None }
+    // A new level with so much room on the one below; or the error, what a refusal prints, and the old one.
+    fn end(self: Box<Self>, _room: usize) -> (Option<(Error, String)>, Box<dyn Level>) { unreachable!() }
+}
+impl Seek for Box<dyn Level> { fn seek(&mut self, pos: SeekFrom) -> io::Result<u64> { self.seek_to(pos) } }
+impl Level for Device {
+    fn seek_to(&mut self, pos: SeekFrom) -> io::Result<u64> { self.seek(pos) }
+    fn reads(&mut self, word: &str, rest: &str) -> Option<String> { read_call(self, word, rest) }
+}
+impl<T: AsRef<[u8]>> Level for Cursor<T> where Cursor<T>: Write {
+    fn taken(&self, _: &Journal) -> String { format!("{} | {}", bytes(self.get_ref().as_ref()), self.position()) }
+    fn place(&mut self, place: u64) { self.set_position(place) }
+    fn seek_to(&mut self, pos: SeekFrom) -> io::Result<u64> { self.seek(pos) }
+    fn reads(&mut self, word: &str, rest: &str) -> Option<String> { read_call(self, word, rest) }
+}
+macro_rules! buffers { ($writer:ident, $held:expr, $seek:expr) => {
+    impl Level for $writer<Box<dyn Level>> {
+        fn taken(&self, journal: &Journal) -> String { self.get_ref().taken(journal) }
+        fn held(&self) -> String { format!(" | {}{}", $held(self), self.get_ref().held()) }
+        fn below(&mut self) -> Option<&mut Box<dyn Level>> { Some(self.get_mut()) }
+        fn seek_to(&mut self, pos: SeekFrom) -> io::Result<u64> { $seek(self, pos) }
+        fn end(self: Box<Self>, room: usize) -> (Option<(Error, String)>, Box<dyn Level>) {
+            match (*self).into_inner() {
+                Ok(inner) => (None, Box::new($writer::with_capacity(room, inner))),
+                Err(e) => { let whole = e.to_string(); let (e, w) = e.into_parts(); (Some((e, whole)), Box::new(w)) }
+            }
+        }
+    }
+} }
+buffers!(BufWriter, |w: &BufWriter<_>| bytes(w.buffer()), |w: &mut BufWriter<_>, pos| w.seek(pos));
+buffers!(LineWriter, |_| "?", |_, _| Err(ErrorKind::Unsupported.into()));
+// A tower of these names: over the device, or over a cursor on these bytes.
+fn level(names: &[&str], device: Device, content: Option<Vec<u8>>) -> Option<Box<dyn Level>> {
+    Some(match (names, content) {
+        (["Vec"] | [], Some(content)) => Box::new(Cursor::new(content)),
+        (["[u8]" | "&[u8]"], Some(content)) => Box::new(Cursor::new(content.into_boxed_slice())),
+        (["BufWriter", n, rest @ ..], content) => Box::new(BufWriter::with_capacity(n.parse().ok()?, level(rest, device, content)?)),
+        (["LineWriter", n, rest @ ..], content) => Box::new(LineWriter::with_capacity(n.parse().ok()?, level(rest, device, content)?)),
+        (["Box" | "&mut", rest @ ..], content) => level(rest, device, content)?,
+        (["Device" | "Faulty" | "Tally" | "Vec"] | ["dyn", "Write" | "Seek"] | ["dyn"] | [], None) => Box::new(device),
+        _ => return None })
+}
+
+// A stream under test: a call gives its answer, and the columns stand between that and the calls of the device.
+trait Stream { fn call(&mut self, word: &str, rest: &str) -> Option<String>; fn columns(&self) -> String { String::new() } }
+struct Tower<'a> { names: Vec<&'a str>, device: Device, top: Option<Box<dyn Level>> }
+impl Tower<'_> {
+    fn anew(&self) -> Option<Box<dyn Level>> { level(&self.names[1..], self.device.clone(), None) }
+    fn end(&mut self, word: &str) -> Option<String> {
+        let old = self.top.take()?;
+        let room = self.names.get(2)?.parse().ok()?;
+        if word == "drop" { drop(old); self.top = self.anew(); return Some("-".into()); }
+        let (refusal, new) = old.end(room);
+        self.top = if word == "into_error" { drop(new); self.anew() } else { Some(new) };
+        Some(match refusal {
+            None => "ok".into(),
+            Some((e, _)) if word == "into_error" => error(&e),
+            Some((e, whole)) => format!("{} ({whole})", error(&e)) })
+    }
+}
+impl Stream for Tower<'_> {
+    fn call(&mut self, word: &str, rest: &str) -> Option<String> {
+        if ["into_inner", "drop", "into_error"].contains(&word) { return self.end(word); }
+        let top = self.top.as_mut()?;
+        match word {
+            "below" => Some(done(&top.below()?.write_all(&unescape(rest)))),
+            "place" => { top.place(rest.parse().ok()?); Some("-".into()) }
+            _ => write_call(top, word, rest).or_else(|| seek_call(top, word, rest)).or_else(|| top.reads(word, rest)),
+        }
+    }
+    fn columns(&self) -> String {
+        let (top, journal) = (self.top.as_ref().unwrap(), self.device.journal.borrow());
+        let taken = if self.names.contains(&"Tally") { journal.writes.to_string() } else { top.taken(&journal) };
+        if self.device.is_noted { String::new() } else { format!(" | {taken}{}", top.held()) }
+    }
+}
+// A vector with so much room, at its end or through a cursor.
+struct Room(Cursor<Vec<u8>>, bool);
+impl Stream for Room {
+    fn call(&mut self, word: &str, rest: &str) -> Option<String> {
+        if word == "place" { self.0.set_position(rest.parse().ok()?); return Some("-".into()); }
+        if self.1 { write_call(self.0.get_mut(), word, rest) } else { write_call(&mut self.0, word, rest) }
+    }
+    fn columns(&self) -> String { format!(" | {} | {}", self.0.get_ref().len(), self.0.get_ref().capacity()) }
+}
+// A level of a tower of readers. std shows no bytes behind a `BufReader`, so these are not compared.
+trait Source: BufRead {
+    fn shown(&self) -> String { String::new() }
+    fn limit(&mut self, _: u64) {}
+    fn seeks(&mut self, _word: &str, _rest: &str) -> Option<String> { None }
+    fn seek_to(&mut self, _: SeekFrom) -> io::Result<u64> { Err(ErrorKind::Unsupported.into()) }
+    fn place(&mut self, _: u64) {}
+}
+type Any = Box<dyn Source>;
+impl Seek for Any { fn seek(&mut self, pos: SeekFrom) -> io::Result<u64> { self.seek_to(pos) } }
+impl Source for Device { fn seek_to(&mut self, pos: SeekFrom) -> io::Result<u64> { self.seek(pos) } }
+impl Source for &'static [u8] { fn shown(&self) -> String { format!(" | {}", bytes(self)) } }
+impl Source for Cursor<Vec<u8>> {
+    fn shown(&self) -> String { format!(" | {}", self.position()) }
+    fn seek_to(&mut self, pos: SeekFrom) -> io::Result<u64> { self.seek(pos) }
+    fn place(&mut self, place: u64) { self.set_position(place) }
+}
+// A text whose reads nobody sees.
+struct Text(&'static [u8]);
+impl Read for Text { fn read(&mut self, buf: &mut [u8]) -> io::Result<usize> { self.0.read(buf) } }
+impl BufRead for Text {
+    fn fill_buf(&mut self) -> io::Result<&[u8]> { self.0.fill_buf() }
+    fn consume(&mut self, n: usize) { self.0.consume(n) }
+}
+impl Source for Text {}
+impl Source for Chain<Any, Any> {
+    fn shown(&self) -> String { format!("{}{}", self.get_ref().0.shown(), self.get_ref().1.shown()) }
+    fn limit(&mut self, n: u64) { self.get_mut().0.limit(n) }
+}
+impl Source for Take<Any> {
+    fn shown(&self) -> String { format!(" | {}{}", Take::limit(self), self.get_ref().shown()) }
+    fn limit(&mut self, n: u64) { self.set_limit(n) }
+}
+impl Source for BufReader<Any> {
+    fn shown(&self) -> String { format!(" | {}{}", bytes(self.buffer()), self.get_ref().shown()) }
+    fn limit(&mut self, n: u64) { self.get_mut().limit(n) }
+    fn seeks(&mut self, word: &str, rest: &str) -> Option<String> {
+        if word == "seek_relative" { Some(done(&self.seek_relative(rest.parse().ok()?))) } else { seek_call(self, word, rest) }
+    }
+    fn place(&mut self, place: u64) { self.get_mut().place(place) }
+}
+// A tower of these names: over devices, or over texts on both sides of a plus.
+fn source(names: &[&str], device: &Device, words: &str) -> Option<Any> {
+    let second = Device { is_second: true, ..device.clone() };
+    let (first, behind) = words.split_once(" + ").unwrap_or((words, ""));
+    Some(match names {
+        [] | ["Device"] | ["dyn", ..] => Box::new(device.clone()),
+        ["Text"] => Box::new(Text(b"456789")),
+        ["Cursor"] => Box::new(Cursor::new(unescape(words))),
+        ["&[u8]"] => Box::new(&*unescape(words).leak()),
+        ["Box" | "&mut", rest @ ..] => source(rest, device, words)?,
+        ["BufReader", n, rest @ ..] => Box::new(BufReader::with_capacity(n.parse().ok()?, source(rest, device, words)?)),
+        ["Take", rest @ ..] => Box::new(source(rest, device, words)?.take(2)),
+        ["Chain"] => Box::new(source(&[], device, "")?.chain(source(&[], &second, "")?)),
+        ["Chain", "Text"] => Box::new(source(&[], device, "")?.chain(source(&["Text"], device, "")?)),
+        ["Chain", "Take"] => Box::new(source(&["Take"], device, "")?.chain(source(&[], &second, "")?)),
+        ["Chain", "Chain"] => Box::new(source(&[], device, "")?.chain(source(&["Chain"], &second, "")?)),
+        ["Chain", one, two] if *one != "Feed" => Box::new(source(&[one], device, first)?.chain(source(&[two], device, behind)?)),
+        _ => return None })
+}
+struct Reader { top: Any, shows: fn(&Any) -> String }
+impl Stream for Reader {
+    fn call(&mut self, word: &str, rest: &str) -> Option<String> {
+        match word {
+            "limit" => { self.top.limit(rest.parse().ok()?); Some("-".into()) }
+            "place" => { self.top.place(rest.parse().ok()?); Some("-".into()) }
+            _ => self.top.seeks(word, rest).or_else(|| read_call(&mut self.top, word, rest)),
+        }
+    }
+    fn columns(&self) -> String { (self.shows)(&self.top) }
+}
+// Single bytes, pieces or lines, with a word in front; of those of texts the room is a column, which is not compared.
+struct Items(Box<dyn Iterator<Item = io::Result<Vec<u8>>>>, &'static str, bool);
+impl Stream for Items {
+    fn call(&mut self, _: &str, _: &str) -> Option<String> {
+        Some(match self.0.next() { None => "-".into(), Some(Ok(b)) => format!("{}{}", self.1, bytes(&b)), Some(Err(e)) => error(&e) })
+    }
+    fn columns(&self) -> String { if self.2 { " | ?".into() } else { String::new() } }
+}
+
+fn make<'a>(name: &'a str, device: Device, words: &str) -> Option<Box<dyn Stream + 'a>> {
+    let names: Vec<&str> = name.split(' ').collect();
+    Some(match (names[0], &names[1..]) {
+        ("bench", [.., "&mut", _] | [.., "dyn", _]) => return None,
+        ("cursor", rest) => { let top = level(rest, device.clone(), Some(unescape(words))); Box::new(Tower { names, device, top }) }
+        ("room", [kind]) => Box::new(Room(Cursor::new(Vec::with_capacity(words.parse().ok()?)), *kind == "Vec")),
+        ("bytes", rest) => Box::new(Items(Box::new(source(rest, &device, words)?.bytes().map(|it| it.map(|b| vec![b]))), "", false)),
+        ("split", rest) => Box::new(Items(
+            Box::new(source(rest, &device, words)?.split(if *rest == ["Cursor"] { b'3' } else { b',' })), "piece ", *rest != ["Device"])),
+        ("lines", rest) => Box::new(Items(
+            Box::new(source(rest, &device, words)?.lines().map(|it| it.map(String::into_bytes))), "line ", *rest != ["Device"])),
+        ("reader", rest) | ("seeker", rest @ ["BufReader", ..]) =>
+            Box::new(Reader { top: source(rest, &device, words)?, shows: |r| r.shown() }),
+        ("moved", rest) => Box::new(Reader { top: source(rest, &device, words)?, shows: |r| format!(" | ?{}", r.shown()) }),
+        ("answers", rest) => Box::new(Reader { top: source(rest, &device, words)?, shows: |_| String::new() }),
+        ("noted", [.., "dyn", "Read" | "BufRead"] | ["Take"] | ["BufReader", _]) =>
+            Box::new(Reader { top: source(&names[1..], &device, words)?, shows: |_| String::new() }),
+        ("writer" | "seeker" | "noted" | "bench", rest) => {
+            let top = Some(level(rest, device.clone(), None)?);
+            Box::new(Tower { names, device, top })
+        }
+        _ => return None })
+}
+// Plays a row, and gives it as it comes out; `None` where there is no such call. std may panic where it would want too much memory.
+fn play(stream: &mut dyn Stream, journal: &Rc<RefCell<Journal>>, call: &str, notes_calls: bool) -> Option<String> {
+    let (word, rest) = call.split_once(' ').unwrap_or((call, ""));
+    let answer = if word == "expect" { journal.borrow_mut().answers = told(rest); "-".into() } else {
+        panic::catch_unwind(panic::AssertUnwindSafe(|| stream.call(word, rest))).unwrap_or(Some("panics".into()))? };
+    let calls = std::mem::take(&mut journal.borrow_mut().calls).join(", ");
+    let calls = match calls.as_str() { _ if !notes_calls => String::new(), "" => " | -".into(), _ => format!(" | {calls}") };
+    Some(format!("{call} | {answer}{}{calls}", stream.columns()))
+}
+fn is_met(row: &str, got: &str) -> bool {
+    let (row, got): (Vec<_>, Vec<_>) = (row.split(" | ").collect(), got.split(" | ").collect());
+    row.len() == got.len() && row.iter().zip(got).all(|(row, got)| got == "?" || *row == got)
+}
+fn main() {
+    panic::set_hook(Box::new(|_| {}));
+    for file in env::args().skip(1) {
+        let (mut same, mut differing, mut left) = (0, 0, 0);
+        let text = fs::read_to_string(&file).unwrap();
+        let named = |it| str::lines(it).next().unwrap().split(", ").map(move |name| (it, name));
+        for (table, name) in text.split("\nstream ").skip(1).flat_map(named) {
+            for group in table.split("\nnew").skip(1) {
+                let (words, rows) = group.split_once('\n').unwrap();
+                let device = Device { is_noted: name.starts_with("noted"), ..Device::default() };
+                let journal = device.journal.clone();
+                journal.borrow_mut().answers = told(words);
+                let mut stream = make(name, device, words.trim());
+                let notes_calls = !["bench", "cursor", "room", "answers"].iter().any(|it| name.starts_with(it))
+                    && !["Cursor", "&[u8]"].iter().any(|it| name.contains(it));
+                for row in rows.lines().filter(|row| row.contains(" | ") && !row.starts_with('#')) {
+                    let call = row.split(" | ").next().unwrap();
+                    match stream.as_mut().and_then(|it| play(&mut **it, &journal, call, notes_calls)) {
+                        None => left += 1,
+                        Some(got) if is_met(row, &got) => same += 1,
+                        Some(got) => { differing += 1; println!("{name}: {row}\n    std: {got}") }
+                    }
+                }
+            }
+        }
+        println!("{file}: {same} rows the same, {differing} differ, {left} not played");
+    }
+}

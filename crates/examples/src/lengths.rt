@@ -1,0 +1,29 @@
+//! A loop over headers: records, each a byte that tells a length, and so many bytes.
+ghost use Rattle.std.specs.Prelude.{IfErr};
+ghost use Rattle.no_std_io2.specs.Errors.{IsFault};
+ghost use Rattle.examples.specs.Lengths.{PassesRecords};
+
+use no_std_io2::io::{BufRead, Result, skip};
+
+/// Passes over all records to come, up to the end. Each call of `skip` spends a turn, so the loop ends.
+///
+/// # Errors
+/// The reader's first fault, and `UnexpectedEof` where the bytes end inside a record.
+pub fn pass_records<B: BufRead>(r: &mut B) -> Result<()>
+    ensures told { B.tells r.old → B.tells r.new × PassesRecords (B.events r.old) result (B.events r.new) }
+    ensures fault { IfErr result IsFault }
+{
+    'records: loop {
+        match r.fill_buf() {
+            Ok(lent) => {
+                if lent.is_empty() {
+                    return Ok(());
+                }
+                let mut left = u64::from(lent[0]) + 1;
+                skip(r, &mut left)?;
+            }
+            Err(e) if e.is_interrupted() => {}
+            Err(e) => return Err(e),
+        }
+    }
+}

@@ -1,0 +1,64 @@
+//! Pins what each type tells: with a member that tells nothing, every promise over it would be empty and still be proved.
+ghost use Rattle.std.specs.Prelude.{◌≡◌, [], Some, ◌++◌};
+ghost use Rattle.std.specs.Option.{option_map};
+ghost use Rattle.io_bench.specs.Sink.{sink_taken};
+ghost use Rattle.io_bench.specs.Feed.{feed_left, all_to_come};
+ghost use Rattle.io_bench.specs.Tally.{tally_inner, tally_writes, tally_reads};
+ghost use Rattle.io_bench.specs.Faulty.{faulty_inner, acts_left, act_mishaps};
+
+use crate::faulty::Faulty;
+use crate::feed::Feed;
+use crate::sink::Sink;
+use crate::tally::Tally;
+use no_std_io2::io::{Read, Stored, Write};
+
+fn sink_tells(s: &Sink)
+    ensures told { ⟦<Sink as Write>⟧.told s.now
+        ≡ record { out = sink_taken s.now; held = []; mishaps = Some []; turns = 0 } }
+    ensures all { ⟦<Sink as Write>⟧.takes_all s.now }
+    ensures cost { ⟦<Sink as Write>⟧.cost s.now ≡ 0 }
+    ensures plain { ¬ (⟦<Sink as Write>⟧.is_metered s.now) }
+{}
+
+fn tally_tells<T: Write>(t: &Tally<T>)
+    ensures told { ⟦<Tally<T> as Write>⟧.told t.now ≡ T.told (tally_inner t.now) }
+    ensures all { T.takes_all (tally_inner t.now) → ⟦<Tally<T> as Write>⟧.takes_all t.now }
+    ensures cost { ⟦<Tally<T> as Write>⟧.cost t.now ≡ tally_writes t.now }
+    ensures metered { ⟦<Tally<T> as Write>⟧.is_metered t.now }
+{}
+
+fn faulty_tells<W: Write>(f: &Faulty<W>)
+    ensures out { (⟦<Faulty<W> as Write>⟧.told f.now).out ≡ (W.told (faulty_inner f.now)).out }
+    ensures held { (⟦<Faulty<W> as Write>⟧.told f.now).held ≡ (W.told (faulty_inner f.now)).held }
+    ensures mishaps { (⟦<Faulty<W> as Write>⟧.told f.now).mishaps
+        ≡ option_map (λ kinds. kinds ++ act_mishaps (acts_left f.now))
+        (W.told (faulty_inner f.now)).mishaps }
+    ensures all { W.takes_all (faulty_inner f.now) → acts_left f.now ≡ []
+        → ⟦<Faulty<W> as Write>⟧.takes_all f.now }
+    ensures cost { ⟦<Faulty<W> as Write>⟧.cost f.now ≡ W.cost (faulty_inner f.now) }
+    ensures plain { ¬ (⟦<Faulty<W> as Write>⟧.is_metered f.now) }
+{}
+
+fn feed_tells(f: &Feed)
+    ensures tells { ⟦<Feed as Read>⟧.tells f.now }
+    ensures events { ⟦<Feed as Read>⟧.events f.now ≡ all_to_come (feed_left f.now) }
+    ensures cost { ⟦<Feed as Read>⟧.cost f.now ≡ 0 }
+    ensures plain { ¬ (⟦<Feed as Read>⟧.is_metered f.now) }
+    ensures takes { ¬ (⟦<Feed as Read>⟧.may_take_none f.now) }
+    ensures store { ¬ (⟦<Feed as Stored>⟧.has_store f.now) }
+{}
+
+fn tally_reader_tells<T: Read>(t: &Tally<T>)
+    ensures tells { T.tells (tally_inner t.now) → ⟦<Tally<T> as Read>⟧.tells t.now }
+    ensures events { ⟦<Tally<T> as Read>⟧.events t.now ≡ T.events (tally_inner t.now) }
+    ensures cost { ⟦<Tally<T> as Read>⟧.cost t.now ≡ tally_reads t.now }
+    ensures metered { ⟦<Tally<T> as Read>⟧.is_metered t.now }
+    ensures filling { T.is_filling (tally_inner t.now) → ⟦<Tally<T> as Read>⟧.is_filling t.now }
+    ensures takes { ¬ (⟦<Tally<T> as Read>⟧.may_take_none t.now) }
+{}
+
+fn tally_store_tells<T: Stored>(t: &Tally<T>)
+    ensures store { T.has_store (tally_inner t.now) → ⟦<Tally<T> as Stored>⟧.has_store t.now }
+    ensures content { ⟦<Tally<T> as Stored>⟧.content t.now ≡ T.content (tally_inner t.now) }
+    ensures position { ⟦<Tally<T> as Stored>⟧.position t.now ≡ T.position (tally_inner t.now) }
+{}

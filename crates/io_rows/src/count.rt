@@ -1,0 +1,135 @@
+// What came of the rows that were played.
+use super::fault::Fault;
+use std::io;
+
+/// How many rows were played and how they came out, and where the player stands in its file.
+#[derive(Clone, Copy)]
+pub struct Count<'a> {
+    /// The name of the file.
+    pub file: &'a str,
+    /// Whether each table is played with other faults too.
+    pub turns_faults: bool,
+    /// The number of the line that is read, from 1.
+    pub line: u64,
+    /// Tables, once for each stream that they name.
+    pub tables: u64,
+    /// Groups of rows, each with a stream made anew.
+    pub groups: u64,
+    /// Rows that were played.
+    pub rows: u64,
+    /// Rows that were played with other faults than those that they name.
+    pub turned: u64,
+    /// Rows that came out otherwise.
+    pub differing: u64,
+    /// Lines that say nothing that can be played.
+    pub malformed: u64,
+}
+
+impl<'a> Count<'a> {
+    /// Of a file of which nothing was read.
+    pub fn new(file: &'a str, turns_faults: bool) -> Count<'a> {
+        Count {
+            file,
+            turns_faults,
+            line: 1,
+            tables: 0,
+            groups: 0,
+            rows: 0,
+            turned: 0,
+            differing: 0,
+            malformed: 0,
+        }
+    }
+
+    /// The same at another line.
+    pub fn at(self, line: u64) -> Count<'a> {
+        Count { line, ..self }
+    }
+
+    /// With one more table.
+    pub fn add_table(self) -> Count<'a> {
+        Count {
+            tables: self.tables.wrapping_add(1),
+            ..self
+        }
+    }
+
+    /// With one more group.
+    pub fn add_group(self) -> Count<'a> {
+        Count {
+            groups: self.groups.wrapping_add(1),
+            ..self
+        }
+    }
+
+    /// With what came of the same rows with other faults, from here on.
+    pub fn add_turned(self, later: Count<'a>) -> Count<'a> {
+        Count {
+            turned: self.turned.wrapping_add(later.rows.wrapping_sub(self.rows)),
+            differing: later.differing,
+            malformed: later.malformed,
+            ..self
+        }
+    }
+
+    /// Whether there were rows, and each came out as it says.
+    pub fn is_met(self) -> bool {
+        self.rows > 0 && self.differing == 0 && self.malformed == 0
+    }
+
+    // Prints where the player stands.
+    fn print_place<R: Print>(self, rt: &R) -> io::Result<()> {
+        let Count { file, line, .. } = self;
+        println!(rt; "{file}:{line}")
+    }
+}
+
+/// How many lines a text has.
+pub fn lines_of(text: &str) -> u64 {
+    let mut lines: u64 = 0;
+    'lines: for _line in text.split("\n") {
+        lines = lines.wrapping_add(1);
+    }
+    lines
+}
+
+/// Prints what is wrong with a line, and counts it. Refused memory is `OutOfMemory`, and ends the run.
+pub fn tell_fault<'a, R: Print>(
+    rt: &R,
+    fault: Fault,
+    line: &str,
+    count: Count<'a>,
+) -> io::Result<Count<'a>> {
+    match fault {
+        Fault::Memory => Err(io::Error::from(io::ErrorKind::OutOfMemory)),
+        Fault::Malformed(what) => {
+            count.print_place(rt)?;
+            println!(rt; "     {what}: {line}")?;
+            Ok(Count {
+                malformed: count.malformed.wrapping_add(1),
+                ..count
+            })
+        }
+    }
+}
+
+/// Counts a row, and prints it where it came out otherwise.
+pub fn compare<'a, R: Print>(
+    rt: &R,
+    row: &str,
+    got: &str,
+    count: Count<'a>,
+) -> io::Result<Count<'a>> {
+    let rows = count.rows.wrapping_add(1);
+    if got == row {
+        return Ok(Count { rows, ..count });
+    }
+    count.print_place(rt)?;
+    println!(rt; "  wanted: {row}")?;
+    println!(rt; "     got: {got}")?;
+    Ok(Count {
+        rows,
+        differing: count.differing.wrapping_add(1),
+        ..count
+    })
+}

@@ -1,0 +1,204 @@
+// What a device is told to answer, what it took, and the calls that reached it.
+use super::line::{Line, Printed};
+use super::script::{Answer, error_of, misfit, no_memory};
+use no_std_io2::io::{Result, SeekFrom};
+use std::alloc::Global;
+use std::mem;
+
+// The journal of a device, or of several that share it.
+#[derive(Drop)]
+pub struct Journal {
+    // The answers that are left, the next one last.
+    answers: Vec<Answer>,
+    // What is left of the bytes that an answer gives.
+    pending: Vec<u8>,
+    out: Vec<u8>,
+    calls: Line,
+    alloc: Global,
+}
+
+impl Journal {
+    pub fn new(alloc: Global, answers: Vec<Answer>) -> Journal {
+        Journal {
+            answers,
+            pending: Vec::new(alloc),
+            out: Vec::new(alloc),
+            calls: Line::new(alloc),
+            alloc,
+        }
+    }
+
+    // From here on these are the answers, in place of those that were left.
+    pub fn expect(&mut self, answers: Vec<Answer>) {
+        self.answers = answers;
+    }
+
+    // Prints the bytes that were taken.
+    pub fn show_out(&self, line: &mut Line) -> Printed {
+        line.bytes(&self.out)
+    }
+
+    // Prints the calls since this was last asked.
+    pub fn show_calls(&mut self, line: &mut Line) -> Printed {
+        line.text(self.calls.as_str())?;
+        self.calls.clear();
+        Ok(())
+    }
+
+    fn next_answer(&mut self) -> Answer {
+        self.answers.pop().unwrap_or(Answer::Plain)
+    }
+
+    fn begin_call(&mut self, call: &str) -> Printed {
+        if !self.calls.is_empty() {
+            self.calls.word(", ")?;
+        }
+        self.calls.word(call)
+    }
+
+    fn note_write(&mut self, buf: &[u8], answer: &Result<usize>) -> Printed {
+        self.begin_call("write ")?;
+        self.calls.bytes(buf)?;
+        self.calls.word(" = ")?;
+        self.calls.length(answer)
+    }
+
+    // Answers a write.
+    pub fn write(&mut self, buf: &[u8]) -> Result<usize> {
+        let answer = match self.next_answer() {
+            Answer::Plain => self.take(buf, buf.len()),
+            Answer::Take(most) => self.take(buf, most),
+            Answer::Fail(kind, text) => Err(error_of(kind, text)),
+            _ => Err(misfit()),
+        };
+        match self.note_write(buf, &answer) {
+            Ok(()) => answer,
+            Err(_) => Err(no_memory()),
+        }
+    }
+
+    fn take(&mut self, buf: &[u8], most: usize) -> Result<usize> {
+        let n = most.min(buf.len());
+        match self.out.extend_from_slice(&buf[..n]) {
+            Ok(()) => Ok(n),
+            Err(_) => Err(no_memory()),
+        }
+    }
+
+    fn note_flush(&mut self, answer: &Result<()>) -> Printed {
+        self.begin_call("flush = ")?;
+        self.calls.done(answer)
+    }
+
+    // Answers a flush.
+    pub fn flush(&mut self) -> Result<()> {
+        let answer = match self.next_answer() {
+            Answer::Plain | Answer::Take(_) => Ok(()),
+            Answer::Fail(kind, text) => Err(error_of(kind, text)),
+            _ => Err(misfit()),
+        };
+        match self.note_flush(&answer) {
+            Ok(()) => answer,
+            Err(_) => Err(no_memory()),
+        }
+    }
+
+    // What a read into so much room gives. What has no room comes next.
+    fn give(&mut self, bytes: &[u8], room: usize) -> Result<Vec<u8>> {
+        let n = room.min(bytes.len());
+        let given = Vec::from_slice(self.alloc, &bytes[..n])?;
+        self.pending = Vec::from_slice(self.alloc, &bytes[n..])?;
+        Ok(given)
+    }
+
+    fn note_read(&mut self, call: &str, room: usize, answer: &Result<Vec<u8>>) -> Printed {
+        self.begin_call(call)?;
+        self.calls.number(room as u64)?;
+        self.calls.word(" = ")?;
+        match answer {
+            Ok(bytes) => self.calls.bytes(bytes),
+            Err(e) => self.calls.error(e),
+        }
+    }
+
+    fn next_bytes(&mut self, room: usize) -> Result<Vec<u8>> {
+        if room == 0 {
+            return Ok(Vec::new(self.alloc));
+        }
+        let bytes = if self.pending.is_empty() {
+            match self.next_answer() {
+                Answer::Plain => Vec::new(self.alloc),
+                Answer::Give(bytes) => bytes,
+                Answer::Fail(kind, text) => return Err(error_of(kind, text)),
+                _ => return Err(misfit()),
+            }
+        } else {
+            mem::replace(&mut self.pending, Vec::new(self.alloc))
+        };
+        self.give(&bytes, room)
+    }
+
+    // Answers a read into so much room, a call of this name. One into no room gives nothing.
+    pub fn read(&mut self, call: &str, room: usize) -> Result<Vec<u8>> {
+        let answer = self.next_bytes(room);
+        match self.note_read(call, room, &answer) {
+            Ok(()) => answer,
+            Err(_) => Err(no_memory()),
+        }
+    }
+
+    // Notes that so many lent bytes were consumed.
+    pub fn consume(&mut self, call: &str, amount: usize) -> Printed {
+        self.begin_call(call)?;
+        self.calls.number(amount as u64)
+    }
+
+    fn note_seek(&mut self, pos: SeekFrom, answer: &Result<u64>) -> Printed {
+        match pos {
+            SeekFrom::Start(n) => {
+                self.begin_call("seek start ")?;
+                self.calls.number(n)?;
+            }
+            SeekFrom::End(n) => {
+                self.begin_call("seek end ")?;
+                self.calls.offset(n)?;
+            }
+            SeekFrom::Current(n) => {
+                self.begin_call("seek current ")?;
+                self.calls.offset(n)?;
+            }
+        }
+        self.calls.word(" = ")?;
+        self.calls.position(answer)
+    }
+
+    // Answers a seek.
+    pub fn seek(&mut self, pos: SeekFrom) -> Result<u64> {
+        let answer = match self.next_answer() {
+            Answer::At(n) => Ok(n),
+            Answer::Fail(kind, text) => Err(error_of(kind, text)),
+            _ => Err(misfit()),
+        };
+        match self.note_seek(pos, &answer) {
+            Ok(()) => answer,
+            Err(_) => Err(no_memory()),
+        }
+    }
+
+    /// Notes a call that the device makes of others.
+    pub fn note(&mut self, call: &str) -> Printed {
+        self.begin_call(call)
+    }
+
+    /// The same with the bytes that it is of.
+    pub fn note_bytes(&mut self, call: &str, bytes: &[u8]) -> Printed {
+        self.begin_call(call)?;
+        self.calls.bytes(bytes)
+    }
+
+    /// The same with a number.
+    pub fn note_number(&mut self, call: &str, number: usize) -> Printed {
+        self.begin_call(call)?;
+        self.calls.number(number as u64)
+    }
+}

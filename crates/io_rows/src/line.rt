@@ -1,0 +1,280 @@
+// A row of a table as it is printed: a call, its answer and what stands after it, column by column.
+//
+// A run is so many bytes of which each follows the one before it: dots, or the letters from `a` to `w`, over and over. A long one
+// is printed as `\*300a`: 300 bytes from `a` on.
+use super::fault::{Fault, Made};
+use super::kinds::name_of_kind;
+use no_std_io2::io::{Error, Result};
+use std::alloc::{AllocError, Global};
+
+pub type Printed = std::result::Result<(), AllocError>;
+
+// A text that is printed piece by piece.
+#[derive(Drop)]
+pub struct Line {
+    alloc: Global,
+    text: String,
+}
+
+impl Line {
+    pub fn new(alloc: Global) -> Line {
+        Line {
+            alloc,
+            text: String::new(alloc),
+        }
+    }
+
+    pub fn as_str(&self) -> &str {
+        self.text.as_str()
+    }
+
+    pub fn is_empty(&self) -> bool {
+        self.text.is_empty()
+    }
+
+    pub fn clear(&mut self) {
+        self.text.clear();
+    }
+
+    // Ends a column.
+    pub fn column(&mut self) -> Printed {
+        self.word(" | ")
+    }
+
+    pub fn word(&mut self, word: &str) -> Printed {
+        self.text.push_str(word)
+    }
+
+    pub fn number(&mut self, number: u64) -> Printed {
+        let digits = format!(in self.alloc; "{number}")?;
+        self.word(digits.as_str())
+    }
+
+    pub fn offset(&mut self, offset: i64) -> Printed {
+        if offset < 0 {
+            self.word("-")?;
+        }
+        self.number(offset.unsigned_abs())
+    }
+
+    // A text, and none as a dash.
+    pub fn text(&mut self, text: &str) -> Printed {
+        if text.is_empty() {
+            return self.word("-");
+        }
+        self.word(text)
+    }
+
+    // Printable bytes as they are, others escaped, and none as a dash.
+    pub fn bytes(&mut self, bytes: &[u8]) -> Printed {
+        let Some((first, rest)) = bytes.split_first() else {
+            return self.word("-");
+        };
+        let mut run = Run::of(*first);
+        'bytes: for b in rest {
+            if following(run.last) == Some(*b) {
+                run = run.add(*b);
+            } else {
+                self.run(run)?;
+                run = Run::of(*b);
+            }
+        }
+        self.run(run)
+    }
+
+    fn run(&mut self, run: Run) -> Printed {
+        if run.count >= LONG {
+            self.word("\\*")?;
+            self.number(run.count)?;
+            return self.byte(run.first);
+        }
+        let mut byte = run.first;
+        'bytes: for _ in 0..run.count {
+            self.byte(byte)?;
+            byte = following(byte).unwrap_or(byte);
+        }
+        Ok(())
+    }
+
+    fn byte(&mut self, b: u8) -> Printed {
+        match b {
+            b'\n' => self.word("\\n"),
+            b'\\' => self.word("\\\\"),
+            32..=126 => self.text.push(char::from(b)),
+            _ => {
+                self.word("\\x")?;
+                self.text.push(hex(b / 16))?;
+                self.text.push(hex(b % 16))
+            }
+        }
+    }
+
+    // The kind's name after a mark, and the text where there is one.
+    pub fn error(&mut self, error: &Error) -> Printed {
+        self.word("!")?;
+        self.word(name_of_kind(error.kind()))?;
+        match error.get_ref() {
+            None => Ok(()),
+            Some(text) => {
+                self.word(": ")?;
+                self.word(text)
+            }
+        }
+    }
+
+    // A printed text in parentheses.
+    pub fn aside(&mut self, text: &str) -> Printed {
+        self.word(" (")?;
+        self.word(text)?;
+        self.word(")")
+    }
+
+    // What a call answered that answers no number.
+    pub fn done(&mut self, answer: &Result<()>) -> Printed {
+        match answer {
+            Ok(()) => self.word("ok"),
+            Err(e) => self.error(e),
+        }
+    }
+
+    // What a call answered that answers a length.
+    pub fn length(&mut self, answer: &Result<usize>) -> Printed {
+        match answer {
+            Ok(n) => self.number(*n as u64),
+            Err(e) => self.error(e),
+        }
+    }
+
+    // What a call answered that answers a position.
+    pub fn position(&mut self, answer: &Result<u64>) -> Printed {
+        match answer {
+            Ok(n) => self.number(*n),
+            Err(e) => self.error(e),
+        }
+    }
+}
+
+// The least run that is printed as one.
+const LONG: u64 = 24;
+
+// Bytes of which each follows the one before it.
+#[derive(Clone, Copy)]
+struct Run {
+    first: u8,
+    last: u8,
+    count: u64,
+}
+
+impl Run {
+    fn of(byte: u8) -> Run {
+        Run {
+            first: byte,
+            last: byte,
+            count: 1,
+        }
+    }
+
+    fn add(self, byte: u8) -> Run {
+        Run {
+            last: byte,
+            count: self.count.wrapping_add(1),
+            ..self
+        }
+    }
+}
+
+// The byte behind this one in a run.
+fn following(byte: u8) -> Option<u8> {
+    match byte {
+        b'a'..=b'v' => Some(byte + 1),
+        b'w' => Some(b'a'),
+        b'.' => Some(b'.'),
+        _ => None,
+    }
+}
+
+// What of an escaped byte or run was read.
+#[derive(Clone, Copy)]
+enum Escape {
+    None,
+    Mark,
+    Hex,
+    Low(u8),
+    Count(u64),
+}
+
+// The state that comes of one more character, and the run that ends at it; none for a bad escape.
+fn step(escape: Escape, b: u8) -> Option<(Escape, Option<Run>)> {
+    match (escape, b) {
+        (Escape::None, b'\\') => Some((Escape::Mark, None)),
+        (Escape::None, b) => Some((Escape::None, Some(Run::of(b)))),
+        (Escape::Mark, b'n') => Some((Escape::None, Some(Run::of(b'\n')))),
+        (Escape::Mark, b'\\') => Some((Escape::None, Some(Run::of(b'\\')))),
+        (Escape::Mark, b'x') => Some((Escape::Hex, None)),
+        (Escape::Mark, b'*') => Some((Escape::Count(0), None)),
+        (Escape::Mark, _) => None,
+        (Escape::Hex, high) => Some((Escape::Low(digit(high)?), None)),
+        (Escape::Low(high), low) => {
+            let byte = high.wrapping_mul(16).wrapping_add(digit(low)?);
+            Some((Escape::None, Some(Run::of(byte))))
+        }
+        (Escape::Count(count), b'0'..=b'9') => {
+            let count = count.wrapping_mul(10).wrapping_add(u64::from(b - b'0'));
+            Some((Escape::Count(count), None))
+        }
+        (Escape::Count(count), first) => {
+            following(first)?;
+            let run = Run {
+                count,
+                ..Run::of(first)
+            };
+            Some((Escape::None, Some(run)))
+        }
+    }
+}
+
+fn push_run(bytes: &mut Vec<u8>, run: Run) -> Printed {
+    let mut byte = run.first;
+    'bytes: for _ in 0..run.count {
+        bytes.push(byte)?;
+        byte = following(byte).unwrap_or(byte);
+    }
+    Ok(())
+}
+
+// The bytes that a printed text stands for.
+pub fn unescape(alloc: Global, text: &str) -> Made<Vec<u8>> {
+    let mut bytes = Vec::new(alloc);
+    let mut escape = Escape::None;
+    for b in text.as_bytes() {
+        let Some((now, run)) = step(escape, *b) else {
+            return Err(Fault::Malformed("a bad escape"));
+        };
+        escape = now;
+        if let Some(run) = run {
+            push_run(&mut bytes, run)?;
+        }
+    }
+    match escape {
+        Escape::None => Ok(bytes),
+        _ => Err(Fault::Malformed("an escape without an end")),
+    }
+}
+
+// The hexadecimal digit of a number below 16.
+fn hex(number: u8) -> char {
+    if number < 10 {
+        char::from(number.wrapping_add(b'0'))
+    } else {
+        char::from(number.wrapping_add(b'a' - 10))
+    }
+}
+
+// Of a hexadecimal digit.
+fn digit(b: u8) -> Option<u8> {
+    match b {
+        b'0'..=b'9' => Some(b - b'0'),
+        b'a'..=b'f' => Some(b - b'a' + 10),
+        _ => None,
+    }
+}

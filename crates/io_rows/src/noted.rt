@@ -1,0 +1,166 @@
+// A stream that writes down the name of each call that its trait could make of others, and hands it on.
+ghost use Rattle.std.specs.Prelude.{◌≡◌};
+
+use super::journal::Journal;
+use no_std_io2::io::{BufRead, Read, Result, Seek, SeekFrom, Stored, Write};
+use std::alloc::Allocator;
+use std::cell::RefCell;
+use std::rc::Rc;
+
+/// A stream in front of another one, whose journal it shares. Before the calls that the other one notes it notes its own, as
+/// `write_all abc` or `read_exact 3`, so that rows tell a call that was handed on from one that was made of others.
+#[derive(Drop)]
+pub struct Noted<T> {
+    inner: T,
+    journal: Rc<RefCell<Journal>>,
+}
+
+impl<T> Noted<T> {
+    /// In front of a stream, on its journal.
+    pub fn new(inner: T, journal: Rc<RefCell<Journal>>) -> Noted<T> {
+        Noted { inner, journal }
+    }
+}
+
+fn note(journal: &RefCell<Journal>, call: &str) {
+    if let Ok(mut journal) = journal.try_borrow_mut() {
+        let _ = journal.note(call);
+    }
+}
+
+fn note_bytes(journal: &RefCell<Journal>, call: &str, bytes: &[u8]) {
+    if let Ok(mut journal) = journal.try_borrow_mut() {
+        let _ = journal.note_bytes(call, bytes);
+    }
+}
+
+fn note_number(journal: &RefCell<Journal>, call: &str, number: usize) {
+    if let Ok(mut journal) = journal.try_borrow_mut() {
+        let _ = journal.note_number(call, number);
+    }
+}
+
+impl<W: Write> Write for Noted<W> {
+    ghost told = { λ n. W.told n.inner };
+
+    ghost takes_all = { λ n. W.takes_all n.inner };
+
+    ghost cost = { λ n. W.cost n.inner };
+
+    ghost is_metered = { λ n. W.is_metered n.inner };
+
+    fn write(&mut self, buf: &[u8]) -> Result<usize> {
+        self.inner.write(buf)
+    }
+
+    fn flush(&mut self) -> Result<()> {
+        self.inner.flush()
+    }
+
+    fn write_all(&mut self, buf: &[u8]) -> Result<()> {
+        note_bytes(&self.journal, "write_all ", buf);
+        self.inner.write_all(buf)
+    }
+
+    fn write_rest(&mut self, rest: &mut &[u8]) -> Result<()> {
+        note_bytes(&self.journal, "write_rest ", rest);
+        self.inner.write_rest(rest)
+    }
+
+    ghost steady = { λ n h. W.steady n.inner h };
+}
+
+impl<T: Stored> Stored for Noted<T> {
+    ghost has_store = { λ n. T.has_store n.inner };
+
+    ghost content = { λ n. T.content n.inner };
+
+    ghost position = { λ n. T.position n.inner };
+}
+
+impl<T: Read> Read for Noted<T> {
+    ghost tells = { λ n. T.tells n.inner };
+
+    ghost events = { λ n. T.events n.inner };
+
+    ghost turns = { λ n. T.turns n.inner };
+
+    ghost cost = { λ n. T.cost n.inner };
+
+    ghost is_metered = { λ n. T.is_metered n.inner };
+
+    ghost is_filling = { λ n. T.is_filling n.inner };
+
+    ghost may_take_none = { λ n. T.may_take_none n.inner };
+
+    fn read(&mut self, buf: &mut [u8]) -> Result<usize> {
+        self.inner.read(buf)
+    }
+
+    fn read_exact(&mut self, buf: &mut [u8]) -> Result<()> {
+        note_number(&self.journal, "read_exact ", buf.len());
+        self.inner.read_exact(buf)
+    }
+
+    fn read_to_end<B: Allocator>(&mut self, buf: &mut Vec<u8, B>) -> Result<usize> {
+        note(&self.journal, "read_to_end");
+        self.inner.read_to_end(buf)
+    }
+
+    ghost filling_tells = { λ n h. T.filling_tells n.inner h };
+
+    ghost store_tells = { λ n h. T.store_tells n.inner h };
+
+    ghost store_fits = { λ n h. T.store_fits n.inner h };
+}
+
+impl<T: BufRead> BufRead for Noted<T> {
+    ghost held = { λ n. T.held n.inner };
+
+    ghost counts_fills = { λ n. T.counts_fills n.inner };
+
+    ghost fills = { λ n. T.fills n.inner };
+
+    ghost lends_surely = { λ n. T.lends_surely n.inner };
+
+    ghost lent_length = { λ n. T.lent_length n.inner };
+
+    fn fill_buf(&mut self) -> Result<&[u8]> {
+        note(&self.journal, "fill_buf");
+        self.inner.fill_buf()
+    }
+
+    fn consume(&mut self, amount: usize) {
+        self.inner.consume(amount);
+    }
+
+    fn read_until<B: Allocator>(&mut self, delim: u8, buf: &mut Vec<u8, B>) -> Result<usize> {
+        note_bytes(&self.journal, "read_until ", &[delim]);
+        self.inner.read_until(delim, buf)
+    }
+}
+
+impl<T: Seek> Seek for Noted<T> {
+    fn seek(&mut self, pos: SeekFrom) -> Result<u64> {
+        self.inner.seek(pos)
+    }
+
+    fn stream_position(&mut self) -> Result<u64> {
+        note(&self.journal, "stream_position");
+        self.inner.stream_position()
+    }
+
+    fn rewind(&mut self) -> Result<()> {
+        note(&self.journal, "rewind");
+        self.inner.rewind()
+    }
+
+    fn stream_len(&mut self) -> Result<u64> {
+        note(&self.journal, "stream_len");
+        self.inner.stream_len()
+    }
+
+    ghost may_seek = { λ old pos new reply. T.may_seek old.inner pos new.inner reply };
+
+    ghost seek_fits = { λ n h. T.seek_fits n.inner h };
+}

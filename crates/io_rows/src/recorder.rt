@@ -1,0 +1,224 @@
+// A device that writes down each call that reaches it, and answers as it is told: a writer, a reader, a lender and a
+// seeker.
+ghost use Rattle.std.specs.Prelude.{[], length, ◌+◌, drop};
+ghost use Rattle.no_std_io2.specs.Errors.{IsFault};
+
+use super::journal::Journal;
+use super::lent::Lent;
+use no_std_io2::io::{BufRead, Error, Read, Result, Seek, SeekFrom, Stored, Write};
+use no_std_io2::trace::Trace;
+use std::alloc::Global;
+use std::cell::RefCell;
+use std::rc::Rc;
+
+// How many calls it answers.
+const TURNS: usize = 100_000;
+
+// How many bytes it lends at most.
+const LENT: usize = 4;
+
+#[derive(Drop)]
+pub struct Recorder {
+    journal: Rc<RefCell<Journal>>,
+    // Which of several readers it is.
+    name: Name,
+    taken: Trace,
+    // What it lends.
+    lent: Lent,
+    turns: usize,
+}
+
+// Which of several readers it is. A boxed object holds no text of the program's, so this is a name's stand-in.
+#[derive(Clone, Copy, PartialEq, Eq)]
+pub enum Name {
+    Only,
+    Second,
+}
+
+impl Name {
+    fn read(self) -> &'static str {
+        match self {
+            Name::Only => "read ",
+            Name::Second => "read second ",
+        }
+    }
+
+    fn fill(self) -> &'static str {
+        match self {
+            Name::Only => "fill ",
+            Name::Second => "fill second ",
+        }
+    }
+
+    fn consume(self) -> &'static str {
+        match self {
+            Name::Only => "consume ",
+            Name::Second => "consume second ",
+        }
+    }
+}
+
+impl Recorder {
+    pub fn new(alloc: Global, journal: Rc<RefCell<Journal>>, name: Name) -> Recorder {
+        Recorder {
+            journal,
+            name,
+            taken: Trace::new(),
+            lent: Lent::none(alloc),
+            turns: TURNS,
+        }
+    }
+
+    fn ask_write(&self, buf: &[u8]) -> Result<usize> {
+        match self.journal.try_borrow_mut() {
+            Ok(mut journal) => journal.write(buf),
+            Err(_) => Err(in_use()),
+        }
+    }
+
+    fn ask_flush(&self) -> Result<()> {
+        match self.journal.try_borrow_mut() {
+            Ok(mut journal) => journal.flush(),
+            Err(_) => Err(in_use()),
+        }
+    }
+
+    fn ask_read(&self, call: &str, room: usize) -> Result<Vec<u8>> {
+        match self.journal.try_borrow_mut() {
+            Ok(mut journal) => journal.read(call, room),
+            Err(_) => Err(in_use()),
+        }
+    }
+}
+
+pub fn in_use() -> Error {
+    Error::other("the journal is in use")
+}
+
+fn no_turns() -> Error
+    ensures { IsFault result }
+{
+    Error::other("no turns left")
+}
+
+impl Write for Recorder {
+    ghost use Rattle.std.specs.Prelude.{None};
+
+    ghost told = { λ w. record { out = w.taken.bytes; held = []; mishaps = None; turns = w.turns } };
+
+    ghost takes_all = { λ _. ⊥ };
+
+    ghost cost = { λ _. 0 };
+
+    ghost is_metered = { λ _. ⊥ };
+
+    fn write(&mut self, buf: &[u8]) -> Result<usize> {
+        if self.turns == 0 {
+            return Err(no_turns());
+        }
+        self.turns -= 1;
+        let n = self.ask_write(buf)?.min(buf.len());
+        self.taken.add(&buf[..n]);
+        Ok(n)
+    }
+
+    fn flush(&mut self) -> Result<()> {
+        if self.turns == 0 {
+            return Err(no_turns());
+        }
+        self.turns -= 1;
+        self.ask_flush()
+    }
+
+    ghost steady = { λ w h. absurd h };
+}
+
+impl Stored for Recorder {
+    ghost has_store = { λ _. ⊥ };
+
+    ghost content = { λ _. [] };
+
+    ghost position = { λ _. 0 };
+}
+
+impl Read for Recorder {
+    ghost tells = { λ _. ⊥ };
+
+    ghost events = { λ _. [] };
+
+    ghost turns = { λ r. r.turns + length (drop r.lent.at r.lent.bytes.items) };
+
+    ghost cost = { λ _. 0 };
+
+    ghost is_metered = { λ _. ⊥ };
+
+    ghost is_filling = { λ _. ⊥ };
+
+    ghost may_take_none = { λ _. ⊥ };
+
+    fn read(&mut self, buf: &mut [u8]) -> Result<usize> {
+        let held = self.lent.rest();
+        if !held.is_empty() {
+            let n = held.len().min(buf.len());
+            buf[..n].copy_from_slice(&held[..n]);
+            self.lent.pass(n);
+            return Ok(n);
+        }
+        if self.turns == 0 {
+            return Ok(0);
+        }
+        self.turns -= 1;
+        let bytes = self.ask_read(self.name.read(), buf.len())?;
+        let n = bytes.len().min(buf.len());
+        buf[..n].copy_from_slice(&bytes[..n]);
+        Ok(n)
+    }
+
+    ghost filling_tells = { λ s h. absurd h };
+
+    ghost store_tells = { λ s h. absurd h };
+
+    ghost store_fits = { λ s h. absurd h };
+}
+
+impl BufRead for Recorder {
+    ghost held = { λ r. drop r.lent.at r.lent.bytes.items };
+
+    ghost counts_fills = { λ _. ⊥ };
+
+    ghost fills = { λ _. 0 };
+
+    ghost lends_surely = { λ _. ⊥ };
+
+    ghost lent_length = { λ _. 0 };
+
+    fn fill_buf(&mut self) -> Result<&[u8]> {
+        if self.lent.rest().is_empty() && self.turns > 0 {
+            self.turns -= 1;
+            let bytes = self.ask_read(self.name.fill(), LENT)?;
+            if bytes.len() <= self.turns {
+                self.turns -= bytes.len();
+                self.lent = Lent::new(bytes);
+            }
+        }
+        Ok(self.lent.rest())
+    }
+
+    fn consume(&mut self, amount: usize) {
+        if let Ok(mut journal) = self.journal.try_borrow_mut() {
+            let _ = journal.consume(self.name.consume(), amount);
+        }
+        self.lent.pass(amount);
+    }
+}
+
+impl Seek for Recorder {
+    fn seek(&mut self, pos: SeekFrom) -> Result<u64> {
+        match self.journal.try_borrow_mut() {
+            Ok(mut journal) => journal.seek(pos),
+            Err(_) => Err(in_use()),
+        }
+    }
+
+    ghost seek_fits = { λ s h. absurd h };
+}

@@ -1,0 +1,125 @@
+// What a device is told to answer.
+use super::fault::{Fault, Made};
+use super::kinds::kind_of_name;
+use super::line::unescape;
+use no_std_io2::io::{Error, ErrorKind};
+use std::alloc::Global;
+
+// What a device does with its next call.
+#[derive(Drop)]
+pub enum Answer {
+    // `all`, `end`, or no answer is left: it takes all, and gives nothing.
+    Plain,
+    // `take 2`: a write takes so many at most.
+    Take(usize),
+    // `give abc`: a read gives these, and a later one those that had no room.
+    Give(Vec<u8>),
+    // `at 5`: a seek answers this.
+    At(u64),
+    // `fail KIND` or `fail KIND TEXT`, by the place of the text.
+    Fail(ErrorKind, Option<usize>),
+}
+
+// The texts that an error may have: an error holds a text of the program's own.
+const TEXTS: [&str; 30] = [
+    "a",
+    "again",
+    "b",
+    "broken",
+    "busy",
+    "c",
+    "done",
+    "first",
+    "five",
+    "four",
+    "full",
+    "gone",
+    "late",
+    "late again",
+    "no carrier",
+    "no length",
+    "no room",
+    "no way back",
+    "one",
+    "out of order",
+    "refused",
+    "second",
+    "six",
+    "slow",
+    "three",
+    "told",
+    "too far",
+    "too short",
+    "torn",
+    "two",
+];
+
+fn place_of(words: &str) -> Option<usize> {
+    for (i, text) in TEXTS.iter().enumerate() {
+        if *text == words {
+            return Some(i);
+        }
+    }
+    None
+}
+
+// The error that an answer says.
+pub fn error_of(kind: ErrorKind, place: Option<usize>) -> Error {
+    match place {
+        Some(i) if i < TEXTS.len() => Error::new(kind, TEXTS[i]),
+        _ => Error::from(kind),
+    }
+}
+
+// The answers that a line names, the last one first.
+pub fn parse_answers(alloc: Global, words: &str) -> Made<Vec<Answer>> {
+    let mut answers = Vec::new(alloc);
+    if words.is_empty() {
+        return Ok(answers);
+    }
+    for word in words.split(", ") {
+        answers.push(parse_answer(alloc, word)?)?;
+    }
+    answers.reverse();
+    Ok(answers)
+}
+
+fn parse_answer(alloc: Global, words: &str) -> Made<Answer> {
+    if words == "all" || words == "end" {
+        return Ok(Answer::Plain);
+    }
+    match words.split_once(" ") {
+        Some(("take", count)) => match count.parse::<usize>() {
+            Ok(n) => Ok(Answer::Take(n)),
+            Err(_) => Err(Fault::Malformed("no number behind `take`")),
+        },
+        Some(("give", bytes)) => Ok(Answer::Give(unescape(alloc, bytes)?)),
+        Some(("at", place)) => match place.parse::<u64>() {
+            Ok(n) => Ok(Answer::At(n)),
+            Err(_) => Err(Fault::Malformed("no number behind `at`")),
+        },
+        Some(("fail", words)) => parse_failure(words),
+        _ => Err(Fault::Malformed("no such answer of a device")),
+    }
+}
+
+fn parse_failure(words: &str) -> Made<Answer> {
+    match words.split_once(" ") {
+        Some((name, text)) => match (kind_of_name(name), place_of(text)) {
+            (Some(kind), Some(place)) => Ok(Answer::Fail(kind, Some(place))),
+            _ => Err(Fault::Malformed("no such kind or text of an error")),
+        },
+        None => match kind_of_name(words) {
+            Some(kind) => Ok(Answer::Fail(kind, None)),
+            None => Err(Fault::Malformed("no such kind of an error")),
+        },
+    }
+}
+
+pub fn misfit() -> Error {
+    Error::other("no answer to this call")
+}
+
+pub fn no_memory() -> Error {
+    Error::from(ErrorKind::OutOfMemory)
+}

@@ -1,7 +1,0 @@
-use Rattle.std.proofs.Common.{◌≡◌, take}
-use Rattle.std.specs.List.{flat_map}
-use Rattle.iotower.specs.Report.{reply_line}
-use Rattle.iotower.proofs.report.report_of.Given as goal
-
-abbrev pub invariant-replies : goal.invariant-replies
-invariant-replies g l = l.text.items ≡ flat_map reply_line (take l.reply-index l.replies)

@@ -1,0 +1,136 @@
+-- What lies behind the held bytes.
+use Rattle.std.proofs.Common.{◌≡◌, ℕ, ◌+◌, ◌-◌, ◌≤◌, ◌<◌, ◌^◌, ℤ, pos, negsuc, ◌+ℤ◌, List, [], ◌++◌, length, take, drop}
+use Rattle.std.proofs.Common.{refl, sym, ap, ◌∙◌, subst, arith, length-take-le, append_assoc, take-append-drop}
+use Rattle.std.proofs.Common.{unsigned_abs, Ok}
+use Rattle.std.proofs.lemmas.Int.{ints}
+use Rattle.std.proofs.lemmas.List.{take-take}
+use Rattle.std.proofs.Math.Seq.{take-add, drop-append_seam, drop-append-add}
+use Rattle.std.specs.Int.{FitsUnsigned, w64}
+use Rattle.std.proofs.lemmas.List.{length-append, drop-append-le}
+use Rattle.no_std_io2_base.specs.declared.traits.seek.SeekFrom.{SeekFrom}
+use Rattle.no_std_io2_base.specs.declared.traits.seek.SeekFrom.TheVariants.{Current}
+use Rattle.no_std_io2_base.specs.Events.{Event, events_of}
+use Rattle.no_std_io2_base.specs.Seek.{IsAtOffset, IsTarget, Seeks}
+use Rattle.no_std_io2_base.proofs.Events.{events_of-append}
+use Rattle.no_std_io2.proofs.BufReaderSound.{give_events}
+use Rattle.no_std_io2.specs.Buffer.{IsSound, IsInBuffer, IsCutOn, MovesEvents}
+use Rattle.no_std_io2.specs.BufReader.{sound_drop}
+use Rattle.no_std_io2.proofs.BufReaderSeeks.{at_offset_sum}
+
+-- up to the end: what lies behind, and then what is held
+pub whole : (l : List ℕ) (start end : ℕ) → start ≤ end → take start l ++ take (end - start) (drop start l) ≡ take end l
+whole l start end ordered =
+    let split : end ≡ start + (end - start) = omega arith in
+    sym (ap (λ n. take n l) split ∙ take-add start (end - start) l)
+
+-- n bytes more lie behind
+pub behind_more : (l : List ℕ) (start end n : ℕ) → n ≤ end - start
+    → take (start + n) l ≡ take start l ++ take n (take (end - start) (drop start l))
+behind_more l start end n fits =
+    take-add start n l ∙ ap (λ m. take start l ++ m) (sym (take-take n (end - start) (drop start l) fits))
+
+-- a sum that fits is not negative
+pub not_negative : (z : ℤ) → FitsUnsigned w64 z → pos (unsigned_abs z) ≡ z
+not_negative (pos n) fits = refl
+not_negative (negsuc n) fits = omega (arith, ints, fits.0)
+
+-- where the border goes
+pub border_within : (o : ℤ) (start end at : ℕ) → start ≤ end → pos at ≡ pos start +ℤ o → at ≤ end → IsInBuffer o start (end - start)
+border_within (pos k) start end at ordered is within = omega (arith, ints)
+border_within (negsuc k) start end at ordered is within = omega (arith, ints)
+
+-- the border moved inside the same bytes
+pub cut_on : (l : List ℕ) (o : ℤ) (start end at : ℕ) → start ≤ end → at ≤ end → end ≤ length l → pos at ≡ pos start +ℤ o
+    → IsCutOn o (take start l) (take (end - start) (drop start l)) (take at l) (take (end - at) (drop at l))
+cut_on l o start end at ordered within room is =
+    let long : length (take start l) ≡ start = length-take-le start l (omega arith) in
+    let long' : length (take at l) ≡ at = length-take-le at l (omega arith) in (
+      whole l at end within ∙ sym (whole l start end ordered),
+      at_offset_sum (length (take start l)) o (length (take at l)) (ap pos long' ∙ is ∙ ap (λ n. pos n +ℤ o) (sym long)),
+    )
+
+-- with n bytes more behind it is the same list
+pub moved_whole : (behind held behind' held' got : List ℕ) (n : ℕ) → behind' ≡ behind ++ got → got ≡ take n held
+    → held' ≡ drop n held → behind' ++ held' ≡ behind ++ held
+moved_whole behind held behind' held' got n after front rest =
+    ap (λ l. l ++ held') (after ∙ ap (λ l. behind ++ l) front) ∙ append_assoc behind (take n held) held'
+    ∙ ap (λ l. behind ++ (take n held ++ l)) rest ∙ ap (λ l. behind ++ l) (take-append-drop n held)
+
+-- so it is as sound as it was
+pub sound_moved : (behind held behind' held' : List ℕ) {got : List ℕ} {position : ℕ} (content : List ℕ) (n : ℕ)
+    → behind' ≡ behind ++ got → got ≡ take n held → held' ≡ drop n held
+    → IsSound (behind ++ held) position content → IsSound (behind' ++ held') position content
+sound_moved behind held behind' held' {got = got} {position = position} content n after front rest s =
+    subst (λ l. IsSound l position content) (sym (moved_whole behind held behind' held' got n after front rest)) s
+
+-- the same list at the same position of the same content
+pub sound_stayed : (whole whole' : List ℕ) (position position' : ℕ) (content content' : List ℕ) → whole' ≡ whole
+    → position' ≡ position → content' ≡ content
+    → IsSound whole position content → IsSound whole' position' content'
+sound_stayed whole whole' position position' content content' same here kept s =
+    subst (λ l. IsSound l position' content') (sym same)
+    (subst (λ c. IsSound whole position' c) (sym kept) (subst (λ p. IsSound whole p content) (sym here) s))
+
+-- with nothing behind
+pub sound_alone : (behind held : List ℕ) (position : ℕ) (content : List ℕ) → behind ≡ [] → IsSound held position content
+    → IsSound (behind ++ held) position content
+sound_alone behind held position content none s = subst (λ l. IsSound (l ++ held) position content) (sym none) s
+
+-- with nothing behind and nothing held
+pub sound_empty : (behind held : List ℕ) (position : ℕ) (content : List ℕ) → behind ≡ [] → held ≡ []
+    → IsSound (behind ++ held) position content
+sound_empty behind held position content none empty =
+    sound_alone behind held position content none (subst (λ l. IsSound l position content) (sym empty) (omega arith, refl))
+
+-- what is held of a sound list
+pub sound_held : (behind held : List ℕ) (position : ℕ) (content : List ℕ) → IsSound (behind ++ held) position content
+    → IsSound held position content
+sound_held behind held position content s =
+    subst (λ l. IsSound l position content) (drop-append_seam behind held)
+    (sound_drop (behind ++ held) position content (length behind) s (omega (arith, length-append behind held)))
+
+-- what is held behind the new border
+held_on : (behind held behind' held' : List ℕ) → behind' ++ held' ≡ behind ++ held → held' ≡ drop (length behind') (behind ++ held)
+held_on behind held behind' held' same = sym (drop-append_seam behind' held') ∙ ap (drop (length behind')) same
+
+-- where the border between what lies behind and what is held moves by an offset, what comes next moves by it
+pub cut_moves : (o : ℤ) (behind held behind' held' : List ℕ) (E : List Event) → IsCutOn o behind held behind' held'
+    → MovesEvents o behind held (events_of held ++ E) (events_of held' ++ E)
+cut_moves (pos k) behind held behind' held' E cut =
+    give_events held held' (take k held) E k
+    (held_on behind held behind' held' cut.0 ∙ ap (λ n. drop n (behind ++ held)) cut.1
+    ∙ drop-append-add behind held k)
+    refl
+cut_moves (negsuc k) behind held behind' held' E cut =
+    let n = length behind - (k + 1) in
+    let at : length behind' ≡ n = omega (arith, cut.1) in
+    let rest : held' ≡ drop n behind ++ held =
+    held_on behind held behind' held' cut.0 ∙ ap (λ m. drop m (behind ++ held)) at
+    ∙ drop-append-le n behind held (omega arith) in
+    ap (λ l. events_of l ++ E) rest ∙ ap (λ l. l ++ E) (events_of-append (drop n behind) held)
+    ∙ append_assoc (events_of (drop n behind)) (events_of held) E
+
+-- the position moves with the border
+pub cut_place : (o : ℤ) (at behind held behind' held' : ℕ) → behind + held ≤ at → behind' + held' ≡ behind + held
+    → IsAtOffset behind o behind' → IsAtOffset (at - held) o (at - held')
+cut_place (pos k) at behind held behind' held' fits same on = omega arith
+cut_place (negsuc k) at behind held behind' held' fits same on = omega arith
+
+-- over sound bytes that is a seek by this offset from where the reader stands, and moves nothing below
+pub cut_seeks : (o : ℤ) (len at : ℕ) (behind held behind' held' content : List ℕ) → IsSound (behind ++ held) at content
+    → at < 2 ^ 64 → IsCutOn o behind held behind' held'
+    → Seeks len (at - length held) (Current o) (Ok (at - length held')) (at - length held')
+cut_seeks o len at behind held behind' held' content s small cut =
+    let before = length-append behind held in
+    let after = length-append behind' held' in (
+      (
+        cut_place o at (length behind) (length held) (length behind') (length held') (omega (arith, s.0, before))
+            (omega (arith, before, after, ap length cut.0)) cut.1,
+        omega arith,
+      ),
+      refl,
+    )
+
+-- a seek without its number
+pub numberless : (len old new n : ℕ) (from : SeekFrom) → Seeks len old from (Ok n) new → Seeks len old from (Ok new) new
+numberless len old new n from h = (subst (IsTarget len old from) (sym h.1) h.0, refl)

@@ -1,0 +1,67 @@
+-- What one inner read does to a reader with a buffer in front that held nothing.
+use Rattle.std.proofs.Common.{◌≡◌, ℕ, ◌+◌, ◌*◌, ◌<◌, ◌≤◌, if◌then◌else◌, List, [], ◌∷◌, ◌++◌, Ok}
+use Rattle.std.proofs.Common.{Err, Result, length, refl, sym, ap, subst, ◌∙◌, arith}
+use Rattle.std.specs.Result.{OnOk, OnErr, IsOk}
+use Rattle.std.proofs.Math.Nat.{mul-le-mul_left}
+use Rattle.no_std_io2_base.specs.declared.error.Error.{Error}
+use Rattle.no_std_io2_base.specs.Events.{Event, events_of, fails, Reads, SpendsTurn}
+use Rattle.no_std_io2.specs.Buffer.{ReadsAhead, IsSound}
+use Rattle.no_std_io2.specs.BufReader.{FillsFrom, behind_anew}
+use Rattle.no_std_io2.proofs.BufferTests.{is_past, is_own}
+use Rattle.no_std_io2.proofs.BufReaderExact.{no_bytes}
+
+-- with nothing held, what is to come is what is to come of the inner reader
+pub nothing_held : (held : List ℕ) (E : List Event) → length held ≡ 0 → events_of held ++ E ≡ E
+nothing_held held E none = ap (λ l. events_of l ++ E) (no_bytes held none)
+
+-- with nothing held before, nor after an error, a fill leaves all that is to come but the error it answers
+pub fill_told : {A : Type 0} (r : Result A Error) (held held' : List ℕ) (E E' : List Event) → length held ≡ 0
+    → OnErr r (held' ≡ []) → ReadsAhead E r held' E'
+    → FillsFrom (events_of held ++ E) r (events_of held' ++ E')
+fill_told (Ok _) held held' E E' none no_more read = sym (nothing_held held E none ∙ read.0)
+fill_told (Err e) held held' E E' none no_more read = nothing_held held E none ∙ read ∙ ap (λ l. fails e ∷ events_of l ++ E') (sym no_more)
+
+-- with nothing held, nothing was to come where a fill answers `Ok` and holds nothing then
+pub fill_end : {A : Type 0} (r : Result A Error) (held held' : List ℕ) (E E' : List Event) → length held ≡ 0 → ReadsAhead E r held' E'
+    → OnOk r (held' ≡ [] → events_of held ++ E ≡ [])
+fill_end (Ok _) held held' E E' none read = λ h. nothing_held held E none ∙ read.1 h
+fill_end (Err e) held held' E E' none read = tt
+
+-- an inner turn is more than a full buffer
+more_turns : (room held held' t t' : ℕ) → held' ≤ room → t' < t → held' + (room + 1) * t' < held + (room + 1) * t
+more_turns room held held' t t' fits spent = grind (arith, mul-le-mul_left)
+
+-- an error spends an inner turn
+pub fill_turn : {A : Type 0} (r : Result A Error) (room held held' t t' : ℕ) → held' ≤ room → OnErr r (t' < t)
+    → OnErr r (held' + (room + 1) * t' < held + (room + 1) * t)
+fill_turn (Ok _) room held held' t t' fits spent = tt
+fill_turn (Err e) room held held' t t' fits spent = more_turns room held held' t t' fits spent
+
+-- a read that went past the buffer to the inner reader
+pub through_told : (r : Result ℕ Error) (buf held held' : List ℕ) (E E' : List Event) → length held ≡ 0 → held' ≡ [] → Reads E r buf E'
+    → Reads (events_of held ++ E) r buf (events_of held' ++ E')
+through_told r buf held held' E E' none empty read =
+    let after : Reads E r buf (events_of held' ++ E') = subst (Reads E r buf) (sym (ap (λ l. events_of l ++ E') empty)) read in
+    subst (λ l. Reads l r buf (events_of held' ++ E')) (sym (nothing_held held E none)) after
+
+-- a read that spends an inner turn spends one of the whole reader, where at most a full buffer is held then
+pub through_turn : (r : Result ℕ Error) (room held held' t t' : ℕ) → held' ≤ room → SpendsTurn r t t'
+    → SpendsTurn r (held + (room + 1) * t) (held' + (room + 1) * t')
+through_turn (Ok n) room held held' t t' fits spent = λ some. more_turns room held held' t t' fits (spent some)
+through_turn (Err e) room held held' t t' fits spent = more_turns room held held' t t' fits spent
+
+-- an empty list is sound wherever it stands
+pub sound_none : (held : List ℕ) (position : ℕ) (content : List ℕ) → held ≡ [] → IsSound held position content
+sound_none held position content empty = subst (λ l. IsSound l position content) (sym empty) (omega arith, refl)
+
+-- what lies behind after a read past the buffer, and after one out of it
+pub behind_past : (room len : ℕ) (got behind : List ℕ) → room ≤ len → behind ≡ [] → behind ≡ behind_anew room len got
+behind_past room len got behind past empty = empty ∙ sym (ap (λ b. if b then [] else got) (is_past room len past))
+
+-- after a read that asks for less than a full buffer, what it gave lies behind
+pub behind_own : (room len : ℕ) (got behind : List ℕ) → len < room → behind ≡ got → behind ≡ behind_anew room len got
+behind_own room len got behind own is = is ∙ sym (ap (λ b. if b then [] else got) (is_own room len own))
+
+-- an error is no `Ok`
+pub not_ok : (e : Error) → IsOk {T = Unit {0}} {E = Error} (Err e) → ⊥
+not_ok e is = let no : ⊥ = cc in no

@@ -1,0 +1,173 @@
+-- A buffer that is emptied into a vector, before the inner reader appends the rest.
+use Rattle.std.proofs.Common.{◌≡◌, ℕ, ◌+◌, ◌-◌, ◌*◌, ◌<◌, ◌≤◌, Bool, true, Some, List, [], ◌++◌, length, take, drop, Ok, Err}
+use Rattle.std.proofs.Common.{refl, sym, ap, subst, ◌∙◌, arith, take_all, take-append-drop, append-nil, append_assoc}
+use Rattle.std.proofs.Common.{length-append}
+use lib.Seq.{take-append-le}
+use Rattle.std.proofs.Math.Seq.{drop-append_seam}
+use Rattle.no_std_io2_base.specs.declared.error.Error.{Error}
+use Rattle.no_std_io2_base.specs.Errors.{IsOutOfMemory}
+use Rattle.no_std_io2_base.specs.Events.{Event, events_of, bytes, FillsRoom, ReadsToEnd}
+use Rattle.no_std_io2_base.specs.Pieces.{bytes_to_fault, first_fault}
+use Rattle.no_std_io2_base.specs.ReadLaws.{HasRoom}
+use Rattle.no_std_io2_base.specs.Slices.{HasMoved}
+use Rattle.no_std_io2_base.specs.Writes.{IsFront}
+use Rattle.no_std_io2_base.proofs.ChainReads.{room_of_second}
+use Rattle.no_std_io2_base.proofs.Events.{bytes-events_of, HasNoFault-events_of}
+use Rattle.no_std_io2_base.proofs.GivenPieces.{first_fault-append, bytes_to_fault-append}
+use Rattle.no_std_io2_base.proofs.Gathered.{Gathered, gathered_all, gathered_stop, gathered_then, gathered_then_failed}
+use Rattle.no_std_io2_base.proofs.ReadsToEndExits.{front_then, stopped_first}
+use Rattle.no_std_io2_base.proofs.SliceReads.{moved_part}
+use Rattle.no_std_io2_base.proofs.TakenToEnd.{gathered_done}
+use Rattle.no_std_io2.specs.Buffer.{IsSound}
+use Rattle.no_std_io2.proofs.BufReaderBehind.{sound_held}
+use Rattle.no_std_io2.proofs.BufReaderExact.{length-events}
+
+-- all that was held was appended
+pub moved_all : (held held' old mid : List ℕ) → HasMoved held held' old mid → held' ≡ [] → mid ≡ old ++ held
+moved_all held held' old mid moved none =
+    moved.2 ∙ ap (λ l. old ++ l) (sym (moved.1 ∙ ap (λ l. moved.0 ++ l) none ∙ append-nil moved.0))
+
+-- what was shown of the held bytes was moved, and then as many of these were dropped as are gone from it
+pub moved_from : {shown rest held left : List ℕ} {n : ℕ} (old : List ℕ) {new : List ℕ} → shown ≡ held → HasMoved shown rest old new
+    → n ≡ length held - length rest → left ≡ drop n held → HasMoved held left old new
+moved_from {rest} {held} {n} old same moved count cut =
+    let x = moved.0 in
+    let split : held ≡ x ++ rest = sym same ∙ moved.1 in
+    let is : n ≡ length x = omega (arith, count, ap length split, length-append x rest) in
+    let left_is = cut ∙ ap (λ k. drop k held) is ∙ ap (drop (length x)) split ∙ drop-append_seam x rest in
+    (x, split ∙ ap (λ l. x ++ l) (sym left_is), moved.2)
+
+-- bytes that are dropped from the front of the held ones stand behind them
+pub kept_in_all : (n : ℕ) (behind held : List ℕ) {behind' left : List ℕ} → behind' ≡ behind ++ take n held → left ≡ drop n held
+    → behind' ++ left ≡ behind ++ held
+kept_in_all n behind held {left} b cut =
+    ap (λ l. l ++ left) b ∙ append_assoc behind (take n held) left ∙ ap (λ l. behind ++ (take n held ++ l)) cut
+    ∙ ap (λ l. behind ++ l) (take-append-drop n held)
+
+-- once what was held is appended, it is gone from the events, and those behind it are left
+emptied : (held old mid : List ℕ) (E : List Event) → mid ≡ old ++ held → Gathered (events_of held ++ E) old mid E
+emptied held old mid E is = record {
+  front = events_of held;
+  split = refl;
+  no_fault = HasNoFault-events_of held;
+  gave = is ∙ ap (λ l. old ++ l) (sym (bytes-events_of held));
+}
+
+-- and then the rest, in two parts
+pub emptied_all : (held held' old : List ℕ) {mid then new : List ℕ} {E E' after : List Event} {at_end : Bool} {n k : ℕ}
+    → mid ≡ old ++ held → held' ≡ []
+    → FillsRoom E (Ok at_end) mid then after → ReadsToEnd after (Ok n) then new E' → k ≡ length new - length old
+    → ReadsToEnd (events_of held ++ E) (Ok k) old new (events_of held' ++ E')
+emptied_all held held' old {mid} {new} {E} {E'} {n} {k} is none more read count =
+    subst (λ l. ReadsToEnd (events_of held ++ E) (Ok k) old new (events_of l ++ E')) (sym none)
+    (gathered_all n k (gathered_then (emptied held old mid E is) more) read count)
+
+-- or in the first of them
+pub emptied_done : (held held' old : List ℕ) {mid new : List ℕ} {E E' : List Event} {at_end : Bool} {k : ℕ} → mid ≡ old ++ held → held' ≡ []
+    → FillsRoom E (Ok at_end) mid new E' → at_end ≡ true → k ≡ length new - length old
+    → ReadsToEnd (events_of held ++ E) (Ok k) old new (events_of held' ++ E')
+emptied_done held held' old {mid} {new} {E} {E'} {k} is none more end count =
+    let left = more.4 end in
+    subst (λ l. ReadsToEnd (events_of held ++ E) (Ok k) old new (events_of l ++ E')) (sym none)
+    (gathered_done k (gathered_then (emptied held old mid E is) more) left left count)
+
+-- or what came before an error in the second
+pub emptied_stop : (held held' old : List ℕ) {mid then new : List ℕ} {E E' after : List Event} {at_end : Bool} {e : Error}
+    → mid ≡ old ++ held → held' ≡ []
+    → FillsRoom E (Ok at_end) mid then after → ReadsToEnd after (Err e) then new E'
+    → ReadsToEnd (events_of held ++ E) (Err e) old new (events_of held' ++ E')
+emptied_stop held held' old {mid} {new} {E} {E'} {e} is none more read =
+    subst (λ l. ReadsToEnd (events_of held ++ E) (Err e) old new (events_of l ++ E')) (sym none)
+    (gathered_stop e (gathered_then (emptied held old mid E is) more) read)
+
+-- or in the first
+pub emptied_failed : (held held' old : List ℕ) {mid new : List ℕ} {E E' : List Event} {e : Error} → mid ≡ old ++ held → held' ≡ []
+    → FillsRoom E (Err e) mid new E' → ReadsToEnd (events_of held ++ E) (Err e) old new (events_of held' ++ E')
+emptied_failed held held' old {mid} {new} {E} {E'} {e} is none read =
+    subst (λ l. ReadsToEnd (events_of held ++ E) (Err e) old new (events_of l ++ E')) (sym none)
+    (gathered_then_failed e (emptied held old mid E is) read)
+
+-- what the vector had stays at its front
+pub emptied_front : (held : List ℕ) {old mid : List ℕ} (new : List ℕ) {len n : ℕ} → len ≡ length old → n ≡ length mid
+    → mid ≡ old ++ held → take n new ≡ mid
+    → take len new ≡ old
+emptied_front held {old} {mid} new {len} long more is read =
+    let first : take len mid ≡ old =
+    ap (take len) is ∙ take-append-le len old held (omega (arith, long)) ∙ take_all len old (omega (arith, long)) in
+    front_then mid new (omega (arith, long, more, ap length is, length-append old held)) first read
+
+-- what the first part has appended stays at the front of the second
+pub emptied_then : {n k : ℕ} {mid then : List ℕ} (new : List ℕ) → n ≤ k → take n then ≡ mid → take k new ≡ then → take n new ≡ mid
+emptied_then {then} new grows first last = front_then then new grows first last
+
+-- and what was held stands behind what the vector had
+pub emptied_shown : (n : ℕ) {mid new whole : List ℕ} → mid ≡ whole → take n new ≡ mid → IsFront whole new
+emptied_shown n {new} is read = (drop n new, sym (take-append-drop n new) ∙ ap (λ l. l ++ drop n new) (read ∙ is))
+
+-- the vector is longer by what was held
+pub emptied_again : (held old : List ℕ) {mid : List ℕ} {len n : ℕ} → len ≡ length old → n ≡ length mid → mid ≡ old ++ held
+    → n ≡ len + length held
+emptied_again held old long more is = omega (arith, long, more, ap length is, length-append old held)
+
+-- the position moves by what is gone of the events
+pub emptied_moved : (held held' : List ℕ) (E E' : List Event) {p : ℕ} (p' : ℕ)
+    → length held ≤ p → held' ≡ [] → p' + length E' ≡ p + length E
+    → (p' - length held') + length (events_of held' ++ E') ≡ (p - length held) + length (events_of held ++ E)
+emptied_moved held held' E E' p' within none moved =
+    omega (arith, ap length none, length-events held E, length-events held' E', within, moved)
+
+-- room for all is room for what is held
+pub room_held : (held : List ℕ) (E : List Event) (len : ℕ) {capacity : ℕ} → HasRoom 32 (events_of held ++ E) len capacity
+    → capacity < len + length held + 32 → ⊥
+room_held held E len enough full =
+    let all = ap length (bytes_to_fault-append (events_of held) E (HasNoFault-events_of held))
+    ∙ length-append (bytes (events_of held)) (bytes_to_fault E) in
+    omega (arith, enough, full, all, ap length (bytes-events_of held))
+
+-- the first fault stands behind what is held
+pub held_fault : (held : List ℕ) (E : List Event) {e : Error} → first_fault E ≡ Some e → first_fault (events_of held ++ E) ≡ Some e
+held_fault held E is = first_fault-append (events_of held) E (HasNoFault-events_of held) ∙ is
+
+-- and behind what a part of the rest gave
+pub part_fault : {E after : List Event} (old : List ℕ) {new : List ℕ} {at_end : Bool} {e : Error} → FillsRoom E (Ok at_end) old new after
+    → first_fault after ≡ Some e → first_fault E ≡ Some e
+part_fault {after} old read is = ap first_fault read.1 ∙ first_fault-append read.0 after read.2 ∙ is
+
+-- and once what was held is appended, with no less capacity, there is room for all that comes behind it
+pub emptied_on : (held old : List ℕ) {mid : List ℕ} (E : List Event) {len capacity n capacity' : ℕ}
+    → HasRoom 32 (events_of held ++ E) len capacity
+    → len ≡ length old → n ≡ length mid → mid ≡ old ++ held → capacity ≤ capacity' → HasRoom 32 E n capacity'
+emptied_on held old E {len} {capacity} {n} {capacity'} enough long more is grows =
+    room_of_second (events_of held) E len capacity (length held) n capacity' enough (HasNoFault-events_of held)
+    (ap length (sym (bytes-events_of held))) (emptied_again held old long more is) grows
+
+-- where room for all that is held was refused, a front of it was appended
+pub part_refused : (held held' old : List ℕ) {new : List ℕ} (E : List Event) {e : Error} → HasMoved held held' old new → IsOutOfMemory e
+    → ReadsToEnd (events_of held ++ E) (Err e) old new (events_of held' ++ E)
+part_refused held held' old {new} E {e} moved refused =
+    stopped_first (events_of held) E old new (events_of held') e
+    (moved_part old moved refused)
+
+-- what the vector had stays at its front, where a front of what is held was appended
+pub part_front : (held held' : List ℕ) {old new : List ℕ} {len : ℕ}
+    → len ≡ length old → HasMoved held held' old new → take len new ≡ old
+part_front held held' {old = old} {len = len} long moved =
+    ap (take len) moved.2 ∙ take-append-le len old moved.0 (omega (arith, long)) ∙ take_all len old (omega (arith, long))
+
+-- where held bytes go to a vector and the inner reader's turns stay, the reader has no more turns than before
+pub part_turns : (held held' old : List ℕ) {new : List ℕ} (room turns : ℕ) → HasMoved held held' old new
+    → length held' + (room + 1) * turns ≤ length held + (room + 1) * turns
+part_turns held held' old room turns moved = omega (arith, ap length moved.1, length-append moved.0 held')
+
+-- where the held bytes are the content's that end at the position, so are those that are left of them
+pub part_sound : (held held' old : List ℕ) {new : List ℕ} {position : ℕ} (content : List ℕ) → HasMoved held held' old new
+    → IsSound held position content
+    → IsSound held' position content
+part_sound held held' old {position} content moved sound =
+    sound_held moved.0 held' position content (subst (λ l. IsSound l position content) moved.1 sound)
+
+-- the position moves by the held bytes that are gone of the events
+pub part_moved : (held held' old : List ℕ) {new : List ℕ} (E : List Event) {p : ℕ} → length held ≤ p → HasMoved held held' old new
+    → (p - length held') + length (events_of held' ++ E) ≡ (p - length held) + length (events_of held ++ E)
+part_moved held held' old E within moved =
+    omega (arith, within, length-events held E, length-events held' E, ap length moved.1, length-append moved.0 held')

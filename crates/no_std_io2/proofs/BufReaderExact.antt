@@ -1,0 +1,243 @@
+-- How far an exact read has come.
+use Rattle.std.proofs.Common.{◌≡◌, ℕ, ◌+◌, ◌-◌, ◌<◌, ◌≤◌, List, [], ◌∷◌, ◌++◌, length, take, min, Ok, sym, ap, ◌∙◌}
+use Rattle.std.proofs.Common.{nat_le, if◌then◌else◌, ⊎_elim, length-take-le, arith, length-append, append-nil, inl}
+use Rattle.std.proofs.Common.{subst, drop_of_length-le, take_all}
+use Rattle.std.proofs.lemmas.Bool.{cases_lt}
+use Rattle.std.proofs.lemmas.Bool.Decides.{nat_tests}
+use Rattle.no_std_io2.proofs.BufferTests.{is_past, is_own}
+use Rattle.no_std_io2_base.specs.declared.error.Error.{Error}
+use Rattle.no_std_io2_base.specs.Errors.{IsUnexpectedEnd}
+use Rattle.no_std_io2_base.specs.Events.{Event, fails, events_of, bytes, HasNoFault, cut, Reads, Fills, FallsShort}
+use Rattle.no_std_io2_base.proofs.Events.{length-events_of, events_of-append, bytes-events_of, HasNoFault-events_of, cut-bytes}
+use Rattle.no_std_io2_base.proofs.Taken.{Taken, taken_fills, no_error}
+use Rattle.no_std_io2.specs.Buffer.{IsEnd}
+use Rattle.no_std_io2.specs.BufReader.{held_or_to_come, exact_reads, exact_left, behind_anew}
+
+-- Over a filling reader: `all` bytes were to come, `held` of them held, and `len` are asked for; `at` of them were given.
+pub record Exact (room len held all at now_held now_inner : ℕ) : Type 0 where
+  pub begun : held ≤ at
+  pub total : now_held + now_inner + at ≡ all
+  pub none : at ≡ held → now_held ≡ 0
+  pub read : held < at → at ≡ min len all
+  pub left : held < at → now_held ≡ exact_left room len held all
+
+-- how many bytes lie behind while an exact read of `len` bytes, of which `held` were, has given `at` and read once or more
+abbrev pub behind_so_far : ℕ → ℕ → ℕ → ℕ → ℕ
+behind_so_far room len held at = if nat_le room (len - held) then 0 else at - held
+
+-- the held bytes were given first
+pub exact_begins : {room len held all at now_held now_inner : ℕ} → at ≡ held → now_held ≡ 0
+    → now_held + now_inner + at ≡ all → Exact room len held all at now_held now_inner
+exact_begins begun none total = record {
+  begun = omega arith;
+  total = total;
+  none = λ _. none;
+  read = λ h. absurd (omega arith);
+  left = λ h. absurd (omega arith);
+}
+
+-- while room is left, nothing is held
+pub exact_none : (room len held all at now_held now_inner : ℕ) → Exact room len held all at now_held now_inner → at < len → now_held ≡ 0
+exact_none room len held all at now_held now_inner t more =
+    let begun = t.begun in
+    let total = t.total in
+    let none = t.none in
+    let read = t.read in
+    grind arith
+
+-- where bytes still come, none were read yet
+pub exact_first : (room len held all at now_held now_inner n : ℕ) → Exact room len held all at now_held now_inner
+    → at < len → n ≡ min (len - at) now_inner → 0 < n → held < len → at ≡ held
+exact_first room len held all at now_held now_inner n t more is some short =
+    let zero : now_held ≡ 0 = exact_none room len held all at now_held now_inner t more in
+    let begun = t.begun in
+    let total = t.total in
+    let read = t.read in
+    grind arith
+
+-- one read, straight into the buffer or over the own one
+pub exact_read : {room len held all at now_held now_inner : ℕ} (n next_held next_inner : ℕ)
+    → Exact room len held all at now_held now_inner → at < len
+    → n ≡ min (len - at) now_inner → (room ≤ len - at → next_held ≡ 0) → (len - at < room → next_held + n ≡ min room now_inner)
+    → next_held + next_inner + n ≡ now_held + now_inner → 0 < n → held < len → Exact room len held all (at + n) next_held next_inner
+exact_read {room} {len} {held} {all} {at} {now_held} {now_inner} n next_held next_inner t more is direct filled moved some short =
+    let zero : now_held ≡ 0 = exact_none room len held all at now_held now_inner t more in
+    let first : at ≡ held = exact_first room len held all at now_held now_inner n t more is some short in
+    let whole : at + n ≡ min len all = omega (arith, t.total) in record {
+      begun = omega arith;
+      total = omega (arith, t.total);
+      none = λ h. absurd (omega arith);
+      read = λ _. whole;
+      left = λ _. grind (arith, nat_tests);
+    }
+
+-- a read that found nothing held left an end of what it gave behind, less than a full buffer
+pub read_ends : (room at rest n : ℕ) (buf buf' got behind : List ℕ) → behind ≡ behind_anew room rest (take n got) → 0 < room
+    → n ≤ length got → n ≤ rest → take (at + n) buf' ≡ take at buf ++ take n got
+    → IsEnd (take (at + n) buf') behind × (length behind < room)
+read_ends room at rest n buf buf' got behind is some fits within shown = ⊎_elim
+    (λ own.
+    let last = is ∙ ap (λ b. if b then [] else take n got) (is_own room rest own) in (
+      (take at buf, shown ∙ ap (λ l. take at buf ++ l) (sym last)),
+      omega (arith, ap length last, length-take-le n got fits),
+    ))
+    (λ past.
+    let none = is ∙ ap (λ b. if b then [] else take n got) (is_past room rest past) in (
+      (take (at + n) buf', sym (append-nil _) ∙ ap (λ l. take (at + n) buf' ++ l) (sym none)),
+      omega (arith, ap length none, some),
+    ))
+    (cases_lt rest room)
+
+-- and it is as long as that, where it was the first read
+pub read_behind : (room len held at n : ℕ) (rest : ℕ) (got behind : List ℕ) → behind ≡ behind_anew room rest (take n got)
+    → n ≤ length got → at ≡ held → rest ≡ len - at → length behind ≡ behind_so_far room len held (at + n)
+read_behind room len held at n rest got behind is fits first left =
+    let long = length-take-le n got fits in
+    ⊎_elim
+    (λ own.
+    let last = is ∙ ap (λ b. if b then [] else take n got) (is_own room rest own) in
+    let count : at + n - held ≡ n = omega (arith, first) in
+    ap length last ∙ long ∙ sym count
+    ∙ sym (ap (λ b. if b then 0 else at + n - held) (is_own room (len - held) (omega (arith, own, left, first)))))
+    (λ past.
+    let none = is ∙ ap (λ b. if b then [] else take n got) (is_past room rest past) in
+    ap length none ∙ sym (ap (λ b. if b then 0 else at + n - held) (is_past room (len - held) (omega (arith, past, left, first)))))
+    (cases_lt rest room)
+
+-- a read that gave nothing left nothing behind
+pub none_behind : (room rest n : ℕ) (got behind : List ℕ) → behind ≡ behind_anew room rest (take n got) → n ≡ 0 → behind ≡ []
+none_behind room rest n got behind is zero = ⊎_elim
+    (λ own. is ∙ ap (λ b. if b then [] else take n got) (is_own room rest own) ∙ ap (λ k. take k got) zero)
+    (λ past. is ∙ ap (λ b. if b then [] else take n got) (is_past room rest past))
+    (cases_lt rest room)
+
+-- how many inner reads it took
+pub exact_end : {room len held all at now_held now_inner : ℕ} → Exact room len held all at now_held now_inner → len ≤ at
+    → held < len → exact_reads len held all ≡ min 1 (at - held)
+exact_end {len} {all} {at} t done short =
+    let whole : at ≡ min len all = t.read (omega arith) in
+    grind (arith, nat_tests)
+
+-- where the end came before the buffer was full, it took one inner read more, which met the end
+pub exact_short : {room len held all at now_held now_inner : ℕ} → Exact room len held all at now_held now_inner
+    → at < len → now_inner ≡ 0 → held < len → exact_reads len held all ≡ min 1 (at - held) + 1
+exact_short {room = room} {len = len} {held = held} {all = all} {at = at} {now_held = now_held} {now_inner = now_inner} t more end short =
+    let zero : now_held ≡ 0 = exact_none room len held all at now_held now_inner t more in
+    let whole : at ≡ all = omega (arith, t.total) in
+    let begun = t.begun in
+    grind (arith, nat_tests)
+
+-- nothing is held then
+pub exact_left-short : (room len held all : ℕ) → all < len → held ≤ all → exact_left room len held all ≡ 0
+exact_left-short room len held all short within = grind (arith, nat_tests)
+
+-- the first bytes that were taken, fewer than there is room
+pub taken_first : {E : List Event} {room : ℕ} (more : List ℕ) {rest : List Event} → E ≡ events_of more ++ rest
+    → length more < room → Taken E room more rest
+taken_first {E = E} more is short = record {
+  front = events_of more;
+  split = is;
+  no_fault = HasNoFault-events_of more;
+  gave = bytes-events_of more;
+  full = λ h. absurd (omega arith);
+}
+
+-- held bytes, and the events behind them, are together as many events as both have
+pub length-events : (held : List ℕ) (E : List Event) → length (events_of held ++ E) ≡ length held + length E
+length-events held E = length-append (events_of held) E ∙ ap (λ n. n + length E) (length-events_of held)
+
+-- as many fewer are held and to come as were given
+pub moved_length : (held held' got : List ℕ) (E E' : List Event) (n : ℕ)
+    → events_of held ++ E ≡ events_of got ++ (events_of held' ++ E') → length got ≡ n
+    → length held' + length E' + n ≡ length held + length E
+moved_length held held' got E E' n is long =
+    let all : length held + length E ≡ length got + (length held' + length E') =
+    sym (length-events held E) ∙ ap length is ∙ length-events got (events_of held' ++ E')
+    ∙ ap (λ k. length got + k) (length-events held' E') in
+    omega arith
+
+-- a list of length 0 is empty
+pub no_bytes : (xs : List ℕ) → length xs ≡ 0 → xs ≡ []
+no_bytes xs h = drop_of_length-le xs {i = 0} (omega arith)
+
+-- with nothing held, a read gives of what is to come
+pub gives_to_come : (held to_come : ℕ) → held ≡ 0 → held_or_to_come held to_come ≡ to_come
+gives_to_come held to_come h = ap (λ k. held_or_to_come k to_come) h
+
+-- with some held, it gives of those
+pub gives_held : (held to_come : ℕ) → 0 < held → held_or_to_come held to_come ≡ held
+gives_held held to_come some = grind (arith, nat_tests)
+
+-- held bytes before the bytes of a store hold no error
+pub no_error_behind : (held bs : List ℕ) {E E' : List Event} {e : Error} → E ≡ events_of bs → events_of held ++ E ≡ fails e ∷ E' → ⊥
+no_error_behind held bs is read =
+    no_error (held ++ bs)
+    (ap (λ l. events_of held ++ l) is ∙ sym (events_of-append held bs)) read
+
+-- a read of no byte took nothing
+pub nothing_read : (E E' : List Event) (n : ℕ) (buf : List ℕ) → Reads E (Ok n) buf E' → n ≡ 0 → E ≡ E'
+nothing_read E E' n buf read zero = read.0 ∙ ap (λ m. events_of (take m buf) ++ E') zero
+
+-- the end came before the buffer was full
+pub taken_end : {E : List Event} {room most : ℕ} {got : List ℕ} {after : List Event} (e : Error) (rest : List Event) (n : ℕ) (buf : List ℕ)
+    → Taken E room got after → Reads after (Ok n) buf rest → n ≡ 0 → 0 < length buf → IsUnexpectedEnd e
+    → length got < most → FallsShort ⊥ E most e rest
+taken_end {E} {most} {after} e rest n buf t read zero some kind short =
+    let end : after ≡ [] = read.1 zero some in
+    let whole : E ≡ t.front = t.split ∙ ap (λ l. t.front ++ l) end ∙ append-nil t.front in
+    record {
+      no_fault = subst HasNoFault (sym whole) t.no_fault;
+      short = subst (λ l. length l < most) (sym (ap bytes whole ∙ t.gave)) short;
+      answer = kind;
+      left = inl (sym (nothing_read after rest n buf read zero) ∙ end);
+    }
+
+-- the whole buffer was filled
+pub taken_whole : {E : List Event} {room : ℕ} (at : ℕ) (buf : List ℕ) {after : List Event}
+    → Taken E room (take at buf) after
+    → length buf ≤ at → length buf ≡ room → Fills E buf after
+taken_whole {E = E} {room = room} at buf {after = after} t full long =
+    let whole : take at buf ≡ buf = take_all at buf full in
+    subst (λ l. Fills E l after) whole (taken_fills E room (take at buf) after t (ap length whole ∙ long))
+
+-- what is left after a read of no byte over a filling reader
+pub exact_left-end : (room : ℕ) {len held all at now_held now_inner : ℕ} (next_held rest : ℕ)
+    → Exact room len held all at now_held now_inner → at < len → now_inner ≡ 0
+    → (room ≤ rest → next_held ≡ 0) → (rest < room → next_held + 0 ≡ min room now_inner) → held < len
+    → (next_held ≡ exact_left room len held all) × (0 ≡ all - len)
+exact_left-end room {len} {held} {all} {at} {now_held} {now_inner} next_held rest t more end direct filled short =
+    let zero : now_held ≡ 0 = exact_none room len held all at now_held now_inner t more in
+    let begun = t.begun in
+    let whole : at ≡ all = omega (arith, t.total) in
+    let left : exact_left room len held all ≡ 0 = exact_left-short room len held all (omega arith) (omega arith) in
+    let none : next_held ≡ 0 = grind arith in
+    (none ∙ sym left, omega arith)
+
+-- what is left once the buffer is full
+pub exact_left-full : {room len held all at now_held now_inner : ℕ} (next : ℕ) → Exact room len held all at now_held now_inner
+    → len ≤ at → held < len → next ≡ now_held + now_inner
+    → (now_held ≡ exact_left room len held all) × (next ≡ all - len)
+exact_left-full {len} {all} {at} next t full short is =
+    let whole : at ≡ min len all = t.read (omega arith) in
+    (t.left (omega arith), omega (arith, t.total))
+
+-- a front of bytes fills a buffer of its length
+pub fills_front : (E rest : List Event) (got : List ℕ) → E ≡ events_of got ++ rest → Fills E got rest
+fills_front E rest got is =
+    let none : length got - length got ≡ 0 = omega arith in
+    let front : cut (length got) E ≡ events_of got =
+    ap (cut (length got)) is ∙ cut-bytes got rest (length got) (omega arith)
+    ∙ ap (λ n. events_of got ++ cut n rest) none ∙ append-nil (events_of got) in
+    record {
+      split = is ∙ ap (λ l. l ++ rest) (sym front);
+      no_fault = subst HasNoFault (sym front) (HasNoFault-events_of got);
+      filled = ap bytes front ∙ bytes-events_of got;
+    }
+
+-- where enough is held, that many bytes less are held
+pub exact_left-held : (room len held all next : ℕ) → len ≤ held → next ≡ held - len → next ≡ exact_left room len held all
+exact_left-held room len held all next fits is = grind (arith, nat_tests)
+
+-- and no inner read is made
+pub exact_reads-held : (len held all : ℕ) → len ≤ held → exact_reads len held all ≡ 0
+exact_reads-held len held all fits = grind (arith, nat_tests)

@@ -1,0 +1,78 @@
+-- A fill from a store.
+use Rattle.std.proofs.Common.{◌≡◌, ℕ, suc, ◌+◌, ◌-◌, ◌<◌, ◌≤◌, List, [], ◌∷◌, ◌++◌, Ok, Err, Result, length, take, drop}
+use Rattle.std.proofs.Common.{slice_index_or, sym, ap, subst, ◌∙◌, arith, refl, length-drop, take-append-drop}
+use Rattle.std.proofs.Common.{append_assoc}
+use Rattle.std.proofs.lemmas.List.{drop-drop, drop-take}
+use Rattle.std.proofs.Math.Seq.{drop-cons}
+use Rattle.no_std_io2_base.proofs.Events.{events_of-append}
+use Rattle.no_std_io2_base.specs.Events.{Event, events_of}
+use Rattle.no_std_io2_base.specs.declared.error.Error.{Error}
+use Rattle.no_std_io2_base.specs.Lending.{BeginsWith}
+use Rattle.no_std_io2_base.proofs.Taken.{no_error}
+use Rattle.no_std_io2.specs.Buffer.{ReadsAhead, IsSound}
+use Rattle.no_std_io2.specs.BufReader.{sound_fill, sound_drop}
+
+-- what one read at a store's position gave is held as the store's own bytes, right before the new
+-- position, and begins at the old one
+pub sound_read : (held : List ℕ) (position position' : ℕ) (content content' : List ℕ) (E E' : List Event)
+    → E ≡ events_of (drop position content)
+    → E ≡ events_of held ++ E' → position' ≡ position + length held → content' ≡ content
+    → IsSound held position' content' × (position' - length held ≡ position)
+sound_read held position position' content content' E E' is read moved same =
+    let here : IsSound held position' content =
+    subst (λ p. IsSound held p content) (sym moved) (sound_fill held position content E E' is read) in
+    (subst (IsSound held position') (sym same) here, omega arith)
+
+-- what was read ahead at the position of a store, which has no error
+pub sound_ahead : {A : Type 0} (r : Result A Error) (held : List ℕ) {position position' : ℕ} {content content' : List ℕ}
+    {E : List Event} (E' : List Event)
+    → E ≡ events_of (drop position content)
+    → ReadsAhead E r held E' → position' ≡ position + length held → content' ≡ content
+    → IsSound held position' content' × (position' - length held ≡ position)
+sound_ahead (Ok _) held {position} {position'} {content} {content'} {E} E' is read moved same =
+    sound_read held position position' content content' E E' is read.0 moved same
+sound_ahead (Err e) held {position} {content} E' is read moved same =
+    absurd (no_error (drop position content) is read)
+
+-- with nothing held, the position is the inner's
+pub position_none : (position : ℕ) (held : List ℕ) → length held ≡ 0 → position - length held ≡ position
+position_none position held h = omega arith
+
+-- the first of the bytes between two places
+pub held_first : (all : List ℕ) (start end : ℕ) → start < end → end ≤ length all
+    → take 1 (take (end - start) (drop start all)) ≡ slice_index_or all start 0 ∷ []
+held_first all start end some within =
+    let k = end - (start + 1) in
+    let count : end - start ≡ suc k = omega arith in
+    ap (λ n. take 1 (take n (drop start all))) count ∙ ap (λ l. take 1 (take (suc k) l)) (drop-cons all start 0 (omega arith))
+
+-- what is left held behind the first n
+pub held_rest : (buf : List ℕ) (pos cap n : ℕ) → n ≤ cap - pos
+    → take (cap - (pos + n)) (drop (pos + n) buf) ≡ drop n (take (cap - pos) (drop pos buf))
+held_rest buf pos cap n fits =
+    let split : cap - pos ≡ n + (cap - (pos + n)) = omega arith in
+    sym
+    (ap (λ k. drop n (take k (drop pos buf))) split ∙ drop-take n (cap - (pos + n)) (drop pos buf)
+    ∙ ap (take (cap - (pos + n))) (drop-drop n pos buf))
+
+-- what was given stands first, and then what is still held
+pub give_events : (held rest got : List ℕ) (E : List Event) (n : ℕ) → rest ≡ drop n held → got ≡ take n held
+    → events_of held ++ E ≡ events_of got ++ (events_of rest ++ E)
+give_events held rest got E n is front =
+    ap (λ l. events_of l ++ E) (sym (take-append-drop n held))
+    ∙ ap (λ l. l ++ E) (events_of-append (take n held) (drop n held))
+    ∙ append_assoc (events_of (take n held)) (events_of (drop n held)) E
+    ∙ ap (λ l. events_of l ++ (events_of (drop n held) ++ E)) (sym front) ∙ ap (λ l. events_of got ++ (events_of l ++ E)) (sym is)
+
+-- where held bytes are the store's own, those left behind the first n are too, and begin n bytes further on
+pub give_sound : (held rest : List ℕ) (position : ℕ) (content : List ℕ) (n : ℕ) → rest ≡ drop n held → n ≤ length held
+    → IsSound held position content
+    → IsSound rest position content × (position - length rest ≡ (position - length held) + n)
+give_sound held rest position content n is fits s = (
+  subst (λ l. IsSound l position content) (sym is) (sound_drop held position content n s fits),
+  omega (arith, s.0, ap length is, length-drop n held),
+)
+
+-- events that have the held bytes in front begin with them
+pub begins_held : (held : List ℕ) (E : List Event) → BeginsWith (events_of held ++ E) held
+begins_held held E = record { rest = E; is = refl }

@@ -1,0 +1,39 @@
+-- What lies behind while pieces are lent and taken.
+use Rattle.std.proofs.Common.{◌≡◌, ℕ, ◌≤◌, List, [], ◌++◌, length, take, drop, Result, Ok, sym, ap, subst, ◌∙◌}
+use Rattle.std.proofs.Common.{arith, ⊎_elim, append_assoc}
+use Rattle.std.proofs.lemmas.Bool.{cases_lt}
+use Rattle.std.proofs.lemmas.List.{drop-append-le}
+use Rattle.std.specs.Borrow.{Bor}
+use Rattle.no_std_io2_base.specs.declared.error.Error.{Error}
+use Rattle.no_std_io2_base.specs.Lending.{IsNotEmpty, Lends}
+use Rattle.no_std_io2.specs.Buffer.{IsEnd}
+use Rattle.no_std_io2.proofs.BufReaderExact.{no_bytes}
+use Rattle.no_std_io2.proofs.BufWriterLemmas.{IsEnd-none, IsEnd-held}
+
+-- a fill leaves what lies behind, or empties it
+pub trail_filled : {whole behind behind' held : List ℕ} → IsEnd whole behind → (IsNotEmpty held → behind' ≡ behind)
+    → (held ≡ [] → behind' ≡ []) → IsEnd whole behind'
+trail_filled {whole} {behind} {behind'} {held} end kept read = ⊎_elim
+    (λ some. subst (IsEnd whole) (sym (kept some)) end)
+    (λ none. IsEnd-none whole behind' (read (no_bytes held (omega (arith, none)))))
+    (cases_lt 0 (length held))
+
+-- what is taken of the lent bytes is appended there, and lies behind
+pub trail_taken : (front items items' : List ℕ) (len n : ℕ) {behind behind' held lent : List ℕ} → IsEnd (front ++ drop len items) behind
+    → len ≤ length items → held ≡ lent → items' ≡ items ++ take n lent → behind' ≡ behind ++ take n held
+    → IsEnd (front ++ drop len items') behind'
+trail_taken front items items' len n {behind} {behind'} {held} {lent} end fits same more taken =
+    let part = take n lent in
+    subst (λ l. IsEnd l behind')
+    (append_assoc front (drop len items) part ∙ ap (λ l. front ++ l) (sym (drop-append-le len items part fits))
+    ∙ ap (λ l. front ++ drop len l) (sym more))
+    (IsEnd-held (front ++ drop len items) behind behind' part end (taken ∙ ap (λ l. behind ++ take n l) same))
+
+-- what is held is what was lent
+pub lent_held : {reply : Result (Bor (List ℕ)) Error} (s : Bor (List ℕ)) (held : List ℕ) → reply ≡ Ok s → Lends reply held → held ≡ s.now
+lent_held s held is lends = subst (λ r. Lends r held) is lends
+
+-- where nothing was appended it stays
+pub trail_same : (front : List ℕ) {items items' : List ℕ} (len : ℕ) {behind : List ℕ} → items' ≡ items
+    → IsEnd (front ++ drop len items) behind → IsEnd (front ++ drop len items') behind
+trail_same front len {behind} same end = subst (λ l. IsEnd (front ++ drop len l) behind) (sym same) end

@@ -1,0 +1,322 @@
+-- The three ends of a write through a buffer: what was held could not be sent, the bytes go past it, or they are held.
+use Rattle.std.proofs.Common.{◌≡◌, false, true, ℕ, ◌+◌, ◌<◌, ◌≤◌, ◌∙◌, List, [], ◌++◌, length, Result, Ok, Err, Some}
+use Rattle.std.proofs.Common.{IfOk, OnOk, refl, sym, ap, subst, inl, inr, arith, le_refl, take_all, append-nil, ⊎_elim}
+use Rattle.std.proofs.lemmas.Bool.{cases_lt}
+use Rattle.std.proofs.lemmas.Bool.Decides.{nat_tests}
+use Rattle.no_std_io2_base.specs.declared.error.Error.{Error}
+use Rattle.no_std_io2_base.specs.Errors.{IsNoInterruption}
+use Rattle.no_std_io2_base.specs.Writes.{Told, Moves, MovesFront, taken, write_mishap, call_mishap, calls_for}
+use Rattle.no_std_io2_base.proofs.MovesLemmas.{IsFront-refl, Moves-then, Moves-ends, zero_write-whole}
+use Rattle.no_std_io2.specs.declared.buffered.sender.Sender.{Sender}
+use Rattle.no_std_io2.specs.BufWriter.{sender_inner, sender_buffer, sender_told, sender_with_inner, way_calls}
+use Rattle.no_std_io2.specs.BufWriter.{writing_calls, buffer_after, Sent, MakesWay, Buffers, BuffersAll, Flushes}
+use Rattle.no_std_io2.proofs.BufWriterLemmas.{Moves-kept, Moves-passed, Moves-sent, Moves-sent_part, Moves-out}
+use Rattle.no_std_io2.proofs.BufWriterLemmas.{none_of_length, IsEnd-none, IsEnd-held, call_steady}
+use Rattle.no_std_io2.proofs.LineWriterLemmas.{MovesFront-then, MovesFront-passed, onok, onok_map}
+
+-- the buffer after a write, case by case
+after_fits : (S : ℕ) (held x : List ℕ) → length x < S → length held + length x ≤ S → buffer_after S held x ≡ held ++ x
+after_fits S held x h g = grind (arith, nat_tests)
+
+-- a short text that doesn't fit beside what is held is held alone
+after_over : (S : ℕ) (held x : List ℕ) → length x < S → S < length held + length x → buffer_after S held x ≡ x
+after_over S held x h g = grind (arith, nat_tests)
+
+-- behind a text of S bytes and more nothing is held
+after_long : (S : ℕ) (held x : List ℕ) → S ≤ length x → buffer_after S held x ≡ []
+after_long S held x h = grind (arith, nat_tests)
+
+-- the inner calls of a write, case by case
+calls_short : (S : ℕ) (held x : List ℕ) → length x < S → writing_calls S held x ≡ way_calls S held (length x)
+calls_short S held x h = grind (arith, nat_tests)
+
+-- a write of S bytes and more takes one inner call more than it takes to make way
+calls_long : (S : ℕ) (held x : List ℕ) → S ≤ length x → writing_calls S held x ≡ way_calls S held (length x) + 1
+calls_long S held x h = grind (arith, nat_tests)
+
+-- to make way takes at most one inner call, and none where nothing is held
+way_calls-le : (S n : ℕ) (held : List ℕ) → way_calls S held n ≤ calls_for held
+way_calls-le S n held = grind (arith, nat_tests)
+
+-- to make way takes no inner call where n more bytes fit beside what is held
+way_calls-none : (S n : ℕ) (held : List ℕ) → length held + n ≤ S → way_calls S held n ≡ 0
+way_calls-none S n held h = grind (arith, nat_tests)
+
+-- to make way takes no inner call where nothing is held
+way_calls-empty : (S n : ℕ) (held : List ℕ) → length held ≡ 0 → way_calls S held n ≡ 0
+way_calls-empty S n held h = grind (arith, nat_tests)
+
+-- to make way takes one inner call where n more bytes don't fit and some are held, and none where none are
+way_calls-over : (S n : ℕ) (held : List ℕ) → S < length held + n → way_calls S held n ≡ calls_for held
+way_calls-over S n held h = grind (arith, nat_tests)
+
+-- some bytes are handed on by one call
+calls_for-some : (x : List ℕ) → 0 < length x → calls_for x ≡ 1
+calls_for-some x h = grind (arith, nat_tests)
+
+-- bytes, some or none, are handed on by at most one call
+calls_for-le : (x : List ℕ) → calls_for x ≤ 1
+calls_for-le x = grind (arith, nat_tests)
+
+-- an error is not `Ok`
+pub no_ok : {T : Type 0} → false ≡ true → T
+no_ok h = absurd (let no : ⊥ = cc in no)
+
+-- what follows from something that holds at `Ok` holds at `Ok` too
+onok_both : (r : Result (Unit {0}) Error) (P Q : Type 0) → OnOk r P → (P → Q) → OnOk r Q
+onok_both (Ok u) P Q p f = f p
+onok_both (Err e) P Q p f = tt
+
+-- what holds of every number holds of the one that an `Ok` answers
+ifok : {P : ℕ → Type 0} (r : Result ℕ Error) → ((n : ℕ) → P n) → IfOk r P
+ifok (Ok n) f = f n
+ifok (Err e) f = tt
+
+-- there is room beside what is held: nothing has to be sent
+pub way_kept : {W : Type 0} {S : ℕ} {told : W → Told} {takes_all is_metered : W → Type 0} {cost : W → ℕ} (old : Sender W S) (more : ℕ)
+    → length (sender_buffer old) + more ≤ S → MakesWay told takes_all is_metered cost old more (Ok tt) old
+way_kept {told} old more room = record {
+  fault = tt;
+  moves = Moves-kept told _ _ (sender_buffer old) (sender_buffer old) [] refl (sym (append-nil _));
+  rest = ([], refl);
+  room = λ _. room;
+  empty = λ long. none_of_length _ (omega (arith, long, room));
+  fits = λ _. (refl, refl, refl);
+  sent = λ over. absurd (omega (arith, over, room));
+  all = λ t. (t, refl);
+  calls = λ m t. (m, omega (arith, way_calls-none _ _ (sender_buffer old) room));
+}
+
+-- nothing is held: nothing has to be sent
+pub way_empty : {W : Type 0} {S : ℕ} {told : W → Told} {takes_all is_metered : W → Type 0} {cost : W → ℕ} (old mid : Sender W S) (more : ℕ)
+    → mid ≡ old → sender_buffer mid ≡ [] → MakesWay told takes_all is_metered cost old more (Ok tt) mid
+way_empty {S} {told} {takes_all} {is_metered} {cost} old mid more same none =
+    subst (λ w. MakesWay told takes_all is_metered cost w more (Ok tt) mid) same (record {
+      fault = tt;
+      moves = Moves-kept told _ _ (sender_buffer mid) (sender_buffer mid) [] refl (sym (append-nil _));
+      rest = ([], refl);
+      room = λ short. omega (arith, short, ap length none);
+      empty = λ _. none;
+      fits = λ _. (refl, refl, refl);
+      sent = λ _. none;
+      all = λ t. (t, refl);
+      calls = λ m t. (m, omega (arith, way_calls-empty S more (sender_buffer mid) (ap length none)));
+    })
+
+-- both fit
+pub way_free : {W : Type 0} {S : ℕ} {told : W → Told} {takes_all is_metered : W → Type 0} {cost : W → ℕ} (old : Sender W S) (x : List ℕ)
+    → length x < S → length (sender_buffer old) + length x ≤ S → MakesWay told takes_all is_metered cost old (length x) (Ok tt) old
+way_free old x short room = way_kept old (length x) room
+
+-- they don't, and what was held was sent
+pub way_sent : {W : Type 0} {S : ℕ} {told : W → Told} {takes_all is_metered : W → Type 0} {cost : W → ℕ} {r : Result (Unit {0}) Error}
+    (old new : Sender W S) (more : ℕ)
+    → Sent told takes_all is_metered cost old r new → S < length (sender_buffer old) + more
+    → MakesWay told takes_all is_metered cost old more r new
+way_sent {S} {cost} {r} old new more sent over =
+    let sends = sent.sends in
+    record {
+      fault = sent.fault;
+      moves = Moves-sent_part sends.sent _ _ sends.split sends.moves;
+      rest = (sends.sent, sends.split);
+      room = onok_map r _ _ (λ none short. omega (arith, short, ap length none)) sent.empty;
+      empty = onok_map r _ _ (λ none _. none) sent.empty;
+      fits = λ room. absurd (omega (arith, over, room));
+      sent = λ _. sent.empty;
+      all = sent.all;
+      calls = λ m t.
+          let spent = sent.calls m t in
+          (spent.0, spent.1 ∙ ap (λ n. cost (sender_inner old) + n) (sym (way_calls-over S more (sender_buffer old) over)));
+    }
+
+-- all that was held was sent, and the buffer is gone
+pub all_sent : {W : Type 0} {S : ℕ} {told : W → Told} {takes_all is_metered : W → Type 0} {cost : W → ℕ} {old mid : Sender W S}
+    {inner : W} {u : Unit {0}}
+    → Sent told takes_all is_metered cost old (Ok u) mid → inner ≡ sender_inner mid → Moves (sender_told told old) [] [] (told inner)
+all_sent {told} {old} sent same =
+    subst (λ w. Moves (sender_told told old) [] [] (told w)) (sym same)
+    (Moves-out {k = []} _ sent.sends.sent _ sent.sends.split sent.empty sent.sends.moves)
+
+-- `write`: sending failed, and nothing was accepted
+pub refused : {W : Type 0} {S : ℕ} {told : W → Told} {takes_all is_metered : W → Type 0} {cost : W → ℕ}
+    (old mid : Sender W S) (x : List ℕ) (e : Error)
+    → MakesWay told takes_all is_metered cost old (length x) (Err e) mid → Buffers told takes_all is_metered cost old x (Err e) mid
+refused old mid x e way = record {
+  bound = tt;
+  moves = way.moves;
+  rest = rw (append-nil (sender_buffer old)) way.rest;
+  fits = λ _ room. no_ok (way.fits room).0;
+  sent = λ _. tt;
+  whole = λ _. tt;
+  calm = λ _. way.fault;
+  all = λ t. no_ok (way.all t).1;
+  after = tt;
+  calls = λ _ t. no_ok (way.all t).1;
+}
+
+-- `write`: one inner write, past the empty buffer
+pub passed : {W : Type 0} {S : ℕ} {told : W → Told} {takes_all is_metered : W → Type 0} {cost : W → ℕ}
+    (old mid : Sender W S) (x : List ℕ) (r : Result ℕ Error) (inner : W)
+    → MakesWay told takes_all is_metered cost old (length x) (Ok tt) mid → S ≤ length x
+    → IfOk r (λ n. n ≤ length x)
+    → Moves (told (sender_inner mid)) (taken r x) (write_mishap r x) (told inner)
+    → (takes_all (sender_inner mid) → takes_all inner × (r ≡ Ok (length x)))
+    → (is_metered (sender_inner mid) → takes_all (sender_inner mid) → is_metered inner × (cost inner ≡ cost (sender_inner mid) + 1))
+    → Buffers told takes_all is_metered cost old x r (sender_with_inner mid inner)
+passed {S} old mid x r inner way long bound moves all calls =
+    let none = way.empty long in
+    record {
+      bound = bound;
+      moves = Moves-then {k = []} way.moves (Moves-passed (sender_buffer mid) none moves);
+      rest = IsEnd-none _ (sender_buffer mid) none;
+      fits = λ short. absurd (omega (arith, short, long));
+      sent = λ _. ifok r (λ n. IsEnd-none _ (sender_buffer mid) none);
+      whole = λ short. absurd (omega (arith, short, long));
+      calm = λ short. absurd (omega (arith, short, long));
+      all = λ t. all (way.all t).0;
+      after = onok r _ (none ∙ sym (after_long S (sender_buffer old) x long));
+      calls = λ m t.
+          let first = way.calls m t in
+          let then = calls first.0 (way.all t).0 in
+          (then.0, omega (arith, first.1, then.1, calls_long S (sender_buffer old) x long));
+    }
+
+-- what is held in the end, where x was put behind what was left
+held_after : {W : Type 0} {S : ℕ} {told : W → Told} {takes_all is_metered : W → Type 0} {cost : W → ℕ}
+    (old mid new : Sender W S) (x : List ℕ)
+    → MakesWay told takes_all is_metered cost old (length x) (Ok tt) mid → length x < S → sender_buffer new ≡ sender_buffer mid ++ x
+    → sender_buffer new ≡ buffer_after S (sender_buffer old) x
+held_after {S} old mid new x way short put = ⊎_elim
+    (λ over. put ∙ ap (λ l. l ++ x) (way.sent over) ∙ sym (after_over S (sender_buffer old) x short over))
+    (λ room. put ∙ ap (λ l. l ++ x) (way.fits room).2 ∙ sym (after_fits S (sender_buffer old) x short room))
+    (cases_lt S (length (sender_buffer old) + length x))
+
+-- `write`: x is held behind what was left
+pub held : {W : Type 0} {S : ℕ} {told : W → Told} {takes_all is_metered : W → Type 0} {cost : W → ℕ} (old mid new : Sender W S) (x : List ℕ)
+    → MakesWay told takes_all is_metered cost old (length x) (Ok tt) mid → length x < S
+    → sender_inner new ≡ sender_inner mid → sender_buffer new ≡ sender_buffer mid ++ x
+    → Buffers told takes_all is_metered cost old x (Ok (length x)) new
+held {S} {told} {takes_all} {is_metered} {cost} old mid new x way short same put =
+    let whole = take_all _ x (le_refl (length x)) in
+    record {
+      bound = le_refl _;
+      moves =
+          rw (whole, zero_write-whole x)
+          (Moves-then {k = []} way.moves (Moves-kept told _ _ (sender_buffer mid) (sender_buffer new) x same put));
+      rest = rw whole (IsEnd-held _ (sender_buffer mid) _ x way.rest put);
+      fits = λ _ room. let kept = way.fits room in (refl, same ∙ kept.1, put ∙ ap (λ l. l ++ x) kept.2);
+      sent = λ over. rw whole ([], sym (put ∙ ap (λ l. l ++ x) (way.sent over)));
+      whole = λ _. refl;
+      calm = λ _. tt;
+      all = λ t. (subst takes_all (sym same) (way.all t).0, refl);
+      after = held_after old mid new x way short put;
+      calls = λ m t.
+          let first = way.calls m t in
+          (subst is_metered (sym same) first.0, omega (arith, first.1, ap cost same, calls_short S (sender_buffer old) x short));
+    }
+
+-- `write_all`: sending failed, and nothing was accepted
+pub refused_all : {W : Type 0} {S : ℕ} {told : W → Told} {takes_all is_metered : W → Type 0} {cost : W → ℕ}
+    (old mid : Sender W S) (x : List ℕ) (e : Error)
+    → MakesWay told takes_all is_metered cost old (length x) (Err e) mid → BuffersAll told takes_all is_metered cost old x (Err e) mid
+refused_all old mid x e way = record {
+  fault = way.fault;
+  moves = record { accepted = []; front = (x, refl); whole = tt; moves = way.moves };
+  rest = inr way.rest;
+  fits = λ _ room. no_ok (way.fits room).0;
+  sent = λ _. tt;
+  none = λ _. (way.rest, way.moves);
+  all = λ t. no_ok (way.all t).1;
+  after = tt;
+  calls = λ _ _ t. no_ok (way.all t).1;
+  few = λ _ t. no_ok (way.all t).1;
+}
+
+-- `write_all`: one inner `write_all`, past the empty buffer
+pub passed_all : {W : Type 0} {S : ℕ} {told : W → Told} {takes_all is_metered : W → Type 0} {cost : W → ℕ}
+    (old mid : Sender W S) (x : List ℕ) (r : Result (Unit {0}) Error) (inner : W)
+    → ((w : W) → takes_all w → (told w).mishaps ≡ Some [])
+    → MakesWay told takes_all is_metered cost old (length x) (Ok tt) mid → S ≤ length x
+    → IsNoInterruption r
+    → MovesFront (told (sender_inner mid)) x r (told inner)
+    → (takes_all (sender_inner mid) → takes_all inner)
+    → (is_metered (sender_inner mid) → takes_all (sender_inner mid)
+    → is_metered inner × (cost inner ≡ cost (sender_inner mid) + calls_for x))
+    → BuffersAll told takes_all is_metered cost old x r (sender_with_inner mid inner)
+passed_all {S} old mid x r inner steady way long fault moves all calls =
+    let none = way.empty long in
+    record {
+      fault = fault;
+      moves = MovesFront-then x r way.moves (MovesFront-passed x r (sender_buffer mid) (sender_buffer mid) none refl moves);
+      rest = inl (IsEnd-none _ (sender_buffer mid) none);
+      fits = λ short. absurd (omega (arith, short, long));
+      sent = λ _. onok r _ (IsEnd-none _ (sender_buffer mid) none);
+      none = λ short. absurd (omega (arith, short, long));
+      all = λ t. let mid_all = (way.all t).0 in (all mid_all, call_steady r (steady _ mid_all) moves.moves);
+      after = onok r _ (none ∙ sym (after_long S (sender_buffer old) x long));
+      calls = λ some m t.
+          let first = way.calls m t in
+          let then = calls first.0 (way.all t).0 in
+          (then.0, omega (arith, first.1, then.1, calls_long S (sender_buffer old) x long, calls_for-some x (omega (arith, some, long))));
+      few = λ m t.
+          let first = way.calls m t in
+          let then = calls first.0 (way.all t).0 in
+          (then.0, omega (arith, first.1, then.1, way_calls-le S (length x) (sender_buffer old), calls_for-le x));
+    }
+
+-- `write_all`: x is held behind what was left
+pub held_all : {W : Type 0} {S : ℕ} {told : W → Told} {takes_all is_metered : W → Type 0} {cost : W → ℕ}
+    (old mid new : Sender W S) (x : List ℕ)
+    → MakesWay told takes_all is_metered cost old (length x) (Ok tt) mid → length x < S
+    → sender_inner new ≡ sender_inner mid → sender_buffer new ≡ sender_buffer mid ++ x
+    → BuffersAll told takes_all is_metered cost old x (Ok tt) new
+held_all {S} {told} {takes_all} {is_metered} {cost} old mid new x way short same put = record {
+  fault = tt;
+  moves = record {
+    accepted = x;
+    front = IsFront-refl x;
+    whole = refl;
+    moves = Moves-then {k = []} way.moves (Moves-kept told _ _ (sender_buffer mid) (sender_buffer new) x same put);
+  };
+  rest = inl (IsEnd-held _ (sender_buffer mid) _ x way.rest put);
+  fits = λ _ room. let kept = way.fits room in (refl, same ∙ kept.1, put ∙ ap (λ l. l ++ x) kept.2);
+  sent = λ over. ([], sym (put ∙ ap (λ l. l ++ x) (way.sent over)));
+  none = λ _. tt;
+  all = λ t. (subst takes_all (sym same) (way.all t).0, refl);
+  after = held_after old mid new x way short put;
+  calls = λ _ m t.
+      let first = way.calls m t in
+      (subst is_metered (sym same) first.0, omega (arith, first.1, ap cost same, calls_short S (sender_buffer old) x short));
+  few = λ m t.
+      let first = way.calls m t in
+      (subst is_metered (sym same) first.0, omega (arith, first.1, ap cost same, way_calls-le S (length x) (sender_buffer old)));
+}
+
+-- `flush`: all was sent, and then the inner writer was flushed
+pub flushed : {W : Type 0} {S : ℕ} {told : W → Told} {takes_all is_metered : W → Type 0} {cost : W → ℕ}
+    (old mid : Sender W S) (r : Result (Unit {0}) Error) (inner : W)
+    → ((w : W) → takes_all w → (told w).mishaps ≡ Some [])
+    → Sent told takes_all is_metered cost old (Ok tt) mid
+    → OnOk r ((told inner).held ≡ [])
+    → Moves (told (sender_inner mid)) [] (call_mishap r) (told inner)
+    → (takes_all (sender_inner mid) → takes_all inner)
+    → (is_metered (sender_inner mid) → takes_all (sender_inner mid) → is_metered inner × (cost inner ≡ cost (sender_inner mid)))
+    → Flushes told takes_all is_metered cost old r (sender_with_inner mid inner)
+flushed {told} old mid r inner steady sent empty moves all calls =
+    let none = sent.empty in
+    record {
+      empty = onok_both r _ _ empty (λ e. ap (λ l. (told inner).held ++ l) none ∙ append-nil _ ∙ e);
+      moves =
+          Moves-ends {k = []}
+          (Moves-sent _ (sender_buffer mid) none
+          (subst (λ l. Moves _ l [] _) (sym (sent.sends.split ∙ ap (λ l. sent.sends.sent ++ l) none ∙ append-nil _))
+          sent.sends.moves))
+          (Moves-passed (sender_buffer mid) none moves);
+      sent = onok r _ none;
+      rest = IsEnd-none _ (sender_buffer mid) none;
+      all = λ t. let mid_all = (sent.all t).0 in (all mid_all, call_steady r (steady _ mid_all) moves);
+      calls = λ m t.
+          let first = sent.calls m t in
+          let then = calls first.0 (sent.all t).0 in
+          (then.0, omega (arith, first.1, then.1));
+    }

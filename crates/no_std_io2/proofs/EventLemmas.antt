@@ -1,0 +1,150 @@
+-- How what was taken of events follows one another, and what a loan leaves.
+use Rattle.std.proofs.Common.{◌≡◌, ℕ, ◌+◌, ◌<◌, ◌==◌, Bool, true, false, Bor, List, [], ◌∷◌, ◌++◌, length, take, Result, Ok, Err}
+use Rattle.std.proofs.Common.{refl, sym, ap, ◌∙◌, subst, arith, append_assoc, append-nil, length-append}
+use Rattle.std.proofs.lemmas.Bool.Decides.{nat_tests}
+use Rattle.no_std_io2_base.specs.declared.error.Error.{Error}
+use Rattle.no_std_io2_base.specs.Errors.{IsInterruption, IsFault, IsOutOfMemory}
+use Rattle.no_std_io2_base.specs.Events.{Event, fails, events_of, bytes, HasNoFault, cut, Fills}
+use Rattle.no_std_io2_base.specs.Lending.{Lends, LendsFrom, LendingTurn}
+use Rattle.no_std_io2_base.proofs.Events as below
+use Rattle.no_std_io2_base.proofs.PieceLemmas as pieces
+use Rattle.no_std_io2.specs.Passing.{Passes, PassesOver, Gathered}
+
+-- the bytes of P and then Q are the bytes of P, and then those of Q
+pub bytes-append : (P Q : List Event) → bytes (P ++ Q) ≡ bytes P ++ bytes Q
+bytes-append P Q = below.bytes-append P Q
+
+-- bytes turned into events and back are the same bytes
+pub bytes-events_of : (bs : List ℕ) → bytes (events_of bs) ≡ bs
+bytes-events_of bs = below.bytes-events_of bs
+
+-- the events of bs and then cs are the events of bs, and then those of cs
+pub events_of-append : (bs cs : List ℕ) → events_of (bs ++ cs) ≡ events_of bs ++ events_of cs
+events_of-append bs cs = below.events_of-append bs cs
+
+-- two lists with no fault, one behind the other, have none
+pub HasNoFault-append : (P Q : List Event) → HasNoFault P → HasNoFault Q → HasNoFault (P ++ Q)
+HasNoFault-append P Q p q = below.HasNoFault-append P Q p q
+
+-- events that are bytes alone have no fault
+pub HasNoFault-events_of : (bs : List ℕ) → HasNoFault (events_of bs)
+HasNoFault-events_of bs = below.HasNoFault-events_of bs
+
+-- the bytes of some bytes and then of E
+pub bytes-behind : (bs : List ℕ) (E : List Event) → bytes (events_of bs ++ E) ≡ bs ++ bytes E
+bytes-behind bs E = bytes-append (events_of bs) E ∙ ap (λ l. l ++ bytes E) (bytes-events_of bs)
+
+-- where nothing is gone, no byte was taken
+pub Passes-none : (E : List Event) → Passes E [] E
+Passes-none E = record { front = []; split = refl; no_fault = tt; gave = refl }
+
+-- these bytes stood first
+pub Passes-bytes : {E : List Event} (more : List ℕ) (after : List Event) → E ≡ events_of more ++ after → Passes E more after
+Passes-bytes more after is =
+    record { front = events_of more; split = is; no_fault = HasNoFault-events_of more; gave = bytes-events_of more }
+
+-- an interruption stood first
+pub Passes-interruption : {E : List Event} {e : Error} {after : List Event} → E ≡ fails e ∷ after → IsInterruption e → Passes E [] after
+Passes-interruption {e} is again = record { front = fails e ∷ []; split = is; no_fault = (again, tt); gave = refl }
+
+-- a buffer was filled
+pub Passes-fills : {E : List Event} {buf : List ℕ} {after : List Event} → Fills E buf after → Passes E buf after
+Passes-fills {E} {buf} f = record { front = cut (length buf) E; split = f.split; no_fault = f.no_fault; gave = f.filled }
+
+-- one after another
+pub Passes-then : {E mid after : List Event} {x y : List ℕ} → Passes E x mid → Passes mid y after → Passes E (x ++ y) after
+Passes-then {E} {mid} {after} {x} {y} p q = record {
+  front = p.front ++ q.front;
+  split = p.split ∙ ap (λ l. p.front ++ l) q.split ∙ sym (append_assoc p.front q.front after);
+  no_fault = HasNoFault-append p.front q.front p.no_fault q.no_fault;
+  gave = bytes-append p.front q.front ∙ ap (λ l. l ++ bytes q.front) p.gave ∙ ap (λ l. x ++ l) q.gave;
+}
+
+-- nothing behind it
+pub Passes-still : {E mid after : List Event} {x : List ℕ} → Passes E x mid → Passes mid [] after → Passes E x after
+Passes-still {E} {after = after} {x = x} p q = subst (λ l. Passes E l after) (append-nil x) (Passes-then p q)
+
+-- the bytes that are to come are those that are gone, and then those that still are
+pub Passes-all : {E after : List Event} {x : List ℕ} → Passes E x after → bytes E ≡ x ++ bytes after
+Passes-all {E} {after} p = ap bytes p.split ∙ bytes-append p.front after ∙ ap (λ l. l ++ bytes after) p.gave
+
+-- none was passed over
+pub PassesOver-none : (n : ℕ) (E : List Event) → PassesOver n E n E
+PassesOver-none n E = record { over = []; count = omega arith; passes = Passes-none E }
+
+-- these bytes more were passed over
+pub PassesOver-more : {n k left : ℕ} {E mid : List Event} (more : List ℕ) (after : List Event)
+    → PassesOver n E k mid → mid ≡ events_of more ++ after → length more + left ≡ k → PassesOver n E left after
+PassesOver-more more after p is count = record {
+  over = p.over ++ more;
+  count = omega (arith, p.count, count, length-append p.over more);
+  passes = Passes-then p.passes (Passes-bytes more after is);
+}
+
+-- nothing more was
+pub PassesOver-still : {n left : ℕ} {E mid after : List Event} → PassesOver n E left mid → Passes mid [] after → PassesOver n E left after
+PassesOver-still p q = record { over = p.over; count = p.count; passes = Passes-still p.passes q }
+
+-- where nothing is gone and the part is what it was, nothing more of it was gathered
+pub Gathered-none : (E : List Event) (part : List ℕ) → Gathered E part part E
+Gathered-none E part = record { more = []; is = sym (append-nil part); passes = Passes-none E }
+
+-- more of the part
+pub Gathered-then : {E mid after : List Event} {a b c : List ℕ} → Gathered E a b mid → Gathered mid b c after → Gathered E a c after
+Gathered-then {a = a} g h = record {
+  more = g.more ++ h.more;
+  is = h.is ∙ ap (λ l. l ++ h.more) g.is ∙ append_assoc a g.more h.more;
+  passes = Passes-then g.passes h.passes;
+}
+
+-- some bytes more
+pub Gathered-more : {E mid : List Event} {old part : List ℕ} (more new : List ℕ) (after : List Event)
+    → Gathered E old part mid → mid ≡ events_of more ++ after → new ≡ part ++ more → Gathered E old new after
+Gathered-more more new after g read is = Gathered-then g (record { more = more; is = is; passes = Passes-bytes more after read })
+
+-- nothing more
+pub Gathered-still : {E mid after : List Event} {old part : List ℕ} → Gathered E old part mid → Passes mid [] after → Gathered E old part after
+Gathered-still {part = part} g p = Gathered-then g (record { more = []; is = sym (append-nil part); passes = p })
+
+-- the same, with the same to come
+pub Gathered-at : {E mid after : List Event} {old new : List ℕ} → Gathered E old new mid → mid ≡ after → Gathered E old new after
+Gathered-at {E} {old = old} {new = new} g same = subst (λ l. Gathered E old new l) same g
+
+-- what was gathered before is taken with it
+pub Gathered-passes : {E after : List Event} {old new : List ℕ} → Gathered E old new after → Passes (events_of old ++ E) new after
+Gathered-passes {E} {after} {old} {new} g =
+    subst (λ l. Passes (events_of old ++ E) l after) (sym g.is) (Passes-then (Passes-bytes old E refl) g.passes)
+
+-- what was lent, and then dropped, is gone
+pub part_taken : {reply : Result (Bor (List ℕ)) Error} (s : Bor (List ℕ)) (held : List ℕ) {E E' : List Event} (rest : List Event) (n : ℕ)
+    → reply ≡ Ok s → Lends reply held → LendsFrom E reply E' → E' ≡ events_of (take n held) ++ rest → E ≡ events_of (take n s.now) ++ rest
+part_taken s held rest n is lends same read = pieces.part_taken s held rest n is lends same read
+
+-- what was lent, and not dropped, is to come
+pub none_taken : {reply : Result (Bor (List ℕ)) Error} (s : Bor (List ℕ)) {E E' : List Event}
+    → reply ≡ Ok s → LendsFrom E reply E' → E' ≡ E
+none_taken s is same = pieces.none_taken s is same
+
+-- an error stood first
+pub error_taken : {reply : Result (Bor (List ℕ)) Error} {e : Error} {E E' : List Event} → reply ≡ Err e
+    → LendsFrom E reply E' → E ≡ fails e ∷ E'
+error_taken is gone = pieces.error_taken is gone
+
+-- an error that `fill_buf` answered has spent a turn
+pub error_turn : {reply : Result (Bor (List ℕ)) Error} {e : Error} {old new : ℕ}
+    → reply ≡ Err e → LendingTurn reply old new → new < old
+error_turn is turn = pieces.error_turn is turn
+
+-- want of memory is a fault
+pub memory_fault : (e : Error) → IsOutOfMemory e → IsFault e
+memory_fault e refused = pieces.memory_fault e refused
+
+-- what was lent is some
+pub some_lent : (bs : List ℕ) (b : Bool) → b ≡ (length bs == 0) → b ≡ false → 0 < length bs
+some_lent [] b e h = let no : ⊥ = grind (arith, nat_tests) in absurd no
+some_lent (x ∷ bs) b e h = omega arith
+
+-- what is none
+pub none_of : (bs : List ℕ) (b : Bool) → b ≡ (length bs == 0) → b ≡ true → bs ≡ []
+none_of [] b e h = refl
+none_of (x ∷ bs) b e h = let no : ⊥ = grind (arith, nat_tests) in absurd no

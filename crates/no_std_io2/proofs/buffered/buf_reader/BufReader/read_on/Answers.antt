@@ -1,0 +1,250 @@
+-- An exact read past the held bytes: its turns, and its three ends.
+use Rattle.std.proofs.Common.{◌≡◌, ◌-◌, ◌≤◌, length, take, arith, sym, ap, subst, ◌∙◌, le_refl, inl, inr, length-take-le, length-drop}
+use Rattle.std.proofs.Common.{take_all}
+use Rattle.std.proofs.lemmas.Slice.{take-put_mid_below}
+use Rattle.no_std_io2_base.proofs.Parts.{take-put_mid}
+use Rattle.no_std_io2_base.proofs.Taken.{taken_read, taken_interruption, taken_fault, moved_read}
+use Rattle.no_std_io2_base.specs.Errors.{is_interruption}
+use Rattle.no_std_io2.specs.BufReader.{reader_held, reader_behind, reader_inner, reader_events}
+use Rattle.no_std_io2.proofs.BufReaderExact.{exact_begins, exact_first, exact_read, exact_end, exact_short, exact_left-end}
+use Rattle.no_std_io2.proofs.BufReaderExact.{exact_left-full, taken_first, taken_end, taken_whole, nothing_read, length-events, no_bytes}
+use Rattle.no_std_io2.proofs.BufReaderExact.{moved_length, no_error_behind, read_ends, read_behind, none_behind, gives_to_come}
+use Rattle.no_std_io2.proofs.BufWriterLemmas.{IsEnd-none}
+use Rattle.no_std_io2.proofs.buffered.buf_reader.BufReader.read_on.Goals as goal
+
+pub reads-init : goal.reads-init
+reads-init g c =
+    let old = c.args.self.now in
+    let new = c.give-at.new.self in
+    let n = c.give-at.result in
+    let gave = c.give-at.ensures in
+    let most : n ≤ length c.give-at.new.buf = omega arith in
+    let got = take n c.give-at.new.buf in
+    let long : length got ≡ n = length-take-le n c.give-at.new.buf most in
+    let all : n ≡ length (reader_held old) = omega arith in
+    let left : length (reader_held new) ≡ 0 = omega (arith, ap length gave.held, length-drop n (reader_held old)) in
+    let moved = moved_length (reader_held old) (reader_held new) got (g.R.Read.events (reader_inner old)) (g.R.Read.events
+    (reader_inner new)) n gave.told long in
+    let before = length-events (reader_held old) (g.R.Read.events (reader_inner old)) in
+    let after = length-events (reader_held new) (g.R.Read.events (reader_inner new)) in
+    let same = sym gave.inner in
+    record {
+      long = omega arith;
+      within = most;
+      none = λ more. left;
+      turns = omega (arith, gave.turns);
+      turn = λ some. omega (arith, gave.turns, some);
+      behind = λ more. absurd (omega (arith, more, all));
+      told = λ t. (subst g.R.Read.tells same t, taken_first got gave.told (omega arith));
+      store = λ s.
+          let now = gave.store s in
+          (now.0, ap g.R.Stored.content gave.inner, omega (arith, now.1, moved, before, after));
+      sound = gave.sound;
+      filling = λ f. (
+        subst g.R.Read.is_filling same f,
+        exact_begins all left (omega (arith, moved, before)),
+        λ more. absurd (omega (arith, more, all)),
+      );
+      cost = λ m f. (subst g.R.Read.is_metered same m, omega (arith, ap g.R.Read.cost gave.inner));
+    }
+
+pub reads-preserved-in-Ok : goal.reads-preserved-in-Ok
+reads-preserved-in-Ok g c =
+    let at = c.reads.at in
+    let buf = c.reads.buf in
+    let n = c.in-Ok.n in
+    let old = c.reads.self in
+    let new = c.read.new.self in
+    let read = c.in-Ok.ensures in
+    let zero : length (reader_held old) ≡ 0 = c.reads.invariant.none (omega arith) in
+    let none = no_bytes (reader_held old) zero in
+    let to_come = gives_to_come (length (reader_held old)) (length (g.R.Read.events (reader_inner old))) zero in
+    let shown = take-put_mid at (length buf - at) n buf c.read.new.buf (omega arith) (omega (arith, read.law.bound)) in
+    record {
+      long = omega arith;
+      within = omega arith;
+      none = λ more. ap length (read.rest (omega (arith, more)));
+      turns = omega (arith, read.law.turns, c.reads.invariant.turns);
+      turn = λ some. omega (arith, read.law.turn (omega arith), c.reads.invariant.turns);
+      behind = λ more. read_ends g.row.S at _ n buf _ c.read.new.buf (reader_behind new) (read.behind_anew none) (omega arith)
+          (omega (arith, read.law.bound)) (omega (arith, read.law.bound)) shown;
+      told = λ t.
+          let before = c.reads.invariant.told t in
+          let now = read.law.told before.0 in
+          (now.0, taken_read _ before.1 now.1 (omega (arith, read.law.bound)) (omega arith) shown);
+      store = λ t.
+          let before = c.reads.invariant.store t in
+          let now = read.law.store before.0 in
+          let tells = g.met.R.Read.store_tells _ before.0.0 in
+          (now.0, now.1 ∙ before.1, moved_read _ _ _ _ (omega (arith, read.law.bound)) (read.law.told tells.0).1.0 now.2 before.2);
+      sound = λ h. read.sound (c.reads.invariant.sound h);
+      filling = λ f.
+          let before = c.reads.invariant.filling f in
+          let now = read.gives before.0 in
+          let tells = g.met.R.Read.filling_tells _ before.0 in
+          let moved = moved_length (reader_held old) (reader_held new) (take n c.read.new.buf) (g.R.Read.events (reader_inner
+          old)) (g.R.Read.events (reader_inner new)) n (read.law.told tells.0).1.0 (length-take-le n c.read.new.buf read.law.bound) in
+          let first = exact_first _ _ _ _ _ _ _ n before.1 (omega arith) (omega (arith, now.1, to_come)) (omega arith) (omega (
+            arith,
+            c.requires,
+          )) in (
+            now.0,
+            exact_read n _ _ before.1 (omega arith) (omega (arith, now.1, to_come)) (λ h. ap length (read.direct before.0 none
+                (omega (arith, h)))) (λ h. read.filled before.0 none (omega (arith, h))) moved (omega arith) (omega (arith, c.requires)),
+            λ more. read_behind g.row.S (length c.args.buf.now) _ at n _ c.read.new.buf (reader_behind new) (read.behind_anew none)
+                (omega (arith, read.law.bound)) first (omega arith),
+          );
+      cost = λ m f.
+          let before = c.reads.invariant.cost m f in
+          let so_far = c.reads.invariant.filling f in
+          let now = read.asks before.0 in
+          let gives = read.gives so_far.0 in
+          let first = exact_first _ _ _ _ _ _ _ n so_far.1 (omega arith) (omega (arith, gives.1, to_come)) (omega arith) (omega (
+            arith,
+            c.requires,
+          )) in
+          (now.0, omega (arith, before.1, now.1, first, zero));
+    }
+
+pub reads-preserved : goal.reads-preserved
+reads-preserved g c =
+    let at = c.reads.at in
+    let buf = c.reads.buf in
+    let read = c.in-Err.ensures in
+    let again = sym c.is_interrupted.ensures ∙ c.if-is_interrupted.true in
+    let none = no_bytes (reader_held c.reads.self) (c.reads.invariant.none (omega arith)) in
+    let same = take-put_mid_below _ _ _ _ _ (le_refl _) (omega arith) in
+    record {
+      long = omega arith;
+      within = omega arith;
+      none = λ more. ap length (read.rest (omega (arith, more)));
+      turns = omega (arith, read.law.turns, c.reads.invariant.turns);
+      turn = λ some. omega (arith, read.law.turns, c.reads.invariant.turn some);
+      behind = λ more.
+          let empty = none_behind g.row.S _ 0 c.read.new.buf (reader_behind c.read.new.self) (read.behind_anew none) (omega arith) in
+          (IsEnd-none _ _ empty, omega (arith, ap length empty));
+      told = λ t.
+          let before = c.reads.invariant.told t in
+          let now = read.law.told before.0 in
+          let long = length-take-le at buf (omega arith) in
+          (now.0, taken_interruption before.1 now.1 again (omega arith) same);
+      store = λ t.
+          let before = c.reads.invariant.store t in
+          let tells = g.met.R.Read.store_tells _ before.0.0 in
+          absurd (no_error_behind _ _ tells.1 (read.law.told tells.0).1);
+      sound = λ h. read.sound (c.reads.invariant.sound h);
+      filling = λ f. absurd (read.gives (c.reads.invariant.filling f).0).1;
+      cost = λ m f. absurd (read.gives (c.reads.invariant.filling f).0).1;
+    }
+
+pub reads-smaller : goal.reads-smaller
+reads-smaller g c = c.in-Err.ensures.law.turn
+
+pub returns-in-Err-2 : goal.returns-in-Err-2
+returns-in-Err-2 g c =
+    let read = c.in-Err.ensures in
+    let fault = sym c.is_interrupted.ensures ∙ c.if-is_interrupted.false in
+    let none = no_bytes (reader_held c.reads.self) (c.reads.invariant.none (omega arith)) in
+    record {
+      told = λ t.
+          let before = c.reads.invariant.told t in
+          let now = read.law.told before.0 in
+          let long = length-take-le c.reads.at c.reads.buf (omega arith) in
+          (now.0, inl (taken_fault before.1 now.1 fault (omega (arith, long))));
+      fault = fault;
+      no_later = omega (arith, read.law.turns, c.reads.invariant.turns);
+      turn = tt;
+      store = λ t.
+          let before = c.reads.invariant.store t in
+          let tells = g.met.R.Read.store_tells _ before.0.0 in
+          absurd (no_error_behind _ _ tells.1 (read.law.told tells.0).1);
+      behind = tt;
+      failed = (
+        read.rest (omega arith),
+        none_behind g.row.S _ 0 c.read.new.buf (reader_behind c.read.new.self) (read.behind_anew none)
+            (omega arith),
+      );
+      sound = λ h. read.sound (c.reads.invariant.sound h);
+      asks = λ m f. absurd (read.gives (c.reads.invariant.filling f).0).1;
+      left = λ f. absurd (read.gives (c.reads.invariant.filling f).0).1;
+      behind_length = λ f. tt;
+    }
+
+-- the inner reader's end, before the buffer was full
+pub returns-in-Ok-eq0 : goal.returns-in-Ok-eq0
+returns-in-Ok-eq0 g c =
+    let old = c.reads.self in
+    let read = rw c.in-Ok-eq0.is at c.read.ensures in
+    let zero : c.in-Ok-eq0.field-0 ≡ 0 = omega arith in
+    let empty : length (reader_held old) ≡ 0 = c.reads.invariant.none (omega arith) in
+    let none = no_bytes (reader_held old) empty in
+    let to_come = gives_to_come (length (reader_held old)) (length (g.R.Read.events (reader_inner old))) empty in
+    record {
+      told = λ t.
+          let before = c.reads.invariant.told t in
+          let now = read.law.told before.0 in
+          let long = length-take-le c.reads.at c.reads.buf (omega arith) in (
+            now.0,
+            inr (taken_end c.failed_to_fill.result _ c.in-Ok-eq0.field-0 _ before.1 now.1 zero (omega arith)
+                c.failed_to_fill.ensures (omega (arith, long))),
+          );
+      fault = ap is_interruption c.failed_to_fill.ensures.0;
+      no_later = omega (arith, read.law.turns, c.reads.invariant.turns);
+      turn = tt;
+      store = λ t.
+          let before = c.reads.invariant.store t in
+          let now = read.law.store before.0 in
+          let tells = g.met.R.Read.store_tells _ before.0.0 in
+          (now.0, now.1 ∙ before.1, moved_read _ _ _ _ (omega (arith, read.law.bound)) (read.law.told tells.0).1.0 now.2 before.2);
+      behind = tt;
+      failed = (
+        read.rest (omega arith),
+        none_behind g.row.S _ c.in-Ok-eq0.field-0 c.read.new.buf (reader_behind c.read.new.self) (read.behind_anew none) zero,
+      );
+      sound = λ h. read.sound (c.reads.invariant.sound h);
+      asks = λ m f.
+          let before = c.reads.invariant.cost m f in
+          let so_far = c.reads.invariant.filling f in
+          let now = read.asks before.0 in
+          let gives = read.gives so_far.0 in
+          let short = exact_short so_far.1 (omega arith) (omega (arith, gives.1, to_come, zero)) (omega (arith, c.requires)) in
+          (now.0, omega (arith, before.1, now.1, short, empty));
+      left = λ f.
+          let so_far = c.reads.invariant.filling f in
+          let gives = read.gives so_far.0 in
+          let tells = g.met.R.Read.filling_tells _ so_far.0 in
+          let told = (read.law.told tells.0).1 in
+          let end = told.1 zero (omega arith) in
+          let held = length (reader_held c.read.new.self) in
+          let left = exact_left-end g.row.S held (length c.reads.buf - c.reads.at) so_far.1 (omega arith)
+          (omega (arith, gives.1, to_come, zero)) (λ h. ap length (read.direct so_far.0 none (omega (arith, h))))
+          (λ h. omega (arith, read.filled so_far.0 none (omega (arith, h)), zero)) (omega (arith, c.requires)) in
+          (gives.0, left.0, ap length (sym (nothing_read _ _ _ _ told zero) ∙ end) ∙ left.1);
+      behind_length = λ f. tt;
+    }
+
+pub returns : goal.returns
+returns g c =
+    let all = c.reads.invariant in
+    let whole : take c.reads.at c.reads.buf ≡ c.reads.buf = take_all c.reads.at c.reads.buf (omega arith) in
+    let full : c.reads.at ≡ length c.args.buf.now = omega arith in
+    record {
+      told = λ t. let now = all.told t in (now.0, taken_whole c.reads.at c.reads.buf now.1 (omega arith) (omega arith));
+      fault = tt;
+      no_later = all.turns;
+      turn = all.turn (omega (arith, full, c.requires));
+      store = all.store;
+      behind = rw whole at all.behind (omega (arith, full, c.requires));
+      failed = tt;
+      sound = all.sound;
+      asks = λ m f.
+          let now = all.cost m f in
+          (now.0, omega (arith, now.1, exact_end (all.filling f).1 (omega arith) (omega (arith, c.requires))));
+      left = λ f.
+          let now = all.filling f in
+          let to_come = length-events (reader_held c.reads.self) (g.R.Read.events (reader_inner c.reads.self)) in
+          let left = exact_left-full (length (reader_events g.R.Read.events c.reads.self)) now.1 (omega arith) (omega
+          (arith, c.requires)) to_come in
+          (now.0, left.0, left.1);
+      behind_length = λ f. rw full at (all.filling f).2 (omega (arith, full, c.requires));
+    }

@@ -1,8 +1,0 @@
-use Rattle.std.proofs.Common.{arith}
-use Rattle.no_std_io2.proofs.WindowLemmas.{range_more}
-use Rattle.no_std_io2.proofs.buffered.window.Window.append.Goals as goal
-
-pub returns-clause-held : goal.returns-clause-held
-returns-clause-held g c =
-    let w = c.args.self.now in
-    range_more w.bytes c.copy_wide.new.to c.args.more.now w.start w.end _ w.ordered (omega arith) c.copy_wide.ensures

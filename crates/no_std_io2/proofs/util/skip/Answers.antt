@@ -1,0 +1,75 @@
+use Rattle.std.proofs.Common.{◌≡◌, ◌<◌, ◌≤◌, length, take, sym, ◌∙◌, arith, inl, inr, length-take-le}
+use Rattle.no_std_io2.proofs.EventLemmas.{PassesOver-more, PassesOver-still, Passes-interruption}
+use Rattle.no_std_io2.proofs.EventLemmas.{part_taken, none_taken, error_taken, none_of, some_lent}
+use Rattle.no_std_io2.proofs.util.skip.Goals as goal
+
+pub returns-then-is_empty-clause-told : goal.returns-then-is_empty-clause-told
+returns-then-is_empty-clause-told g c = λ t.
+    let filled = c.fill_buf.follows.holds-at-none in
+    let so_far = c.pieces.invariant.told t in
+    let loan = filled.told so_far.0 in
+    let end = c.in-Ok.ensures.law.end so_far.0 (none_of _ _ c.is_empty.ensures c.if-is_empty.true) in
+    (loan.0, (_, so_far.1, inr (end, none_taken c.in-Ok.lent c.in-Ok.is loan.1 ∙ end, c.failed_to_fill.ensures)))
+
+pub returns-in-Err-2-clause-told : goal.returns-in-Err-2-clause-told
+returns-in-Err-2-clause-told g c = λ t.
+    let filled = c.fill_buf.follows.holds-at-none in
+    let so_far = c.pieces.invariant.told t in
+    let loan = filled.told so_far.0 in
+    let fault = sym c.is_interrupted.ensures ∙ c.if-is_interrupted.false in
+    (loan.0, (_, so_far.1, inl (error_taken c.in-Err.is loan.1, fault)))
+
+pub pieces-preserved-in-Ok : goal.pieces-preserved-in-Ok
+pieces-preserved-in-Ok g c =
+    let before = c.pieces.invariant in
+    let filled = c.fill_buf.follows.holds-at-none in
+    let dropped = c.consume.ensures.law in
+    let len = c.min-len.result in
+    let lent = c.in-Ok.lent.now in
+    let some : 0 < length lent = some_lent lent c.is_empty.result c.is_empty.ensures c.if-is_empty.false in
+    let within : len ≤ length lent = omega (arith, c.min-len.ensures) in
+    let is : length (take len lent) ≡ len = length-take-le len lent within in
+    let many : len ≤ c.pieces.left = omega (arith, c.min-len.ensures) in
+    let one : 0 < len = omega (arith, c.min-len.ensures, c.pieces-test.true) in
+    record {
+      told = λ t.
+          let so_far = before.told t in
+          let loan = filled.told so_far.0 in
+          let rest = dropped.told loan.0 in
+          let after = g.B.Read.events c.consume.new.self in
+          let part = part_taken c.in-Ok.lent _ after len c.in-Ok.is filled.lends loan.1 rest.1 in
+          (rest.0, PassesOver-more (take len lent) after so_far.1 part (omega (arith, is, many)));
+      left = omega (arith, before.left, many);
+      none = λ z. absurd (omega (arith, before.left, c.pieces-test.true));
+      turns = omega (arith, dropped.turns, filled.turns, before.turns);
+      turn = λ _. omega (arith, dropped.turn one, filled.turns, before.turns);
+      metered = λ m. (dropped.cost (filled.metered (before.metered m))).0;
+      filling = λ f. dropped.filling (filled.filling (before.filling f));
+      store = λ s.
+          let a = before.store s in
+          let b = filled.store a.0 in
+          let d = dropped.store b.0 in
+          (d.0, d.1 ∙ b.1 ∙ a.1, omega (arith, a.2, b.2, d.2, many));
+    }
+
+pub pieces-preserved : goal.pieces-preserved
+pieces-preserved g c =
+    let before = c.pieces.invariant in
+    let filled = c.fill_buf.follows.holds-at-none in
+    record {
+      told = λ t.
+          let so_far = before.told t in
+          let loan = filled.told so_far.0 in
+          let again = sym c.is_interrupted.ensures ∙ c.if-is_interrupted.true in
+          (loan.0, PassesOver-still so_far.1 (Passes-interruption (error_taken c.in-Err.is loan.1) again));
+      left = before.left;
+      none = λ z. absurd (omega (arith, before.left, c.pieces-test.true));
+      turns = omega (arith, filled.turns, before.turns);
+      turn = λ h. omega (arith, before.turn h, filled.turns);
+      metered = λ m. filled.metered (before.metered m);
+      filling = λ f. filled.filling (before.filling f);
+      store = λ s.
+          let a = before.store s in
+          let b = filled.store a.0 in
+          (b.0, b.1 ∙ a.1, omega (arith, a.2, b.2));
+    }

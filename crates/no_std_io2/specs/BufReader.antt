@@ -1,0 +1,273 @@
+-- What a clause reads of a `BufReader`, what its calls do, and the lemmas that its laws are.
+use Rattle.std.specs.Prelude.{◌≡◌, ℕ, ℤ, ◌^◌, ◌<◌, ◌≤◌, negsuc, pos, ◌+◌, ◌-◌, ◌-ℤ◌, ◌*◌, ◌&&◌, min, nat_lt, nat_le, if◌then◌else◌, List}
+use Rattle.std.specs.Prelude.{[], ◌∷◌, ◌++◌, Ok, Err, Result, IsOk, IsErr, OnOk, OnErr, IfErr, length, ◌⊎◌, take, drop, refl}
+use denote.Param.{param, number}
+use denote.RattleType.{RattleType}
+use Rattle.std.specs.Mem.{FitsInMemory}
+use Rattle.no_std_io2_base.specs.declared.error.Error.{Error}
+use Rattle.no_std_io2_base.specs.declared.traits.seek.SeekFrom.{SeekFrom}
+use Rattle.no_std_io2_base.specs.declared.traits.seek.SeekFrom.TheVariants.{Start, Current}
+use Rattle.no_std_io2_base.specs.Errors.{IsFault, IsOutOfMemory}
+use Rattle.no_std_io2_base.specs.Slices.{HasMoved}
+use Rattle.no_std_io2_base.specs.Writes.{IsFront}
+use Rattle.no_std_io2_base.specs.Events.{Event, events_of, fails, ReadsExact, bytes}
+use Rattle.no_std_io2.specs.contracts.buffered.buf_reader.BufReader.{the_row as reader-row}
+use Rattle.no_std_io2.specs.declared.buffered.buf_reader.BufReader.{BufReader}
+use Rattle.no_std_io2.specs.Buffer.{buffer_held, buffer_behind, IsEnd, IsSound}
+use Rattle.std.proofs.Common.{ap, sym, ◌∙◌, arith, length-drop, take-append-drop}
+use Rattle.std.proofs.lemmas.List.{drop-drop, drop-take}
+use lib.Seq.{take-append-le}
+use Rattle.no_std_io2_base.specs.Laws.{bytes-events_of}
+use Rattle.no_std_io2_base.proofs.Events.{events_of-append, bytes-append}
+
+-- `r.buffer()`
+abbrev pub reader_held : {R : Type 0} {S : ℕ} → BufReader R S → List ℕ
+reader_held r = buffer_held r.buffer
+
+-- `r.behind()`
+abbrev pub reader_behind : {R : Type 0} {S : ℕ} → BufReader R S → List ℕ
+reader_behind r = buffer_behind r.buffer
+
+-- `r.get_ref()`
+abbrev pub reader_inner : {R : Type 0} {S : ℕ} → BufReader R S → R
+reader_inner r = r.inner
+
+-- what is held, and then the inner reader's events
+abbrev pub reader_events : {R : Type 0} {S : ℕ} → (R → List Event) → BufReader R S → List Event
+reader_events events r = events_of (reader_held r) ++ events (reader_inner r)
+
+-- each held byte is a turn, and each inner turn is one more than a full buffer
+abbrev pub reader_turns : {R : Type 0} {S : ℕ} → (R → ℕ) → BufReader R S → ℕ
+reader_turns {S = room} turns r = length (reader_held r) + (room + 1) * turns (reader_inner r)
+
+-- the inner's store, where the held bytes are its bytes that end at the inner's position
+abbrev pub reader_has_store : {R : Type 0} {S : ℕ} → (R → Type 0) → (R → ℕ) → (R → List ℕ) → BufReader R S → Type 0
+reader_has_store has_store position content r =
+    has_store (reader_inner r) × IsSound (reader_held r) (position (reader_inner r)) (content (reader_inner r))
+
+-- the inner's store, where what lies behind and then the held bytes are its bytes that end at the inner's position
+abbrev pub reader_is_sound : {R : Type 0} {S : ℕ} → (R → Type 0) → (R → ℕ) → (R → List ℕ) → BufReader R S → Type 0
+reader_is_sound has_store position content r =
+    has_store (reader_inner r) × IsSound (reader_behind r ++ reader_held r) (position (reader_inner r)) (content (reader_inner r))
+
+-- the inner's position less the bytes held
+abbrev pub reader_position : {R : Type 0} {S : ℕ} → (R → ℕ) → BufReader R S → ℕ
+reader_position position r = position (reader_inner r) - length (reader_held r)
+
+-- a fill takes no event but the error that it answers
+abbrev pub FillsFrom : {A : Type 0} → List Event → Result A Error → List Event → Type 0
+FillsFrom E (Ok _) after = after ≡ E
+FillsFrom E (Err e) after = E ≡ fails e ∷ after
+
+-- how many bytes a read gives of over a filling reader: those held, else those to come
+abbrev pub held_or_to_come : ℕ → ℕ → ℕ
+held_or_to_come held to_come = if nat_lt 0 held then held else to_come
+
+-- how many bytes a fill of this much room holds afterwards, with this many held before and to come
+abbrev pub filled_length : ℕ → ℕ → ℕ → ℕ
+filled_length room held to_come = if nat_lt 0 held then held else min room to_come
+
+-- how many bytes `fill_buf` lends over a filling reader
+abbrev pub reader_lent_length : {R : Type 0} {S : ℕ} → (R → List Event) → BufReader R S → ℕ
+reader_lent_length {S = room} events r = filled_length room (length (reader_held r)) (length (events (reader_inner r)))
+
+-- how many inner reads `read_exact` of `len` bytes makes, with this many held and to come in all, over a filling reader
+abbrev pub exact_reads : ℕ → ℕ → ℕ → ℕ
+exact_reads len held all =
+    (if nat_le len held then 0 else 1) + (if nat_lt held all && nat_lt all len then 1 else 0)
+
+-- what lies behind after a read with none held: what it gave of its own buffer, and none where that was passed by
+abbrev pub behind_anew : ℕ → ℕ → List ℕ → List ℕ
+behind_anew room len got = if nat_le room len then [] else got
+
+-- how many bytes are held after that
+abbrev pub exact_left : ℕ → ℕ → ℕ → ℕ → ℕ
+exact_left room len held all =
+    if nat_le len held then held - len
+    else if nat_le room (len - held) then 0
+    else min room (all - held) - (len - held)
+
+-- how many bytes lie behind after an exact read of `len` bytes, of which `held` were: those that were read into the buffer,
+-- and none where they were read past it
+abbrev pub exact_behind : ℕ → ℕ → ℕ → ℕ
+exact_behind room len held = if nat_le room (len - held) then 0 else len - held
+
+-- `target` is so far back that one seek of the inner reader, which is `held` bytes ahead, can't say it
+abbrev pub IsTooFarBack : SeekFrom → ℕ → Type 0
+IsTooFarBack (Current (negsuc k)) held = 2 ^ 63 < held + (k + 1)
+IsTooFarBack _ held = ⊥
+
+-- what lies behind and what is held are as they were
+abbrev pub KeepsBuffer : {R : Type 0} {S : ℕ} → BufReader R S → BufReader R S → Type 0
+KeepsBuffer old new = (reader_held new ≡ reader_held old) × (reader_behind new ≡ reader_behind old)
+
+-- nothing lies behind, and nothing is held
+abbrev pub HasNoBuffer : {R : Type 0} {S : ℕ} → BufReader R S → Type 0
+HasNoBuffer r = (reader_held r ≡ []) × (reader_behind r ≡ [])
+
+-- what was held stands behind what the vector had and the buffer was dropped, or room was refused and a front of it stands there
+abbrev pub EmptiesInto : {R : Type 0} {S : ℕ} → BufReader R S → List ℕ → Result ℕ Error → List ℕ → BufReader R S → Type 0
+EmptiesInto old before (Ok n) after new = IsFront (before ++ reader_held old) after × HasNoBuffer new
+EmptiesInto old before (Err e) after new =
+    (IsFront (before ++ reader_held old) after × HasNoBuffer new)
+    ⊎ (IsOutOfMemory e × (reader_inner new ≡ reader_inner old) × HasMoved (reader_held old) (reader_held new) before after)
+
+-- r after `*r.get_mut() = x`
+abbrev pub reader_with_inner : {R : Type 0} {S : ℕ} → BufReader R S → R → BufReader R S
+reader_with_inner r x = record r { inner = x }
+
+-- what a type tells of itself as a reader: the members of `Read`, and first those of `Stored`
+abbrev pub ReaderWords : Type 0 → Type 1
+ReaderWords R = record {
+  has_store : R → Type 0;
+  content : R → List ℕ;
+  position : R → ℕ;
+  tells : R → Type 0;
+  events : R → List Event;
+  turns : R → ℕ;
+  cost : R → ℕ;
+  is_metered : R → Type 0;
+  is_filling : R → Type 0;
+  may_take_none : R → Type 0;
+}
+
+-- Where nothing was held, the inner reader was read once into the buffer.
+pub record FillsBuffer {R : Type 0} {S : ℕ} (inner : ReaderWords R) (old : BufReader R S) (reply : Result (Unit {0}) Error)
+    (new : BufReader R S) : Type 0 where
+  pub held : OnErr reply (reader_held new ≡ [])
+  pub behind : reader_behind new ≡ []
+  pub sound : reader_is_sound inner.has_store inner.position inner.content old
+      → reader_is_sound inner.has_store inner.position inner.content new
+  pub told : inner.tells (reader_inner old) → inner.tells (reader_inner new)
+      × FillsFrom (reader_events inner.events old) reply (reader_events inner.events new)
+  -- nothing is held then only at the end
+  pub end : inner.tells (reader_inner old) → OnOk reply (reader_held new ≡ [] → reader_events inner.events old ≡ [])
+  pub no_later : reader_turns inner.turns new ≤ reader_turns inner.turns old
+  pub turn : OnErr reply (reader_turns inner.turns new < reader_turns inner.turns old)
+  pub asks : inner.is_metered (reader_inner old) → inner.is_metered (reader_inner new)
+      × (inner.cost (reader_inner new) ≡ inner.cost (reader_inner old) + 1)
+  pub fills : inner.is_filling (reader_inner old) → inner.is_filling (reader_inner new) × IsOk reply
+      × (length (reader_held new) ≡ min S (length (inner.events (reader_inner old))))
+  pub store : reader_has_store inner.has_store inner.position inner.content old
+      → reader_has_store inner.has_store inner.position inner.content new
+      × (inner.content (reader_inner new) ≡ inner.content (reader_inner old))
+      × (reader_position inner.position new ≡ reader_position inner.position old)
+
+-- More room than there were bytes held was filled, or the bytes ended, or a fault came.
+pub record ReadsOn {R : Type 0} {S : ℕ} (inner : ReaderWords R) (old : BufReader R S) (room : ℕ) (reply : Result (Unit {0}) Error)
+    (buf : List ℕ) (new : BufReader R S) : Type 0 where
+  pub told : inner.tells (reader_inner old) → inner.tells (reader_inner new)
+      × ReadsExact ⊥ (reader_events inner.events old) reply buf (reader_events inner.events new)
+  pub fault : IfErr reply IsFault
+  pub no_later : reader_turns inner.turns new ≤ reader_turns inner.turns old
+  pub turn : OnOk reply (reader_turns inner.turns new < reader_turns inner.turns old)
+  pub store : reader_has_store inner.has_store inner.position inner.content old
+      → reader_has_store inner.has_store inner.position inner.content new
+      × (inner.content (reader_inner new) ≡ inner.content (reader_inner old))
+      × (reader_position inner.position new + length (reader_events inner.events new)
+      ≡ reader_position inner.position old + length (reader_events inner.events old))
+  -- what lies behind is the last of what was given, less than a full buffer
+  pub behind : OnOk reply (IsEnd buf (reader_behind new) × (length (reader_behind new) < S))
+  -- an error is an inner read's answer, which leaves nothing in the buffer
+  pub failed : OnErr reply (HasNoBuffer new)
+  pub sound : reader_is_sound inner.has_store inner.position inner.content old
+      → reader_is_sound inner.has_store inner.position inner.content new
+  -- over a filling reader: how often that is read, what is held then, and how much of what was given lies behind
+  pub asks : inner.is_metered (reader_inner old) → inner.is_filling (reader_inner old) → inner.is_metered (reader_inner new)
+      × (inner.cost (reader_inner new) ≡ inner.cost (reader_inner old)
+      + exact_reads room (length (reader_held old)) (length (reader_events inner.events old)))
+  pub left : inner.is_filling (reader_inner old) → inner.is_filling (reader_inner new)
+      × (length (reader_held new) ≡ exact_left S room (length (reader_held old)) (length (reader_events inner.events old)))
+      × (length (reader_events inner.events new) ≡ length (reader_events inner.events old) - room)
+  pub behind_length : inner.is_filling (reader_inner old)
+      → OnOk reply (length (reader_behind new) ≡ exact_behind S room (length (reader_held old)))
+
+-- the answer of a seek without its number, which led to `place`
+abbrev pub led_to : ℕ → Result (Unit {0}) Error → Result ℕ Error
+led_to place (Ok done) = Ok place
+led_to place (Err e) = Err e
+
+-- to the start
+abbrev pub at_start : SeekFrom
+at_start = Start 0
+
+-- back by so many bytes
+abbrev pub back_by : ℕ → SeekFrom
+back_by held = Current (pos 0 -ℤ pos held)
+
+-- Back by the bytes held, which arrived somewhere, and then by the offset.
+pub record SeeksTwice {R : Type 0} (may_seek : R → SeekFrom → R → Result ℕ Error → Type 0) (held : ℕ) (old : R) (offset : ℤ)
+    (new : R) (reply : Result ℕ Error) : Type 0 where
+  pub between : R
+  pub at : ℕ
+  pub back : may_seek old (back_by held) between (Ok at)
+  pub on : may_seek between (Current offset) new reply
+
+-- The inner seeks that stand for one of a reader that holds so many bytes: one, by so many fewer where it counts from the current
+-- position; or, where that is too far back for one, two, or the first of them alone where that fails.
+abbrev pub SeeksInner : {R : Type 0} → (R → SeekFrom → R → Result ℕ Error → Type 0) → ℕ → R → SeekFrom → R → Result ℕ Error → Type 0
+SeeksInner may_seek held old (Current offset) new reply =
+    may_seek old (Current (offset -ℤ pos held)) new reply
+    ⊎ (IsTooFarBack (Current offset) held
+    × (SeeksTwice may_seek held old offset new reply ⊎ (IsErr reply × may_seek old (back_by held) new reply)))
+SeeksInner may_seek held old to new reply = may_seek old to new reply
+
+-- A buffered reader was sought: its inner reader was, and the buffer dropped, or it failed, and the buffer was kept where one
+-- seek was made.
+pub record ReaderSeeks {R : Type 0} {S : ℕ} (may_seek : R → SeekFrom → R → Result ℕ Error → Type 0) (old : BufReader R S)
+    (to : SeekFrom) (new : BufReader R S) (reply : Result ℕ Error) : Type 0 where
+  pub dropped : OnOk reply (HasNoBuffer new)
+  pub kept : OnErr reply (KeepsBuffer old new ⊎ (IsTooFarBack to (length (reader_held old)) × HasNoBuffer new))
+  pub inner : SeeksInner may_seek (length (reader_held old)) (reader_inner old) to (reader_inner new) reply
+
+-- a `BufReader<R, S>` fits in memory
+abbrev pub BufReaderFits : RattleType → ℕ → Type 0
+BufReaderFits R S = FitsInMemory (reader-row R (param 0 (number S)))
+
+-- what comes of held bytes that are the content's, and then of the store, is the content from where they begin
+pub sound_tells : (held : List ℕ) (position : ℕ) (content : List ℕ) (E : List Event) → IsSound held position content
+    → E ≡ events_of (drop position content)
+    → events_of held ++ E ≡ events_of (drop (position - length held) content)
+sound_tells held position content E s is =
+    let whole = drop (position - length held) content in
+    let back : (position - length held) + length held ≡ position = omega (arith, s.0) in
+    let rest : drop position content ≡ drop (length held) whole =
+    ap (λ n. drop n content) (sym back) ∙ sym (drop-drop (length held) (position - length held) content) in
+    ap (λ l. events_of held ++ l) (is ∙ ap events_of rest) ∙ sym (events_of-append held (drop (length held) whole))
+    ∙ ap (λ l. events_of (l ++ drop (length held) whole)) s.1 ∙ ap events_of (take-append-drop (length held) whole)
+
+-- where the first of them are gone, the others are the content's still
+pub sound_drop : (held : List ℕ) (position : ℕ) (content : List ℕ) (k : ℕ) → IsSound held position content
+    → k ≤ length held → IsSound (drop k held) position content
+sound_drop held position content k s fits =
+    let whole = drop (position - length held) content in
+    let long : length (drop k held) ≡ length held - k = length-drop k held in
+    let split : length held ≡ k + (length held - k) = omega arith in
+    let at : (position - length held) + k ≡ position - length (drop k held) = omega (arith, s.0, long) in (
+      omega (arith, s.0, long),
+      ap (drop k) (s.1 ∙ ap (λ n. take n whole) split) ∙ drop-take k (length held - k) whole ∙ ap (λ n. take n (drop k whole)) (sym long)
+          ∙ ap (take (length (drop k held))) (drop-drop k (position - length held) content ∙ ap (λ n. drop n content) at),
+    )
+
+-- what was read at the position is held, and the position is behind it
+pub sound_fill : (got : List ℕ) (position : ℕ) (content : List ℕ) (E E' : List Event)
+    → E ≡ events_of (drop position content) → E ≡ events_of got ++ E' → IsSound got (position + length got) content
+sound_fill got position content E E' is read =
+    let at : position ≡ (position + length got) - length got = omega arith in
+    let whole : drop position content ≡ got ++ bytes E' =
+    sym (bytes-events_of (drop position content)) ∙ ap bytes (sym is ∙ read) ∙ bytes-append (events_of got) E'
+    ∙ ap (λ l. l ++ bytes E') (bytes-events_of got) in (
+      omega arith,
+      sym
+          (ap (λ n. take (length got) (drop n content)) (sym at) ∙ ap (take (length got)) whole
+          ∙ take-append-le (length got) got (bytes E') (omega arith) ∙ take_whole got),
+    )
+  where
+    take_whole : (l : List ℕ) → take (length l) l ≡ l
+    take_whole [] = refl
+    take_whole (x ∷ l) = ap (λ m. x ∷ m) (take_whole l)
+
+-- where the store's length and position are numbers of 64 bits, so is the position less the held bytes
+pub sound_fits : (content held : List ℕ) (position : ℕ) → (length content < 2 ^ 64) × (position < 2 ^ 64)
+    → (length content < 2 ^ 64) × (position - length held < 2 ^ 64)
+sound_fits content held position h = (h.0, omega (arith, h.1))

@@ -1,0 +1,210 @@
+-- What a clause reads of a `BufWriter` and of its error, how a buffer is sent, and what its calls do: each relation is the one
+-- clause of the private functions that share it.
+use Rattle.std.specs.Prelude.{◌≡◌, ℕ, ◌+◌, List, [], ◌++◌, length, nat_lt, nat_le, ◌&&◌, if◌then◌else◌, ◌<◌, ◌≤◌, ◌⊎◌, ◌∷◌, take, Some}
+use Rattle.std.specs.Prelude.{Result, Ok, IsOk, IsOkAnd, IfOk, IfErr, OnOk, OnErr}
+use Rattle.no_std_io2_base.specs.declared.error.Error.{Error}
+use Rattle.no_std_io2_base.specs.Writes.{Told, IsFront, Moves, MovesFront, Sends, taken, write_mishap, call_mishap, calls_for}
+use Rattle.no_std_io2.specs.Buffer.{buffer_held, IsEnd}
+use Rattle.no_std_io2.specs.declared.buffered.sender.Sender.{Sender}
+use Rattle.no_std_io2.specs.declared.buffered.buf_writer.BufWriter.{BufWriter}
+use Rattle.no_std_io2.specs.declared.buffered.into_inner_error.IntoInnerError.{IntoInnerError}
+use Rattle.no_std_io2_base.specs.Errors.{error_kind, IsFault, IsNoInterruption}
+use Rattle.no_std_io2_base.specs.declared.traits.seek.SeekFrom.{SeekFrom}
+use Rattle.no_std_io2_base.specs.Seek.{Seeks}
+use denote.Param.{param, number}
+use denote.RattleType.{RattleType}
+use Rattle.std.specs.Mem.{FitsInMemory}
+use Rattle.no_std_io2.specs.contracts.buffered.buf_writer.BufWriter.{the_row as writer-row}
+
+-- the inner writer
+abbrev pub sender_inner : {W : Type 0} {S : ℕ} → Sender W S → W
+sender_inner w = w.inner
+
+-- the bytes that are held
+abbrev pub sender_buffer : {W : Type 0} {S : ℕ} → Sender W S → List ℕ
+sender_buffer w = buffer_held w.buffer
+
+-- `w.get_ref()`
+abbrev pub writer_inner : {W : Type 0} {S : ℕ} → BufWriter W S → W
+writer_inner w = sender_inner w.core
+
+-- `w.buffer()`
+abbrev pub writer_buffer : {W : Type 0} {S : ℕ} → BufWriter W S → List ℕ
+writer_buffer w = sender_buffer w.core
+
+-- `e.into_inner()`
+abbrev pub into_inner_error_writer : {W : Type 0} → IntoInnerError W → W
+into_inner_error_writer e = e.writer
+
+-- `e.error()`
+abbrev pub into_inner_error_cause : {W : Type 0} → IntoInnerError W → Error
+into_inner_error_cause e = e.error
+
+-- what a writer tells that has this buffer in front of it
+abbrev pub with_buffer : Told → List ℕ → Told
+with_buffer told buffer = record told { held = told.held ++ buffer }
+
+-- what such a writer tells, where its inner writer tells `told`
+abbrev pub sender_told : {W : Type 0} {S : ℕ} → (W → Told) → Sender W S → Told
+sender_told told w = with_buffer (told w.inner) (sender_buffer w)
+
+-- what a `BufWriter` tells
+abbrev pub writer_told : {W : Type 0} {S : ℕ} → (W → Told) → BufWriter W S → Told
+writer_told told w = sender_told told w.core
+
+-- how many inner calls it takes that n more bytes fit beside the buffer, where the inner writer takes all
+abbrev pub way_calls : ℕ → List ℕ → ℕ → ℕ
+way_calls S buffer n = if nat_lt 0 (length buffer) && nat_lt S (length buffer + n) then 1 else 0
+
+-- how many inner calls a write of x takes, where the inner writer takes all
+abbrev pub writing_calls : ℕ → List ℕ → List ℕ → ℕ
+writing_calls S buffer x = way_calls S buffer (length x) + (if nat_le S (length x) then 1 else 0)
+
+-- the buffer after a write of x that answered `Ok`
+abbrev pub buffer_after : ℕ → List ℕ → List ℕ → List ℕ
+buffer_after S buffer x =
+    if nat_lt (length x) S then (if nat_le (length buffer + length x) S then buffer ++ x else x) else []
+
+-- end is an end of what was held and some front of x
+abbrev pub HoldsEnd : List ℕ → List ℕ → List ℕ → Type 0
+HoldsEnd held x end = (front : List ℕ) × IsFront front x × IsEnd (held ++ front) end
+
+-- w with another inner writer
+abbrev pub sender_with_inner : {W : Type 0} {S : ℕ} → Sender W S → W → Sender W S
+sender_with_inner w x = record { inner = x; buffer = w.buffer }
+
+-- w after `*w.get_mut() = x`
+abbrev pub writer_with_inner : {W : Type 0} {S : ℕ} → BufWriter W S → W → BufWriter W S
+writer_with_inner w x = record { core = sender_with_inner w.core x }
+
+-- What was held was sent: the inner writer accepted some front of it, all of it at `Ok`, and the rest is held.
+pub record Sent {W : Type 0} {S : ℕ} (told : W → Told) (takes_all is_metered : W → Type 0) (cost : W → ℕ)
+    (old : Sender W S) (reply : Result (Unit {0}) Error) (new : Sender W S) : Type 0 where
+  pub fault : IsNoInterruption reply
+  pub empty : OnOk reply (sender_buffer new ≡ [])
+  pub left : OnErr reply (0 < length (sender_buffer new))
+  pub sends : Sends (told (sender_inner old)) (sender_buffer old) reply (told (sender_inner new)) (sender_buffer new)
+  -- with nothing held there is no inner call
+  pub idle : sender_buffer old ≡ [] → (sender_inner new ≡ sender_inner old) × IsOk reply
+  pub all : takes_all (sender_inner old) → takes_all (sender_inner new) × IsOk reply
+  pub calls : is_metered (sender_inner old) → takes_all (sender_inner old) → is_metered (sender_inner new)
+      × (cost (sender_inner new) ≡ cost (sender_inner old) + calls_for (sender_buffer old))
+  -- no byte moves
+  pub unmoved : new.buffer.bytes ≡ old.buffer.bytes
+
+-- There is room for `more` bytes, or nothing is held: what was held was sent where they don't fit beside it.
+pub record MakesWay {W : Type 0} {S : ℕ} (told : W → Told) (takes_all is_metered : W → Type 0) (cost : W → ℕ)
+    (old : Sender W S) (more : ℕ) (reply : Result (Unit {0}) Error) (new : Sender W S) : Type 0 where
+  pub fault : IsNoInterruption reply
+  pub moves : Moves (sender_told told old) [] (call_mishap reply) (sender_told told new)
+  pub rest : IsEnd (sender_buffer old) (sender_buffer new)
+  pub room : OnOk reply (more < S → length (sender_buffer new) + more ≤ S)
+  pub empty : OnOk reply (S ≤ more → sender_buffer new ≡ [])
+  pub fits : length (sender_buffer old) + more ≤ S
+      → IsOk reply × (sender_inner new ≡ sender_inner old) × (sender_buffer new ≡ sender_buffer old)
+  pub sent : S < length (sender_buffer old) + more → OnOk reply (sender_buffer new ≡ [])
+  pub all : takes_all (sender_inner old) → takes_all (sender_inner new) × IsOk reply
+  pub calls : is_metered (sender_inner old) → takes_all (sender_inner old) → is_metered (sender_inner new)
+      × (cost (sender_inner new) ≡ cost (sender_inner old) + way_calls S (sender_buffer old) more)
+
+-- `write(x)` through the buffer.
+pub record Buffers {W : Type 0} {S : ℕ} (told : W → Told) (takes_all is_metered : W → Type 0) (cost : W → ℕ)
+    (old : Sender W S) (x : List ℕ) (reply : Result ℕ Error) (new : Sender W S) : Type 0 where
+  pub bound : IfOk reply (λ n. n ≤ length x)
+  pub moves : Moves (sender_told told old) (taken reply x) (write_mishap reply x) (sender_told told new)
+  pub rest : IsEnd (sender_buffer old ++ taken reply x) (sender_buffer new)
+  -- where both fit, x is held and there is no inner call
+  pub fits : length x < S → length (sender_buffer old) + length x ≤ S
+      → IsOk reply × (sender_inner new ≡ sender_inner old) × (sender_buffer new ≡ sender_buffer old ++ x)
+  -- where both don't, all that was held was sent before an `Ok`
+  pub sent : S < length (sender_buffer old) + length x → IfOk reply (λ n. IsEnd (take n x) (sender_buffer new))
+  -- what is shorter than the buffer is taken whole, and no interruption is answered
+  pub whole : length x < S → IfOk reply (λ n. n ≡ length x)
+  pub calm : length x < S → IsNoInterruption reply
+  pub all : takes_all (sender_inner old) → takes_all (sender_inner new) × (reply ≡ Ok (length x))
+  pub after : OnOk reply (sender_buffer new ≡ buffer_after S (sender_buffer old) x)
+  pub calls : is_metered (sender_inner old) → takes_all (sender_inner old) → is_metered (sender_inner new)
+      × (cost (sender_inner new) ≡ cost (sender_inner old) + writing_calls S (sender_buffer old) x)
+
+-- `write_all(x)` through the buffer.
+pub record BuffersAll {W : Type 0} {S : ℕ} (told : W → Told) (takes_all is_metered : W → Type 0) (cost : W → ℕ)
+    (old : Sender W S) (x : List ℕ) (reply : Result (Unit {0}) Error) (new : Sender W S) : Type 0 where
+  pub fault : IsNoInterruption reply
+  pub moves : MovesFront (sender_told told old) x reply (sender_told told new)
+  pub rest : (IsEnd (sender_buffer old ++ x) (sender_buffer new)) ⊎ (IsEnd (sender_buffer old) (sender_buffer new))
+  -- where both fit, x is held and there is no inner call
+  pub fits : length x < S → length (sender_buffer old) + length x ≤ S
+      → IsOk reply × (sender_inner new ≡ sender_inner old) × (sender_buffer new ≡ sender_buffer old ++ x)
+  -- where both don't, all that was held was sent before an `Ok`
+  pub sent : S < length (sender_buffer old) + length x → OnOk reply (IsEnd x (sender_buffer new))
+  -- of what is shorter than the buffer nothing is taken at an `Err`
+  pub none : length x < S → OnErr reply (IsEnd (sender_buffer old) (sender_buffer new)
+      × Moves (sender_told told old) [] (call_mishap reply) (sender_told told new))
+  pub all : takes_all (sender_inner old) → takes_all (sender_inner new) × IsOk reply
+  pub after : OnOk reply (sender_buffer new ≡ buffer_after S (sender_buffer old) x)
+  pub calls : 0 < S → is_metered (sender_inner old) → takes_all (sender_inner old) → is_metered (sender_inner new)
+      × (cost (sender_inner new) ≡ cost (sender_inner old) + writing_calls S (sender_buffer old) x)
+  pub few : is_metered (sender_inner old) → takes_all (sender_inner old) → is_metered (sender_inner new)
+      × (cost (sender_inner new) ≤ cost (sender_inner old) + calls_for (sender_buffer old) + 1)
+
+-- `flush` through the buffer.
+pub record Flushes {W : Type 0} {S : ℕ} (told : W → Told) (takes_all is_metered : W → Type 0) (cost : W → ℕ)
+    (old : Sender W S) (reply : Result (Unit {0}) Error) (new : Sender W S) : Type 0 where
+  pub empty : OnOk reply ((sender_told told new).held ≡ [])
+  pub moves : Moves (sender_told told old) [] (call_mishap reply) (sender_told told new)
+  pub sent : OnOk reply (sender_buffer new ≡ [])
+  pub rest : IsEnd (sender_buffer old) (sender_buffer new)
+  pub all : takes_all (sender_inner old) → takes_all (sender_inner new) × IsOk reply
+  pub calls : is_metered (sender_inner old) → takes_all (sender_inner old) → is_metered (sender_inner new)
+      × (cost (sender_inner new) ≡ cost (sender_inner old) + calls_for (sender_buffer old))
+
+-- `into_inner()`: all that was held was sent and the inner writer came back, or a fault came with the writer, which holds the rest.
+pub record Unwraps {W : Type 0} {S : ℕ} (told : W → Told) (takes_all is_metered : W → Type 0) (cost : W → ℕ)
+    (old : Sender W S) (reply : Result W (IntoInnerError (Sender W S))) : Type 0 where
+  pub ok : IfOk reply (λ w. Moves (sender_told told old) [] [] (told w))
+  pub err : IfErr reply (λ e. Moves (sender_told told old) [] (error_kind (into_inner_error_cause e) ∷ [])
+      (sender_told told (into_inner_error_writer e)))
+  pub rest : IfErr reply (λ e. IsEnd (sender_buffer old) (sender_buffer (into_inner_error_writer e)))
+  pub fault : IfErr reply (λ e. IsFault (into_inner_error_cause e))
+  -- with nothing held there is no inner call
+  pub empty : sender_buffer old ≡ [] → reply ≡ Ok (sender_inner old)
+  pub steady : (told (sender_inner old)).mishaps ≡ Some [] → IsOk reply
+  pub all : takes_all (sender_inner old) → IsOkAnd reply takes_all
+  pub calls : is_metered (sender_inner old) → takes_all (sender_inner old) → IfOk reply (λ w. is_metered w
+      × (cost w ≡ cost (sender_inner old) + calls_for (sender_buffer old)))
+
+-- All was sent, which left the inner writer in some state, and it was sought from there, once.
+pub record SeeksAfterSending {W : Type 0} (told : W → Told) (has_store : W → Type 0) (content : W → List ℕ)
+    (position : W → ℕ) (may_seek : W → SeekFrom → W → Result ℕ Error → Type 0) (old : Told) (to : SeekFrom) (new : W)
+    (reply : Result ℕ Error) : Type 0 where
+  pub sent : W
+  -- no byte is lost
+  pub moves : Moves old [] [] (told sent)
+  -- one seek of the inner writer, and its answer
+  pub sought : may_seek sent to new reply
+  -- a store that it told then was sought
+  pub seeks : has_store sent
+      → has_store new × (content new ≡ content sent)
+      × Seeks (length (content sent)) (position sent) to reply (position new)
+
+-- A buffered writer that holds this now was sought: all was sent and then its inner writer was sought, or the sending failed.
+pub record WriterSeeks {W : Type 0} (told : W → Told) (has_store : W → Type 0) (content : W → List ℕ)
+    (position : W → ℕ) (may_seek : W → SeekFrom → W → Result ℕ Error → Type 0) (old : Told) (to : SeekFrom)
+    (held : List ℕ) (new : W) (reply : Result ℕ Error) : Type 0 where
+  pub empty : OnOk reply (held ≡ [])
+  pub fault : IfErr reply (λ e. 0 < length held → IsFault e)
+  pub sent : held ≡ [] → SeeksAfterSending told has_store content position may_seek old to new reply
+
+-- All was sent, which left the inner writer in some state; a store that it told then was measured, and stayed.
+pub record MeasuredAfterSending {W : Type 0} (told : W → Told) (has_store : W → Type 0) (content : W → List ℕ)
+    (position : W → ℕ) (old : Told) (reply : Result ℕ Error) (new : W) : Type 0 where
+  pub sent : W
+  -- no byte is lost
+  pub moves : Moves old [] [] (told sent)
+  pub measured : has_store sent
+      → has_store new × (content new ≡ content sent) × (position new ≡ position sent)
+      × IsOkAnd reply (λ n. n ≡ length (content sent))
+
+-- a `BufWriter<W, S>` fits in memory
+abbrev pub BufWriterFits : RattleType → ℕ → Type 0
+BufWriterFits W S = FitsInMemory (writer-row W (param 0 (number S)))

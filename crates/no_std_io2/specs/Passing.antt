@@ -1,0 +1,33 @@
+-- What is gone of what was to come, where no fault is among it.
+use Rattle.std.specs.Prelude.{◌≡◌, ◌⊎◌, ℕ, ◌+◌, List, [], ◌∷◌, ◌++◌, length, Result, Ok, Err}
+use Rattle.no_std_io2_base.specs.declared.error.Error.{Error}
+use Rattle.no_std_io2_base.specs.Errors.{IsFault, IsUnexpectedEnd}
+use Rattle.no_std_io2_base.specs.Events.{Event, fails, bytes, HasNoFault}
+
+-- A front of E is gone that has no fault and these bytes.
+pub record Passes (E : List Event) (taken : List ℕ) (after : List Event) : Type 0 where
+  pub front : List Event
+  pub split : E ≡ front ++ after
+  pub no_fault : HasNoFault front
+  pub gave : bytes front ≡ taken
+
+-- More of a part was gathered, from a front of E that is gone and has no fault.
+pub record Gathered (E : List Event) (old new : List ℕ) (after : List Event) : Type 0 where
+  pub more : List ℕ
+  pub is : new ≡ old ++ more
+  pub passes : Passes E more after
+
+-- Of n bytes to be passed over, some front of E had all but `left`.
+pub record PassesOver (n : ℕ) (E : List Event) (left : ℕ) (after : List Event) : Type 0 where
+  pub over : List ℕ
+  pub count : length over + left ≡ n
+  pub passes : Passes E over after
+
+-- the reader's fault stood behind them, and is gone; or the end came
+abbrev pub StopsThere : List Event → Error → List Event → Type 0
+StopsThere mid e after = ((mid ≡ fails e ∷ after) × IsFault e) ⊎ ((mid ≡ []) × (after ≡ []) × IsUnexpectedEnd e)
+
+-- n bytes were passed over; or all but `left`, and an error came behind them
+abbrev pub Skips : ℕ → List Event → Result (Unit {0}) Error → ℕ → List Event → Type 0
+Skips n E (Ok u) left after = PassesOver n E left after
+Skips n E (Err e) left after = (mid : List Event) × PassesOver n E left mid × StopsThere mid e after

@@ -1,0 +1,258 @@
+//! Bytes that are held inside an array, from a start to an end: what all buffers here stand on.
+ghost use Rattle.std.specs.Prelude.{◌≡◌, ◌+◌, ◌-◌, ◌<◌, ◌≤◌, [], ◌++◌, min, length, take, drop, IsOk, IfErr, OnOk, OnErr};
+ghost use Rattle.std.specs.Prelude.{vec_len, vec_capacity};
+ghost use Rattle.std.specs.Bool.{OnTrue, OnFalse};
+ghost use Rattle.no_std_io2_base.specs.Errors.{IsOutOfMemory};
+ghost use Rattle.no_std_io2_base.specs.Slices.{HasMoved};
+
+use no_std_io2_base::error::Result;
+use no_std_io2_base::shared::{append_rest, copy_bytes};
+use no_std_io2_base::traits::Read;
+use std::alloc::Allocator;
+
+/// Holds the bytes from `start` to `end`. Those before `start` were held since the last read or
+/// `clear`, and are not gone yet: a reader may step back over them.
+#[derive(Drop)]
+pub(crate) struct Buffer<const S: usize> {
+    bytes: [u8; S],
+    start: usize,
+    end: usize,
+    ghost ordered: { start ≤ end },
+    ghost in_range: { end ≤ S },
+}
+
+impl<const S: usize> Buffer<S> {
+    ghost use Rattle.no_std_io2.specs.Buffer.{buffer_held, buffer_behind, buffer_room, ReadsAhead, IsInBuffer, IsCutOn};
+
+    #[inline]
+    pub(crate) fn new() -> Self
+        ensures held { buffer_held result ≡ [] }
+        ensures behind { buffer_behind result ≡ [] }
+    {
+        Buffer {
+            bytes: [0; S],
+            start: 0,
+            end: 0,
+        }
+    }
+
+    #[inline]
+    pub(crate) fn len(&self) -> usize
+        ensures len { result ≡ length (buffer_held self.now) }
+        ensures bound { result ≤ S }
+    {
+        self.end - self.start
+    }
+
+    #[inline]
+    pub(crate) fn as_slice(&self) -> &[u8]
+        ensures value { result.now ≡ buffer_held self.now }
+        ensures bound { length result.now ≤ S }
+    {
+        let all = &self.bytes[..];
+        &all[self.start..self.end]
+    }
+
+    /// The bytes that were given since the last read, right before those held.
+    pub(crate) fn behind(&self) -> &[u8]
+        ensures value { result.now ≡ buffer_behind self.now }
+        ensures bound { length result.now ≤ S }
+    {
+        let all = &self.bytes[..];
+        &all[..self.start]
+    }
+
+    #[inline]
+    pub(crate) fn clear(&mut self)
+        ensures held { buffer_held self.new ≡ [] }
+        ensures behind { buffer_behind self.new ≡ [] }
+        ensures unmoved { self.new.bytes ≡ self.old.bytes }
+    {
+        self.start = 0;
+        self.end = 0;
+    }
+
+    /// Passes over the first bytes, which then lie behind. No byte moves.
+    #[inline]
+    pub(crate) fn consume(&mut self, n: usize)
+        requires { n ≤ length (buffer_held self.old) }
+        ensures held { buffer_held self.new ≡ drop n (buffer_held self.old) }
+        ensures behind { buffer_behind self.new ≡ buffer_behind self.old ++ take n (buffer_held self.old) }
+        ensures unmoved { self.new.bytes ≡ self.old.bytes }
+    {
+        self.start += n;
+    }
+
+    /// Moves the border between what lies behind and what is held, where that stays between their
+    /// ends, and answers whether it does. No byte moves.
+    pub(crate) fn shift(&mut self, offset: i64) -> bool
+        ensures within { OnTrue result
+            (IsInBuffer offset (length (buffer_behind self.old)) (length (buffer_held self.old))
+            × IsCutOn offset (buffer_behind self.old) (buffer_held self.old)
+            (buffer_behind self.new) (buffer_held self.new)) }
+        ensures outside { OnFalse result (self.new ≡ self.old
+            × ¬ IsInBuffer offset (length (buffer_behind self.old)) (length (buffer_held self.old))) }
+    {
+        match (self.start as u64).checked_add_signed(offset) {
+            Some(at) if at <= self.end as u64 => {
+                self.start = at as usize;
+                true
+            }
+            _ => false,
+        }
+    }
+
+    /// Gives the first bytes, as many as fill `buf`. They then lie behind.
+    #[inline(always)]
+    pub(crate) fn give_whole(&mut self, buf: &mut [u8])
+        requires { length buf.old ≤ length (buffer_held self.old) }
+        ensures gave { buf.new ≡ take (length buf.old) (buffer_held self.old) }
+        ensures held { buffer_held self.new ≡ drop (length buf.old) (buffer_held self.old) }
+        ensures behind { buffer_behind self.new ≡ buffer_behind self.old ++ buf.new }
+        ensures empty { length buf.old ≡ 0 → self.new ≡ self.old }
+    {
+        let end = self.start + buf.len();
+        let all = &self.bytes[..];
+        copy_bytes(&all[self.start..end], buf);
+        self.start = end;
+    }
+
+    /// Gives as many bytes as both have.
+    #[inline(always)]
+    pub(crate) fn give(&mut self, buf: &mut [u8]) -> usize
+        ensures count { result ≡ min (length (buffer_held self.old)) (length buf.old) }
+        ensures gave { take result buf.new ≡ take result (buffer_held self.old) }
+        ensures held { buffer_held self.new ≡ drop result (buffer_held self.old) }
+        ensures behind { buffer_behind self.new ≡ buffer_behind self.old ++ take result buf.new }
+    {
+        if self.start == self.end {
+            return 0;
+        }
+        // Who reads byte by byte asks for one.
+        if buf.len() == 1 {
+            buf[0] = self.bytes[self.start];
+            self.start += 1;
+            return 1;
+        }
+        let n = self.len().min(buf.len());
+        self.give_whole(&mut buf[..n]);
+        n
+    }
+
+    /// Appends what is held to a vector, and clears the array; or as much as there is room for where
+    /// memory is refused, and keeps the rest.
+    pub(crate) fn append_to<A: Allocator>(&mut self, buf: &mut Vec<u8, A>) -> Result<()>
+        ensures moved { HasMoved (buffer_held self.old) (buffer_held self.new) buf.old.items buf.new.items }
+        ensures done { OnOk result ((buffer_held self.new ≡ []) × (buffer_behind self.new ≡ [])) }
+        ensures kept { OnErr result
+            (buffer_behind self.new ++ buffer_held self.new ≡ buffer_behind self.old ++ buffer_held self.old) }
+        ensures grows { vec_capacity buf.old ≤ vec_capacity buf.new }
+        ensures refused { IfErr result IsOutOfMemory }
+        ensures full { OnErr result (vec_capacity buf.old < vec_len buf.old + length (buffer_held self.old) + 32) }
+    {
+        let mut rest = self.as_slice();
+        let appended = append_rest(&mut rest, buf);
+        let left = rest.len();
+        let n = self.len() - left;
+        self.consume(n);
+        appended?;
+        self.clear();
+        Ok(())
+    }
+
+    /// Reads once. What was held before is lost, and nothing lies behind.
+    #[inline(always)]
+    pub(crate) fn fill<R: Read>(&mut self, from: &mut R) -> Result<()>
+        requires { 0 < S }
+        ensures err { OnErr result (buffer_held self.new ≡ []) }
+        ensures behind { buffer_behind self.new ≡ [] }
+        ensures bound { length (buffer_held self.new) ≤ S }
+        ensures told { R.tells from.old → R.tells from.new
+            × ReadsAhead (R.events from.old) result (buffer_held self.new) (R.events from.new) }
+        ensures turns { R.turns from.new ≤ R.turns from.old }
+        ensures turn { 0 < length (buffer_held self.new) → R.turns from.new < R.turns from.old }
+        ensures fault_turn { OnErr result (R.turns from.new < R.turns from.old) }
+        ensures cost { R.is_metered from.old → R.is_metered from.new
+            × (R.cost from.new ≡ R.cost from.old + 1) }
+        ensures fills { R.is_filling from.old → R.is_filling from.new × IsOk result
+            × (length (buffer_held self.new) ≡ min S (length (R.events from.old))) }
+        ensures store { R.has_store from.old → R.has_store from.new
+            × (R.content from.new ≡ R.content from.old)
+            × (R.position from.new ≡ R.position from.old + length (buffer_held self.new)) }
+    {
+        self.start = 0;
+        self.end = 0;
+        let n = from.read(&mut self.bytes[..])?;
+        self.end = n;
+        Ok(())
+    }
+
+    /// Drops bytes at the front, and moves none. Where nothing is left, both ends go back to the front.
+    #[inline]
+    pub(crate) fn drop_front(&mut self, n: usize)
+        requires { n ≤ length (buffer_held self.old) }
+        ensures held { buffer_held self.new ≡ drop n (buffer_held self.old) }
+        ensures unmoved { self.new.bytes ≡ self.old.bytes }
+        ensures emptied { buffer_held self.new ≡ [] → (self.new.start ≡ 0) × (self.new.end ≡ 0) }
+    {
+        self.consume(n);
+        if self.start == self.end {
+            self.clear();
+        }
+    }
+
+    // Moves the held bytes to the front.
+    #[cold]
+    #[inline(never)]
+    fn make_room(&mut self)
+        ensures same { buffer_held self.new ≡ buffer_held self.old }
+        ensures start { self.new.start ≡ 0 }
+        ensures room { buffer_room self.new ≡ S - length (buffer_held self.new) }
+    {
+        self.bytes.copy_within(self.start..self.end, 0);
+        self.end -= self.start;
+        self.start = 0;
+    }
+
+    // Copies `more` behind the end, where it fits. No held byte moves.
+    #[inline]
+    fn append(&mut self, more: &[u8])
+        requires { length more.now ≤ buffer_room self.old }
+        ensures held { buffer_held self.new ≡ buffer_held self.old ++ more.now }
+        ensures unmoved { self.new.start ≡ self.old.start }
+    {
+        let end = self.end + more.len();
+        let all = &mut self.bytes[..];
+        copy_bytes(more, &mut all[self.end..end]);
+        self.end = end;
+    }
+
+    /// Appends `more`. The held bytes move only where it doesn't fit behind the end.
+    pub(crate) fn push(&mut self, more: &[u8])
+        requires { length (buffer_held self.old) + length more.now ≤ S }
+        ensures held { buffer_held self.new ≡ buffer_held self.old ++ more.now }
+        ensures unmoved { length more.now ≤ buffer_room self.old → self.new.start ≡ self.old.start }
+    {
+        if more.len() > S - self.end {
+            self.make_room();
+        }
+        self.append(more);
+    }
+
+    /// Appends `more` where that leaves room behind the end. No held byte moves.
+    #[inline(always)]
+    pub(crate) fn append_if_room(&mut self, more: &[u8]) -> bool
+        ensures held { OnTrue result ((length more.now < buffer_room self.old)
+            × (buffer_held self.new ≡ buffer_held self.old ++ more.now)) }
+        ensures same { OnFalse result (self.new ≡ self.old) }
+    {
+        let end = self.end + more.len();
+        if end >= S {
+            return false;
+        }
+        let all = &mut self.bytes[..];
+        copy_bytes(more, &mut all[self.end..end]);
+        self.end = end;
+        true
+    }
+}

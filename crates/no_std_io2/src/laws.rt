@@ -1,0 +1,166 @@
+//! Pins what each type tells: with a member that tells nothing, every promise over it would be empty and still be proved.
+ghost use Rattle.std.specs.Prelude.{◌≡◌, ◌+◌, ◌-◌, ◌<◌, ◌≤◌, min, nat_lt, if◌then◌else◌, [], length, drop, ◌++◌, IsOk, IfOk, OnOk, IsOkAnd};
+ghost use Rattle.no_std_io2_base.specs.Events.{events_of};
+ghost use Rattle.no_std_io2_base.specs.Lending.{BeginsWith};
+ghost use Rattle.no_std_io2_base.specs.Writes.{Told};
+ghost use Rattle.no_std_io2.specs.Buffer.{IsInBuffer, MovesEvents, IsSound};
+ghost use Rattle.no_std_io2.specs.BufWriter.{writer_inner, writer_buffer, writer_told, with_buffer, buffer_after};
+ghost use Rattle.no_std_io2.specs.BufWriter.{WriterSeeks};
+ghost use Rattle.no_std_io2.specs.BufReader.{reader_held, reader_behind, reader_inner, reader_is_sound, ReaderSeeks};
+ghost use Rattle.no_std_io2.specs.LineWriter.{line_inner, line_buffer};
+ghost use Rattle.no_std_io2.specs.Lines.{HasNoNewline, HasNewline, unfinished_line, whole_if_short};
+
+use crate::buffered::{BufReader, BufWriter, LineWriter};
+use no_std_io2_base::error::Result;
+use no_std_io2_base::traits::{BufRead, Read, Seek, SeekFrom, Stored, Write};
+
+fn buffered_writer_tells<W: Write + Drop, const S: usize>(w: &BufWriter<W, S>)
+    ensures told { ⟦<BufWriter<W, S> as Write>⟧.told w.now
+        ≡ with_buffer (W.told (writer_inner w.now)) (writer_buffer w.now) }
+    ensures all { W.takes_all (writer_inner w.now) → ⟦<BufWriter<W, S> as Write>⟧.takes_all w.now }
+    ensures cost { ⟦<BufWriter<W, S> as Write>⟧.cost w.now ≡ W.cost (writer_inner w.now) }
+    ensures unmetered { ¬ ⟦<BufWriter<W, S> as Write>⟧.is_metered w.now }
+{}
+
+// A store behind an empty buffer.
+fn buffered_store_tells<W: Write + Stored + Drop, const S: usize>(w: &BufWriter<W, S>)
+    ensures has_store { writer_buffer w.now ≡ [] → W.has_store (writer_inner w.now)
+        → ⟦<BufWriter<W, S> as Stored>⟧.has_store w.now }
+    ensures empty { ⟦<BufWriter<W, S> as Stored>⟧.has_store w.now → writer_buffer w.now ≡ [] }
+    ensures content { ⟦<BufWriter<W, S> as Stored>⟧.content w.now ≡ W.content (writer_inner w.now) }
+    ensures position { ⟦<BufWriter<W, S> as Stored>⟧.position w.now ≡ W.position (writer_inner w.now) }
+{}
+
+// Its seeks send what is held, and then make one of the inner writer.
+fn buffered_seeker_tells<W: Write + Seek + Drop, const S: usize>(
+    old: &BufWriter<W, S>,
+    pos: SeekFrom,
+    new: &BufWriter<W, S>,
+    reply: &Result<u64>,
+)
+    ensures { ⟦<BufWriter<W, S> as Seek>⟧.may_seek old.now pos new.now reply.now
+        → WriterSeeks W.told W.has_store W.content W.position W.may_seek (writer_told W.told old.now) pos
+        (writer_buffer new.now) (writer_inner new.now) reply.now }
+{}
+
+// The inner's out; the inner's held, then the own buffer; the inner's mishaps and turns.
+fn line_writer_tells<W: Write + Drop, const S: usize>(w: &LineWriter<W, S>)
+    ensures out { (⟦<LineWriter<W, S> as Write>⟧.told w.now).out ≡ (W.told (line_inner w.now)).out }
+    ensures held { (⟦<LineWriter<W, S> as Write>⟧.told w.now).held
+        ≡ (W.told (line_inner w.now)).held ++ line_buffer w.now }
+    ensures mishaps { (⟦<LineWriter<W, S> as Write>⟧.told w.now).mishaps
+        ≡ (W.told (line_inner w.now)).mishaps }
+    ensures turns { (⟦<LineWriter<W, S> as Write>⟧.told w.now).turns
+        ≡ (W.told (line_inner w.now)).turns }
+    ensures takes { ⟦<LineWriter<W, S> as Write>⟧.takes_all w.now → ⊥ }
+    ensures cost { ⟦<LineWriter<W, S> as Write>⟧.cost w.now ≡ W.cost (line_inner w.now) }
+    ensures metered { ⟦<LineWriter<W, S> as Write>⟧.is_metered w.now → ⊥ }
+{}
+
+// A log's line and the start of its next one. Over an inner writer that takes all both calls succeed.
+fn write_line_and_start<W: Write + Drop, const S: usize>(
+    w: &mut LineWriter<W, S>,
+    line: &[u8],
+    start: &[u8],
+) -> Result<()>
+    requires line { HasNewline line.now }
+    requires start { HasNoNewline start.now }
+    ensures lasts { W.takes_all (line_inner w.old) → W.takes_all (line_inner w.new) × IsOk result }
+    ensures buffer { OnOk result (line_buffer w.new
+        ≡ buffer_after S (unfinished_line (whole_if_short S (unfinished_line line.now))) start.now) }
+    ensures calls { W.is_metered (line_inner w.old) → W.takes_all (line_inner w.old)
+        → W.cost (line_inner w.new) ≤ W.cost (line_inner w.old) + 6 }
+{
+    w.write_all(line)?;
+    w.write_all(start)
+}
+
+// Its events are the held bytes, then the inner reader's.
+fn reader_tells<R: Read, const S: usize>(r: &BufReader<R, S>)
+    ensures tells { R.tells (reader_inner r.now) → ⟦<BufReader<R, S> as Read>⟧.tells r.now }
+    ensures events { ⟦<BufReader<R, S> as Read>⟧.events r.now
+        ≡ events_of (reader_held r.now) ++ R.events (reader_inner r.now) }
+    ensures cost { ⟦<BufReader<R, S> as Read>⟧.cost r.now ≡ R.cost (reader_inner r.now) }
+    ensures unmetered { ⟦<BufReader<R, S> as Read>⟧.is_metered r.now → ⊥ }
+    ensures takes_all { ⟦<BufReader<R, S> as Read>⟧.may_take_none r.now → ⊥ }
+{}
+
+// Its position is the inner's less what is held, where that is what the store has there.
+fn reader_stores<R: Stored, const S: usize>(r: &BufReader<R, S>)
+    ensures has_store { R.has_store (reader_inner r.now)
+        → IsSound (reader_held r.now) (R.position (reader_inner r.now)) (R.content (reader_inner r.now))
+        → ⟦<BufReader<R, S> as Stored>⟧.has_store r.now }
+    ensures content { ⟦<BufReader<R, S> as Stored>⟧.content r.now ≡ R.content (reader_inner r.now) }
+    ensures position { ⟦<BufReader<R, S> as Stored>⟧.position r.now
+        ≡ R.position (reader_inner r.now) - length (reader_held r.now) }
+{}
+
+// It is sound where what lies behind and what is held are the store's up to the inner's position;
+// then it tells that store.
+#[tactic(auto, using(crate::proofs::BufReaderBehind::sound_held))]
+fn reader_is_sound_where<R: Stored, const S: usize>(r: &BufReader<R, S>)
+    ensures sound { R.has_store (reader_inner r.now)
+        → IsSound (reader_behind r.now ++ reader_held r.now) (R.position (reader_inner r.now))
+        (R.content (reader_inner r.now))
+        → reader_is_sound R.has_store R.position R.content r.now }
+    ensures told { reader_is_sound R.has_store R.position R.content r.now
+        → ⟦<BufReader<R, S> as Stored>⟧.has_store r.now }
+{}
+
+// What it holds stands at the front of what is to come. Over a metered reader its fills are counted, and over a filling one
+// their lengths are known.
+fn reader_lends<R: Read, const S: usize>(r: &BufReader<R, S>)
+    ensures held { ⟦<BufReader<R, S> as BufRead>⟧.held r.now ≡ reader_held r.now }
+    ensures front { BeginsWith (⟦<BufReader<R, S> as Read>⟧.events r.now) (⟦<BufReader<R, S> as BufRead>⟧.held r.now) }
+    ensures counts { R.is_metered (reader_inner r.now) → ⟦<BufReader<R, S> as BufRead>⟧.counts_fills r.now }
+    ensures fills { ⟦<BufReader<R, S> as BufRead>⟧.fills r.now ≡ R.cost (reader_inner r.now) }
+    ensures surely { R.is_filling (reader_inner r.now) → ⟦<BufReader<R, S> as BufRead>⟧.lends_surely r.now }
+    ensures length { ⟦<BufReader<R, S> as BufRead>⟧.lent_length r.now
+        ≡ (if nat_lt 0 (length (reader_held r.now)) then length (reader_held r.now)
+        else min S (length (R.events (reader_inner r.now)))) }
+{}
+
+// Lends once. Where nothing is held that is one inner read, else none, and the inner reader is left alone.
+fn lend_counted<R: Read, const S: usize>(r: &mut BufReader<R, S>) -> Result<usize>
+    ensures reads { R.is_metered (reader_inner r.old) → R.is_metered (reader_inner r.new)
+        × (R.cost (reader_inner r.new) ≡ R.cost (reader_inner r.old)
+        + (if nat_lt 0 (length (reader_held r.old)) then 0 else 1)) }
+    ensures lent { R.is_filling (reader_inner r.old)
+        → IsOkAnd result (λ n. n ≡ (if nat_lt 0 (length (reader_held r.old))
+        then length (reader_held r.old) else min S (length (R.events (reader_inner r.old))))) }
+    ensures held { IfOk result (λ n. length (reader_held r.new) ≡ n) }
+    ensures inner { 0 < length (reader_held r.old) → reader_inner r.new ≡ reader_inner r.old }
+{
+    let lent = r.fill_buf()?;
+    Ok(lent.len())
+}
+
+// Consumes once, and reads nothing.
+fn consume_counted<R: Read, const S: usize>(r: &mut BufReader<R, S>, amount: usize)
+    requires { amount ≤ length (reader_held r.old) }
+    ensures reads { R.is_metered (reader_inner r.old) → R.is_metered (reader_inner r.new)
+        × (R.cost (reader_inner r.new) ≡ R.cost (reader_inner r.old)) }
+    ensures held { reader_held r.new ≡ drop amount (reader_held r.old) }
+{
+    r.consume(amount);
+}
+
+// Its seeks are one of the inner reader, or two.
+fn reader_seeks_tell<R: Seek, const S: usize>(
+    old: &BufReader<R, S>,
+    pos: SeekFrom,
+    new: &BufReader<R, S>,
+    reply: &Result<u64>,
+)
+    ensures { ⟦<BufReader<R, S> as Seek>⟧.may_seek old.now pos new.now reply.now
+        → ReaderSeeks R.may_seek old.now pos new.now reply.now }
+{}
+
+// Moves inside the buffer once. The events to come move with it, and none is taken from the inner.
+fn move_told<R: Read + Seek, const S: usize>(r: &mut BufReader<R, S>, offset: i64) -> Result<()>
+    ensures { IsInBuffer offset (length (reader_behind r.old)) (length (reader_held r.old))
+        → IsOk result × MovesEvents offset (reader_behind r.old) (reader_held r.old)
+        (⟦<BufReader<R, S> as Read>⟧.events r.old) (⟦<BufReader<R, S> as Read>⟧.events r.new) }
+{
+    r.seek_relative(offset)
+}

@@ -1,0 +1,155 @@
+-- What a loop that fills a buffer by reads has done so far, and what it has done at each of its ends.
+use Rattle.std.proofs.Common.{◌≡◌, ℕ, ◌+◌, ◌-◌, ◌<◌, ◌≤◌, List, Result, Ok, Err, length, take, drop, refl, sym, ap, ◌∙◌}
+use Rattle.std.proofs.Common.{arith, le_refl, le_trans, inl, inr}
+use Rattle.std.proofs.lemmas.Slice.{take-put_mid_below}
+use borrow.Rule.Slice.PartMut.{put_mid}
+use Rattle.no_std_io2_base.specs.declared.error.Error.{Error}
+use Rattle.no_std_io2_base.specs.Errors.{is_interruption, IsInterruption, IsFault, IsUnexpectedEnd}
+use Rattle.no_std_io2_base.specs.ReadLaws.{Reader, GoesOn, ReadLaw, ReadExactLaw}
+use Rattle.no_std_io2_base.proofs.Parts.{take-put_mid}
+use Rattle.no_std_io2_base.proofs.ReadExactExits.{length_stays, short_before, some_part, some_bytes, within_part}
+use Rattle.no_std_io2_base.proofs.ReadExactExits.{le_same, exact_short, exact_done}
+use Rattle.no_std_io2_base.proofs.Readers.{StoreTells}
+use Rattle.no_std_io2_base.proofs.ReadsToEndExits.{stays_at_end}
+use Rattle.no_std_io2_base.proofs.Taken.{Taken, taken_none, taken_read, taken_interruption, taken_fault, moved_read, no_error}
+
+-- `at` bytes of the buffer are filled, and they are what was taken
+pub record ExactSoFar {S : Type 0} (R : Reader S) (old : S) (buf : List ℕ) (at : ℕ) (buf' : List ℕ) (now : S) : Type 0 where
+  pub long : length buf' ≡ length buf
+  pub within : at ≤ length buf'
+  pub untouched : length buf ≡ 0 → now ≡ old
+  pub told : R.tells old → R.tells now × Taken (R.events old) (length buf) (take at buf') (R.events now)
+  pub turns : R.turns now ≤ R.turns old
+  pub turn : 0 < at → R.turns now < R.turns old
+  pub metered : R.is_metered old → R.is_metered now
+  pub filling : R.is_filling old → R.is_filling now
+  pub store : GoesOn R old now
+
+-- before the first read nothing is filled
+pub exact_none : {S : Type 0} {R : Reader S} {old : S} {buf : List ℕ} → ExactSoFar R old buf 0 buf old
+exact_none = record {
+  long = refl;
+  within = omega arith;
+  untouched = λ none. refl;
+  told = λ t. (t, taken_none _ _);
+  turns = le_refl _;
+  turn = λ some. absurd (omega (arith, some));
+  metered = λ m. m;
+  filling = λ f. f;
+  store = λ s. (s, refl, refl);
+}
+
+module _ {S : Type 0} {R : Reader S} {old now new : S} {buf xs part ys : List ℕ} {at : ℕ}
+    (before : ExactSoFar R old buf at xs now) (law : StoreTells R) (below : at < length xs)
+    (room : length ys ≡ length (take (length xs - at) (drop at xs))) where
+  -- a read gave some bytes more
+  pub exact_read : {n : ℕ} → ReadLaw R now part (Ok n) ys new → (n ≡ 0 → ⊥)
+      → ExactSoFar R old buf (at + n) (put_mid at (length xs - at) xs ys) new
+  exact_read {n} read some =
+      let stays = length_stays at xs ys room in
+      let spent = read.turn (some_bytes n some) in
+      record {
+        long = stays ∙ before.long;
+        within = within_part at n xs ys _ before.within read.bound room stays;
+        untouched = λ none. absurd (omega (arith, none, before.long, below));
+        told = λ t.
+            let so_far = before.told t in
+            let then = read.told so_far.0 in (
+              then.0,
+              taken_read ys so_far.1 then.1 read.bound (some_bytes n some)
+                  (take-put_mid at (length xs - at) n xs ys before.within read.bound),
+            );
+        turns = le_trans read.turns before.turns;
+        turn = λ more. omega (arith, spent, before.turns);
+        metered = λ m. (read.counts (before.metered m)).0;
+        filling = λ f. (read.fills (before.filling f)).0;
+        store = λ s.
+            let so_far = before.store s in
+            let then = read.store so_far.0 in
+            let tells = law now so_far.0 in
+            (then.0, then.1 ∙ so_far.1, moved_read _ n ys _ read.bound (read.told tells.0).1.0 then.2 so_far.2);
+      }
+
+  -- a read was interrupted
+  pub exact_interruption : {e : Error} → ReadLaw R now part (Err e) ys new → IsInterruption e
+      → ExactSoFar R old buf at (put_mid at (length xs - at) xs ys) new
+  exact_interruption read again =
+      let stays = length_stays at xs ys room in
+      record {
+        long = stays ∙ before.long;
+        within = le_same at _ _ before.within stays;
+        untouched = λ none. absurd (omega (arith, none, before.long, below));
+        told = λ t.
+            let so_far = before.told t in
+            let then = read.told so_far.0 in
+            let short = short_before at _ xs below (sym before.long) in
+            (then.0, taken_interruption so_far.1 then.1 again short (take-put_mid_below _ _ _ _ _ (le_refl _) before.within));
+        turns = le_trans read.turns before.turns;
+        turn = λ more. omega (arith, read.turn, before.turns);
+        metered = λ m. (read.counts (before.metered m)).0;
+        filling = λ f. (read.fills (before.filling f)).0;
+        store = λ s.
+            let so_far = before.store s in
+            let tells = law now so_far.0 in
+            absurd (no_error _ tells.1 (read.told tells.0).1);
+      }
+
+  -- the end came first
+  pub exact_end : {reply : Result ℕ Error} {n : ℕ} {e : Error} → ReadLaw R now part reply ys new → reply ≡ Ok n → n ≡ 0
+      → IsUnexpectedEnd e → ReadExactLaw R old buf (Err e) (put_mid at (length xs - at) xs ys) new
+  exact_end read is none kind =
+      let stays = length_stays at xs ys room in
+      record {
+        told = λ t.
+            let so_far = before.told t in
+            let then = read.told so_far.0 in (
+              then.0,
+              inr (exact_short ys so_far.1 then.1 is none (some_part at xs ys below room) kind (sym before.long ∙ sym stays)
+                  (short_before at _ xs below stays)),
+            );
+        fault = ap is_interruption kind.0;
+        empty = λ nothing. absurd (omega (arith, nothing, before.long, below));
+        turns = le_trans read.turns before.turns;
+        turn = λ some. tt;
+        metered = λ m. (read.counts (before.metered m)).0;
+        filling = λ f. (read.fills (before.filling f)).0;
+        store = λ s.
+            let so_far = before.store s in
+            let then = read.store so_far.0 in
+            let tells = law now so_far.0 in
+            (then.0, then.1 ∙ so_far.1, stays_at_end _ _ ys _ (read.told tells.0).1 is none then.2 so_far.2);
+      }
+
+  -- a fault came first
+  pub exact_fault : {e : Error} → ReadLaw R now part (Err e) ys new → IsFault e
+      → ReadExactLaw R old buf (Err e) (put_mid at (length xs - at) xs ys) new
+  exact_fault read fault = record {
+    told = λ t.
+        let so_far = before.told t in
+        let then = read.told so_far.0 in
+        (then.0, inl (taken_fault so_far.1 then.1 fault (short_before at _ xs below (length_stays at xs ys room))));
+    fault = fault;
+    empty = λ nothing. absurd (omega (arith, nothing, before.long, below));
+    turns = le_trans read.turns before.turns;
+    turn = λ some. tt;
+    metered = λ m. (read.counts (before.metered m)).0;
+    filling = λ f. (read.fills (before.filling f)).0;
+    store = λ s.
+        let so_far = before.store s in
+        let tells = law now so_far.0 in
+        absurd (no_error _ tells.1 (read.told tells.0).1);
+  }
+
+-- all of it is filled
+pub exact_all : {S : Type 0} {R : Reader S} {old now : S} {buf xs : List ℕ} {at : ℕ} {done : Unit {0}} → ExactSoFar R old buf at xs now
+    → length xs ≤ at → ReadExactLaw R old buf (Ok done) xs now
+exact_all before past = record {
+  told = λ t. let so_far = before.told t in (so_far.0, exact_done so_far.1 before.long past);
+  fault = tt;
+  empty = λ none. (refl, before.untouched none);
+  turns = before.turns;
+  turn = λ some. before.turn (omega (arith, some, before.long, past));
+  metered = before.metered;
+  filling = before.filling;
+  store = before.store;
+}

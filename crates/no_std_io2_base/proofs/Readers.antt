@@ -1,0 +1,76 @@
+-- Readers, as the laws of their calls take them.
+use Rattle.std.proofs.Common.{◌≡◌, ℕ, List, [], drop}
+use Rattle.std.specs.declared.dyn_box.DynBox.{DynBox}
+use Rattle.no_std_io2_base.specs.declared.traits.read.Read.{Ghosts as Reads}
+use Rattle.no_std_io2_base.specs.declared.traits.stored.Stored.{Ghosts as Stores}
+use Rattle.no_std_io2_base.specs.declared.traits.chain.Chain.{Chain}
+use Rattle.no_std_io2_base.specs.declared.traits.take.Take.{Take}
+use Rattle.no_std_io2_base.specs.Chain.{chain_tells, chain_events, chain_turns}
+use Rattle.no_std_io2_base.specs.Events.{Event, events_of}
+use Rattle.no_std_io2_base.specs.ReadLaws.{Reader}
+use Rattle.no_std_io2_base.specs.Take.{take_inner, take_events}
+
+-- the members of a bound
+abbrev pub reader : {S : Type 0} → Stores S → Reads S → Reader S
+reader stored read = record {
+  has_store = stored.has_store;
+  content = stored.content;
+  position = stored.position;
+  tells = read.tells;
+  events = read.events;
+  turns = read.turns;
+  cost = read.cost;
+  is_metered = read.is_metered;
+  is_filling = read.is_filling;
+  may_take_none = read.may_take_none;
+}
+
+-- a chain of two readers
+abbrev pub chain_reader : {T U : Type 0} → Reads T → Reads U → Reader (Chain T U)
+chain_reader first second = record {
+  has_store = λ _. ⊥;
+  content = λ _. [];
+  position = λ _. 0;
+  tells = chain_tells first.tells second.tells;
+  events = chain_events first.events second.events;
+  turns = chain_turns first.turns second.turns;
+  cost = λ _. 0;
+  is_metered = λ _. ⊥;
+  is_filling = λ _. ⊥;
+  may_take_none = λ _. ⊥;
+}
+
+-- a reader that is cut
+abbrev pub take_reader : {T : Type 0} → Reads T → Reader (Take T)
+take_reader inner = record {
+  has_store = λ _. ⊥;
+  content = λ _. [];
+  position = λ _. 0;
+  tells = λ t. inner.tells (take_inner t);
+  events = take_events inner.events;
+  turns = λ t. inner.turns (take_inner t);
+  cost = λ t. inner.cost (take_inner t);
+  is_metered = λ _. ⊥;
+  is_filling = λ t. inner.is_filling (take_inner t);
+  may_take_none = λ _. ⊥;
+}
+
+-- a boxed trait object, by what is told of the value with its table
+abbrev pub box_reader : {I A : Type 0} {V : I → Type 0} → ((p : (x : I) × V x) → Type 0) → ((p : (x : I) × V x) → List Event)
+    → ((p : (x : I) × V x) → ℕ) → ((p : (x : I) × V x) → Type 0) → Reader (DynBox I A V)
+box_reader tells events turns may_take_none = record {
+  has_store = λ _. ⊥;
+  content = λ _. [];
+  position = λ _. 0;
+  tells = λ b. tells (b.vtable, b.value);
+  events = λ b. events (b.vtable, b.value);
+  turns = λ b. turns (b.vtable, b.value);
+  cost = λ _. 0;
+  is_metered = λ _. ⊥;
+  is_filling = λ _. ⊥;
+  may_take_none = λ b. may_take_none (b.vtable, b.value);
+}
+
+-- the law that a told store tells what is to come
+abbrev pub StoreTells : {S : Type 0} → Reader S → Type 0
+StoreTells {S} R = (x : S) → R.has_store x → R.tells x × (R.events x ≡ events_of (drop (R.position x) (R.content x)))

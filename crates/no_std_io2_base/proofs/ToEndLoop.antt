@@ -1,0 +1,209 @@
+-- What a loop that reads to the end into a vector has done so far, and what it has done at each of its ends.
+use Rattle.std.proofs.Common.{◌≡◌, ℕ, ◌+◌, ◌-◌, ◌<◌, ◌≤◌, List, ◌++◌, Result, Ok, Err, length, take, drop, refl, ap, ◌∙◌}
+use Rattle.std.proofs.Common.{arith, le_refl, le_trans, length-take, length-drop, Vec, vec_len, vec_capacity}
+use Rattle.no_std_io2_base.specs.declared.error.Error.{Error}
+use Rattle.no_std_io2_base.specs.Errors.{IsInterruption, IsFault, IsOutOfMemory}
+use Rattle.no_std_io2_base.specs.ReadLaws.{Reader, GoesOn, ReadLaw, ReadToEndLaw}
+use Rattle.no_std_io2_base.proofs.Gathered.{Gathered, gathered_none, gathered_same, gathered_read, gathered_interruption}
+use Rattle.no_std_io2_base.proofs.Gathered.{gathered_fault, gathered_first_fault, gathered_memory, gathered_fits}
+use Rattle.no_std_io2_base.proofs.Parts.{written, take-written, take-written_below, take-stays}
+use Rattle.no_std_io2_base.proofs.PieceLemmas.{memory_fault}
+use Rattle.no_std_io2_base.proofs.ReadExactExits.{some_bytes}
+use Rattle.no_std_io2_base.proofs.Readers.{StoreTells}
+use Rattle.no_std_io2_base.proofs.ReadsToEndExits.{front_whole, filled_bytes, front_cut, none_opened, count_cut}
+use Rattle.no_std_io2_base.proofs.ReadsToEndExits.{len_cut, filled_length, gathered_stops, stays_at_end}
+use Rattle.no_std_io2_base.proofs.Taken.{moved_read, no_error}
+
+-- the bytes up to `filled` are what was taken
+pub record ToEndSoFar {S A : Type 0} (R : Reader S) (old : S) (buf : Vec ℕ A) (filled : ℕ) (buf' : Vec ℕ A) (now : S) : Type 0 where
+  pub grows : vec_len buf ≤ filled
+  pub within : filled ≤ vec_len buf'
+  pub capacity : vec_capacity buf ≤ vec_capacity buf'
+  pub front : take (vec_len buf) buf'.items ≡ buf.items
+  pub told : R.tells old → R.tells now × Gathered (R.events old) buf.items (take filled buf'.items) (R.events now)
+  pub turns : R.turns now ≤ R.turns old
+  pub turn : vec_len buf < filled → R.turns now < R.turns old
+  pub metered : R.is_metered old → R.is_metered now
+  pub filling : R.is_filling old → R.is_filling now
+  pub store : GoesOn R old now
+
+-- room was opened behind the filled bytes, and a read wrote `part` there
+pub record Wrote (filled len : ℕ) (was now part : List ℕ) : Type 0 where
+  pub fits : filled + length part ≡ len
+  pub kept : take filled now ≡ take filled was
+  pub shown : (n : ℕ) → n ≤ length part → take (filled + n) now ≡ take filled was ++ take n part
+
+-- as the vector and its slice say it
+pub wrote : (filled len : ℕ) (slice items part : List ℕ) {was : List ℕ} → filled ≤ len → len ≡ length items → slice ≡ items
+    → length part ≡ length (take (length slice - filled) (drop filled slice)) → take filled items ≡ take filled was
+    → Wrote filled len was (written len filled slice items part) part
+wrote filled len slice items part within long is room front =
+    let fits : filled + length part ≡ len =
+    omega (arith, within, long, ap length is, room, length-take (length slice - filled) (drop filled slice), length-drop filled slice) in
+    record {
+      fits = fits;
+      kept = take-written_below filled len filled slice items part (le_refl _) within long is ∙ front;
+      shown = λ n small.
+          take-written n len filled slice items part (omega (arith, fits, small)) small long is ∙ ap (λ l. l ++ take n part) front;
+    }
+
+-- before the first read nothing is taken
+pub to_end_none : {S A : Type 0} {R : Reader S} {old : S} {buf mid : Vec ℕ A} {start : ℕ} → start ≡ vec_len buf → mid.items ≡ buf.items
+    → vec_len mid ≡ vec_len buf → vec_capacity buf ≤ vec_capacity mid → ToEndSoFar R old buf start mid old
+to_end_none {buf = buf} is same len grown = record {
+  grows = omega (arith, is);
+  within = omega (arith, is, len);
+  capacity = grown;
+  front = front_whole buf.ok.0 same;
+  told = λ t. (t, gathered_none (front_whole (is ∙ buf.ok.0) same));
+  turns = le_refl _;
+  turn = λ more. absurd (omega (arith, is, more));
+  metered = λ m. m;
+  filling = λ f. f;
+  store = λ s. (s, refl, refl);
+}
+
+-- there was no room for the first read, and memory was refused
+pub to_end_no_room : {S A : Type 0} {R : Reader S} {old : S} {buf mid : Vec ℕ A} {e : Error} → IsOutOfMemory e → mid.items ≡ buf.items
+    → vec_len mid ≡ vec_len buf → vec_capacity buf ≤ vec_capacity mid → vec_capacity buf < vec_len buf + 32
+    → ReadToEndLaw R old buf (Err e) mid old
+to_end_no_room {buf = buf} refused same len grown full = record {
+  told = λ t. (t, gathered_memory (gathered_none same) refused);
+  appends = front_whole buf.ok.0 same;
+  count = tt;
+  capacity = grown;
+  room = λ t enough. absurd (omega (arith, enough, full));
+  fault = memory_fault _ refused;
+  turns = le_refl _;
+  turn = λ more. absurd (omega (arith, more, len));
+  metered = λ m. m;
+  filling = λ f. f;
+  store = λ s. (s, refl, refl);
+}
+
+module _ {S A : Type 0} {R : Reader S} {old now : S} {buf xs : Vec ℕ A} {filled : ℕ} (before : ToEndSoFar R old buf filled xs now) where
+  -- the room was full, and memory was refused
+  pub to_end_refused : {v : Vec ℕ A} {e : Error} → IsOutOfMemory e → vec_len v ≡ filled → take filled v.items ≡ take filled xs.items
+      → vec_capacity xs ≤ vec_capacity v → vec_capacity xs ≡ filled → ReadToEndLaw R old buf (Err e) v now
+  to_end_refused {v} refused len front grown full =
+      let same = none_opened filled (vec_len v) v.items xs.items len v.ok.0 front in
+      record {
+        told = λ t. let so_far = before.told t in (so_far.0, gathered_memory (gathered_same so_far.1 same) refused);
+        appends = front_cut _ filled xs.items before.grows same before.front;
+        count = tt;
+        capacity = le_trans before.capacity grown;
+        room = λ t enough.
+            let left = gathered_fits (before.told t).1 enough (omega arith) buf.ok.0 before.capacity in
+            absurd (omega (arith, full, left, filled_bytes filled _ xs.items before.within xs.ok.0));
+        fault = memory_fault _ refused;
+        turns = before.turns;
+        turn = λ more. before.turn (omega (arith, more, len));
+        metered = before.metered;
+        filling = before.filling;
+        store = before.store;
+      }
+
+  module _ (law : StoreTells R) {new : S} {room part : List ℕ} where
+    -- a read gave some bytes more
+    pub to_end_read : {xs' : Vec ℕ A} {n : ℕ} → ReadLaw R now room (Ok n) part new → (n ≡ 0 → ⊥)
+        → Wrote filled (vec_len xs') xs.items xs'.items part
+        → vec_capacity xs ≤ vec_capacity xs' → ToEndSoFar R old buf (filled + n) xs' new
+    to_end_read {n = n} read some w grown =
+        let spent = read.turn (some_bytes n some) in
+        record {
+          grows = omega (arith, before.grows);
+          within = omega (arith, w.fits, read.bound);
+          capacity = le_trans before.capacity grown;
+          front = take-stays _ filled _ _ before.grows w.kept ∙ before.front;
+          told = λ t.
+              let so_far = before.told t in
+              let then = read.told so_far.0 in
+              (then.0, gathered_read part so_far.1 then.1 (w.shown n read.bound));
+          turns = le_trans read.turns before.turns;
+          turn = λ more. omega (arith, spent, before.turns);
+          metered = λ m. (read.counts (before.metered m)).0;
+          filling = λ f. (read.fills (before.filling f)).0;
+          store = λ s.
+              let so_far = before.store s in
+              let then = read.store so_far.0 in
+              let tells = law now so_far.0 in
+              (then.0, then.1 ∙ so_far.1, moved_read _ n part _ read.bound (read.told tells.0).1.0 then.2 so_far.2);
+        }
+
+    -- a read was interrupted
+    pub to_end_interruption : {xs' : Vec ℕ A} {e : Error} → ReadLaw R now room (Err e) part new → IsInterruption e
+        → Wrote filled (vec_len xs') xs.items xs'.items part
+        → vec_capacity xs ≤ vec_capacity xs' → ToEndSoFar R old buf filled xs' new
+    to_end_interruption read again w grown = record {
+      grows = before.grows;
+      within = omega (arith, w.fits);
+      capacity = le_trans before.capacity grown;
+      front = take-stays _ filled _ _ before.grows w.kept ∙ before.front;
+      told = λ t.
+          let so_far = before.told t in
+          let then = read.told so_far.0 in
+          (then.0, gathered_interruption (gathered_same so_far.1 w.kept) then.1 again);
+      turns = le_trans read.turns before.turns;
+      turn = λ more. omega (arith, read.turn, before.turns);
+      metered = λ m. (read.counts (before.metered m)).0;
+      filling = λ f. (read.fills (before.filling f)).0;
+      store = λ s.
+          let so_far = before.store s in
+          let tells = law now so_far.0 in
+          absurd (no_error _ tells.1 (read.told tells.0).1);
+    }
+
+    module _ {len : ℕ} {items : List ℕ} {v : Vec ℕ A} (w : Wrote filled len xs.items items part) (cut : v.items ≡ take filled items)
+        (grown : vec_capacity xs ≤ vec_capacity v) where
+      -- a read met the end
+      pub to_end_done : {reply : Result ℕ Error} {n start : ℕ} → ReadLaw R now room reply part new → reply ≡ Ok n → n ≡ 0 → 0 < length part
+          → start ≡ vec_len buf → ReadToEndLaw R old buf (Ok (filled - start)) v new
+      to_end_done {start = start} read is none some from =
+          let same = cut ∙ w.kept in
+          let within : filled ≤ length xs.items = omega (arith, before.within, xs.ok.0) in
+          let long = filled_length filled (vec_len v) v.items xs.items v.ok.0 same within in
+          let count = count_cut start filled v.items xs.items buf.items (from ∙ buf.ok.0) same within in
+          record {
+            told = λ t.
+                let so_far = before.told t in
+                let then = read.told so_far.0 in
+                (then.0, gathered_stops part (gathered_same so_far.1 same) then.1 is none some count);
+            appends = front_cut _ filled xs.items before.grows same before.front;
+            count = len_cut start filled (vec_len v) _ v.items xs.items from before.grows v.ok.0 same within;
+            capacity = le_trans before.capacity grown;
+            room = λ t enough. tt;
+            fault = tt;
+            turns = le_trans read.turns before.turns;
+            turn = λ more. let spent = before.turn (omega (arith, more, long)) in omega (arith, spent, read.turns);
+            metered = λ m. (read.counts (before.metered m)).0;
+            filling = λ f. (read.fills (before.filling f)).0;
+            store = λ s.
+                let so_far = before.store s in
+                let then = read.store so_far.0 in
+                let tells = law now so_far.0 in
+                (then.0, then.1 ∙ so_far.1, stays_at_end _ _ part _ (read.told tells.0).1 is none then.2 so_far.2);
+          }
+
+      -- a read met a fault
+      pub to_end_fault : {e : Error} → ReadLaw R now room (Err e) part new → IsFault e → ReadToEndLaw R old buf (Err e) v new
+      to_end_fault read fault =
+          let same = cut ∙ w.kept in
+          record {
+            told = λ t.
+                let so_far = before.told t in
+                let then = read.told so_far.0 in
+                (then.0, gathered_fault (gathered_same so_far.1 same) then.1 fault);
+            appends = front_cut _ filled xs.items before.grows same before.front;
+            count = tt;
+            capacity = le_trans before.capacity grown;
+            room = λ t enough. let so_far = before.told t in gathered_first_fault so_far.1 (read.told so_far.0).1 fault;
+            fault = fault;
+            turns = le_trans read.turns before.turns;
+            turn = λ more. omega (arith, read.turn, before.turns);
+            metered = λ m. (read.counts (before.metered m)).0;
+            filling = λ f. (read.fills (before.filling f)).0;
+            store = λ s.
+                let so_far = before.store s in
+                let tells = law now so_far.0 in
+                absurd (no_error _ tells.1 (read.told tells.0).1);
+          }

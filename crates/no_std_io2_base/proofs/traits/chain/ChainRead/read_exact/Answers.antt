@@ -1,0 +1,44 @@
+use Rattle.std.proofs.Common.{rules, sym, ◌∙◌}
+use Rattle.no_std_io2_base.proofs.ChainReads.{in_turn_none, in_turn_then}
+use Rattle.no_std_io2_base.proofs.ExactLoop.{exact_none, exact_read, exact_interruption, exact_end, exact_fault, exact_all}
+use Rattle.no_std_io2_base.proofs.ReadExactExits.{some_bytes}
+use Rattle.no_std_io2_base.proofs.traits.chain.ChainRead.read_exact.Goals as goal
+
+pub reads-init : goal.reads-init
+reads-init g c = record { law = exact_none; in_turn = in_turn_none }
+
+pub returns-in-Ok-eq0 : goal.returns-in-Ok-eq0
+returns-in-Ok-eq0 g c = record {
+  law = exact_end c.reads.invariant.law (λ x told. absurd told) c.reads-test.true c.read.auto.buf c.read.ensures.law
+      c.in-Ok-eq0.is c.in-Ok-eq0.field-0-test (search rules);
+  in_turn = in_turn_then c.reads.invariant.in_turn c.read.ensures.in_turn;
+}
+
+pub returns : goal.returns
+returns g c = record { law = exact_all c.reads.invariant.law c.reads-test.false; in_turn = c.reads.invariant.in_turn }
+
+pub reads-smaller-in-Ok : goal.reads-smaller-in-Ok
+reads-smaller-in-Ok g c = c.in-Ok.ensures.law.turn (some_bytes c.in-Ok.n c.in-Ok.n-test.1)
+
+pub reads-smaller : goal.reads-smaller
+reads-smaller g c = c.in-Err.ensures.law.turn
+
+pub reads-preserved-in-Ok : goal.reads-preserved-in-Ok
+reads-preserved-in-Ok g c = record {
+  law = exact_read c.reads.invariant.law (λ x told. absurd told) c.reads-test.true c.read.auto.buf c.in-Ok.ensures.law c.in-Ok.n-test.1;
+  in_turn = in_turn_then c.reads.invariant.in_turn c.in-Ok.ensures.in_turn;
+}
+
+pub returns-in-Err-2 : goal.returns-in-Err-2
+returns-in-Err-2 g c = record {
+  law = exact_fault c.reads.invariant.law (λ x told. absurd told) c.reads-test.true c.read.auto.buf c.in-Err.ensures.law
+      (sym c.is_interrupted.ensures ∙ c.if-is_interrupted.false);
+  in_turn = in_turn_then c.reads.invariant.in_turn c.in-Err.ensures.in_turn;
+}
+
+pub reads-preserved : goal.reads-preserved
+reads-preserved g c = record {
+  law = exact_interruption c.reads.invariant.law (λ x told. absurd told) c.reads-test.true c.read.auto.buf c.in-Err.ensures.law
+      (sym c.is_interrupted.ensures ∙ c.if-is_interrupted.true);
+  in_turn = in_turn_then c.reads.invariant.in_turn c.in-Err.ensures.in_turn;
+}

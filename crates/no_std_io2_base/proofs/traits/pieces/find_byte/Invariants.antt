@@ -1,6 +1,0 @@
-use Rattle.std.proofs.Common.{◌≡◌}
-use Rattle.std.specs.List.{AllWithin}
-use Rattle.no_std_io2_base.proofs.traits.pieces.find_byte.Given as goal
-
-abbrev pub invariant-bytes : goal.invariant-bytes
-invariant-bytes l = AllWithin (λ b. b ≡ l.wanted → ⊥) l.bytes 0 l.i

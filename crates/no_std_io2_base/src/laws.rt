@@ -1,0 +1,365 @@
+//! What each implementation tells, pinned: functions with no caller, whose contracts are proved of its ghost
+//! members, so that none can tell less, which would make every promise over it empty.
+ghost use Rattle.std.specs.Hash as fed;
+ghost use Rattle.std.specs.Prelude.{◌≡◌, ◌+◌, ◌-◌, ◌≤◌, ◌<◌, ◌++◌, ◌↔◌, length, take, drop, replicate, true, false, [], Ok, Some, None};
+ghost use Rattle.std.specs.Prelude.{IsTrue, IsOk, IsOkAnd, IfOk, IfErr, IfSome, OnSome};
+ghost use Rattle.no_std_io2_base.specs.Chain.{chain_first, chain_second, chain_is_done};
+ghost use Rattle.no_std_io2_base.specs.Cursor.{cursor_inner, cursor_place};
+ghost use Rattle.no_std_io2_base.specs.Errors.{IsFault, error_display, kind_number};
+ghost use Rattle.no_std_io2_base.specs.Events.{events_of, cut};
+ghost use Rattle.no_std_io2_base.specs.SingleBytes.{bytes_reader, NextByte};
+ghost use Rattle.no_std_io2_base.specs.Take.{take_inner, take_limit};
+ghost use Rattle.no_std_io2_base.specs.Writes.{told_out};
+
+use crate::cursor::{AsSlice, Cursor};
+use crate::error::{Error, ErrorKind, Result};
+use crate::traits::{BufRead, Bytes, Chain, Read, Seek, SeekFrom, Stored, Take, Write};
+use std::alloc::{AllocError, Allocator};
+use std::fmt;
+use std::hash::Hash;
+
+// Kinds are ordered as they are declared.
+fn kind_is_before(a: ErrorKind, b: ErrorKind) -> bool
+    ensures { IsTrue result ↔ (kind_number a < kind_number b) }
+{
+    a < b
+}
+
+fn kind_is(a: ErrorKind, b: ErrorKind) -> bool
+    ensures { IsTrue result ↔ (a ≡ b) }
+{
+    a == b
+}
+
+// A kind feeds a hasher its place in that order, from 0.
+fn kind_feeds(kind: ErrorKind)
+    ensures { ⟦<ErrorKind as Hash>⟧.hash_input kind ≡ fed.u64 (kind_number kind - 1) }
+{}
+
+// What an error prints: its text, or what its kind says.
+fn error_prints(error: &Error)
+    ensures { ⟦<Error as fmt::Display>⟧.output error.now ≡ Some (error_display error.now) }
+{}
+
+// Places are equal where they are the same.
+fn place_is(a: SeekFrom, b: SeekFrom) -> bool
+    ensures { IsTrue result ↔ (a ≡ b) }
+{
+    a == b
+}
+
+// Cursors are equal where content and position are.
+fn cursor_is(a: &Cursor<u64>, b: &Cursor<u64>) -> bool
+    ensures { IsTrue result ↔ (a.now ≡ b.now) }
+{
+    a == b
+}
+
+// And over bytes too, whatever their capacity.
+fn bytes_cursor_is(a: &Cursor<Vec<u8>>, b: &Cursor<Vec<u8>>) -> bool
+    ensures { IsTrue result ↔ ((cursor_inner a.now).items ≡ (cursor_inner b.now).items)
+        × (cursor_place a.now ≡ cursor_place b.now) }
+{
+    a == b
+}
+
+// By default a cursor stands at the start of the default content.
+fn cursor_by_default() -> Cursor<u64>
+    ensures content { cursor_inner result ≡ 0 }
+    ensures position { cursor_place result ≡ 0 }
+{
+    Cursor::default()
+}
+
+// A clone is the same kind, and the same place.
+fn kind_clone(kind: &ErrorKind) -> std::result::Result<ErrorKind, AllocError>
+    ensures { result ≡ Ok kind.now }
+{
+    kind.clone()
+}
+
+fn place_clone(place: &SeekFrom) -> std::result::Result<SeekFrom, AllocError>
+    ensures { result ≡ Ok place.now }
+{
+    place.clone()
+}
+
+fn vector_tells(v: &Vec<u8>)
+    ensures { ⟦<Vec<u8> as Write>⟧.told v.now ≡ told_out v.now.items }
+{}
+
+fn lent_writer_tells<'a, W: Write>(w: &&'a mut W)
+    ensures told { ⟦<&'a mut W as Write>⟧.told w.now ≡ W.told w.now.now }
+    ensures all { W.takes_all w.now.now → ⟦<&'a mut W as Write>⟧.takes_all w.now }
+    ensures cost { ⟦<&'a mut W as Write>⟧.cost w.now ≡ W.cost w.now.now }
+    ensures metered { W.is_metered w.now.now → ⟦<&'a mut W as Write>⟧.is_metered w.now }
+{}
+
+fn boxed_writer_tells<W: Write>(w: &Box<W>)
+    ensures told { ⟦<Box<W> as Write>⟧.told w.now ≡ W.told w.now.value }
+    ensures all { W.takes_all w.now.value → ⟦<Box<W> as Write>⟧.takes_all w.now }
+    ensures cost { ⟦<Box<W> as Write>⟧.cost w.now ≡ W.cost w.now.value }
+    ensures metered { W.is_metered w.now.value → ⟦<Box<W> as Write>⟧.is_metered w.now }
+{}
+
+fn boxed_object_tells(w: &Box<dyn Write + Drop>)
+    ensures told { ⟦<Box<dyn Write + Drop> as Write>⟧.told w.now ≡ told w.now }
+    ensures cost { ⟦<Box<dyn Write + Drop> as Write>⟧.cost w.now ≡ 0 }
+{}
+
+fn lent_store_tells<'a, T: Stored>(r: &&'a mut T)
+    ensures has_store { T.has_store r.now.now → ⟦<&'a mut T as Stored>⟧.has_store r.now }
+    ensures content { ⟦<&'a mut T as Stored>⟧.content r.now ≡ T.content r.now.now }
+    ensures position { ⟦<&'a mut T as Stored>⟧.position r.now ≡ T.position r.now.now }
+{}
+
+fn boxed_store_tells<T: Stored>(b: &Box<T>)
+    ensures has_store { T.has_store b.now.value → ⟦<Box<T> as Stored>⟧.has_store b.now }
+    ensures content { ⟦<Box<T> as Stored>⟧.content b.now ≡ T.content b.now.value }
+    ensures position { ⟦<Box<T> as Stored>⟧.position b.now ≡ T.position b.now.value }
+{}
+
+// A lent seeker makes the seeks of its target, and a boxed one those of what is in the box.
+fn lent_seeker_tells<'a, T: Seek>(
+    old: &&'a mut T,
+    pos: SeekFrom,
+    new: &&'a mut T,
+    reply: &Result<u64>,
+)
+    ensures { ⟦<&'a mut T as Seek>⟧.may_seek old.now pos new.now reply.now
+        → T.may_seek old.now.now pos new.now.now reply.now }
+{}
+
+fn boxed_seeker_tells<T: Seek>(old: &Box<T>, pos: SeekFrom, new: &Box<T>, reply: &Result<u64>)
+    ensures { ⟦<Box<T> as Seek>⟧.may_seek old.now pos new.now reply.now
+        → T.may_seek old.now.value pos new.now.value reply.now }
+{}
+
+fn lent_reader_tells<'a, R: Read>(r: &&'a mut R)
+    ensures tells { R.tells r.now.now → ⟦<&'a mut R as Read>⟧.tells r.now }
+    ensures events { ⟦<&'a mut R as Read>⟧.events r.now ≡ R.events r.now.now }
+    ensures turns { ⟦<&'a mut R as Read>⟧.turns r.now ≡ R.turns r.now.now }
+    ensures cost { ⟦<&'a mut R as Read>⟧.cost r.now ≡ R.cost r.now.now }
+    ensures metered { R.is_metered r.now.now → ⟦<&'a mut R as Read>⟧.is_metered r.now }
+    ensures filling { R.is_filling r.now.now → ⟦<&'a mut R as Read>⟧.is_filling r.now }
+    ensures short { ⟦<&'a mut R as Read>⟧.may_take_none r.now → R.may_take_none r.now.now }
+{}
+
+fn boxed_reader_tells<R: Read>(r: &Box<R>)
+    ensures tells { R.tells r.now.value → ⟦<Box<R> as Read>⟧.tells r.now }
+    ensures events { ⟦<Box<R> as Read>⟧.events r.now ≡ R.events r.now.value }
+    ensures turns { ⟦<Box<R> as Read>⟧.turns r.now ≡ R.turns r.now.value }
+    ensures cost { ⟦<Box<R> as Read>⟧.cost r.now ≡ R.cost r.now.value }
+    ensures metered { R.is_metered r.now.value → ⟦<Box<R> as Read>⟧.is_metered r.now }
+    ensures filling { R.is_filling r.now.value → ⟦<Box<R> as Read>⟧.is_filling r.now }
+    ensures short { ⟦<Box<R> as Read>⟧.may_take_none r.now → R.may_take_none r.now.value }
+{}
+
+fn lent_lender_tells<'a, R: BufRead>(r: &&'a mut R)
+    ensures held { ⟦<&'a mut R as BufRead>⟧.held r.now ≡ R.held r.now.now }
+    ensures counts { R.counts_fills r.now.now → ⟦<&'a mut R as BufRead>⟧.counts_fills r.now }
+    ensures fills { ⟦<&'a mut R as BufRead>⟧.fills r.now ≡ R.fills r.now.now }
+    ensures surely { R.lends_surely r.now.now → ⟦<&'a mut R as BufRead>⟧.lends_surely r.now }
+    ensures length { ⟦<&'a mut R as BufRead>⟧.lent_length r.now ≡ R.lent_length r.now.now }
+{}
+
+fn boxed_lender_tells<R: BufRead>(r: &Box<R>)
+    ensures held { ⟦<Box<R> as BufRead>⟧.held r.now ≡ R.held r.now.value }
+    ensures counts { R.counts_fills r.now.value → ⟦<Box<R> as BufRead>⟧.counts_fills r.now }
+    ensures fills { ⟦<Box<R> as BufRead>⟧.fills r.now ≡ R.fills r.now.value }
+    ensures surely { R.lends_surely r.now.value → ⟦<Box<R> as BufRead>⟧.lends_surely r.now }
+    ensures length { ⟦<Box<R> as BufRead>⟧.lent_length r.now ≡ R.lent_length r.now.value }
+{}
+
+fn reading_object_tells(r: &Box<dyn Read + Drop>)
+    ensures tells { tells r.now → ⟦<Box<dyn Read + Drop> as Read>⟧.tells r.now }
+    ensures events { ⟦<Box<dyn Read + Drop> as Read>⟧.events r.now ≡ events r.now }
+    ensures turns { ⟦<Box<dyn Read + Drop> as Read>⟧.turns r.now ≡ turns r.now }
+    ensures short { ⟦<Box<dyn Read + Drop> as Read>⟧.may_take_none r.now → may_take_none r.now }
+{}
+
+fn lending_object_tells(r: &Box<dyn BufRead + Drop>)
+    ensures tells { tells r.now → ⟦<Box<dyn BufRead + Drop> as Read>⟧.tells r.now }
+    ensures events { ⟦<Box<dyn BufRead + Drop> as Read>⟧.events r.now ≡ events r.now }
+    ensures turns { ⟦<Box<dyn BufRead + Drop> as Read>⟧.turns r.now ≡ turns r.now }
+    ensures short { ⟦<Box<dyn BufRead + Drop> as Read>⟧.may_take_none r.now → may_take_none r.now }
+    ensures held { ⟦<Box<dyn BufRead + Drop> as BufRead>⟧.held r.now ≡ held r.now }
+{}
+
+// Its bytes, and each read gives as many as fit.
+fn slice_tells<'a>(s: &&'a [u8])
+    ensures tells { ⟦<&'a [u8] as Read>⟧.tells s.now }
+    ensures events { ⟦<&'a [u8] as Read>⟧.events s.now ≡ events_of s.now.now }
+    ensures turns { ⟦<&'a [u8] as Read>⟧.turns s.now ≡ length s.now.now }
+    ensures cost { ⟦<&'a [u8] as Read>⟧.cost s.now ≡ 0 }
+    ensures metered { ⟦<&'a [u8] as Read>⟧.is_metered s.now → ⊥ }
+    ensures filling { ⟦<&'a [u8] as Read>⟧.is_filling s.now }
+    ensures takes_none { ⟦<&'a [u8] as Read>⟧.may_take_none s.now }
+    ensures store { ⟦<&'a [u8] as Stored>⟧.has_store s.now → ⊥ }
+{}
+
+// All of it is held, and lent at once.
+fn slice_lends<'a>(s: &&'a [u8])
+    ensures held { ⟦<&'a [u8] as BufRead>⟧.held s.now ≡ s.now.now }
+    ensures surely { ⟦<&'a [u8] as BufRead>⟧.lends_surely s.now }
+    ensures length { ⟦<&'a [u8] as BufRead>⟧.lent_length s.now ≡ length s.now.now }
+{}
+
+// The first's events and then the second's; once the first is done, the second's alone.
+fn chain_tells<T: Read, U: Read>(c: &Chain<T, U>)
+    ensures tells { T.tells (chain_first c.now) → U.tells (chain_second c.now) → ⟦<Chain<T, U> as Read>⟧.tells c.now }
+    ensures events { chain_is_done c.now ≡ false
+        → ⟦<Chain<T, U> as Read>⟧.events c.now ≡ T.events (chain_first c.now) ++ U.events (chain_second c.now) }
+    ensures tells_done { chain_is_done c.now ≡ true → U.tells (chain_second c.now) → ⟦<Chain<T, U> as Read>⟧.tells c.now }
+    ensures events_done { chain_is_done c.now ≡ true
+        → ⟦<Chain<T, U> as Read>⟧.events c.now ≡ U.events (chain_second c.now) }
+    ensures turns { ⟦<Chain<T, U> as Read>⟧.turns c.now ≡ T.turns (chain_first c.now) + U.turns (chain_second c.now) }
+    ensures metered { ⟦<Chain<T, U> as Read>⟧.is_metered c.now → ⊥ }
+    ensures filling { ⟦<Chain<T, U> as Read>⟧.is_filling c.now → ⊥ }
+    ensures takes_all { ⟦<Chain<T, U> as Read>⟧.may_take_none c.now → ⊥ }
+    ensures store { ⟦<Chain<T, U> as Stored>⟧.has_store c.now → ⊥ }
+{}
+
+// What the one holds that is read now.
+fn chain_lends<T: BufRead, U: BufRead>(c: &Chain<T, U>)
+    ensures held { chain_is_done c.now ≡ false → ⟦<Chain<T, U> as BufRead>⟧.held c.now ≡ T.held (chain_first c.now) }
+    ensures held_done { chain_is_done c.now ≡ true → ⟦<Chain<T, U> as BufRead>⟧.held c.now ≡ U.held (chain_second c.now) }
+{}
+
+// The inner's events, cut right after the byte at the limit.
+fn take_tells<T: Read>(t: &Take<T>)
+    ensures tells { T.tells (take_inner t.now) → ⟦<Take<T> as Read>⟧.tells t.now }
+    ensures events { ⟦<Take<T> as Read>⟧.events t.now ≡ cut (take_limit t.now) (T.events (take_inner t.now)) }
+    ensures turns { ⟦<Take<T> as Read>⟧.turns t.now ≡ T.turns (take_inner t.now) }
+    ensures cost { ⟦<Take<T> as Read>⟧.cost t.now ≡ T.cost (take_inner t.now) }
+    ensures metered { ⟦<Take<T> as Read>⟧.is_metered t.now → ⊥ }
+    ensures filling { T.is_filling (take_inner t.now) → ⟦<Take<T> as Read>⟧.is_filling t.now }
+    ensures takes_all { ⟦<Take<T> as Read>⟧.may_take_none t.now → ⊥ }
+    ensures store { ⟦<Take<T> as Stored>⟧.has_store t.now → ⊥ }
+{}
+
+// At most as many of the inner's held bytes as the limit allows.
+fn take_lends<T: BufRead>(t: &Take<T>)
+    ensures { ⟦<Take<T> as BufRead>⟧.held t.now ≡ take (take_limit t.now) (T.held (take_inner t.now)) }
+{}
+
+// Its next byte or fault, and each of them spends a turn.
+fn next_byte<R: Read + Drop>(bytes: &mut Bytes<R>) -> Option<Result<u8>>
+    ensures told { R.tells (bytes_reader bytes.old) → R.tells (bytes_reader bytes.new)
+        × NextByte (R.events (bytes_reader bytes.old)) result (R.events (bytes_reader bytes.new)) }
+    ensures fault { IfSome result (λ item. IfErr item IsFault) }
+    ensures turns { R.turns (bytes_reader bytes.new) ≤ R.turns (bytes_reader bytes.old) }
+    ensures turn { OnSome result (R.turns (bytes_reader bytes.new) < R.turns (bytes_reader bytes.old)) }
+{
+    bytes.next()
+}
+
+fn contents_tell<'a, A: Allocator, const N: usize>(
+    shared: &&'a [u8],
+    lent: &&'a mut [u8],
+    array: &[u8; N],
+    vector: &Vec<u8, A>,
+    lent_vector: &&'a mut Vec<u8, A>,
+)
+    ensures shared { ⟦<&'a [u8] as AsSlice<u8>>⟧.slice shared.now ≡ shared.now.now }
+    ensures lent { ⟦<&'a mut [u8] as AsSlice<u8>>⟧.slice lent.now ≡ lent.now.now }
+    ensures array { ⟦<[u8; N] as AsSlice<u8>>⟧.slice array.now ≡ array.now }
+    ensures vector { ⟦<Vec<u8, A> as AsSlice<u8>>⟧.slice vector.now ≡ vector.now.items }
+    ensures lent_vector { ⟦<&'a mut Vec<u8, A> as AsSlice<u8>>⟧.slice lent_vector.now ≡ lent_vector.now.now.items }
+{}
+
+// It tells a store: its body alone shows that the length and the position fit.
+fn cursor_stores<T: AsSlice<u8>>(c: &Cursor<T>)
+    ensures has_store { ⟦<Cursor<T> as Stored>⟧.has_store c.now }
+    ensures content { ⟦<Cursor<T> as Stored>⟧.content c.now ≡ T.slice (cursor_inner c.now) }
+    ensures position { ⟦<Cursor<T> as Stored>⟧.position c.now ≡ cursor_place c.now }
+{
+    let _content = c.get_ref().as_slice();
+    let _position = c.position();
+}
+
+fn cursor_reads<T: AsSlice<u8>>(c: &Cursor<T>)
+    ensures tells { ⟦<Cursor<T> as Read>⟧.tells c.now }
+    ensures events { ⟦<Cursor<T> as Read>⟧.events c.now
+        ≡ events_of (drop (cursor_place c.now) (T.slice (cursor_inner c.now))) }
+    ensures turns { ⟦<Cursor<T> as Read>⟧.turns c.now ≡ length (T.slice (cursor_inner c.now)) - cursor_place c.now }
+    ensures cost { ⟦<Cursor<T> as Read>⟧.cost c.now ≡ 0 }
+    ensures filling { ⟦<Cursor<T> as Read>⟧.is_filling c.now }
+    ensures may_take_none { ⟦<Cursor<T> as Read>⟧.may_take_none c.now }
+{}
+
+fn cursor_lends<T: AsSlice<u8>>(c: &Cursor<T>)
+    ensures held { ⟦<Cursor<T> as BufRead>⟧.held c.now ≡ drop (cursor_place c.now) (T.slice (cursor_inner c.now)) }
+    ensures lends_surely { ⟦<Cursor<T> as BufRead>⟧.lends_surely c.now }
+    ensures lent_length { ⟦<Cursor<T> as BufRead>⟧.lent_length c.now
+        ≡ length (T.slice (cursor_inner c.now)) - cursor_place c.now }
+{}
+
+// Lending never fails.
+fn cursor_lends_all<T: AsSlice<u8>>(c: &mut Cursor<T>) -> Result<usize>
+    ensures { IsOkAnd result (λ n. n ≡ length (T.slice (cursor_inner c.old)) - cursor_place c.old) }
+{
+    Ok(c.fill_buf()?.len())
+}
+
+fn vector_cursor_writes<A: Allocator>(c: &Cursor<Vec<u8, A>>)
+    ensures { let content = (cursor_inner c.now).items in
+        let place = cursor_place c.now in
+        ⟦<Cursor<Vec<u8, A>> as Write>⟧.told c.now ≡ record {
+          out = take place content ++ replicate (place - length content) 0;
+          held = [];
+          mishaps = None;
+          turns = 0;
+        } }
+{}
+
+fn lent_vector_cursor_writes<'a, A: Allocator>(c: &Cursor<&'a mut Vec<u8, A>>)
+    ensures { let content = (cursor_inner c.now).now.items in
+        let place = cursor_place c.now in
+        ⟦<Cursor<&'a mut Vec<u8, A>> as Write>⟧.told c.now ≡ record {
+          out = take place content ++ replicate (place - length content) 0;
+          held = [];
+          mishaps = None;
+          turns = 0;
+        } }
+{}
+
+fn slice_cursor_writes<'a>(c: &Cursor<&'a mut [u8]>)
+    ensures { let content = (cursor_inner c.now).now in
+        let place = cursor_place c.now in
+        ⟦<Cursor<&'a mut [u8]> as Write>⟧.told c.now ≡ record {
+          out = take place content ++ replicate (place - length content) 0;
+          held = [];
+          mishaps = None;
+          turns = 0;
+        } }
+{}
+
+// A write to memory makes no other, and is counted as none.
+fn memory_costs_nothing<'a, A: Allocator>(
+    vector: &Vec<u8, A>,
+    owned: &Cursor<Vec<u8, A>>,
+    lent: &Cursor<&'a mut Vec<u8, A>>,
+    slice: &Cursor<&'a mut [u8]>,
+)
+    ensures vector { ⟦<Vec<u8, A> as Write>⟧.cost vector.now ≡ 0 }
+    ensures owned { ⟦<Cursor<Vec<u8, A>> as Write>⟧.cost owned.now ≡ 0 }
+    ensures lent { ⟦<Cursor<&'a mut Vec<u8, A>> as Write>⟧.cost lent.now ≡ 0 }
+    ensures slice { ⟦<Cursor<&'a mut [u8]> as Write>⟧.cost slice.now ≡ 0 }
+{}
+
+// A clone of a cursor on bytes has their content and its position.
+fn clone_of_bytes<A: Allocator + Clone>(c: &Cursor<Vec<u8, A>>) -> Result<Cursor<Vec<u8, A>>>
+    ensures content { IfOk result (λ d. (cursor_inner d).items ≡ (cursor_inner c.now).items) }
+    ensures position { IfOk result (λ d. cursor_place d ≡ cursor_place c.now) }
+{
+    c.clone()
+}
+
+fn clone_of_slice<'a>(c: &Cursor<&'a [u8]>) -> Result<Cursor<&'a [u8]>>
+    ensures ok { IsOk result }
+    ensures content { IfOk result (λ d. (cursor_inner d).now ≡ (cursor_inner c.now).now) }
+    ensures position { IfOk result (λ d. cursor_place d ≡ cursor_place c.now) }
+{
+    c.clone()
+}

@@ -1,0 +1,22 @@
+//! For the crates above, no surface: what their streams stand on as those of this crate do.
+ghost use Rattle.no_std_io2_base.specs.Errors.{IsUnexpectedEnd, IsUnwritten};
+
+use crate::error::{Error, ErrorKind};
+pub use crate::impls::{append, append_rest, copy_bytes};
+pub use crate::traits::room::{LEAST_ROOM, fill_room, open_room, reserve_room};
+
+// The refusals that the library words itself, each in one place. Users meet them as errors alone.
+
+/// The bytes ended before the buffer was full.
+pub fn failed_to_fill() -> Error
+    ensures { IsUnexpectedEnd result }
+{
+    Error::new(ErrorKind::UnexpectedEof, "failed to fill whole buffer")
+}
+
+/// The device took no byte of some.
+pub fn failed_to_write() -> Error
+    ensures { IsUnwritten result }
+{
+    Error::new(ErrorKind::WriteZero, "failed to write whole buffer")
+}

@@ -1,0 +1,94 @@
+// Tallies and faulty devices over a device that has a body of its own for each call, and notes which of them it was.
+//
+// A row is a call; then its answer, for a read the bytes that it gave, and the calls that reached the device.
+use io_bench::{Faulty, Tally};
+use io_rows::calls::{make_call, new_journal, show_calls};
+use io_rows::fault::Made;
+use io_rows::journal::Journal;
+use io_rows::line::Line;
+use io_rows::noted::Noted;
+use io_rows::reads::make_read;
+use io_rows::recorder::{Name, Recorder};
+use io_rows::rows::{Call, Subject};
+use no_std_io2::io::Write;
+use std::alloc::Global;
+use std::cell::RefCell;
+use std::rc::Rc;
+
+/// A writer over a device.
+pub trait Bench: Write {
+    /// The writer, with no acts.
+    fn over(alloc: Global, device: Noted<Recorder>) -> Self
+    where
+        Self: Sized;
+}
+
+impl Bench for Tally<Noted<Recorder>> {
+    fn over(_alloc: Global, device: Noted<Recorder>) -> Tally<Noted<Recorder>> {
+        Tally::new(device)
+    }
+}
+
+impl Bench for Faulty<Noted<Recorder>> {
+    fn over(alloc: Global, device: Noted<Recorder>) -> Faulty<Noted<Recorder>> {
+        Faulty::new(device, Vec::new(alloc))
+    }
+}
+
+/// A writer, and its device's journal.
+#[derive(Drop)]
+pub struct BenchWrites<W: Drop> {
+    writer: W,
+    journal: Rc<RefCell<Journal>>,
+}
+
+impl<W: Bench + Drop> Subject for BenchWrites<W> {
+    fn make(alloc: Global, words: &str) -> Made<BenchWrites<W>> {
+        let journal = new_journal(alloc, words)?;
+        let writer = W::over(
+            alloc,
+            Noted::new(
+                Recorder::new(alloc, journal.clone()?, Name::Only),
+                journal.clone()?,
+            ),
+        );
+        Ok(BenchWrites { writer, journal })
+    }
+
+    fn play(mut self, call: &Call<'_>, line: &mut Line) -> Made<BenchWrites<W>> {
+        line.column()?;
+        make_call(&mut self.writer, call, line)?;
+        show_calls(&self.journal, line)?;
+        Ok(self)
+    }
+}
+
+/// A tally as a reader, and its device's journal.
+#[derive(Drop)]
+pub struct BenchReads {
+    alloc: Global,
+    reader: Tally<Noted<Recorder>>,
+    journal: Rc<RefCell<Journal>>,
+}
+
+impl Subject for BenchReads {
+    fn make(alloc: Global, words: &str) -> Made<BenchReads> {
+        let journal = new_journal(alloc, words)?;
+        let reader = Tally::new(Noted::new(
+            Recorder::new(alloc, journal.clone()?, Name::Only),
+            journal.clone()?,
+        ));
+        Ok(BenchReads {
+            alloc,
+            reader,
+            journal,
+        })
+    }
+
+    fn play(mut self, call: &Call<'_>, line: &mut Line) -> Made<BenchReads> {
+        line.column()?;
+        make_read(self.alloc, &mut self.reader, call, line)?;
+        show_calls(&self.journal, line)?;
+        Ok(self)
+    }
+}

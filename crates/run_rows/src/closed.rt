@@ -1,0 +1,121 @@
+// `run_closed` over a tally of a sink that notes the length of each write.
+//
+// A row is `run` and the calls; then their replies, how many inner writes they took and how many at most, and the lengths
+// of the inner writes.
+ghost use Rattle.std.specs.Prelude.{⊤, refl, ◌<◌};
+
+use super::ops::{ops_of, parse_calls, show_replies};
+use io_bench::{Op, Sink, Tally, run_closed};
+use io_rows::fault::{Fault, Made};
+use io_rows::line::Line;
+use io_rows::rows::{Call, Subject};
+use no_std_io2::io::{Result, Write};
+use std::alloc::Global;
+
+/// Takes all, and notes the lengths of its writes.
+#[derive(Drop)]
+pub struct Lengths {
+    sink: Sink,
+    lengths: Line,
+}
+
+impl Write for Lengths {
+    ghost use Rattle.io_bench.specs.Sink.{sink_told};
+
+    ghost told = { λ w. sink_told w.sink };
+
+    ghost takes_all = { λ _. ⊤ };
+
+    ghost cost = { λ _. 0 };
+
+    ghost is_metered = { λ _. ⊥ };
+
+    fn write(&mut self, buf: &[u8]) -> Result<usize> {
+        if !self.lengths.is_empty() {
+            let _ = self.lengths.word(", ");
+        }
+        let _ = self.lengths.number(buf.len() as u64);
+        self.sink.write(buf)
+    }
+
+    fn flush(&mut self) -> Result<()> {
+        self.sink.flush()
+    }
+
+    ghost steady = { λ w h. refl };
+}
+
+// How many bytes the calls give, and how many of them are flushes.
+fn totals_of(ops: &[Op<'_>]) -> (u64, u64) {
+    let mut given: u64 = 0;
+    let mut flushes: u64 = 0;
+    'ops: for op in ops {
+        match op {
+            Op::Write(bytes) | Op::WriteAll(bytes) => {
+                given = given.wrapping_add(bytes.len() as u64);
+            }
+            Op::Flush => flushes = flushes.wrapping_add(1),
+        }
+    }
+    (given, flushes)
+}
+
+// The most inner writes that a run may take: `2 * (N / (S + 1)) + F + 1`.
+fn most_writes(ops: &[Op<'_>], size: u64) -> u64 {
+    let (given, flushes) = totals_of(ops);
+    let sent = given / size.saturating_add(1).max(1);
+    sent.wrapping_mul(2).wrapping_add(flushes).wrapping_add(1)
+}
+
+/// A tally that a run takes and gives back.
+#[derive(Drop)]
+pub struct Closing<const S: usize> {
+    alloc: Global,
+    tally: Tally<Lengths>,
+}
+
+fn run<const S: usize>(
+    alloc: Global,
+    tally: Tally<Lengths>,
+    words: &str,
+    line: &mut Line,
+) -> Made<Tally<Lengths>> {
+    let calls = parse_calls(alloc, words)?;
+    let ops = ops_of(alloc, &calls)?;
+    if S == 0 || S >= 1 << 32 {
+        return Err(Fault::Malformed("a buffer without room"));
+    }
+    let before = tally.writes();
+    let mut replies = Vec::new(alloc);
+    let Ok(tally) = run_closed::<Lengths, S>(tally, &ops, &mut replies) else {
+        return Err(Fault::Memory);
+    };
+    line.column()?;
+    show_replies(&replies, line)?;
+    line.column()?;
+    line.number(tally.writes().wrapping_sub(before))?;
+    line.word(" of ")?;
+    line.number(most_writes(&ops, S as u64))?;
+    line.column()?;
+    line.text(tally.get_ref().lengths.as_str())?;
+    Ok(tally)
+}
+
+impl<const S: usize> Subject for Closing<S> {
+    fn make(alloc: Global, _words: &str) -> Made<Closing<S>> {
+        let lengths = Lengths {
+            sink: Sink::new(),
+            lengths: Line::new(alloc),
+        };
+        Ok(Closing {
+            alloc,
+            tally: Tally::new(lengths),
+        })
+    }
+
+    fn play(self, call: &Call<'_>, line: &mut Line) -> Made<Closing<S>> {
+        let Closing { alloc, tally } = self;
+        let tally = run::<S>(alloc, tally, call.rest, line)?;
+        Ok(Closing { alloc, tally })
+    }
+}

@@ -1,0 +1,125 @@
+// Towers of writers over one device, which can be looked at.
+use io_bench::Faulty;
+use io_rows::line::{Line, Printed};
+use io_rows::recorder::Recorder;
+use no_std_io2::io::{BufWriter, LineWriter, Write};
+
+/// A device of faults, whose bytes out are its vector's.
+pub type Device = Faulty<Vec<u8>>;
+
+/// A tower of writers on a device of this kind.
+pub trait Tower<D>: Write {
+    /// The tower on a device, with nothing held.
+    fn over(device: D) -> Self
+    where
+        Self: Sized;
+
+    /// What the device is.
+    fn device(&self) -> &D;
+
+    /// What a level holds, the outer one being level 0.
+    fn held(&self, level: usize) -> Option<&[u8]>;
+
+    /// Whether each buffer that sends lines has no newline, or ends in one.
+    fn keeps_lines(&self) -> bool;
+}
+
+/// Prints a column of what each level holds, the outer one first.
+pub fn show_held<D, T: Tower<D>>(tower: &T, line: &mut Line) -> Printed {
+    'levels: for level in 0..3 {
+        if let Some(held) = tower.held(level) {
+            line.column()?;
+            line.bytes(held)?;
+        }
+    }
+    Ok(())
+}
+
+/// Appends what is held, the inner level's bytes first.
+pub fn push_held<D, T: Tower<D>>(tower: &T, bytes: &mut Vec<u8>) -> Printed {
+    'levels: for level in [2, 1, 0] {
+        if let Some(held) = tower.held(level) {
+            bytes.extend_from_slice(held)?;
+        }
+    }
+    Ok(())
+}
+
+impl Tower<Device> for Device {
+    fn over(device: Device) -> Device {
+        device
+    }
+
+    fn device(&self) -> &Device {
+        self
+    }
+
+    fn held(&self, _level: usize) -> Option<&[u8]> {
+        None
+    }
+
+    fn keeps_lines(&self) -> bool {
+        true
+    }
+}
+
+impl Tower<Recorder> for Recorder {
+    fn over(device: Recorder) -> Recorder {
+        device
+    }
+
+    fn device(&self) -> &Recorder {
+        self
+    }
+
+    fn held(&self, _level: usize) -> Option<&[u8]> {
+        None
+    }
+
+    fn keeps_lines(&self) -> bool {
+        true
+    }
+}
+
+impl<D, W: Tower<D> + Drop, const S: usize> Tower<D> for BufWriter<W, S> {
+    fn over(device: D) -> BufWriter<W, S> {
+        BufWriter::new(W::over(device))
+    }
+
+    fn device(&self) -> &D {
+        self.get_ref().device()
+    }
+
+    fn held(&self, level: usize) -> Option<&[u8]> {
+        match level {
+            0 => Some(self.buffer()),
+            _ => self.get_ref().held(level - 1),
+        }
+    }
+
+    fn keeps_lines(&self) -> bool {
+        self.get_ref().keeps_lines()
+    }
+}
+
+impl<D, W: Tower<D> + Drop, const S: usize> Tower<D> for LineWriter<W, S> {
+    fn over(device: D) -> LineWriter<W, S> {
+        LineWriter::new(W::over(device))
+    }
+
+    fn device(&self) -> &D {
+        self.get_ref().device()
+    }
+
+    fn held(&self, level: usize) -> Option<&[u8]> {
+        match level {
+            0 => Some(self.buffer()),
+            _ => self.get_ref().held(level - 1),
+        }
+    }
+
+    fn keeps_lines(&self) -> bool {
+        let held = self.buffer();
+        (!held.contains(&b'\n') || held.ends_with(b"\n")) && self.get_ref().keeps_lines()
+    }
+}

@@ -1,0 +1,26 @@
+//! Pins what each type tells: with a member that tells nothing, every promise over it would be empty and still be proved.
+ghost use Rattle.std.specs.Prelude.{◌≡◌};
+ghost use Rattle.system_streams.specs.Patient.{patient_turns, patient_told};
+
+use crate::patient::Patient;
+use no_std_io2::io::{Read, Stored, Write};
+use std::io;
+
+/// No events and no store, but its turns. No read of it is counted.
+pub fn patient_reader_tells<D: io::Read>(p: &Patient<D>)
+    ensures tells { ⟦<Patient<D> as Read>⟧.tells p.now → ⊥ }
+    ensures turns { ⟦<Patient<D> as Read>⟧.turns p.now ≡ patient_turns p.now }
+    ensures cost { ⟦<Patient<D> as Read>⟧.cost p.now ≡ 0 }
+    ensures is_metered { ⟦<Patient<D> as Read>⟧.is_metered p.now → ⊥ }
+    ensures is_filling { ⟦<Patient<D> as Read>⟧.is_filling p.now → ⊥ }
+    ensures may_take_none { ⟦<Patient<D> as Read>⟧.may_take_none p.now → ⊥ }
+    ensures has_store { ⟦<Patient<D> as Stored>⟧.has_store p.now → ⊥ }
+{}
+
+/// The bytes that its device answered for are out. No write of it is counted.
+pub fn patient_writer_tells<D: io::Write>(p: &Patient<D>)
+    ensures told { ⟦<Patient<D> as Write>⟧.told p.now ≡ patient_told p.now }
+    ensures takes_all { ⟦<Patient<D> as Write>⟧.takes_all p.now → ⊥ }
+    ensures cost { ⟦<Patient<D> as Write>⟧.cost p.now ≡ 0 }
+    ensures is_metered { ⟦<Patient<D> as Write>⟧.is_metered p.now → ⊥ }
+{}

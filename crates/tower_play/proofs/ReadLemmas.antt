@@ -1,0 +1,98 @@
+-- How the lines that were read so far make a script.
+use Rattle.std.proofs.Common.{◌≡◌, ℕ, ◌+◌, ◌-◌, ◌^◌, List, [], ◌∷◌, ◌++◌}
+use Rattle.std.proofs.Common.{false, Option, None, Some, refl, sym, subst, ap, ◌∙◌, arith, length, length-append, append_assoc}
+use Rattle.std.proofs.Common.{Err, inl, inr, ◌⊎◌, vec_items, Global}
+use Rattle.std.specs.Prelude.{min, is_some}
+use Rattle.std.specs.Option.{IfSome}
+use Rattle.no_std_io2_base.specs.declared.error.Error.{Error}
+use Rattle.no_std_io2_base.specs.Errors.{IsOutOfMemory}
+use Rattle.no_std_io2_base.specs.Events.{Event, fails}
+use Rattle.no_std_io2_base.specs.Pieces.{without}
+use Rattle.no_std_io2_base.specs.PieceItems.{YieldsPiece}
+use Rattle.io_bench.specs.PieceRuns.{GathersPieces}
+use Rattle.io_bench.proofs.PieceRunLemmas.{GatheredSoFar, gathered_to}
+use Rattle.system_streams.specs.Copies.{HasFirstFault}
+use Rattle.tower_play.specs.declared.script.Script.{Script}
+use Rattle.tower_play.specs.Reading.{Adds, AddsAll, IsFresh, IsBadLine, IsFirstBad}
+
+-- so many lines were read, and made the script, unless one of them was bad: then its number is known
+pub record ReadSoFar (d : ℕ) (E : List Event) (number : ℕ) (bad : Option ℕ) (script : Script) (after : List Event) : Type 0 where
+  pub lines : List (List ℕ)
+  pub gathered : GatheredSoFar (without d) d E lines after
+  pub start : Script
+  pub fresh : IsFresh start
+  pub adds : bad ≡ None → AddsAll lines start script
+  pub count : number ≡ min (length lines) (2 ^ 64 - 1)
+  pub first : IfSome bad (IsFirstBad lines)
+
+-- one line more
+pub adds_more : (lines : List (List ℕ)) (line : List ℕ) (old mid new : Script) → AddsAll lines old mid → Adds line mid new
+    → AddsAll (lines ++ line ∷ []) old new
+adds_more [] line old mid new all one = (new, subst (λ s. Adds line s new) all one, refl)
+adds_more (l ∷ lines) line old mid new all one = (all.0, all.1, adds_more lines line all.0 mid new all.2 one)
+
+-- one line more is counted, up to the greatest number
+pub count_more : (lines : List (List ℕ)) (line : List ℕ) (n next : ℕ) → n ≡ min (length lines) (2 ^ 64 - 1)
+    → next ≡ min (n + 1) (2 ^ 64 - 1) → next ≡ min (length (lines ++ line ∷ [])) (2 ^ 64 - 1)
+count_more lines line n next count is = omega (arith, length-append lines (line ∷ []))
+
+-- the number of a line behind others
+pub number_here : (lines : List (List ℕ)) (n next : ℕ) → n ≡ min (length lines) (2 ^ 64 - 1)
+    → next ≡ min (n + 1) (2 ^ 64 - 1) → next ≡ min (length lines + 1) (2 ^ 64 - 1)
+number_here lines n next count is = omega arith
+
+-- a first bad line stays the first
+pub first_more : (o : Option ℕ) (lines : List (List ℕ)) (line : List ℕ) → IfSome o (IsFirstBad lines)
+    → IfSome o (IsFirstBad (lines ++ line ∷ []))
+first_more None lines line first = tt
+first_more (Some n) lines line first = record {
+  good = first.good;
+  bad = first.bad;
+  left = first.left ++ line ∷ [];
+  are = ap (λ l. l ++ line ∷ []) first.are ∙ append_assoc first.good (first.bad ∷ first.left) (line ∷ []);
+  start = first.start;
+  fresh = first.fresh;
+  made = first.made;
+  adds = first.adds;
+  is = first.is;
+  number = first.number;
+}
+
+-- a bad line behind lines that made a script is the first
+pub first_here : (lines : List (List ℕ)) (line : List ℕ) (n next : ℕ) (start script : Script) → IsFresh start
+    → AddsAll lines start script → IsBadLine line script → n ≡ min (length lines) (2 ^ 64 - 1)
+    → next ≡ min (n + 1) (2 ^ 64 - 1) → IsFirstBad (lines ++ line ∷ []) next
+first_here lines line n next start script fresh adds is count more = record {
+  good = lines;
+  bad = line;
+  left = [];
+  are = refl;
+  start = start;
+  fresh = fresh;
+  made = script;
+  adds = adds;
+  is = is;
+  number = number_here lines n next count more;
+}
+
+-- a line that could not be read: the reader had its first fault, or memory was refused
+pub stopped : {d : ℕ} {E mid after : List Event} {lines : List (List ℕ)} {e : Error} → GatheredSoFar (without d) d E lines mid
+    → YieldsPiece (vec_items {X = ℕ} {Z = Global}) (without d) (λ _ _. ⊥) d mid (Some (Err e)) after
+    → HasFirstFault E e ⊎ IsOutOfMemory e
+stopped {d} {E} {mid} {after} {lines} {e} so no_line =
+    why (gathered_to (Unit {0}) (vec_items {X = ℕ} {Z = Global}) (without d) (λ _ _. ⊥) d E lines lines mid e after refl so no_line)
+  where
+    why : GathersPieces {A = Unit {0}} (without d) (λ _ _. ⊥) d E (Err e) lines → HasFirstFault E e ⊎ IsOutOfMemory e
+    why (inl fault) = inl (record {
+      front = fault.before ++ fails e ∷ [];
+      rest = fault.behind;
+      split = fault.split ∙ sym (append_assoc fault.before (fails e ∷ []) fault.behind);
+      ends = (fault.before, refl, fault.no_fault, fault.fault);
+    })
+    why (inr (inl refused)) = absurd refused.refused
+    why (inr (inr memory)) = inr memory.refused
+
+-- what is not there
+pub is_none : (o : Option ℕ) → is_some o ≡ false → o ≡ None
+is_none None none = refl
+is_none (Some n) some = absurd (cc some)

@@ -1,0 +1,11 @@
+use Rattle.std.proofs.Common.{◌≡◌, take, vec_len, vec_capacity}
+use Rattle.tower_play.specs.Calls.{AreOps}
+use Rattle.tower_play.proofs.script.Calls.ops.Given as goal
+
+abbrev pub invariant-loop-step : goal.invariant-loop-step
+invariant-loop-step l =
+    record {
+      room : vec_capacity l.ops ≡ vec_capacity l.initial.ops;
+      count : vec_len l.ops ≡ l.step-index;
+      so : AreOps (take l.step-index l.self.steps.items) l.self.texts.items l.ops.items l.rest;
+    }

@@ -1,0 +1,19 @@
+-- What `play` prints.
+use Rattle.std.specs.Prelude.{ℕ, codes, List, ◌++◌}
+use Rattle.std.specs.Fmt.{decimal}
+use Rattle.std.specs.List.{flat_map}
+use Rattle.no_std_io2_base.specs.Errors.{error_display}
+use Rattle.io_bench.specs.declared.runs.Reply.{Reply}
+use Rattle.io_bench.specs.declared.runs.Reply.TheVariants.{Took, Done, Failed}
+use Rattle.tower_play.specs.Script.{escaped}
+
+-- the line of a reply
+abbrev pub reply_line : Reply → List ℕ
+reply_line (Took n) = codes "took=" ++ decimal n ++ codes "\n"
+reply_line Done = codes "done\n"
+reply_line (Failed e) = codes "failed=" ++ error_display e ++ codes "\n"
+
+-- the lines of replies, and then what is out and what is held
+abbrev pub report : List Reply → List ℕ → List ℕ → List ℕ
+report replies out held =
+    flat_map reply_line replies ++ codes "out=" ++ escaped out ++ codes "\nheld=" ++ escaped held ++ codes "\n"

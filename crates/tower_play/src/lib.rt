@@ -1,0 +1,12 @@
+//! Plays a script of writes on a tower of buffered writers over a device that fails as the script says.
+//!
+//! [`play`] reads the script from any reader and writes what came of it to any writer: a line for each reply, and then what
+//! is out and what is held.
+#![tactic(auto)]
+
+mod memory;
+mod playing;
+mod report;
+mod script;
+
+pub use playing::{Fault, Shape, play};

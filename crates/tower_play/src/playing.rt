@@ -1,0 +1,192 @@
+// Plays a script on a tower of buffered writers.
+ghost use Rattle.no_std_io2.specs.BufReader.{BufReaderFits};
+ghost use Rattle.std.specs.Prelude.{◌≡◌, ◌++◌, ◌⊎◌, Some, IfOk, IfErr};
+ghost use Rattle.no_std_io2_base.specs.Errors.{IsOutOfMemory};
+ghost use Rattle.tower_play.specs.declared.playing.Fault.TheVariants.{Io};
+ghost use Rattle.system_streams.specs.Copies.{HasFirstFault, MayFail};
+ghost use Rattle.tower_play.specs.Faults.{fault_display, IfIo, IfLine};
+ghost use Rattle.tower_play.specs.Reading.{IsBadAt};
+ghost use Rattle.tower_play.specs.Play.{Shows, IsPlay, IsPlayOf, Writes, fresh_told};
+
+use crate::memory::{Refused, replies_of};
+use crate::report::report_of;
+use crate::script::Script;
+use io_bench::{Act, Faulty, Op};
+use no_std_io2::io::{BufRead, BufReader, BufWriter, Error, ErrorKind, LineWriter, Read, Write};
+use std::alloc::Global;
+use std::fmt;
+
+/// Which tower a script is played on: the first word is the outer level.
+#[derive(Clone, Copy, Debug, PartialEq, Eq)]
+pub enum Shape {
+    /// A `BufWriter`.
+    Buf,
+    /// A `LineWriter`.
+    Line,
+    /// A `BufWriter` over a `BufWriter`.
+    BufBuf,
+    /// A `LineWriter` over a `BufWriter`.
+    LineBuf,
+}
+
+/// Why a script was not played.
+#[derive(Debug, Drop)]
+pub enum Fault {
+    /// A device's fault, or want of memory.
+    Io(Error),
+    /// The first bad line of the script, by its number from 1.
+    Line(u64),
+}
+
+impl From<Error> for Fault {
+    ghost from_gives = { λ e fault. fault ≡ Io e };
+
+    fn from(error: Error) -> Fault {
+        Self::Io(error)
+    }
+}
+
+impl From<Refused> for Fault {
+    ghost from_gives = { λ _ fault. IfIo IsOutOfMemory fault × IfLine (λ _. ⊥) fault };
+
+    fn from(_refused: Refused) -> Fault {
+        Fault::Io(Error::from(ErrorKind::OutOfMemory))
+    }
+}
+
+impl fmt::Display for Fault {
+    ghost output = { λ fault. Some (fault_display fault) };
+
+    fn fmt<W: fmt::Write>(&self, f: &mut fmt::Formatter<W>) -> fmt::Result {
+        match self {
+            Fault::Io(error) => write!(f, "{error}"),
+            Fault::Line(number) => write!(f, "bad line {number}"),
+        }
+    }
+}
+
+// The device at the bottom of each tower, and the room of each level.
+type Base = Faulty<Vec<u8>>;
+
+const ROOM: usize = 8;
+
+// The room through which a script is read.
+const INPUT_ROOM: usize = 64;
+
+// What is shown of a tower.
+trait Tower: Write {
+    // The bytes that are out.
+    fn out(&self) -> &[u8]
+        ensures { result.now ≡ (Self.told self.now).out };
+
+    // The bytes that are held: the inner level's, and then the outer level's.
+    fn held(&self) -> (&[u8], &[u8])
+        ensures { result.0.now ++ result.1.now ≡ (Self.told self.now).held };
+}
+
+impl Tower for BufWriter<Base, ROOM> {
+    fn out(&self) -> &[u8] {
+        self.get_ref().get_ref().as_slice()
+    }
+
+    fn held(&self) -> (&[u8], &[u8]) {
+        (b"", self.buffer())
+    }
+}
+
+impl Tower for LineWriter<Base, ROOM> {
+    fn out(&self) -> &[u8] {
+        self.get_ref().get_ref().as_slice()
+    }
+
+    fn held(&self) -> (&[u8], &[u8]) {
+        (b"", self.buffer())
+    }
+}
+
+impl Tower for BufWriter<BufWriter<Base, ROOM>, ROOM> {
+    fn out(&self) -> &[u8] {
+        self.get_ref().get_ref().get_ref().as_slice()
+    }
+
+    fn held(&self) -> (&[u8], &[u8]) {
+        (self.get_ref().buffer(), self.buffer())
+    }
+}
+
+impl Tower for LineWriter<BufWriter<Base, ROOM>, ROOM> {
+    fn out(&self) -> &[u8] {
+        self.get_ref().get_ref().get_ref().as_slice()
+    }
+
+    fn held(&self) -> (&[u8], &[u8]) {
+        (self.get_ref().buffer(), self.buffer())
+    }
+}
+
+/// Reads a script, plays it on a tower over a faulty vector, and writes what came of it: a line for
+/// each reply, what is out and what is held. The whole script is read first, and the text is made
+/// whole and then written by one `write_all` and flushed.
+///
+/// # Errors
+/// A fault of the input, of the output, or want of memory; else the first bad line, and then nothing
+/// was played. The output is dropped.
+pub fn play<R: Read + Drop, W: Write + Drop>(
+    alloc: Global,
+    input: R,
+    mut output: W,
+    shape: Shape,
+) -> Result<W, Fault>
+    requires reader_fits { BufReaderFits R.row 64 }
+    ensures ok { IfOk result (λ w. Writes IsPlay (W.told output) (W.told w)) }
+    // The script is what the input tells.
+    ensures script { R.tells input → IfOk result (λ w. Writes (IsPlayOf (R.events input)) (W.told output) (W.told w)) }
+    // A bad line is the first one of all that the input tells.
+    ensures first { R.tells input → IfErr result (IfLine (IsBadAt 10 (R.events input))) }
+    // Any other fault is the input's first one, want of memory, or an error of the output.
+    ensures other { R.tells input → IfErr result (IfIo (λ e. HasFirstFault (R.events input) e
+        ⊎ IsOutOfMemory e ⊎ MayFail (W.told output) e)) }
+{
+    let reader = BufReader::<R, INPUT_ROOM>::new(input);
+    let Script { acts, calls } = Script::read(alloc, reader.split(alloc, b'\n'))?;
+    let ops = calls.ops(alloc)?;
+    let report = play_ops(alloc, acts, &ops, shape)?;
+    output.write_all(&report)?;
+    output.flush()?;
+    Ok(output)
+}
+
+fn play_ops(alloc: Global, acts: Vec<Act>, ops: &[Op<'_>], shape: Shape) -> Result<Vec<u8>, Refused>
+    ensures ok { IfOk result (λ text. Shows (fresh_told acts.items) ops.now text.items) }
+{
+    let base = Faulty::new(Vec::new(alloc), acts);
+    match shape {
+        Shape::Buf => play_on(alloc, BufWriter::<Base, ROOM>::new(base), ops),
+        Shape::Line => play_on(alloc, LineWriter::<Base, ROOM>::new(base), ops),
+        Shape::BufBuf => {
+            let inner = BufWriter::<Base, ROOM>::new(base);
+            play_on(
+                alloc,
+                BufWriter::<BufWriter<Base, ROOM>, ROOM>::new(inner),
+                ops,
+            )
+        }
+        Shape::LineBuf => {
+            let inner = BufWriter::<Base, ROOM>::new(base);
+            play_on(
+                alloc,
+                LineWriter::<BufWriter<Base, ROOM>, ROOM>::new(inner),
+                ops,
+            )
+        }
+    }
+}
+
+// Makes the calls, and then the text, before the tower is dropped.
+fn play_on<T: Tower + Drop>(alloc: Global, mut tower: T, ops: &[Op<'_>]) -> Result<Vec<u8>, Refused>
+    ensures ok { IfOk result (λ text. Shows (T.Write.told tower) ops.now text.items) }
+{
+    let replies = replies_of(alloc, &mut tower, ops)?;
+    let (inner, outer) = tower.held();
+    report_of(alloc, &replies, tower.out(), inner, outer)
+}
