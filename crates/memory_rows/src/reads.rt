@@ -11,7 +11,7 @@ use io_rows::fault::{Fault, Made};
 use io_rows::line::Line;
 use io_rows::rows::{Call, Subject};
 use linked_list_allocator::LocalHeap;
-use no_std_io2::io::{BufRead, BufReader, Cursor, ErrorKind, Read, Result};
+use no_std_io2::io::{BufRead, BufReader, Chain, Cursor, ErrorKind, Read, Result};
 use std::alloc::Global;
 
 const TEXT: &[u8; 1000] = &[b'a'; 1000];
@@ -149,59 +149,110 @@ fn feed_of(alloc: Global, bytes: usize) -> Made<Feed> {
     Ok(Feed::new(events, 7))
 }
 
-fn read_buffered(
-    alloc: Global,
-    trial: Trial,
-    cursor: Cursor<&[u8]>,
-    is_held: bool,
-) -> Made<Outcome> {
-    let mut reader = BufReader::<Cursor<&[u8]>, 4>::new(cursor);
-    if is_held && reader.fill_buf().is_err() {
+// The first bytes of the text.
+fn text_of(bytes: usize) -> &'static [u8] {
+    &TEXT[..bytes.min(1000)]
+}
+
+fn read_slice(alloc: Global, trial: Trial, text: &'static [u8]) -> Made<Outcome> {
+    let mut slice = text;
+    read(alloc, trial, &mut slice)
+}
+
+fn read_cursor(alloc: Global, trial: Trial, text: &'static [u8]) -> Made<Outcome> {
+    let mut cursor = Cursor::new(text);
+    read(alloc, trial, &mut cursor)
+}
+
+fn read_lent<R: BufRead>(alloc: Global, trial: Trial, r: &mut R) -> Made<Outcome> {
+    let mut lent = r;
+    read(alloc, trial, &mut lent)
+}
+
+fn read_boxed(alloc: Global, trial: Trial, text: &'static [u8]) -> Made<Outcome> {
+    let mut boxed = Box::new(alloc, Cursor::new(text))?;
+    read(alloc, trial, &mut boxed)
+}
+
+// A cursor for a boxed object, whose type names no lifetime.
+fn owner_of(alloc: Global, text: &[u8]) -> Made<Cursor<Vec<u8>>> {
+    Ok(Cursor::new(Vec::from_slice(alloc, text)?))
+}
+
+fn read_object(alloc: Global, trial: Trial, text: &[u8]) -> Made<Outcome> {
+    let mut object: Box<dyn Read + Drop> = Box::new(alloc, owner_of(alloc, text)?)?;
+    read_all(alloc, trial, &mut object)
+}
+
+fn read_lender(alloc: Global, trial: Trial, text: &[u8]) -> Made<Outcome> {
+    let mut object: Box<dyn BufRead + Drop> = Box::new(alloc, owner_of(alloc, text)?)?;
+    read(alloc, trial, &mut object)
+}
+
+fn read_buffered(alloc: Global, trial: Trial, text: &'static [u8]) -> Made<Outcome> {
+    let mut reader = BufReader::<Cursor<&'static [u8]>, 4>::new(Cursor::new(text));
+    read(alloc, trial, &mut reader)
+}
+
+// The same of a buffer that holds bytes.
+fn read_held(alloc: Global, trial: Trial, text: &'static [u8]) -> Made<Outcome> {
+    let mut reader = BufReader::<Cursor<&'static [u8]>, 4>::new(Cursor::new(text));
+    if reader.fill_buf().is_err() {
         return Err(Fault::Malformed("no bytes are held"));
     }
     read(alloc, trial, &mut reader)
 }
 
-// Of a reader that lends nothing.
-fn read_plain(alloc: Global, trial: Trial, form: Form, cursor: Cursor<&[u8]>) -> Made<Outcome> {
-    match form {
-        Form::Counted => read_all(alloc, trial, &mut Tally::new(cursor)),
-        _ => read_all(alloc, trial, &mut feed_of(alloc, trial.bytes)?),
-    }
+fn read_counted(alloc: Global, trial: Trial, text: &'static [u8]) -> Made<Outcome> {
+    let mut tally = Tally::new(Cursor::new(text));
+    read_all(alloc, trial, &mut tally)
 }
 
-fn read_object(alloc: Global, trial: Trial, is_lender: bool) -> Made<Outcome> {
-    let cursor: Cursor<&'static [u8]> = Cursor::new(&TEXT[..trial.bytes.min(1000)]);
-    if is_lender {
-        let mut object: Box<dyn BufRead + Drop> = Box::new(alloc, cursor)?;
-        return read(alloc, trial, &mut object);
-    }
-    let mut object: Box<dyn Read + Drop> = Box::new(alloc, cursor)?;
-    read_all(alloc, trial, &mut object)
+// Of two readers, each of a lifetime of its own.
+fn read_both<A: BufRead, B: BufRead>(
+    alloc: Global,
+    trial: Trial,
+    chain: &mut Chain<A, B>,
+) -> Made<Outcome> {
+    read(alloc, trial, chain)
+}
+
+fn read_chained(alloc: Global, trial: Trial, text: &'static [u8]) -> Made<Outcome> {
+    let (first, second) = text.split_at(text.len() / 2);
+    read_both(alloc, trial, &mut first.chain(second))
+}
+
+fn read_behind(alloc: Global, trial: Trial, text: &'static [u8]) -> Made<Outcome> {
+    let nothing: &'static [u8] = &text[..0];
+    read_both(alloc, trial, &mut nothing.chain(Cursor::new(text)))
+}
+
+fn read_limited(alloc: Global, trial: Trial, text: &'static [u8], limit: u64) -> Made<Outcome> {
+    let mut limited = Cursor::new(text).take(limit);
+    read(alloc, trial, &mut limited)
+}
+
+fn read_feed(alloc: Global, trial: Trial) -> Made<Outcome> {
+    let mut feed = feed_of(alloc, trial.bytes)?;
+    read_all(alloc, trial, &mut feed)
 }
 
 fn read_form(alloc: Global, trial: Trial, form: Form) -> Made<Outcome> {
-    let mut slice = &TEXT[..trial.bytes.min(1000)];
-    let mut cursor = Cursor::new(slice);
+    let text = text_of(trial.bytes);
     match form {
-        Form::Slice => read(alloc, trial, &mut slice),
-        Form::Alone => read(alloc, trial, &mut cursor),
-        Form::Lent => read(alloc, trial, &mut &mut cursor),
-        Form::Boxed => {
-            let mut boxed = Box::new(alloc, cursor)?;
-            read(alloc, trial, &mut boxed)
-        }
-        Form::Object => read_object(alloc, trial, false),
-        Form::Lender => read_object(alloc, trial, true),
-        Form::Buffered => read_buffered(alloc, trial, cursor, false),
-        Form::Held => read_buffered(alloc, trial, cursor, true),
-        Form::Chained => {
-            let (first, second) = slice.split_at(slice.len() / 2);
-            read(alloc, trial, &mut first.chain(second))
-        }
-        Form::Behind => read(alloc, trial, &mut slice[..0].chain(cursor)),
-        Form::Limited(limit) => read(alloc, trial, &mut cursor.take(limit)),
-        Form::Counted | Form::Fed => read_plain(alloc, trial, form, cursor),
+        Form::Slice => read_slice(alloc, trial, text),
+        Form::Alone => read_cursor(alloc, trial, text),
+        Form::Lent => read_lent(alloc, trial, &mut Cursor::new(text)),
+        Form::Boxed => read_boxed(alloc, trial, text),
+        Form::Object => read_object(alloc, trial, text),
+        Form::Lender => read_lender(alloc, trial, text),
+        Form::Buffered => read_buffered(alloc, trial, text),
+        Form::Held => read_held(alloc, trial, text),
+        Form::Counted => read_counted(alloc, trial, text),
+        Form::Chained => read_chained(alloc, trial, text),
+        Form::Behind => read_behind(alloc, trial, text),
+        Form::Limited(limit) => read_limited(alloc, trial, text, limit),
+        Form::Fed => read_feed(alloc, trial),
     }
 }
 

@@ -11,7 +11,7 @@ use io_rows::line::{Line, Printed};
 use io_rows::rows::{Call, Group, Subject, play_group};
 use linked_list_allocator::LocalHeap;
 use no_std_io2::io::{BufWriter, Cursor, LineWriter, Write};
-use std::alloc::Global;
+use std::alloc::{Allocator, Global};
 use std::io;
 
 type HeapVec<'a> = Vec<u8, &'a LocalHeap>;
@@ -102,7 +102,8 @@ impl HeapWriter for Cursor<HeapVec<'_>> {
     }
 }
 
-impl HeapWriter for Cursor<&mut HeapVec<'_>> {
+// Of any allocator, since a call through a bound takes a type of one lifetime.
+impl<A: Allocator> HeapWriter for Cursor<&mut Vec<u8, A>> {
     fn call(&mut self, call: &Call<'_>, line: &mut Line) -> Made<()> {
         if make_seek(self, call, line)? {
             return Ok(());

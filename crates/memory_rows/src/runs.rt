@@ -3,29 +3,31 @@
 // A row is `run` or `closed`, the heap's size, and the capacity and the number of the replies that are there already; then
 // whether three calls were made, how many replies there are, and what the device has once the buffer is dropped.
 ghost use Rattle.std.specs.Prelude.{⊤, refl};
-ghost use Rattle.no_std_io2.specs.Writes.{told_out};
 
 use super::heaps::{new_heap, numbers};
-use io_bench::{Op, Reply, Tally, run_closed, run_writes};
+use io_bench::{Op, Reply, Sink, Tally, run_closed, run_writes};
 use io_rows::fault::{Fault, Made};
 use io_rows::line::Line;
 use io_rows::rows::{Call, Subject};
 use linked_list_allocator::LocalHeap;
 use no_std_io2::io::{BufWriter, Result, Write};
-use no_std_io2::trace::Trace;
 use std::alloc::Global;
+use std::cell::RefCell;
+use std::rc::Rc;
 
 const OPS: [Op<'static>; 3] = [Op::Write(b"ab"), Op::WriteAll(b"123456789"), Op::Flush];
 
-// Takes all, and keeps it as far as there is memory.
+// Takes all, and keeps it as far as there is memory, where the row finds it once the device is dropped.
 #[derive(Drop)]
 struct Kept {
-    taken: Trace,
-    bytes: Vec<u8>,
+    sink: Sink,
+    bytes: Rc<RefCell<Vec<u8>>>,
 }
 
 impl Write for Kept {
-    ghost told = { λ w. told_out w.taken.bytes };
+    ghost use Rattle.io_bench.specs.Sink.{sink_told};
+
+    ghost told = { λ w. sink_told w.sink };
 
     ghost takes_all = { λ _. ⊤ };
 
@@ -34,13 +36,14 @@ impl Write for Kept {
     ghost is_metered = { λ _. ⊥ };
 
     fn write(&mut self, buf: &[u8]) -> Result<usize> {
-        let _ = self.bytes.extend_from_slice(buf);
-        self.taken.add(buf);
-        Ok(buf.len())
+        if let Ok(mut bytes) = self.bytes.try_borrow_mut() {
+            let _ = bytes.extend_from_slice(buf);
+        }
+        self.sink.write(buf)
     }
 
     fn flush(&mut self) -> Result<()> {
-        Ok(())
+        self.sink.flush()
     }
 
     ghost steady = { λ w h. refl };
@@ -67,14 +70,14 @@ fn run<W: Write>(alloc: Global, w: &mut W, sizes: [usize; 4]) -> Made<Outcome> {
     })
 }
 
-fn close(alloc: Global, w: BufWriter<&mut Kept, 8>, sizes: [usize; 4]) -> Made<Outcome> {
+fn close(alloc: Global, w: BufWriter<Kept, 8>, sizes: [usize; 4]) -> Made<Outcome> {
     let [size, capacity, held, _] = sizes;
     let heap = new_heap(alloc, size)?;
     let mut replies: Vec<Reply, &LocalHeap> = Vec::with_capacity(&heap, capacity)?;
     'replies: for _ in 0..held {
         replies.push(Reply::Done)?;
     }
-    let answer = match run_closed::<BufWriter<&mut Kept, 8>, 4>(Tally::new(w), &OPS, &mut replies) {
+    let answer = match run_closed::<BufWriter<Kept, 8>, 4>(Tally::new(w), &OPS, &mut replies) {
         Ok(_tally) => Ok(()),
         Err(e) => Err(e),
     };
@@ -85,9 +88,9 @@ fn close(alloc: Global, w: BufWriter<&mut Kept, 8>, sizes: [usize; 4]) -> Made<O
 }
 
 // A run over a buffer that holds `held`, which is then dropped.
-fn play_over(alloc: Global, kept: &mut Kept, call: &Call<'_>) -> Made<Outcome> {
+fn play_over(alloc: Global, kept: Kept, call: &Call<'_>) -> Made<Outcome> {
     let sizes = numbers(call.rest, 3)?;
-    let mut w = BufWriter::<&mut Kept, 8>::new(kept);
+    let mut w = BufWriter::<Kept, 8>::new(kept);
     if w.write_all(b"held").is_err() {
         return Err(Fault::Malformed("nothing is held"));
     }
@@ -110,17 +113,23 @@ impl Subject for Running {
     }
 
     fn play(self, call: &Call<'_>, line: &mut Line) -> Made<Running> {
-        let mut kept = Kept {
-            taken: Trace::new(),
-            bytes: Vec::new(self.alloc),
+        let Ok(bytes) = Rc::new(self.alloc, RefCell::new(Vec::new(self.alloc))) else {
+            return Err(Fault::Memory);
         };
-        let outcome = play_over(self.alloc, &mut kept, call)?;
+        let kept = Kept {
+            sink: Sink::new(),
+            bytes: bytes.clone()?,
+        };
+        let outcome = play_over(self.alloc, kept, call)?;
         line.column()?;
         line.done(&outcome.answer)?;
         line.column()?;
         line.number(outcome.replies as u64)?;
         line.column()?;
-        line.bytes(&kept.bytes)?;
+        let Ok(bytes) = bytes.try_borrow() else {
+            return Err(Fault::Malformed("the bytes are in use"));
+        };
+        line.bytes(&bytes)?;
         Ok(self)
     }
 }
