@@ -6,5 +6,4 @@ pub mod Feed
 pub mod Joined
 pub mod PieceRuns
 pub mod Runs
-pub mod Sink
 pub mod Tally

@@ -1,24 +1,14 @@
 //! Pins what each type tells: with a member that tells nothing, every promise over it would be empty and still be proved.
-ghost use Rattle.std.specs.Prelude.{◌≡◌, [], Some, ◌++◌};
+ghost use Rattle.std.specs.Prelude.{◌≡◌, [], ◌++◌};
 ghost use Rattle.std.specs.Option.{option_map};
-ghost use Rattle.io_bench.specs.Sink.{sink_taken};
 ghost use Rattle.io_bench.specs.Feed.{feed_left, all_to_come};
 ghost use Rattle.io_bench.specs.Tally.{tally_inner, tally_writes, tally_reads};
 ghost use Rattle.io_bench.specs.Faulty.{faulty_inner, acts_left, act_mishaps};
 
 use crate::faulty::Faulty;
 use crate::feed::Feed;
-use crate::sink::Sink;
 use crate::tally::Tally;
 use no_std_io2::io::{Read, Stored, Write};
-
-fn sink_tells(s: &Sink)
-    ensures told { ⟦<Sink as Write>⟧.told s.now
-        ≡ record { out = sink_taken s.now; held = []; mishaps = Some []; turns = 0 } }
-    ensures all { ⟦<Sink as Write>⟧.takes_all s.now }
-    ensures cost { ⟦<Sink as Write>⟧.cost s.now ≡ 0 }
-    ensures plain { ¬ (⟦<Sink as Write>⟧.is_metered s.now) }
-{}
 
 fn tally_tells<T: Write>(t: &Tally<T>)
     ensures told { ⟦<Tally<T> as Write>⟧.told t.now ≡ T.told (tally_inner t.now) }

@@ -18,7 +18,6 @@ mod feed;
 mod laws;
 mod pieces;
 mod runs;
-mod sink;
 mod tally;
 mod towers;
 
@@ -27,8 +26,8 @@ pub use asks::{Ask, ReadTotals, run_reads};
 pub use closed::run_closed;
 pub use faulty::{Act, Faulty};
 pub use feed::{Event, Feed};
+pub use no_std_io2::io::Sink;
 pub use no_std_io2::trace;
 pub use pieces::{run_lines, run_split};
 pub use runs::{Op, Reply, run_writes};
-pub use sink::Sink;
 pub use tally::Tally;

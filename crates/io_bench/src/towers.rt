@@ -9,7 +9,7 @@ ghost use Rattle.io_bench.specs.Runs.{appended, failures, AreWhole, IsShorterBy}
 
 use crate::faulty::Faulty;
 use crate::runs::{Op, Reply, run_writes};
-use crate::sink::Sink;
+use no_std_io2::io::Sink;
 use crate::tally::Tally;
 use no_std_io2::io::{BufWriter, Chain, LineWriter, Read, Result, Write};
 

@@ -1,5 +1,5 @@
 //! Pins what each type tells: with a member that tells nothing, every promise over it would be empty and still be proved.
-ghost use Rattle.std.specs.Prelude.{◌≡◌, ◌+◌, ◌-◌, ◌<◌, ◌≤◌, min, nat_lt, if◌then◌else◌, [], length, drop, ◌++◌, IsOk, IfOk, OnOk, IsOkAnd};
+ghost use Rattle.std.specs.Prelude.{◌≡◌, ◌+◌, ◌-◌, ◌<◌, ◌≤◌, min, nat_lt, if◌then◌else◌, [], length, drop, ◌++◌, Some, IsOk, IfOk, OnOk, IsOkAnd};
 ghost use Rattle.no_std_io2_base.specs.Events.{events_of};
 ghost use Rattle.no_std_io2_base.specs.Lending.{BeginsWith};
 ghost use Rattle.no_std_io2_base.specs.Writes.{Told};
@@ -8,9 +8,11 @@ ghost use Rattle.no_std_io2.specs.BufWriter.{writer_inner, writer_buffer, writer
 ghost use Rattle.no_std_io2.specs.BufWriter.{WriterSeeks};
 ghost use Rattle.no_std_io2.specs.BufReader.{reader_held, reader_behind, reader_inner, reader_is_sound, ReaderSeeks};
 ghost use Rattle.no_std_io2.specs.LineWriter.{line_inner, line_buffer};
+ghost use Rattle.no_std_io2.specs.Sink.{sink_taken};
 ghost use Rattle.no_std_io2.specs.Lines.{HasNoNewline, HasNewline, unfinished_line, whole_if_short};
 
 use crate::buffered::{BufReader, BufWriter, LineWriter};
+use crate::util::Sink;
 use no_std_io2_base::error::Result;
 use no_std_io2_base::traits::{BufRead, Read, Seek, SeekFrom, Stored, Write};
 
@@ -164,3 +166,11 @@ fn move_told<R: Read + Seek, const S: usize>(r: &mut BufReader<R, S>, offset: i6
 {
     r.seek_relative(offset)
 }
+
+fn sink_tells(s: &Sink)
+    ensures told { ⟦<Sink as Write>⟧.told s.now
+        ≡ record { out = sink_taken s.now; held = []; mishaps = Some []; turns = 0 } }
+    ensures all { ⟦<Sink as Write>⟧.takes_all s.now }
+    ensures cost { ⟦<Sink as Write>⟧.cost s.now ≡ 0 }
+    ensures plain { ¬ (⟦<Sink as Write>⟧.is_metered s.now) }
+{}

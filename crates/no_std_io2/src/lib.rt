@@ -25,7 +25,7 @@ pub mod error {
 /// traits make, `copy`, and errors.
 pub mod io {
     pub use super::buffered::{BufReader, BufWriter, IntoInnerError, LineWriter};
-    pub use super::util::{copy, skip};
+    pub use super::util::{Sink, copy, empty, skip};
     pub use no_std_io2_base::cursor::{AsSlice, Cursor};
     pub use no_std_io2_base::error::{Error, ErrorKind, Result};
     pub use no_std_io2_base::traits::{

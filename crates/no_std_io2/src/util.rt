@@ -1,5 +1,6 @@
-//! Whole copies from a reader to a writer, [`copy`], and bytes that are passed over, [`skip`].
-ghost use Rattle.std.specs.Prelude.{◌≡◌, ◌+◌, ◌≤◌, ◌<◌, ◌^◌, length, IfErr, OnOk, OnErr};
+//! Whole copies from a reader to a writer, [`copy`], bytes that are passed over, [`skip`], and streams without a device, [`empty`] and
+//! [`Sink`].
+ghost use Rattle.std.specs.Prelude.{◌≡◌, ◌+◌, ◌≤◌, ◌<◌, ◌^◌, [], length, IfErr, OnOk, OnErr};
 ghost use Rattle.no_std_io2_base.specs.Errors.{IsFault};
 ghost use Rattle.no_std_io2.specs.Copy.{Copies, CopyMoves, copy_reads};
 ghost use Rattle.no_std_io2.specs.Passing.{Skips};
@@ -8,7 +9,10 @@ use no_std_io2_base::error::Result;
 use no_std_io2_base::shared::failed_to_fill;
 use no_std_io2_base::traits::{BufRead, Read, Write};
 
+mod sink;
 mod steady;
+
+pub use sink::Sink;
 
 /// Copies all bytes to come of `reader` to `writer`, through a buffer of `S` bytes on the stack,
 /// and returns their number, or the greatest `u64` where there are more. It passes over the
@@ -112,4 +116,11 @@ pub fn skip<B: BufRead>(reader: &mut B, left: &mut u64) -> Result<()>
         }
     }
     Ok(())
+}
+
+/// A reader that is at its end: a slice of no bytes. As `std::io::empty`.
+pub fn empty() -> &'static [u8]
+    ensures { result.now ≡ [] }
+{
+    &[]
 }

@@ -20,7 +20,7 @@ pub struct Lengths {
 }
 
 impl Write for Lengths {
-    ghost use Rattle.io_bench.specs.Sink.{sink_told};
+    ghost use Rattle.no_std_io2.specs.Sink.{sink_told};
 
     ghost told = { λ w. sink_told w.sink };
 

@@ -1,21 +1,21 @@
 // A writer that takes all.
 ghost use Rattle.std.specs.Prelude.{◌≡◌, [], ⊤};
+ghost use Rattle.no_std_io2.specs.Sink.{sink_taken};
 
-use no_std_io2::io::{Result, Write};
-use no_std_io2::trace::Trace;
+use crate::trace::Trace;
+use no_std_io2_base::error::Result;
+use no_std_io2_base::traits::Write;
 use std::fmt;
 
 /// A writer that takes every byte and never fails. It keeps nothing: its bytes are seen by
-/// contracts alone. As `std::io::sink`, which also takes all.
+/// contracts alone. As `std::io::Sink`.
 #[derive(Drop)]
 pub struct Sink {
     taken: Trace,
 }
 
 impl Sink {
-    ghost use Rattle.io_bench.specs.Sink.{sink_taken};
-
-    /// A sink that has taken nothing yet.
+    /// A sink that has taken nothing yet. As `std::io::sink`.
     pub fn new() -> Sink
         ensures { sink_taken result ≡ [] }
     {
@@ -27,7 +27,7 @@ impl Sink {
 
 /// Every byte is out as soon as it is written, and no mishap comes.
 impl Write for Sink {
-    ghost use Rattle.io_bench.specs.Sink.{sink_told};
+    ghost use Rattle.no_std_io2.specs.Sink.{sink_told};
     ghost use Rattle.std.specs.Prelude.{refl};
 
     ghost told = { sink_told };

@@ -1,7 +1,7 @@
 -- What a clause reads of a `Sink`.
 use Rattle.std.specs.Prelude.{ℕ, List, [], Some}
 use Rattle.no_std_io2_base.specs.Writes.{Told}
-use Rattle.io_bench.specs.declared.sink.Sink.{Sink}
+use Rattle.no_std_io2.specs.declared.util.sink.Sink.{Sink}
 
 -- the bytes that it took
 abbrev pub sink_taken : Sink → List ℕ
