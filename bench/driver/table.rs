@@ -27,9 +27,10 @@ fn ratio(values: &[Option<f64>; 3]) -> Option<f64> {
     Some(values[0]? / better)
 }
 
-/// Prints a line for each class and then one for each case: nanoseconds and instructions a call on each side, and of both the
-/// ratio. A `*` stands where a case is above its class's limit.
-pub fn print(cases: &[Case], times: &Measured, counts: &Measured) {
+/// Prints a line for each class, and then one for each case, or for each that is `far_alone` off: above its class's limit, where a `*`
+/// stands, or more than a tenth slower than the better of the others. A case's line has nanoseconds and instructions a call on each
+/// side, and of both the ratio.
+pub fn print(cases: &[Case], times: &Measured, counts: &Measured, far_alone: bool) {
     println!("| class | limit | cases | above | mean, instr. | most, instr. | mean, ns |\n|---|---|---:|---:|---:|---:|---:|");
     for (class, limit) in CLASSES {
         let of = |values: &Measured| -> Vec<(f64, f64)> {
@@ -52,7 +53,12 @@ pub fn print(cases: &[Case], times: &Measured, counts: &Measured) {
     println!("\n| a call | class | ns ours | ns std | ns original | ratio | instr. ours | instr. std | instr. original | ratio | |");
     println!("|---|---|---:|---:|---:|---:|---:|---:|---:|---:|---|");
     for ((case, times), counts) in cases.iter().zip(times).zip(counts) {
-        let mark = if ratio(counts).is_some_and(|it| it > most(case) + 0.005) { "*" } else { "" };
+        let is_above = ratio(counts).is_some_and(|it| it > most(case) + 0.005);
+        let is_slow = ratio(times).is_some_and(|it| it > 1.1) && case.class != "whole";
+        if far_alone && !is_above && !is_slow {
+            continue;
+        }
+        let mark = if is_above { "*" } else { "" };
         println!("| {} | {} |{}{} {mark} |", case.name, case.class, cells(times), cells(counts));
     }
 }
