@@ -181,12 +181,10 @@ impl<T: BufRead, U: BufRead> BufRead for Chain<T, U> {
     fn fill_buf(&mut self) -> Result<&[u8]>
         ensures law { FillBufLaw ⟦<Self as BufRead>⟧ self.old result }
 
-        // Its own, in what stands after the loan: one reader after the other. The first is done where it had nothing left, and not
-        // while it lends.
+        // Its own, in what stands after the loan: one reader after the other, and the first is done where it had nothing left.
         ensures* after_borrow { sem 𝓛 (Rests (chain-row T.row U.row) self.entry (λ new. record {
           law : AfterLoan ⟦<Self as BufRead>⟧ self.old result new;
           in_turn : InTurn self.old new;
-          lends_on : chain_is_done self.old ≡ false → IsNotEmpty (T.held (chain_first self.old)) → chain_is_done new ≡ false;
           ended : chain_is_done self.old ≡ false → T.tells (chain_first self.old)
               → (chain_is_done new ≡ true) ↔ (T.events (chain_first self.old) ≡ []);
         })) }

@@ -11,7 +11,6 @@ returns-else-self g c = (
     record {
       law = search (rules, begins_append);
       in_turn = search rules;
-      lends_on = λ going some. c.if-self.false;
       ended = λ going t.
           elim c.if-not-self.branch [
             | then-not-self+in_ok-fill_buf w ↦ (
