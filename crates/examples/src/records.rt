@@ -1,23 +1,46 @@
 //! Records whose header is looked at first: a tag, a length, and so many bytes.
-ghost use Rattle.std.specs.Prelude.{◌≡◌, ◌≢◌, ◌≤◌, ◌+◌, ℕ, List, [], ◌∷◌, ◌++◌, None, length, take, drop, slice_index};
+ghost use Rattle.std.specs.Prelude.{◌≡◌, ◌≢◌, ◌≤◌, ◌<◌, ◌⊎◌, ◌+◌, ℕ, List, [], ◌∷◌, ◌++◌, None, length, take, drop, slice_index};
 ghost use Rattle.std.specs.Prelude.{IsOkAnd, IsSomeAnd, IfOk, IfErr, OnOk};
-ghost use Rattle.no_std_io2.specs.Errors.{IsOutOfMemory};
-ghost use Rattle.no_std_io2.specs.BufReader.{reader_held, reader_inner, KeepsBuffer};
+ghost use Rattle.no_std_io2.specs.Errors.{IsOutOfMemory, IsUnexpectedEnd};
+ghost use Rattle.no_std_io2.specs.Events.{bytes, cut};
+ghost use Rattle.no_std_io2.specs.Writes.{IsFront};
+ghost use Rattle.no_std_io2.specs.BufReader.{reader_held, reader_inner, reader_events, reader_is_sound, reader_position};
+ghost use Rattle.no_std_io2.specs.BufReader.{KeepsBuffer};
+ghost use Rattle.examples.specs.Headers.{SoughtBack};
 
 use no_std_io2::io::{BufReader, Read, Result, Seek};
 use std::alloc::Global;
 
-/// The tag and the length of the next record, which stays to be read.
+/// The tag and the length of the next record, which stays to be read, whatever was held.
 ///
 /// With the header held in the buffer, the reader is then as it was, and the one below it was not asked: one that
 /// counts its calls has counted none.
 ///
 /// # Errors
-/// Those of `read_exact` and `seek_relative`. After one of the second the header is taken.
+/// Those of `read_exact`, after which all bytes up to the end or the fault are taken, and those of `seek_relative`, after
+/// which the header is. Over a sound store of two bytes or more from the position on there is none.
 pub fn peek_header<R: Read + Seek, const S: usize>(r: &mut BufReader<R, S>) -> Result<(u8, u8)>
     ensures held { 2 ≤ length (reader_held r.old)
         → IsOkAnd result (λ header. header.0 ∷ header.1 ∷ [] ≡ take 2 (reader_held r.old))
         × KeepsBuffer r.old r.new × (reader_inner r.new ≡ reader_inner r.old) }
+
+    // Whatever was held, these are the next two bytes.
+    ensures told { R.tells (reader_inner r.old) → IfOk result (λ header.
+        header.0 ∷ header.1 ∷ [] ≡ bytes (cut 2 (reader_events R.events r.old))) }
+
+    // And then they stand first in what is held, or the reader was sought back to them.
+    ensures steps_back { IfOk result (λ header. IsFront (header.0 ∷ header.1 ∷ []) (reader_held r.new)
+        ⊎ SoughtBack ⟦<BufReader<R, S> as Read>⟧ R.may_seek r.old (header.0 ∷ header.1 ∷ []) r.new) }
+
+    // A sound store stays so and where it was. It fails exactly where fewer than two bytes are left, and these are taken.
+    ensures store { reader_is_sound R.has_store R.position R.content r.old
+        → reader_is_sound R.has_store R.position R.content r.new
+        × (R.content (reader_inner r.new) ≡ R.content (reader_inner r.old))
+        × (let left = drop (reader_position R.position r.old) (R.content (reader_inner r.old)) in
+        IfOk result (λ header. (header.0 ∷ header.1 ∷ [] ≡ take 2 left)
+        × (reader_position R.position r.new ≡ reader_position R.position r.old))
+        × IfErr result (λ e. (length left < 2) × IsUnexpectedEnd e
+        × (reader_position R.position r.new ≡ reader_position R.position r.old + length left))) }
 {
     let mut header = [0; 2];
     r.read_exact(&mut header)?;

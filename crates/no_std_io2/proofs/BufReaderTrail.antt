@@ -1,11 +1,13 @@
 -- What lies behind while pieces are lent and taken.
-use Rattle.std.proofs.Common.{◌≡◌, ℕ, ◌≤◌, List, [], ◌++◌, length, take, drop, Result, Ok, sym, ap, subst, ◌∙◌}
+use Rattle.std.proofs.Common.{◌≡◌, ℕ, ◌≤◌, List, [], ◌++◌, length, take, drop, Result, Ok, Err, OnOk, sym, ap, subst, ◌∙◌}
 use Rattle.std.proofs.Common.{arith, ⊎_elim, append_assoc}
 use Rattle.std.proofs.lemmas.Bool.{cases_lt}
 use Rattle.std.proofs.lemmas.List.{drop-append-le}
+use Rattle.std.proofs.Math.Seq.{drop-append_seam}
 use Rattle.std.specs.Borrow.{Bor}
 use Rattle.no_std_io2_base.specs.declared.error.Error.{Error}
 use Rattle.no_std_io2_base.specs.Lending.{IsNotEmpty, Lends}
+use Rattle.no_std_io2_base.specs.PieceItems.{AnswersLine}
 use Rattle.no_std_io2.specs.Buffer.{IsEnd}
 use Rattle.no_std_io2.proofs.BufReaderExact.{no_bytes}
 use Rattle.no_std_io2.proofs.BufWriterLemmas.{IsEnd-none, IsEnd-held}
@@ -37,3 +39,14 @@ lent_held s held is lends = subst (λ r. Lends r held) is lends
 pub trail_same : (front : List ℕ) {items items' : List ℕ} (len : ℕ) {behind : List ℕ} → items' ≡ items
     → IsEnd (front ++ drop len items) behind → IsEnd (front ++ drop len items') behind
 trail_same front len {behind} same end = subst (λ l. IsEnd (front ++ drop len l) behind) (sym same) end
+
+-- a line that was taken stands behind the text, so that what lies behind is an end of it too
+pub trail_line : (front line lent : List ℕ) (read reply : Result ℕ Error) (len capacity : ℕ) (text text' : List ℕ) {none : ℕ}
+    {behind : List ℕ} → none ≡ 0 → len ≡ length text → lent ≡ line → AnswersLine lent read len capacity reply text text'
+    → IsEnd (front ++ drop none line) behind → OnOk reply (IsEnd (front ++ drop len text') behind)
+trail_line front line lent (Ok n) (Ok m) len capacity text text' {behind = behind} zero whole same follows end =
+    let left : drop len text' ≡ lent =
+    ap (drop len) follows.0.1 ∙ ap (λ k. drop k (text ++ lent)) whole ∙ drop-append_seam text lent in
+    subst (λ l. IsEnd (front ++ l) behind) (ap (λ k. drop k line) zero ∙ sym same ∙ sym left) end
+trail_line front line lent (Err f) (Ok m) len capacity text text' zero whole same follows end = absurd follows
+trail_line front line lent read (Err e) len capacity text text' zero whole same follows end = tt

@@ -1,9 +1,11 @@
 -- A boxed object after a call on the value in it.
-use Rattle.std.proofs.Common.{◌≡◌, ℕ, ◌<◌, ◌≤◌, List, length, Result, OnOk, IsOk, sym, subst, ap}
+use Rattle.std.proofs.Common.{◌≡◌, ℕ, ◌<◌, ◌≤◌, List, [], length, Result, OnOk, IfOk, IsOk, IsOkAnd, sym, subst, ap}
+use Rattle.std.specs.Borrow.{Bor}
 use Rattle.std.specs.declared.dyn_box.DynBox.{DynBox}
 use Rattle.no_std_io2_base.specs.declared.error.Error.{Error}
 use Rattle.no_std_io2_base.specs.Errors.{IsNoInterruption}
 use Rattle.no_std_io2_base.specs.Events.{Event, ReadsExact}
+use Rattle.no_std_io2_base.specs.Lending.{IsNotEmpty, BeginsWith, LendsFrom, LendingTurn}
 use Rattle.no_std_io2_base.specs.ReadLaws.{ReadExactLaw}
 use Rattle.no_std_io2_base.proofs.Readers.{box_reader}
 
@@ -33,3 +35,35 @@ module _ {I A : Type 0} {V : I → Type 0} (tells : ((x : I) × V x) → Type 0)
     filling = λ f. f;
     store = λ s. absurd s;
   })
+
+module _ {I A : Type 0} {V : I → Type 0} (tells : ((x : I) × V x) → Type 0) (events : ((x : I) × V x) → List Event)
+    (turns : ((x : I) × V x) → ℕ) (held : ((x : I) × V x) → List ℕ) (box : DynBox I A V)
+    (reply : Result (Bor (List ℕ)) Error) where
+  -- what a `fill_buf` of a value says
+  abbrev pub Lent : ((x : I) × V x) → Type 0
+  Lent old = (IsNotEmpty (held old) → IsOkAnd reply (λ s. s.now ≡ held old))
+      × (tells old → IfOk reply (λ s. BeginsWith (events old) s.now))
+      × (tells old → IfOk reply (λ s. s.now ≡ [] → events old ≡ []))
+
+  -- what it did to the value that was lent, it did to the box
+  abbrev pub Loan : ((x : I) × V x) → Type 0
+  Loan lent = (new : V lent.0) → Lent lent
+      → (tells lent → tells (lent.0, new) × LendsFrom (events lent) reply (events (lent.0, new))) → turns (lent.0, new) ≤ turns lent
+      → LendingTurn reply (turns lent) (turns (lent.0, new)) → (IsNotEmpty (held lent) → new ≡ lent.1)
+      → Lent (box.vtable, box.value)
+      × (tells (box.vtable, box.value) → tells (lent.0, new)
+      × LendsFrom (events (box.vtable, box.value)) reply (events (lent.0, new)))
+      × (turns (lent.0, new) ≤ turns (box.vtable, box.value))
+      × LendingTurn reply (turns (box.vtable, box.value)) (turns (lent.0, new))
+      × (IsNotEmpty (held (box.vtable, box.value))
+      → record { ptr = box.ptr; vtable = lent.0; alloc = box.alloc; value = new } ≡ box)
+
+  -- the value that was lent is that in the box
+  pub loan_box : (lent : (x : I) × V x) → lent ≡ (box.vtable, box.value) → Loan lent
+  loan_box lent back = subst Loan (sym back) (λ new law told less turn same. (
+    law,
+    told,
+    less,
+    turn,
+    λ some. ap (λ v. record { ptr = box.ptr; vtable = box.vtable; alloc = box.alloc; value = v }) (same some),
+  ))

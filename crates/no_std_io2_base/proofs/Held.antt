@@ -1,5 +1,6 @@
 -- What is held stands at the front of the events.
-use Rattle.std.proofs.Common.{ℕ, zero, suc, ◌≤◌, List, [], ◌∷◌, ◌++◌, take, refl, sym, ap, ◌∙◌, arith, append_assoc, append-nil}
+use Rattle.std.proofs.Common.{◌≡◌, ℕ, zero, suc, ◌≤◌, ◌==◌, true, List, [], ◌∷◌, ◌++◌, length, take, refl, sym, ap, ◌∙◌, arith}
+use Rattle.std.proofs.Common.{append_assoc, append-nil}
 use Rattle.no_std_io2_base.specs.Events.{Event, byte, events_of, cut}
 use Rattle.no_std_io2_base.specs.Lending.{BeginsWith}
 
@@ -10,6 +11,14 @@ begins_whole bs = record { rest = []; is = sym (append-nil (events_of bs)) }
 -- events that begin with these bytes still do with more events behind them
 pub begins_append : {E : List Event} {bs : List ℕ} (F : List Event) → BeginsWith E bs → BeginsWith (E ++ F) bs
 begins_append {E} {bs} F b = record { rest = b.rest ++ F; is = ap (λ l. l ++ F) b.is ∙ append_assoc (events_of bs) b.rest F }
+
+-- where nothing is to come, nothing stands first
+pub begins_none : {E : List Event} (bs : List ℕ) → BeginsWith E bs → E ≡ [] → (length bs == 0) ≡ true
+begins_none [] b none = refl
+begins_none (x ∷ bs) b none = absurd (byte_stands (sym b.is ∙ none))
+  where
+    byte_stands : {R : List Event} → byte x ∷ R ≡ [] → ⊥
+    byte_stands is = cc
 
 -- bs and then R, cut at k, begin with the first n of bs, where n is at most k
 begins_cut-bytes : (n k : ℕ) (bs : List ℕ) (R : List Event) → n ≤ k → BeginsWith (cut k (events_of bs ++ R)) (take n bs)

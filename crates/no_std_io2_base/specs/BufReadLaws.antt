@@ -51,8 +51,8 @@ AfterLoan R old reply new = record {
   -- turns are never won, and an error spends one
   turns : R.turns new ≤ R.turns old;
   turn : LendingTurn reply (R.turns old) (R.turns new);
-  -- where bytes were held nothing was read
-  quiet : IsNotEmpty (R.held old) → (R.turns new ≡ R.turns old) × (R.cost new ≡ R.cost old);
+  -- where bytes were held nothing has changed
+  unchanged : IsNotEmpty (R.held old) → new ≡ old;
   -- where none were held one read was made
   counts : R.counts_fills old → R.counts_fills new × (R.fills new ≡ R.fills old + reads_needed (R.held old));
   -- what it claims of itself stays so

@@ -48,14 +48,14 @@ fn place_is(a: SeekFrom, b: SeekFrom) -> bool
     a == b
 }
 
-// Cursors are equal where content and position are.
-fn cursor_is(a: &Cursor<u64>, b: &Cursor<u64>) -> bool
-    ensures { IsTrue result ↔ (a.now ≡ b.now) }
+// Cursors are equal where content and position are, by the content's own equality.
+fn cursor_is<T: PartialEq>(a: &Cursor<T>, b: &Cursor<T>) -> bool
+    ensures { IsTrue result ↔ IsTrue (T.eq (cursor_inner a.now) (cursor_inner b.now)) × (cursor_place a.now ≡ cursor_place b.now) }
 {
     a == b
 }
 
-// And over bytes too, whatever their capacity.
+// So over bytes, whatever their capacity.
 fn bytes_cursor_is(a: &Cursor<Vec<u8>>, b: &Cursor<Vec<u8>>) -> bool
     ensures { IsTrue result ↔ ((cursor_inner a.now).items ≡ (cursor_inner b.now).items)
         × (cursor_place a.now ≡ cursor_place b.now) }
@@ -63,9 +63,9 @@ fn bytes_cursor_is(a: &Cursor<Vec<u8>>, b: &Cursor<Vec<u8>>) -> bool
     a == b
 }
 
-// By default a cursor stands at the start of the default content.
-fn cursor_by_default() -> Cursor<u64>
-    ensures content { cursor_inner result ≡ 0 }
+// By default a cursor stands at the start of a default content.
+fn cursor_by_default<T: Default>() -> Cursor<T>
+    ensures content { T.is_default (cursor_inner result) }
     ensures position { cursor_place result ≡ 0 }
 {
     Cursor::default()

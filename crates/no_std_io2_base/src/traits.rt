@@ -6,7 +6,7 @@ mod buf_read;
 mod bytes;
 mod chain;
 mod lines;
-mod pieces;
+pub(crate) mod pieces;
 mod read;
 pub(crate) mod room;
 mod seek;

@@ -34,8 +34,8 @@ pub trait BufRead: Read {
 
     ghost lent_length: { Self → ℕ } = { λ _. 0 };
 
-    /// Lends the bytes that are held. Where none are held, it reads once; none lent means the end.
-    /// Follows `std::io::BufRead::fill_buf`.
+    /// Lends the bytes that are held. Where some are, nothing changes. Where none are, it reads once;
+    /// none lent means the end. Follows `std::io::BufRead::fill_buf`.
     ///
     /// # Errors
     /// The device's own, interruptions too, and only where nothing is held: nothing was taken.

@@ -1,11 +1,12 @@
-ghost use Rattle.std.specs.Prelude.{◌≡◌, ◌≤◌, ◌<◌, ◌++◌, true, false, [], length, take, drop, OnOk};
+ghost use Rattle.std.specs.Prelude.{◌≡◌, ◌≤◌, ◌<◌, ◌↔◌, ◌++◌, true, false, [], length, take, drop, OnOk};
 ghost use types.Logic.{sem};
 ghost use Rattle.std.specs.Borrow.{LendsBoth};
 ghost use Rattle.no_std_io2_base.specs.contracts.traits.chain.Chain.{the_row as chain-row};
 ghost use Rattle.no_std_io2_base.specs.Chain.{chain_first, chain_second, chain_is_done, chain_with_readers};
 ghost use Rattle.no_std_io2_base.specs.Chain.{chain_tells, chain_events, chain_turns, chain_held, InTurn};
-ghost use Rattle.no_std_io2_base.specs.BufReadLaws.{ConsumeLaw};
+ghost use Rattle.no_std_io2_base.specs.BufReadLaws.{FillBufLaw, AfterLoan, ConsumeLaw};
 ghost use Rattle.no_std_io2_base.specs.Events.{events_of};
+ghost use Rattle.no_std_io2_base.specs.Lending.{Rests, IsNotEmpty};
 ghost use Rattle.no_std_io2_base.specs.ReadLaws.{ReadLaw, ReadExactLaw, ReadToEndLaw};
 
 use super::buf_read::BufRead;
@@ -177,7 +178,17 @@ impl<T: BufRead, U: BufRead> BufRead for Chain<T, U> {
     ghost held = { chain_held T.held U.held };
 
     #[tactic(auto, using(crate::proofs::Held::begins_append))]
-    fn fill_buf(&mut self) -> Result<&[u8]> {
+    fn fill_buf(&mut self) -> Result<&[u8]>
+        ensures law { FillBufLaw ⟦<Self as BufRead>⟧ self.old result }
+
+        // Its own, in what stands after the loan: one reader after the other, and the first is done where it had nothing left.
+        ensures* after_borrow { sem 𝓛 (Rests (chain-row T.row U.row) self.entry (λ new. record {
+          law : AfterLoan ⟦<Self as BufRead>⟧ self.old result new;
+          in_turn : InTurn self.old new;
+          ended : chain_is_done self.old ≡ false → T.tells (chain_first self.old)
+              → (chain_is_done new ≡ true) ↔ (T.events (chain_first self.old) ≡ []);
+        })) }
+    {
         if !self.done_first {
             self.done_first = self.first.fill_buf()?.is_empty();
         }

@@ -88,9 +88,13 @@ pub(super) fn text_of(bytes: Vec<u8>) -> Result<String>
     }
 }
 
-// Appends a line's bytes to a text, where they are UTF-8, and answers as its read did. After want
-// of memory, the read's too, and where the bytes are no text, it leaves the text as it was.
-pub(super) fn append_line(buf: &mut String, line: &[u8], read: Result<usize>) -> Result<usize>
+/// Appends a line's bytes to a text, where they are UTF-8, and answers as its read did. For a reader
+/// with a `read_line` of its own.
+///
+/// # Errors
+/// The read's, `InvalidData` where the bytes are no text, and `OutOfMemory`. After want of memory,
+/// the read's too, and where the bytes are no text, the text is as it was.
+pub fn append_line(buf: &mut String, line: &[u8], read: Result<usize>) -> Result<usize>
     ensures answers { AnswersLine line.now read (string_len buf.old) (string_capacity buf.old) result
         (string_bytes buf.old) (string_bytes buf.new) }
     ensures appends { IsFront (string_bytes buf.old) (string_bytes buf.new) }

@@ -1,9 +1,12 @@
 // A `BufReader` as a reader that lends.
 ghost use Rattle.std.specs.Prelude.{◌≡◌, ◌+◌, ◌-◌, ◌<◌, ◌≤◌, [], ◌++◌, min, length, take, drop, Some, IfOk, IfErr};
-ghost use Rattle.std.specs.Prelude.{IsOkAnd, vec_len, vec_capacity};
+ghost use Rattle.std.specs.Prelude.{ℕ, List, Result, IsOkAnd, OnOk, OnErr, vec_len, vec_capacity};
+ghost use Rattle.std.specs.Prelude.{string_bytes, string_len, string_capacity};
 ghost use Rattle.no_std_io2.specs.Buffer.{IsEnd};
 ghost use Rattle.std.specs.Borrow.{sem};
-ghost use Rattle.no_std_io2_base.specs.BufReadLaws.{FillBufLaw, ConsumeLaw, ReadUntilLaw};
+ghost use Rattle.no_std_io2_base.specs.BufReadLaws.{FillBufLaw, ConsumeLaw, ReadUntilLaw, ReadLineLaw};
+ghost use Rattle.no_std_io2_base.specs.declared.error.Error.{Error};
+ghost use Rattle.no_std_io2_base.specs.PieceItems.{AnswersLine};
 ghost use Rattle.no_std_io2_base.specs.Lending.{Rests, IsNotEmpty, Lends, LendsFrom, LendingTurn, reads_needed};
 ghost use Rattle.no_std_io2.specs.contracts.buffered.buf_reader.BufReader.{the_row as reader-row};
 ghost use Rattle.no_std_io2.specs.BufReader.{reader_held, reader_behind, reader_inner, reader_events, reader_turns};
@@ -12,9 +15,9 @@ ghost use Rattle.no_std_io2.specs.BufReader.{reader_has_store, reader_is_sound, 
 use super::BufReader;
 use super::pieces::find_piece;
 use no_std_io2_base::error::Result;
-use no_std_io2_base::shared::append;
+use no_std_io2_base::shared::{append, append_line};
 use no_std_io2_base::traits::{BufRead, Read};
-use std::alloc::Allocator;
+use std::alloc::{Allocator, Global};
 
 impl<R: Read, const S: usize> BufRead for BufReader<R, S> {
     ghost held = { reader_held };
@@ -94,5 +97,23 @@ impl<R: Read, const S: usize> BufRead for BufReader<R, S> {
                 Err(e) => return Err(e),
             }
         }
+    }
+
+    // The trait's body.
+    fn read_line(&mut self, alloc: Global, buf: &mut String) -> Result<usize>
+        ensures law { ReadLineLaw ⟦<Self as BufRead>⟧ self.old buf.old result buf.new self.new }
+
+        // What then lies behind is an end of what lay there and of the line, or of what was lost of it.
+        ensures behind { OnOk result (IsEnd (reader_behind self.old ++ drop (string_len buf.old) (string_bytes buf.new))
+            (reader_behind self.new)) }
+        ensures lost { OnErr result ((line : List ℕ) × (read : Result ℕ Error) × AnswersLine line read (string_len buf.old)
+            (string_capacity buf.old) result (string_bytes buf.old) (string_bytes buf.new)
+            × IsEnd (reader_behind self.old ++ line) (reader_behind self.new)) }
+        ensures sound { reader_is_sound R.has_store R.position R.content self.old
+            → reader_is_sound R.has_store R.position R.content self.new }
+    {
+        let mut line = Vec::new(alloc);
+        let read = self.read_until(b'\n', &mut line);
+        append_line(buf, &line, read)
     }
 }

@@ -3,8 +3,6 @@ use base.Logic.{id⊢, emp}
 use contract.Monad.{fact_i}
 use borrow.Fn.Refines.{by_parts}
 use denote.Param.{param, number}
-use Rattle.std.proofs.Common.{ap}
-use Rattle.no_std_io2.specs.BufReader.{reader_inner, reader_turns}
 use Rattle.no_std_io2_base.specs.contracts.traits.buf_read.BufRead.fill_buf.{clauses as asked}
 use Rattle.no_std_io2.specs.contracts.buffered.buf_reader.BufReader.{the_row}
 use Rattle.no_std_io2.specs.contracts.buffered.buf_reader.lends.BufReaderBufRead.fill_buf.{clauses as given}
@@ -41,8 +39,7 @@ fill_buf-meets g c =
       told = h.told;
       turns = h.turns;
       turn = h.turn;
-      quiet =
-          λ some. (ap (reader_turns R.Read.turns) (h.kept some), ap (λ r. R.Read.cost (reader_inner r)) (h.kept some));
+      unchanged = h.kept;
       counts = h.counts;
       stays_sure = h.stays_sure;
       metered = λ n. n;

@@ -1,0 +1,16 @@
+-- What looking at a header of two bytes leaves.
+use Rattle.std.specs.Prelude.{ℕ, negsuc, List, [], ◌∷◌, Result, Ok}
+use Rattle.no_std_io2.specs.BufReader.{ReaderSeeks}
+use Rattle.no_std_io2.specs.ReadLaws.{Reader, ReadExactLaw}
+use Rattle.no_std_io2.specs.Seek.{WithoutPosition}
+use Rattle.no_std_io2.specs.declared.buffered.buf_reader.BufReader.{BufReader}
+use Rattle.no_std_io2.specs.declared.io.Error.{Error}
+use Rattle.no_std_io2.specs.declared.io.SeekFrom.{SeekFrom}
+use Rattle.no_std_io2.specs.declared.io.SeekFrom.TheVariants.{Current}
+
+-- it was read by `read_exact`, and then the reader was sought back by two, outside its buffer
+abbrev pub SoughtBack : {R : Type 0} {S : ℕ} → Reader (BufReader R S) → (R → SeekFrom → R → Result ℕ Error → Type 0)
+    → BufReader R S → List ℕ → BufReader R S → Type 0
+SoughtBack {R} {S} reader may_seek old header new =
+    (between : BufReader R S) × ReadExactLaw reader old (0 ∷ 0 ∷ []) (Ok tt) header between
+    × WithoutPosition (ReaderSeeks may_seek between (Current (negsuc 1)) new) (Ok tt)

@@ -1,0 +1,35 @@
+-- What the call did to the value in the box, it did to the box.
+use Rattle.std.proofs.Common.{rules, refl}
+use Rattle.no_std_io2_base.proofs.BoxedObjects.{loan_box}
+use Rattle.no_std_io2_base.proofs.impls.lending_objects.BoxDynBufReadDropBufRead.fill_buf.Goals as goal
+
+pub returns : goal.returns
+returns g c =
+    let o = goal.BufRead-dyn g in
+    let law = c.fill_buf.ensures in
+    let after = c.fill_buf.follows.holds-at-none in
+    let box =
+    loan_box (λ p. (o p).Read.tells p.1) (λ p. (o p).Read.events p.1) (λ p. (o p).Read.turns p.1) (λ p. (o p).BufRead.held p.1)
+    c.args.self.now c.fill_buf.result _ (search rules) c.fill_buf.follows.lender-at-none (law.held, law.front, law.end)
+    after.told after.turns after.turn after.unchanged in (
+      (
+        refl,
+        λ _. tt,
+        record {
+          lends = after.lends;
+          told = box.1;
+          turns = box.2;
+          turn = box.3;
+          unchanged = box.4;
+          counts = λ no. absurd no;
+          stays_sure = λ no. absurd no;
+          metered = λ no. absurd no;
+          filling = λ no. absurd no;
+          store = λ no. absurd no;
+        },
+      ),
+      record {
+        law = record { held = box.0.0; front = box.0.1; end = box.0.2; lends_surely = λ no. absurd no };
+        after_borrow = tt;
+      },
+    )
