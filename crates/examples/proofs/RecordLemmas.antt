@@ -1,6 +1,6 @@
 -- How a record is passed over.
 use Rattle.std.proofs.Common.{◌≡◌, ℕ, ◌+◌, ◌<◌, List, [], ◌∷◌, ◌++◌, length, get_or, sym, ap, ◌∙◌, subst, arith}
-use Rattle.no_std_io2.specs.Events.{Event, byte, fails, events_of, bytes}
+use Rattle.no_std_io2.specs.Read.{Event, byte, fails, events_of, bytes}
 use Rattle.no_std_io2.specs.Passing.{Passes, PassesOver}
 use Rattle.no_std_io2.proofs.EventLemmas.{Passes-then}
 use Rattle.examples.specs.Lengths.{AreRecords, more}

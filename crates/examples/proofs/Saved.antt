@@ -1,6 +1,6 @@
 -- What went to a vector through a buffer.
 use Rattle.std.proofs.Common.{◌≡◌, ℕ, List, [], ◌++◌, Ok, sym, ap, ◌∙◌, subst, append-nil}
-use Rattle.no_std_io2.specs.Writes.{Told, Moves, MovesFront, told_out}
+use Rattle.no_std_io2.specs.Write.{Told, Moves, MovesFront, told_out}
 use Rattle.no_std_io2.proofs.MovesLemmas.{Moves-ends}
 use Rattle.no_std_io2.specs.BufWriter.{with_buffer}
 

@@ -5,7 +5,7 @@ use Rattle.std.proofs.lemmas.Bool.{cases_lt}
 use Rattle.std.proofs.lemmas.List.{length-take-le}
 use Rattle.std.proofs.Math.Seq.{take-append_seam, drop-append_seam, drop-append-add}
 use Rattle.no_std_io2.specs.Buffer.{IsEnd}
-use Rattle.no_std_io2.specs.Writes.{IsFront}
+use Rattle.no_std_io2.specs.Write.{IsFront}
 
 -- one list, cut at one place, has the same two parts
 pub same_cut : (a b c d : List ℕ) → a ++ b ≡ c ++ d → length a ≡ length c → (a ≡ c) × (b ≡ d)

@@ -1,7 +1,7 @@
 -- What looking at a header of two bytes leaves.
 use Rattle.std.specs.Prelude.{ℕ, negsuc, List, [], ◌∷◌, Result, Ok}
 use Rattle.no_std_io2.specs.BufReader.{ReaderSeeks}
-use Rattle.no_std_io2.specs.ReadLaws.{Reader, ReadExactLaw}
+use Rattle.no_std_io2.specs.Read.{Reader, ReadExactLaw}
 use Rattle.no_std_io2.specs.Seek.{WithoutPosition}
 use Rattle.no_std_io2.specs.declared.buffered.buf_reader.BufReader.{BufReader}
 use Rattle.no_std_io2.specs.declared.io.Error.{Error}

@@ -1,7 +1,7 @@
 -- What records are that tell their length, and what passing over them takes.
 use Rattle.std.specs.Prelude.{◌≡◌, ◌⊎◌, ℕ, ◌+◌, List, [], ◌∷◌, ◌++◌, length, Result, Ok, Err}
 use Rattle.no_std_io2.specs.Errors.{IsFault}
-use Rattle.no_std_io2.specs.Events.{Event, fails}
+use Rattle.no_std_io2.specs.Read.{Event, fails}
 use Rattle.no_std_io2.specs.Passing.{Passes, Skips}
 use Rattle.no_std_io2.specs.declared.io.Error.{Error}
 

@@ -1,7 +1,7 @@
 // A reader that tells what is to come.
 ghost use Rattle.std.specs.Prelude.{map, length, []};
 ghost use Rattle.std.specs.Option.{option_to_list};
-ghost use Rattle.no_std_io2.specs.Events.{fails};
+ghost use Rattle.no_std_io2.specs.Read.{fails};
 
 use no_std_io2::io::{Error, Read, Result, Stored};
 

@@ -1,6 +1,6 @@
 //! A caller over any device.
 ghost use Rattle.std.specs.Prelude.{◌≡◌, [], OnOk};
-ghost use Rattle.no_std_io2.specs.Writes.{Sends};
+ghost use Rattle.no_std_io2.specs.Write.{Sends};
 
 use no_std_io2::io::{Result, Write};
 

@@ -2,10 +2,9 @@
 ghost use Rattle.std.specs.Prelude.{◌≡◌, ◌≢◌, ◌≤◌, ◌<◌, ◌⊎◌, ◌+◌, ℕ, List, [], ◌∷◌, ◌++◌, None, length, take, drop, slice_index};
 ghost use Rattle.std.specs.Prelude.{IsOkAnd, IsSomeAnd, IfOk, IfErr, OnOk};
 ghost use Rattle.no_std_io2.specs.Errors.{IsOutOfMemory, IsUnexpectedEnd};
-ghost use Rattle.no_std_io2.specs.Events.{bytes, cut};
-ghost use Rattle.no_std_io2.specs.Writes.{IsFront};
-ghost use Rattle.no_std_io2.specs.BufReader.{reader_held, reader_inner, reader_events, reader_is_sound, reader_position};
-ghost use Rattle.no_std_io2.specs.BufReader.{KeepsBuffer};
+ghost use Rattle.no_std_io2.specs.Read.{bytes, cut};
+ghost use Rattle.no_std_io2.specs.Write.{IsFront};
+ghost use Rattle.no_std_io2.specs.BufReader.{reader_held, reader_inner, reader_events, reader_is_sound, reader_position, KeepsBuffer};
 ghost use Rattle.examples.specs.Headers.{SoughtBack};
 
 use no_std_io2::io::{BufReader, Read, Result, Seek};

@@ -1,5 +1,5 @@
 // A device that knows nothing of itself: a serial line.
-ghost use Rattle.no_std_io2.specs.Writes.{told_out};
+ghost use Rattle.no_std_io2.specs.Write.{told_out};
 
 use no_std_io2::io::{Error, ErrorKind, Result, Write};
 use no_std_io2::trace::Trace;

@@ -5,7 +5,7 @@ use Rattle.std.specs.Result.{result_err, OnOk}
 use Rattle.std.proofs.lemmas.List.Recursion.{is_count_by}
 use Rattle.no_std_io2.specs.declared.io.Error.{Error}
 use Rattle.no_std_io2.specs.declared.io.ErrorKind.{ErrorKind}
-use Rattle.no_std_io2.specs.Writes.{Told, Moves, Sends, HasSpent, call_mishap}
+use Rattle.no_std_io2.specs.Write.{Told, Moves, Sends, HasSpent, call_mishap}
 use Rattle.no_std_io2.proofs.MovesLemmas.{Moves-refl, Moves-then, Moves-quiet}
 use Rattle.framing.specs.Sending.{SendsFrames, TakesOff}
 use Rattle.framing.specs.Delivering.{TriesOnce, Delivers, HasAtMost, HasSpentTries, tried_mishap}

@@ -6,7 +6,7 @@ use Rattle.std.proofs.Math.Seq.{take-append_seam}
 use Rattle.no_std_io2.specs.declared.io.Error.{Error}
 use Rattle.no_std_io2.specs.declared.io.ErrorKind.TheVariants.{InvalidData, UnexpectedEof}
 use Rattle.no_std_io2.specs.Errors.{error_kind}
-use Rattle.no_std_io2.specs.Events.{Event, events_of, bytes}
+use Rattle.no_std_io2.specs.Read.{Event, events_of, bytes}
 use Rattle.framing.specs.Frames.{frame, told_length, IsPart}
 use Rattle.no_std_io2.specs.Passing.{Passes, Gathered}
 use Rattle.framing.specs.Taking.{Gathers, TakesNone}

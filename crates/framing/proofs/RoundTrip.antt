@@ -9,7 +9,7 @@ use Rattle.std.proofs.lemmas.List.{take-append-le}
 use Rattle.std.proofs.lemmas.List.Elements.{All-head, All-tail}
 use Rattle.no_std_io2.specs.declared.io.Error.{Error}
 use Rattle.no_std_io2.specs.Errors.{IsOutOfMemory}
-use Rattle.no_std_io2.specs.Events.{Event, bytes}
+use Rattle.no_std_io2.specs.Read.{Event, bytes}
 use Rattle.framing.specs.Frames.{frame, frames, told_length, IsPart}
 use Rattle.framing.specs.Taking.{TakesNone, TakesFrames, ComesBack, IsFirstFault}
 use Rattle.no_std_io2.proofs.EventLemmas.{Passes-then}

@@ -8,7 +8,7 @@ use Rattle.std.proofs.lemmas.List.Folds.{concat-append}
 use Rattle.std.proofs.lemmas.List.Elements.{All-push}
 use Rattle.no_std_io2.specs.declared.io.Error.{Error}
 use Rattle.no_std_io2.specs.Errors.{IsOutOfMemory}
-use Rattle.no_std_io2.specs.Events.{Event}
+use Rattle.no_std_io2.specs.Read.{Event}
 use Rattle.no_std_io2.specs.Passing.{Passes}
 use Rattle.framing.specs.Frames.{frame, frames}
 use Rattle.framing.specs.Taking.{PassesFrames, TakesNone, TakesFrames, appended}

@@ -5,7 +5,7 @@ use Rattle.std.proofs.Math.Seq.{drop-append_seam}
 use Rattle.std.specs.Result.{OnOk, OnErr}
 use Rattle.std.proofs.lemmas.List.Elements.{All-push}
 use Rattle.no_std_io2.specs.declared.io.Error.{Error}
-use Rattle.no_std_io2.specs.Writes.{Told, Moves, Sends, call_mishap}
+use Rattle.no_std_io2.specs.Write.{Told, Moves, Sends, call_mishap}
 use Rattle.no_std_io2.proofs.MovesLemmas.{Moves-refl, Moves-then, Moves-ends}
 use Rattle.framing.specs.Frames.{frame, frames}
 use Rattle.framing.specs.Sending.{SendsFrame, SendsFrames, frame_mishap, TakesOff}

@@ -3,8 +3,7 @@ use Rattle.std.proofs.Common.{◌≡◌, ℕ, ◌+◌, Bool, true, false, List, 
 use Rattle.std.proofs.Common.{ap, ◌∙◌, subst, inl, inr, arith, append_assoc, append-nil, length-append}
 use Rattle.no_std_io2.specs.declared.io.Error.{Error}
 use Rattle.no_std_io2.specs.Errors.{IsInterruption}
-use Rattle.no_std_io2.specs.Events.{Event, fails, events_of, bytes}
-use Rattle.no_std_io2.specs.Laws.{bytes-events_of}
+use Rattle.no_std_io2.specs.Read.{Event, fails, events_of, bytes, bytes-events_of}
 use Rattle.no_std_io2.specs.Passing.{Passes, Gathered}
 use Rattle.framing.specs.Taking.{Gathers}
 use Rattle.no_std_io2.proofs.EventLemmas.{bytes-append, HasNoFault-append, HasNoFault-events_of}

@@ -7,10 +7,9 @@ use Rattle.std.proofs.lemmas.List.{take_all}
 use Rattle.std.proofs.lemmas.List.Elements.{All-head}
 use Rattle.no_std_io2.specs.declared.io.Error.{Error}
 use Rattle.no_std_io2.specs.Errors.{IsOutOfMemory}
-use Rattle.no_std_io2.specs.Events.{Event, fails, events_of, bytes}
-use Rattle.no_std_io2.specs.Laws.{bytes-events_of}
+use Rattle.no_std_io2.specs.Read.{Event, fails, events_of, bytes, bytes-events_of}
 use Rattle.framing.specs.Frames.{frames}
-use Rattle.no_std_io2.specs.Writes.{Told}
+use Rattle.no_std_io2.specs.Write.{Told}
 use Rattle.framing.specs.Sending.{RefusesFirst, TakesOff}
 use Rattle.framing.specs.Delivering.{Delivers}
 use Rattle.framing.specs.Taking.{ComesBack, IsFirstFault, appended}

@@ -1,7 +1,7 @@
 -- What sending again and again does.
 use Rattle.std.specs.Prelude.{◌≡◌, ◌≤◌, ◌+◌, ℕ, List, [], ◌∷◌, ◌++◌, length, Option, Some, None, Result, Ok, Err, ⊤}
 use Rattle.no_std_io2.specs.Errors.{error_kind}
-use Rattle.no_std_io2.specs.Writes.{Told, Moves}
+use Rattle.no_std_io2.specs.Write.{Told, Moves}
 use Rattle.no_std_io2.specs.declared.io.Error.{Error}
 use Rattle.no_std_io2.specs.declared.io.ErrorKind.{ErrorKind}
 

@@ -1,6 +1,6 @@
 -- What a clause reads of a frame that is gathered.
 use Rattle.std.specs.Prelude.{ℕ, List, ◌++◌, length, min, ◌+◌}
-use Rattle.no_std_io2.specs.Events.{Event, events_of}
+use Rattle.no_std_io2.specs.Read.{Event, events_of}
 use Rattle.no_std_io2.specs.BufReader.{reader_inner, reader_events, reader_turns}
 use Rattle.framing.specs.declared.reader.part.Part.{Part}
 use Rattle.framing.specs.declared.reader.FrameReader.{FrameReader}

@@ -1,7 +1,7 @@
 -- What a clause reads of a writer of frames, and what its calls do.
 use Rattle.std.specs.Prelude.{◌≡◌, ◌⊎◌, ◌<◌, ◌^◌, All, Result, Ok, Err, List, ℕ, [], ◌∷◌, ◌++◌, length}
 use Rattle.no_std_io2.specs.Errors.{error_kind}
-use Rattle.no_std_io2.specs.Writes.{Told, Moves}
+use Rattle.no_std_io2.specs.Write.{Told, Moves}
 use Rattle.no_std_io2.specs.BufWriter.{writer_inner, writer_buffer, writer_told}
 use Rattle.no_std_io2.specs.declared.io.Error.{Error}
 use Rattle.no_std_io2.specs.declared.io.ErrorKind.{ErrorKind}

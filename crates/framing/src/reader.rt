@@ -1,7 +1,7 @@
 //! Frames out of a reader: a fault loses none, and none is given twice.
 ghost use Rattle.std.specs.Prelude.{◌≡◌, ◌<◌, ◌≤◌, ◌^◌, [], ◌++◌, true, map, All, ℕ, List, length, IfOk, IfErr, OnOk, IfSome};
 ghost use Rattle.no_std_io2.specs.Errors.{error_kind, IsFault};
-ghost use Rattle.no_std_io2.specs.Events.{bytes};
+ghost use Rattle.no_std_io2.specs.Read.{bytes};
 ghost use Rattle.framing.specs.Frames.{frames};
 ghost use Rattle.framing.specs.Part.{reads_from, frame_events, frame_turns, most, part_bytes, part_payload};
 ghost use Rattle.no_std_io2.specs.BufReader.{reader_events, reader_turns};

@@ -1,7 +1,7 @@
 //! Frames into a writer: none is torn by a fault, and none goes out twice.
 ghost use Rattle.std.specs.Prelude.{◌≡◌, ◌⊎◌, ◌<◌, ◌^◌, [], ◌∷◌, ◌++◌, map, length, nat_lt, OnOk, OnErr, IfOk, IfErr, IsOk};
 ghost use Rattle.no_std_io2.specs.Errors.{error_kind, IsNoInterruption, IsFault};
-ghost use Rattle.no_std_io2.specs.Writes.{Moves, Sends};
+ghost use Rattle.no_std_io2.specs.Write.{Moves, Sends};
 ghost use Rattle.no_std_io2.specs.BufWriter.{writer_told, into_inner_error_writer, into_inner_error_cause};
 ghost use Rattle.framing.specs.Frames.{frames};
 ghost use Rattle.framing.specs.Sending.{writes_to, frames_held, writer_tells, under_way, still_to_go};

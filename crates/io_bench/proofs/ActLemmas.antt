@@ -8,7 +8,7 @@ use Rattle.no_std_io2_base.specs.declared.error.ErrorKind.TheVariants.{WriteZero
 use Rattle.std.specs.Option.{option_map}
 use Rattle.no_std_io2_base.specs.declared.error.ErrorKind.{ErrorKind}
 use Rattle.no_std_io2_base.specs.Errors.{is_interruption}
-use Rattle.no_std_io2_base.specs.Writes.{Told, Moves, HasSpent, taken, write_mishap, zero_write}
+use Rattle.no_std_io2_base.specs.Write.{Told, Moves, HasSpent, taken, write_mishap, zero_write}
 use Rattle.no_std_io2_base.proofs.MovesLemmas.{Moves-refl, Moves-forget, count_by-append}
 use Rattle.io_bench.specs.declared.faulty.Act.{Act}
 use Rattle.io_bench.specs.Faulty.{act_mishap, act_mishaps, first_act, with_acts}

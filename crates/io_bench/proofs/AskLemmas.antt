@@ -7,14 +7,13 @@ use Rattle.std.proofs.lemmas.List.{take_more}
 use Rattle.std.proofs.lemmas.Bool.Decides.{nat_tests}
 use Rattle.std.proofs.lemmas.Bool.{cases_lt}
 use Rattle.std.proofs.Math.Seq.{drop-append_seam}
-use Rattle.no_std_io2_base.specs.Events.{Event}
+use Rattle.no_std_io2_base.specs.Read.{Event, byte, fails, cut, events_of, bytes, HasNoFault, Reads, ReadsExact, Fills}
 use Rattle.io_bench.specs.declared.asks.Ask.{Ask}
 use Rattle.io_bench.specs.declared.asks.Ask.TheVariants.{Read, Exact, Fill}
 use Rattle.no_std_io2_base.specs.declared.error.Error.{Error}
 use Rattle.no_std_io2_base.specs.declared.error.ErrorKind.TheVariants.{UnexpectedEof}
 use Rattle.no_std_io2_base.specs.Errors.{error_kind}
-use Rattle.no_std_io2_base.specs.Events.{byte, fails, cut, events_of, bytes, HasNoFault, Reads, ReadsExact, Fills}
-use Rattle.no_std_io2_base.specs.Lending.{Lends, LendsFrom}
+use Rattle.no_std_io2_base.specs.BufRead.{Lends, LendsFrom}
 use Rattle.no_std_io2_base.proofs.Events.{bytes-events_of, length-events_of, events_of-append, HasNoFault-events_of}
 use Rattle.no_std_io2.proofs.BufReaderExact.{length-events, no_bytes}
 use Rattle.no_std_io2.proofs.CopyLemmas.{HasNoFault-front, no_fault_at_end}

@@ -7,7 +7,7 @@ use Rattle.std.specs.Option.{option_map}
 use Rattle.no_std_io2_base.specs.declared.error.Error.{Error}
 use Rattle.no_std_io2_base.specs.declared.error.ErrorKind.{ErrorKind}
 use Rattle.no_std_io2_base.specs.Errors.{error_kind, error_text}
-use Rattle.no_std_io2_base.specs.Events.{byte, events_of, Reads}
+use Rattle.no_std_io2_base.specs.Read.{byte, events_of, Reads}
 use Rattle.io_bench.specs.declared.feed.Event.{Event}
 use Rattle.io_bench.specs.declared.feed.Event.TheVariants.{Byte, Fail}
 use Rattle.io_bench.specs.Feed.{error_of, all_to_come, leading_bytes, first_failure}

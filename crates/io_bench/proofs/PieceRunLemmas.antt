@@ -4,9 +4,8 @@ use Rattle.std.proofs.Common.{◌∷◌, ◌++◌, map, filter, refl, sym, ap, �
 use Rattle.std.proofs.Common.{⊎_elim}
 use Rattle.no_std_io2_base.specs.declared.error.Error.{Error}
 use Rattle.no_std_io2_base.specs.Errors.{error_kind, is_interruption, IsFault, IsOutOfMemory}
-use Rattle.no_std_io2_base.specs.Events.{Event, byte, fails, bytes, HasNoFault}
-use Rattle.no_std_io2_base.specs.Pieces.{ends_in, pieces, bytes_to_fault, first_fault, pieces_before, pieces_given}
-use Rattle.no_std_io2_base.specs.PieceItems.{YieldsPiece}
+use Rattle.no_std_io2_base.specs.Read.{Event, byte, fails, bytes, HasNoFault, bytes_to_fault, first_fault}
+use Rattle.no_std_io2_base.specs.Pieces.{ends_in, pieces, pieces_before, pieces_given, YieldsPiece}
 use Rattle.no_std_io2_base.proofs.GivenPieces.{given_next, given_none, given_fault}
 use Rattle.io_bench.specs.Runs.{appended}
 use Rattle.io_bench.specs.PieceRuns.{AllPieces, GathersPieces}

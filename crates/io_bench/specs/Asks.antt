@@ -1,6 +1,6 @@
 -- What a list of asks does to a reader that gives bytes alone, and what an ask costs.
 use Rattle.std.specs.Prelude.{◌≡◌, ℕ, ◌+◌, ◌-◌, ◌≤◌, min, nat_lt, nat_le, Bool, if◌then◌else◌, List, [], ◌∷◌, ◌++◌, length, drop, ⊤}
-use Rattle.no_std_io2_base.specs.Events.{Event}
+use Rattle.no_std_io2_base.specs.Read.{Event}
 use Rattle.no_std_io2.specs.BufReader.{filled_length, exact_reads, exact_left}
 use Rattle.io_bench.specs.declared.asks.Ask.{Ask}
 use Rattle.io_bench.specs.declared.asks.Ask.TheVariants.{Read, Exact, Fill}

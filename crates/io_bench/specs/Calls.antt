@@ -4,8 +4,8 @@ use Rattle.std.specs.Prelude.{OnOk, IsOkAnd, IsErrAnd}
 use Rattle.no_std_io2_base.specs.declared.error.Error.{Error}
 use Rattle.no_std_io2_base.specs.declared.error.ErrorKind.{ErrorKind}
 use Rattle.no_std_io2_base.specs.Errors.{error_kind, error_text, IsOutOfMemory}
-use Rattle.no_std_io2_base.specs.Writes.{Told, Moves, taken, write_mishap, call_mishap}
-use Rattle.no_std_io2_base.specs.Events.{Event, Reads, SpendsTurn}
+use Rattle.no_std_io2_base.specs.Write.{Told, Moves, taken, write_mishap, call_mishap}
+use Rattle.no_std_io2_base.specs.Read.{Event, Reads, SpendsTurn}
 
 -- an error of this kind, without a text
 abbrev pub FailsWith : {T : Type 0} → ErrorKind → Result T Error → Type 0

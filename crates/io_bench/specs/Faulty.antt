@@ -8,7 +8,7 @@ use Rattle.no_std_io2_base.specs.Errors.{is_interruption}
 use Rattle.std.specs.Option.{option_map}
 use Rattle.no_std_io2_base.specs.declared.error.ErrorKind.{ErrorKind}
 use Rattle.no_std_io2_base.specs.declared.error.ErrorKind.TheVariants.{WriteZero}
-use Rattle.no_std_io2_base.specs.Writes.{Told}
+use Rattle.no_std_io2_base.specs.Write.{Told}
 use Rattle.io_bench.specs.declared.faulty.Act.{Act}
 use Rattle.io_bench.specs.declared.faulty.Act.TheVariants.{Take, Zero, Fail}
 use Rattle.io_bench.specs.declared.faulty.Faulty.{Faulty}

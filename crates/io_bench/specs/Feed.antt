@@ -2,7 +2,7 @@
 use Rattle.std.specs.Prelude.{ℕ, List, [], ◌∷◌, drop, length, min, Option, Some, None}
 use Rattle.no_std_io2_base.specs.declared.error.Error.{Error}
 use Rattle.no_std_io2_base.specs.declared.error.ErrorKind.{ErrorKind}
-use Rattle.no_std_io2_base.specs.Events.{Event as ToCome, byte, fails}
+use Rattle.no_std_io2_base.specs.Read.{Event as ToCome, byte, fails}
 use Rattle.io_bench.specs.declared.feed.Event.{Event}
 use Rattle.io_bench.specs.declared.feed.Event.TheVariants.{Byte, Fail}
 use Rattle.io_bench.specs.declared.feed.Feed.{Feed}

@@ -2,7 +2,7 @@
 use Rattle.std.specs.Prelude.{◌≡◌, ℕ, ◌⊎◌, List, ◌∷◌, ◌++◌, map, filter, Result, Ok, Err}
 use Rattle.no_std_io2_base.specs.declared.error.Error.{Error}
 use Rattle.no_std_io2_base.specs.Errors.{IsFault, IsOutOfMemory}
-use Rattle.no_std_io2_base.specs.Events.{Event, fails, bytes, HasNoFault}
+use Rattle.no_std_io2_base.specs.Read.{Event, fails, bytes, HasNoFault}
 use Rattle.no_std_io2_base.specs.Pieces.{ends_in, pieces, pieces_given}
 
 -- no fault was to come, and these are the pieces of all bytes, trimmed

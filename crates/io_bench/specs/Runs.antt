@@ -3,7 +3,7 @@ use Rattle.std.specs.Prelude.{◌≡◌, ℕ, ◌+◌, ◌≤◌, ◌==◌, ◌&
 use Rattle.std.specs.Prelude.{◌++◌, length, take, drop, count_by, ⊤, Option, None, Some}
 use Rattle.no_std_io2_base.specs.declared.error.ErrorKind.{ErrorKind}
 use Rattle.no_std_io2_base.specs.Errors.{error_kind, kind_number, IsFault}
-use Rattle.no_std_io2_base.specs.Writes.{Told, Moves, IsFront, zero_write}
+use Rattle.no_std_io2_base.specs.Write.{Told, Moves, IsFront, zero_write}
 use Rattle.io_bench.specs.declared.runs.Op.{Op}
 use Rattle.io_bench.specs.declared.runs.Op.TheVariants.{Write, WriteAll, Flush}
 use Rattle.io_bench.specs.declared.runs.Reply.{Reply}

@@ -1,7 +1,7 @@
 // A run through one `BufWriter` over a base that takes all.
 ghost use Rattle.std.specs.Prelude.{◌≡◌, ◌+◌, ◌*◌, ◌/◌, ◌<◌, ◌≤◌, [], ◌++◌, length, IfOk, IfErr, OnOk, OnErr, vec_len, vec_capacity};
 ghost use Rattle.no_std_io2_base.specs.Errors.{IsOutOfMemory};
-ghost use Rattle.no_std_io2_base.specs.Writes.{Moves};
+ghost use Rattle.no_std_io2_base.specs.Write.{Moves};
 ghost use Rattle.no_std_io2.specs.BufWriter.{writer_inner, writer_buffer, writer_told};
 ghost use Rattle.io_bench.specs.Runs.{appended, Answers, AreWhole, IsWhole};
 ghost use Rattle.io_bench.specs.Tally.{tally_inner, tally_writes};

@@ -2,7 +2,7 @@
 ghost use Rattle.std.specs.Prelude.{◌≡◌, ℕ, ◌+◌, ◌<◌, ◌≤◌, [], ◌∷◌, Some, None, Ok, IfOk, OnOk, IsOk, IsErrAnd};
 ghost use Rattle.std.specs.Prelude.{MatchOption, length, take, drop, vec_len};
 ghost use Rattle.no_std_io2_base.specs.declared.error.ErrorKind.{ErrorKind};
-ghost use Rattle.no_std_io2_base.specs.WriteLaws.{WriteLaw, FlushLaw, WriteAllLaw, WriteRestLaw};
+ghost use Rattle.no_std_io2_base.specs.Write.{WriteLaw, FlushLaw, WriteAllLaw, WriteRestLaw};
 ghost use Rattle.io_bench.specs.Calls.{FailsWith};
 
 use no_std_io2::io::{Error, ErrorKind, Result, Write};

@@ -3,7 +3,7 @@ ghost use Rattle.std.specs.Prelude.{◌≡◌, ◌<◌, ◌≤◌, ◌+◌, ◌�
 ghost use Rattle.std.specs.Prelude.{length, take, drop, min, vec_len};
 ghost use Rattle.no_std_io2_base.specs.declared.error.ErrorKind.{ErrorKind};
 ghost use Rattle.io_bench.specs.Calls.{FailsWith};
-ghost use Rattle.no_std_io2_base.specs.ReadLaws.{ReadLaw};
+ghost use Rattle.no_std_io2_base.specs.Read.{ReadLaw};
 
 use no_std_io2::io::{Error, ErrorKind, Read, Result, Stored};
 

@@ -2,8 +2,8 @@
 ghost use Rattle.std.specs.Prelude.{◌≡◌, ◌+◌, ◌<◌, ◌++◌, map, false, OnOk, OnErr, IfErr, vec_items, vec_len, vec_capacity, string_bytes};
 ghost use Rattle.no_std_io2_base.specs.Errors.{IsFault, IsOutOfMemory};
 ghost use Rattle.no_std_io2_base.specs.Pieces.{line_text, without};
-ghost use Rattle.no_std_io2_base.specs.PieceItems.{split_reader, split_delim, split_is_ended, lines_reader, lines_is_ended, RefusesLine};
-ghost use Rattle.no_std_io2_base.specs.Writes.{IsFront};
+ghost use Rattle.no_std_io2_base.specs.Pieces.{split_reader, split_delim, split_is_ended, lines_reader, lines_is_ended, RefusesLine};
+ghost use Rattle.no_std_io2_base.specs.Write.{IsFront};
 ghost use Rattle.io_bench.specs.PieceRuns.{GathersPieces};
 ghost use Rattle.io_bench.specs.Runs.{appended};
 

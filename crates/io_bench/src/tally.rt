@@ -2,8 +2,8 @@
 ghost use Rattle.std.specs.Prelude.{◌≡◌, ◌+◌, ◌-◌, ◌^◌, ◌≤◌, [], Ok, IfOk, IfErr, OnOk, IsOk, IsOkAnd, ⊤, length, min};
 ghost use Rattle.std.specs.Prelude.{take, vec_len, vec_capacity};
 ghost use Rattle.no_std_io2_base.specs.Errors.{IsFault, IsNoInterruption};
-ghost use Rattle.no_std_io2_base.specs.ReadLaws.{ReadLaw, ReadExactLaw, ReadToEndLaw};
-ghost use Rattle.no_std_io2_base.specs.WriteLaws.{WriteLaw, FlushLaw, WriteAllLaw, WriteRestLaw};
+ghost use Rattle.no_std_io2_base.specs.Read.{ReadLaw, ReadExactLaw, ReadToEndLaw};
+ghost use Rattle.no_std_io2_base.specs.Write.{WriteLaw, FlushLaw, WriteAllLaw, WriteRestLaw};
 ghost use Rattle.io_bench.specs.Calls.{CountsLoop, CountsToEnd};
 
 use no_std_io2::io::{Read, Result, Stored, Write};

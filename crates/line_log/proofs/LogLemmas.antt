@@ -8,7 +8,7 @@ use Rattle.std.proofs.lemmas.List.{get_or-append-add}
 use Rattle.std.proofs.lemmas.Bool.Decides.{nat_tests}
 use Rattle.std.proofs.lemmas.List.Elements.{All-push}
 use Rattle.no_std_io2.specs.declared.io.Error.{Error}
-use Rattle.no_std_io2.specs.Writes.{Told, Moves, MovesFront, Sends, call_mishap}
+use Rattle.no_std_io2.specs.Write.{Told, Moves, MovesFront, Sends, call_mishap}
 use Rattle.no_std_io2.specs.BufWriter.{with_buffer}
 use Rattle.no_std_io2.specs.Lines.{HasNoNewline}
 use Rattle.no_std_io2.proofs.MovesLemmas.{Moves-refl, Moves-then, Moves-ends}

@@ -1,6 +1,6 @@
 -- What a clause reads of a log.
 use Rattle.std.specs.Prelude.{ℕ, List}
-use Rattle.no_std_io2.specs.Writes.{Told}
+use Rattle.no_std_io2.specs.Write.{Told}
 use Rattle.no_std_io2.specs.LineWriter.{line_inner, line_told, line_buffer}
 use Rattle.line_log.specs.Pending.{pending_line, pending_rest}
 use Rattle.line_log.specs.declared.LineLog.{LineLog}

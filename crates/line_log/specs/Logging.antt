@@ -1,7 +1,7 @@
 -- What the calls of a log do.
 use Rattle.std.specs.Prelude.{◌≡◌, ◌⊎◌, Result, Ok, Err, List, ℕ, [], ◌∷◌, ◌++◌, All}
 use Rattle.no_std_io2.specs.Errors.{error_kind}
-use Rattle.no_std_io2.specs.Writes.{Told, Moves}
+use Rattle.no_std_io2.specs.Write.{Told, Moves}
 use Rattle.no_std_io2.specs.Lines.{HasNoNewline}
 use Rattle.no_std_io2.specs.declared.io.Error.{Error}
 use Rattle.no_std_io2.specs.declared.io.ErrorKind.{ErrorKind}

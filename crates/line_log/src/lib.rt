@@ -9,7 +9,7 @@
 
 ghost use Rattle.std.specs.Prelude.{◌≡◌, ◌<◌, [], ◌∷◌, ◌++◌, ℕ, List, map, length, nat_lt, OnOk, OnErr, IfOk, IfErr, IsOk, string_bytes};
 ghost use Rattle.no_std_io2.specs.Errors.{error_kind, IsNoInterruption, IsFault};
-ghost use Rattle.no_std_io2.specs.Writes.{Moves, Sends};
+ghost use Rattle.no_std_io2.specs.Write.{Moves, Sends};
 ghost use Rattle.no_std_io2.specs.BufWriter.{into_inner_error_writer, into_inner_error_cause};
 ghost use Rattle.no_std_io2.specs.Lines.{HasNoNewline};
 ghost use Rattle.no_std_io2.specs.LineWriter.{line_told};

@@ -9,7 +9,7 @@ use Rattle.std.specs.Int.{FitsUnsigned, w64}
 use Rattle.std.proofs.lemmas.List.{length-append, drop-append-le}
 use Rattle.no_std_io2_base.specs.declared.traits.seek.SeekFrom.{SeekFrom}
 use Rattle.no_std_io2_base.specs.declared.traits.seek.SeekFrom.TheVariants.{Current}
-use Rattle.no_std_io2_base.specs.Events.{Event, events_of}
+use Rattle.no_std_io2_base.specs.Read.{Event, events_of}
 use Rattle.no_std_io2_base.specs.Seek.{IsAtOffset, IsTarget, Seeks}
 use Rattle.no_std_io2_base.proofs.Events.{events_of-append}
 use Rattle.no_std_io2.proofs.BufReaderSound.{give_events}

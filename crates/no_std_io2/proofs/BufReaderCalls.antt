@@ -4,7 +4,7 @@ use Rattle.std.proofs.Common.{Err, Result, length, refl, sym, ap, subst, ◌∙�
 use Rattle.std.specs.Result.{OnOk, OnErr, IsOk}
 use Rattle.std.proofs.Math.Nat.{mul-le-mul_left}
 use Rattle.no_std_io2_base.specs.declared.error.Error.{Error}
-use Rattle.no_std_io2_base.specs.Events.{Event, events_of, fails, Reads, SpendsTurn}
+use Rattle.no_std_io2_base.specs.Read.{Event, events_of, fails, Reads, SpendsTurn}
 use Rattle.no_std_io2.specs.Buffer.{ReadsAhead, IsSound}
 use Rattle.no_std_io2.specs.BufReader.{FillsFrom, behind_anew}
 use Rattle.no_std_io2.proofs.BufferTests.{is_past, is_own}

@@ -6,11 +6,9 @@ use lib.Seq.{take-append-le}
 use Rattle.std.proofs.Math.Seq.{drop-append_seam}
 use Rattle.no_std_io2_base.specs.declared.error.Error.{Error}
 use Rattle.no_std_io2_base.specs.Errors.{IsOutOfMemory}
-use Rattle.no_std_io2_base.specs.Events.{Event, events_of, bytes, FillsRoom, ReadsToEnd}
-use Rattle.no_std_io2_base.specs.Pieces.{bytes_to_fault, first_fault}
-use Rattle.no_std_io2_base.specs.ReadLaws.{HasRoom}
-use Rattle.no_std_io2_base.specs.Slices.{HasMoved}
-use Rattle.no_std_io2_base.specs.Writes.{IsFront}
+use Rattle.no_std_io2_base.specs.Read.{Event, events_of, bytes, FillsRoom, ReadsToEnd, bytes_to_fault, first_fault, HasRoom}
+use Rattle.no_std_io2_base.specs.Cursor.{HasMoved}
+use Rattle.no_std_io2_base.specs.Write.{IsFront}
 use Rattle.no_std_io2_base.proofs.ChainReads.{room_of_second}
 use Rattle.no_std_io2_base.proofs.Events.{bytes-events_of, HasNoFault-events_of}
 use Rattle.no_std_io2_base.proofs.GivenPieces.{first_fault-append, bytes_to_fault-append}

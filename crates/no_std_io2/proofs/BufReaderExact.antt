@@ -7,7 +7,7 @@ use Rattle.std.proofs.lemmas.Bool.Decides.{nat_tests}
 use Rattle.no_std_io2.proofs.BufferTests.{is_past, is_own}
 use Rattle.no_std_io2_base.specs.declared.error.Error.{Error}
 use Rattle.no_std_io2_base.specs.Errors.{IsUnexpectedEnd}
-use Rattle.no_std_io2_base.specs.Events.{Event, fails, events_of, bytes, HasNoFault, cut, Reads, Fills, FallsShort}
+use Rattle.no_std_io2_base.specs.Read.{Event, fails, events_of, bytes, HasNoFault, cut, Reads, Fills, FallsShort}
 use Rattle.no_std_io2_base.proofs.Events.{length-events_of, events_of-append, bytes-events_of, HasNoFault-events_of, cut-bytes}
 use Rattle.no_std_io2_base.proofs.Taken.{Taken, taken_fills, no_error}
 use Rattle.no_std_io2.specs.Buffer.{IsEnd}

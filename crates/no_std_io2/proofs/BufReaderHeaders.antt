@@ -3,8 +3,8 @@ use Rattle.std.proofs.Common.{◌≡◌, ℕ, ◌+◌, ◌<◌, ◌⊎◌, inl, 
 use Rattle.std.proofs.Common.{arith, length-append, true≢false, ⊎_elim}
 use Rattle.no_std_io2_base.specs.declared.error.Error.{Error}
 use Rattle.no_std_io2_base.specs.Errors.{IsUnexpectedEnd}
-use Rattle.no_std_io2_base.specs.Events.{Event, fails, events_of, bytes, cut, HasNoFault, Fills, FallsShort, StopsAtFault}
-use Rattle.no_std_io2_base.specs.Laws.{bytes-events_of, cut_alone}
+use Rattle.no_std_io2_base.specs.Read.{Event, fails, events_of, bytes, cut, HasNoFault, Fills, FallsShort, StopsAtFault}
+use Rattle.no_std_io2_base.specs.Read.{bytes-events_of, cut_alone}
 use Rattle.no_std_io2_base.proofs.Events.{length-events_of, bytes-cut, HasNoFault-events_of, HasNoFault-front, HasNoFault-behind}
 
 -- its bytes are the next ones, and as many are gone

@@ -6,8 +6,8 @@ use Rattle.std.proofs.lemmas.List.{drop-append-le}
 use Rattle.std.proofs.Math.Seq.{drop-append_seam}
 use Rattle.std.specs.Borrow.{Bor}
 use Rattle.no_std_io2_base.specs.declared.error.Error.{Error}
-use Rattle.no_std_io2_base.specs.Lending.{IsNotEmpty, Lends}
-use Rattle.no_std_io2_base.specs.PieceItems.{AnswersLine}
+use Rattle.no_std_io2_base.specs.BufRead.{IsNotEmpty, Lends}
+use Rattle.no_std_io2_base.specs.Pieces.{AnswersLine}
 use Rattle.no_std_io2.specs.Buffer.{IsEnd}
 use Rattle.no_std_io2.proofs.BufReaderExact.{no_bytes}
 use Rattle.no_std_io2.proofs.BufWriterLemmas.{IsEnd-none, IsEnd-held}

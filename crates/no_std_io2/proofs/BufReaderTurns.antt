@@ -2,7 +2,7 @@
 use Rattle.std.proofs.Common.{◌≡◌, ℕ, ◌+◌, ◌-◌, ◌*◌, ◌<◌, ◌≤◌, List, [], ◌++◌, length, take, Ok, sym, ap, ◌∙◌, arith, length-take-le, inl, inr}
 use Rattle.std.proofs.Math.Nat.{mul-le-mul_left}
 use Rattle.std.proofs.lemmas.Bool.{cases_lt}
-use Rattle.no_std_io2_base.specs.Events.{Event, events_of, Reads}
+use Rattle.no_std_io2_base.specs.Read.{Event, events_of, Reads}
 
 -- a buffer read from its start
 pub held_read : (n : ℕ) (buf : List ℕ) → take (n - 0) buf ≡ take n buf

@@ -5,7 +5,7 @@ use Rattle.std.proofs.lemmas.Bool.{cases_lt}
 use Rattle.std.proofs.lemmas.Bool.Decides.{nat_tests}
 use Rattle.no_std_io2_base.specs.declared.error.Error.{Error}
 use Rattle.no_std_io2_base.specs.Errors.{IsNoInterruption}
-use Rattle.no_std_io2_base.specs.Writes.{Told, Moves, MovesFront, taken, write_mishap, call_mishap, calls_for}
+use Rattle.no_std_io2_base.specs.Write.{Told, Moves, MovesFront, taken, write_mishap, call_mishap, calls_for}
 use Rattle.no_std_io2_base.proofs.MovesLemmas.{IsFront-refl, Moves-then, Moves-ends, zero_write-whole}
 use Rattle.no_std_io2.specs.declared.buffered.sender.Sender.{Sender}
 use Rattle.no_std_io2.specs.BufWriter.{sender_inner, sender_buffer, sender_told, sender_with_inner, way_calls}

@@ -4,7 +4,7 @@ use Rattle.std.proofs.lemmas.Bool.{cases_lt}
 use Rattle.std.proofs.lemmas.Bool.Decides.{nat_tests}
 use Rattle.no_std_io2.specs.BufWriter.{writing_calls, buffer_after}
 use Rattle.no_std_io2.specs.Lines.{whole_if_short}
-use Rattle.no_std_io2_base.specs.Writes.{calls_for}
+use Rattle.no_std_io2_base.specs.Write.{calls_for}
 
 -- to hand on some bytes takes one call at most
 pub calls_for-le : (xs : List ℕ) → calls_for xs ≤ 1

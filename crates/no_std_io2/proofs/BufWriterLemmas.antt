@@ -5,7 +5,7 @@ use Rattle.std.proofs.Common.{length-append, append_assoc, append-nil, take-appe
 use Rattle.std.proofs.lemmas.Bool.Decides.{nat_tests}
 use Rattle.no_std_io2_base.specs.declared.error.ErrorKind.{ErrorKind}
 use Rattle.no_std_io2_base.specs.declared.error.Error.{Error}
-use Rattle.no_std_io2_base.specs.Writes.{Told, Moves, call_mishap, calls_for}
+use Rattle.no_std_io2_base.specs.Write.{Told, Moves, call_mishap, calls_for}
 use Rattle.no_std_io2_base.proofs.MovesLemmas.{IsFront-refl, Moves-refl, Moves-steady}
 use Rattle.no_std_io2.specs.declared.buffered.buf_writer.BufWriter.{BufWriter}
 use Rattle.no_std_io2.specs.BufWriter.{with_buffer, writer_buffer, HoldsEnd}

@@ -6,7 +6,7 @@ use Rattle.no_std_io2_base.specs.declared.error.Error.{Error}
 use Rattle.no_std_io2_base.specs.declared.error.ErrorKind.{ErrorKind}
 use Rattle.no_std_io2_base.specs.declared.error.ErrorKind.TheVariants.{WriteZero}
 use Rattle.no_std_io2_base.specs.Errors.{error_kind, is_interruption, IsFault}
-use Rattle.no_std_io2_base.specs.Writes.{Told, Moves, taken, write_mishap, zero_write, calls_for}
+use Rattle.no_std_io2_base.specs.Write.{Told, Moves, taken, write_mishap, zero_write, calls_for}
 use Rattle.no_std_io2_base.proofs.MovesLemmas.{Moves-refl, Moves-more, Moves-ends, Moves-quiet}
 use Rattle.no_std_io2.specs.declared.buffered.sender.Sender.{Sender}
 use Rattle.no_std_io2.specs.BufWriter.{sender_inner, sender_buffer, sender_with_inner, Sent}

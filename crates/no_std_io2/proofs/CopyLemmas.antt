@@ -6,8 +6,8 @@ use Rattle.std.proofs.lemmas.List.Sums.{sum_by-cons}
 use Rattle.no_std_io2_base.specs.declared.error.Error.{Error}
 use Rattle.no_std_io2_base.specs.declared.error.ErrorKind.{ErrorKind}
 use Rattle.no_std_io2_base.specs.Errors.{IsInterruption, IsFault}
-use Rattle.no_std_io2_base.specs.Events.{Event, byte, fails, events_of, bytes, HasNoFault, Reads}
-use Rattle.no_std_io2_base.specs.Writes.{Told, Moves, MovesFront, HasSpent}
+use Rattle.no_std_io2_base.specs.Read.{Event, byte, fails, events_of, bytes, HasNoFault, Reads}
+use Rattle.no_std_io2_base.specs.Write.{Told, Moves, MovesFront, HasSpent}
 use Rattle.no_std_io2_base.proofs.Events.{bytes-append, bytes-events_of, HasNoFault-append, HasNoFault-events_of}
 use Rattle.no_std_io2_base.proofs.MovesLemmas.{Moves-refl, Moves-then, Moves-steady}
 use Rattle.no_std_io2.specs.Copy.{counted, Copies, CopyMoves}

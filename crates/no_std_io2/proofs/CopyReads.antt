@@ -5,7 +5,7 @@ use Rattle.std.specs.Int.{div_ceil}
 use Rattle.std.proofs.Math.Nat.{add-mul, mul-le-mul_right}
 use Rattle.std.proofs.lemmas.Bool.{cases_lt}
 use Rattle.std.proofs.lemmas.Grind.{div_ceil_times}
-use Rattle.no_std_io2_base.specs.Events.{Event, events_of}
+use Rattle.no_std_io2_base.specs.Read.{Event, events_of}
 use Rattle.no_std_io2_base.proofs.Events.{length-events_of}
 
 -- the greater factor makes a multiple that is one factor further at least

@@ -4,8 +4,8 @@ use Rattle.std.proofs.Common.{refl, sym, ap, ◌∙◌, subst, arith, append_ass
 use Rattle.std.proofs.lemmas.Bool.Decides.{nat_tests}
 use Rattle.no_std_io2_base.specs.declared.error.Error.{Error}
 use Rattle.no_std_io2_base.specs.Errors.{IsInterruption, IsFault, IsOutOfMemory}
-use Rattle.no_std_io2_base.specs.Events.{Event, fails, events_of, bytes, HasNoFault, cut, Fills}
-use Rattle.no_std_io2_base.specs.Lending.{Lends, LendsFrom, LendingTurn}
+use Rattle.no_std_io2_base.specs.Read.{Event, fails, events_of, bytes, HasNoFault, cut, Fills}
+use Rattle.no_std_io2_base.specs.BufRead.{Lends, LendsFrom, LendingTurn}
 use Rattle.no_std_io2_base.proofs.Events as below
 use Rattle.no_std_io2_base.proofs.PieceLemmas as pieces
 use Rattle.no_std_io2.specs.Passing.{Passes, PassesOver, Gathered}

@@ -9,7 +9,7 @@ use Rattle.std.specs.List.{slice_range}
 use lib.Seq.{take-add, take-take}
 use Rattle.std.proofs.lemmas.Bool.Decides.{nat_tests}
 use Rattle.no_std_io2_base.specs.declared.error.Error.{Error}
-use Rattle.no_std_io2_base.specs.Writes.{Told, Moves, MovesFront, IsFront, taken, zero_write, call_mishap}
+use Rattle.no_std_io2_base.specs.Write.{Told, Moves, MovesFront, IsFront, taken, zero_write, call_mishap}
 use Rattle.no_std_io2_base.proofs.MovesLemmas.{IsFront-refl, IsFront-trans, Moves-then, Moves-ends}
 use Rattle.no_std_io2.proofs.BufWriterLemmas.{Moves-buffered, ok_same}
 use Rattle.no_std_io2.specs.BufWriter.{with_buffer}

@@ -5,12 +5,11 @@ use Rattle.std.proofs.Common.{length-take}
 use Rattle.std.proofs.lemmas.Bool.Decides.{nat_tests}
 use Rattle.std.proofs.lemmas.List.{get_or-drop, get_or-take, drop_all, take_min, take-take, get_or_default}
 use Rattle.std.proofs.lemmas.List.Sums.{suffix_len_is}
-use Rattle.no_std_io2.specs.Lines.{HasNoNewline, IsLineState, HasNewline, IsLinesLen, unfinished_line, lines_len}
-use Rattle.no_std_io2.specs.Lines.{lines_or_all, held_tail}
+use Rattle.no_std_io2.specs.Lines.{HasNoNewline, IsLineState, HasNewline, IsLinesLen, unfinished_line, lines_len, lines_or_all, held_tail}
 use Rattle.no_std_io2.specs.LineWriter.{WritesLines}
 use Rattle.std.specs.List.{slice_range}
 use Rattle.no_std_io2_base.specs.declared.error.ErrorKind.{ErrorKind}
-use Rattle.no_std_io2_base.specs.Writes.{Told, Moves}
+use Rattle.no_std_io2_base.specs.Write.{Told, Moves}
 use Rattle.no_std_io2_base.proofs.MovesLemmas.{Moves-then, Moves-quiet}
 use Rattle.no_std_io2.proofs.LineWriterLemmas.{IsLineState-plain, HasNoNewline-take}
 

@@ -4,7 +4,7 @@ use Rattle.std.specs.List.{concat}
 use Rattle.std.specs.Result.{OnOk}
 use Rattle.no_std_io2_base.specs.declared.error.Error.{Error}
 use Rattle.no_std_io2_base.specs.declared.error.ErrorKind.{ErrorKind}
-use Rattle.no_std_io2_base.specs.Writes.{Told, Moves, MovesFront, MovesEach, Sends, call_mishap}
+use Rattle.no_std_io2_base.specs.Write.{Told, Moves, MovesFront, MovesEach, Sends, call_mishap}
 use Rattle.no_std_io2_base.proofs.MovesLemmas as calls
 pub use Rattle.no_std_io2_base.proofs.MovesLemmas.{Moves-refl, Moves-quiet, Moves-steady}
 use Rattle.no_std_io2.specs.declared.buffered.buf_writer.BufWriter.{BufWriter}

@@ -8,16 +8,15 @@ use Rattle.no_std_io2_base.specs.declared.error.Error.{Error}
 use Rattle.no_std_io2_base.specs.declared.traits.seek.SeekFrom.{SeekFrom}
 use Rattle.no_std_io2_base.specs.declared.traits.seek.SeekFrom.TheVariants.{Start, Current}
 use Rattle.no_std_io2_base.specs.Errors.{IsFault, IsOutOfMemory}
-use Rattle.no_std_io2_base.specs.Slices.{HasMoved}
-use Rattle.no_std_io2_base.specs.Writes.{IsFront}
-use Rattle.no_std_io2_base.specs.Events.{Event, events_of, fails, ReadsExact, bytes}
+use Rattle.no_std_io2_base.specs.Cursor.{HasMoved}
+use Rattle.no_std_io2_base.specs.Write.{IsFront}
+use Rattle.no_std_io2_base.specs.Read.{Event, events_of, fails, ReadsExact, bytes, bytes-events_of}
 use Rattle.no_std_io2.specs.contracts.buffered.buf_reader.BufReader.{the_row as reader-row}
 use Rattle.no_std_io2.specs.declared.buffered.buf_reader.BufReader.{BufReader}
 use Rattle.no_std_io2.specs.Buffer.{buffer_held, buffer_behind, IsEnd, IsSound}
 use Rattle.std.proofs.Common.{ap, sym, ◌∙◌, arith, length-drop, take-append-drop}
 use Rattle.std.proofs.lemmas.List.{drop-drop, drop-take}
 use lib.Seq.{take-append-le}
-use Rattle.no_std_io2_base.specs.Laws.{bytes-events_of}
 use Rattle.no_std_io2_base.proofs.Events.{events_of-append, bytes-append}
 
 -- `r.buffer()`

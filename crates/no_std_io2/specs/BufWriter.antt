@@ -3,7 +3,7 @@
 use Rattle.std.specs.Prelude.{◌≡◌, ℕ, ◌+◌, List, [], ◌++◌, length, nat_lt, nat_le, ◌&&◌, if◌then◌else◌, ◌<◌, ◌≤◌, ◌⊎◌, ◌∷◌, take, Some}
 use Rattle.std.specs.Prelude.{Result, Ok, IsOk, IsOkAnd, IfOk, IfErr, OnOk, OnErr}
 use Rattle.no_std_io2_base.specs.declared.error.Error.{Error}
-use Rattle.no_std_io2_base.specs.Writes.{Told, IsFront, Moves, MovesFront, Sends, taken, write_mishap, call_mishap, calls_for}
+use Rattle.no_std_io2_base.specs.Write.{Told, IsFront, Moves, MovesFront, Sends, taken, write_mishap, call_mishap, calls_for}
 use Rattle.no_std_io2.specs.Buffer.{buffer_held, IsEnd}
 use Rattle.no_std_io2.specs.declared.buffered.sender.Sender.{Sender}
 use Rattle.no_std_io2.specs.declared.buffered.buf_writer.BufWriter.{BufWriter}

@@ -1,7 +1,7 @@
 -- Bytes that are held inside an array, and those that lie behind them.
 use Rattle.std.specs.Prelude.{◌≡◌, ℕ, ℤ, pos, negsuc, ◌+◌, ◌-◌, ◌≤◌, List, [], ◌∷◌, ◌++◌, length, take, drop, slice_range, Ok, Err, Result}
 use Rattle.no_std_io2_base.specs.declared.error.Error.{Error}
-use Rattle.no_std_io2_base.specs.Events.{Event, events_of, fails}
+use Rattle.no_std_io2_base.specs.Read.{Event, events_of, fails}
 use Rattle.no_std_io2_base.specs.Seek.{IsAtOffset}
 use Rattle.no_std_io2.specs.declared.buffered.buffer.Buffer.{Buffer}
 

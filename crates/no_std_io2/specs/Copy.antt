@@ -3,8 +3,8 @@ use Rattle.std.specs.Prelude.{◌≡◌, ℕ, ◌+◌, ◌-◌, ◌^◌, ◌≤�
 use Rattle.std.specs.Int.{div_ceil}
 use Rattle.no_std_io2_base.specs.declared.error.Error.{Error}
 use Rattle.no_std_io2_base.specs.Errors.{error_kind}
-use Rattle.no_std_io2_base.specs.Events.{Event, bytes, HasNoFault, EndsInFault}
-use Rattle.no_std_io2_base.specs.Writes.{Told, Moves, IsFront}
+use Rattle.no_std_io2_base.specs.Read.{Event, bytes, HasNoFault, EndsInFault}
+use Rattle.no_std_io2_base.specs.Write.{Told, Moves, IsFront}
 
 -- the number of bytes, up to the greatest `u64`
 abbrev pub counted : List ℕ → ℕ

@@ -1,7 +1,7 @@
 -- What a clause reads of a `LineWriter`, and of what it stands on.
 use Rattle.std.specs.Prelude.{ℕ, List, ◌≡◌, ◌+◌, ◌<◌, ◌≤◌, [], ◌++◌, length, take}
 use Rattle.no_std_io2.specs.declared.buffered.line_writer.state.LineSender.{LineSender}
-use Rattle.no_std_io2_base.specs.Writes.{Told, Moves}
+use Rattle.no_std_io2_base.specs.Write.{Told, Moves}
 use Rattle.no_std_io2.specs.declared.buffered.line_writer.LineWriter.{LineWriter}
 use denote.Param.{param, number}
 use denote.RattleType.{RattleType}

@@ -2,7 +2,7 @@
 use Rattle.std.specs.Prelude.{◌≡◌, ◌⊎◌, ℕ, ◌+◌, List, [], ◌∷◌, ◌++◌, length, Result, Ok, Err}
 use Rattle.no_std_io2_base.specs.declared.error.Error.{Error}
 use Rattle.no_std_io2_base.specs.Errors.{IsFault, IsUnexpectedEnd}
-use Rattle.no_std_io2_base.specs.Events.{Event, fails, bytes, HasNoFault}
+use Rattle.no_std_io2_base.specs.Read.{Event, fails, bytes, HasNoFault}
 
 -- A front of E is gone that has no fault and these bytes.
 pub record Passes (E : List Event) (taken : List ℕ) (after : List Event) : Type 0 where

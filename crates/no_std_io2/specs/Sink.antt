@@ -1,6 +1,6 @@
 -- What a clause reads of a `Sink`.
 use Rattle.std.specs.Prelude.{ℕ, List, [], Some}
-use Rattle.no_std_io2_base.specs.Writes.{Told}
+use Rattle.no_std_io2_base.specs.Write.{Told}
 use Rattle.no_std_io2.specs.declared.util.sink.Sink.{Sink}
 
 -- the bytes that it took

@@ -1,11 +1,10 @@
 //! Pins what each type tells: with a member that tells nothing, every promise over it would be empty and still be proved.
 ghost use Rattle.std.specs.Prelude.{◌≡◌, ◌+◌, ◌-◌, ◌<◌, ◌≤◌, min, nat_lt, if◌then◌else◌, [], length, drop, ◌++◌, Some, IsOk, IfOk, OnOk, IsOkAnd};
-ghost use Rattle.no_std_io2_base.specs.Events.{events_of};
-ghost use Rattle.no_std_io2_base.specs.Lending.{BeginsWith};
-ghost use Rattle.no_std_io2_base.specs.Writes.{Told};
+ghost use Rattle.no_std_io2_base.specs.Read.{events_of};
+ghost use Rattle.no_std_io2_base.specs.BufRead.{BeginsWith};
+ghost use Rattle.no_std_io2_base.specs.Write.{Told};
 ghost use Rattle.no_std_io2.specs.Buffer.{IsInBuffer, MovesEvents, IsSound};
-ghost use Rattle.no_std_io2.specs.BufWriter.{writer_inner, writer_buffer, writer_told, with_buffer, buffer_after};
-ghost use Rattle.no_std_io2.specs.BufWriter.{WriterSeeks};
+ghost use Rattle.no_std_io2.specs.BufWriter.{writer_inner, writer_buffer, writer_told, with_buffer, buffer_after, WriterSeeks};
 ghost use Rattle.no_std_io2.specs.BufReader.{reader_held, reader_behind, reader_inner, reader_is_sound, ReaderSeeks};
 ghost use Rattle.no_std_io2.specs.LineWriter.{line_inner, line_buffer};
 ghost use Rattle.no_std_io2.specs.Sink.{sink_taken};

@@ -2,7 +2,7 @@
 use Rattle.std.proofs.Common.{◌≡◌, ℕ, zero, suc, ◌+◌, ◌-◌, ◌<◌, ◌≤◌, List, [], ◌∷◌, ◌++◌, Ok, length, take, sym, ap}
 use Rattle.std.proofs.Common.{◌∙◌, refl, subst, arith, append_assoc, length-append, length-take-le}
 use Rattle.no_std_io2_base.specs.declared.error.Error.{Error}
-use Rattle.no_std_io2_base.specs.Events.{Event, fails, events_of, bytes, cut, Reads}
+use Rattle.no_std_io2_base.specs.Read.{Event, fails, events_of, bytes, cut, Reads}
 use Rattle.no_std_io2_base.specs.Take.{TakesAlong}
 use Rattle.no_std_io2_base.proofs.Events.{bytes-append, bytes-events_of, cut-bytes}
 

@@ -4,9 +4,8 @@ use Rattle.std.specs.Borrow.{Bor}
 use Rattle.std.specs.declared.dyn_box.DynBox.{DynBox}
 use Rattle.no_std_io2_base.specs.declared.error.Error.{Error}
 use Rattle.no_std_io2_base.specs.Errors.{IsNoInterruption}
-use Rattle.no_std_io2_base.specs.Events.{Event, ReadsExact}
-use Rattle.no_std_io2_base.specs.Lending.{IsNotEmpty, BeginsWith, LendsFrom, LendingTurn}
-use Rattle.no_std_io2_base.specs.ReadLaws.{ReadExactLaw}
+use Rattle.no_std_io2_base.specs.Read.{Event, ReadsExact, ReadExactLaw}
+use Rattle.no_std_io2_base.specs.BufRead.{IsNotEmpty, BeginsWith, LendsFrom, LendingTurn}
 use Rattle.no_std_io2_base.proofs.Readers.{box_reader}
 
 module _ {I A : Type 0} {V : I → Type 0} (tells : ((x : I) × V x) → Type 0) (events : ((x : I) × V x) → List Event)

@@ -7,9 +7,8 @@ use Rattle.std.proofs.lemmas.Bool.{cases_lt}
 use Rattle.no_std_io2_base.specs.declared.error.Error.{Error}
 use Rattle.no_std_io2_base.specs.declared.traits.chain.Chain.{Chain}
 use Rattle.no_std_io2_base.specs.Errors.{error_kind, is_interruption}
-use Rattle.no_std_io2_base.specs.Events.{Event, byte, fails, events_of, bytes, HasNoFault, FillsRoom, Reads, SpendsTurn}
-use Rattle.no_std_io2_base.specs.Pieces.{bytes_to_fault, first_fault}
-use Rattle.no_std_io2_base.specs.ReadLaws.{HasRoom}
+use Rattle.no_std_io2_base.specs.Read.{Event, byte, fails, events_of, bytes, HasNoFault, FillsRoom, Reads, SpendsTurn}
+use Rattle.no_std_io2_base.specs.Read.{bytes_to_fault, first_fault, HasRoom}
 use Rattle.no_std_io2_base.specs.Chain.{chain_events, chain_tells, InTurn}
 use Rattle.no_std_io2_base.proofs.Events.{length-events_of}
 use Rattle.no_std_io2_base.proofs.GivenPieces.{first_fault-append, bytes_to_fault-append}

@@ -12,7 +12,7 @@ use Rattle.no_std_io2_base.specs.declared.error.Error.{Error}
 use Rattle.no_std_io2_base.specs.declared.error.ErrorKind.{ErrorKind}
 use Rattle.no_std_io2_base.specs.declared.error.ErrorKind.TheVariants.{WriteZero}
 use Rattle.no_std_io2_base.specs.Errors.{error_kind, is_interruption, IsFault, IsNoInterruption, IsOutOfMemory}
-use Rattle.no_std_io2_base.specs.Writes.{Moves, MovesFront, told_out, taken, write_mishap, zero_write}
+use Rattle.no_std_io2_base.specs.Write.{Moves, MovesFront, told_out, taken, write_mishap, zero_write}
 use Rattle.no_std_io2_base.specs.Cursor.{bytes_before, put_at, put_over, fitting, IsRefusal, PutsWhole, PutsAll, PutsFitting}
 
 -- n bytes further on

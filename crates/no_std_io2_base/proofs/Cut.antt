@@ -3,7 +3,7 @@ use Rattle.std.proofs.Common.{◌≡◌, ℕ, zero, suc, ◌-◌, ◌<◌, ◌�
 use Rattle.std.proofs.Common.{ap, ◌∙◌, arith, drop, ◌+◌, length-take, length-take-le, length-append, length-drop}
 use lib.Seq.{take-append-le}
 use Rattle.no_std_io2_base.specs.declared.error.Error.{Error}
-use Rattle.no_std_io2_base.specs.Events.{Event, fails, events_of, bytes, cut, Reads}
+use Rattle.no_std_io2_base.specs.Read.{Event, fails, events_of, bytes, cut, Reads}
 use Rattle.no_std_io2_base.proofs.Events.{cut-bytes, length-events_of}
 
 cut-none : (k : ℕ) → cut k [] ≡ []

@@ -5,7 +5,7 @@ use Rattle.std.proofs.lemmas.Slice.{take-put_mid_below}
 use borrow.Rule.Slice.PartMut.{put_mid}
 use Rattle.no_std_io2_base.specs.declared.error.Error.{Error}
 use Rattle.no_std_io2_base.specs.Errors.{is_interruption, IsInterruption, IsFault, IsUnexpectedEnd}
-use Rattle.no_std_io2_base.specs.ReadLaws.{Reader, GoesOn, ReadLaw, ReadExactLaw}
+use Rattle.no_std_io2_base.specs.Read.{Reader, GoesOn, ReadLaw, ReadExactLaw}
 use Rattle.no_std_io2_base.proofs.Parts.{take-put_mid}
 use Rattle.no_std_io2_base.proofs.ReadExactExits.{length_stays, short_before, some_part, some_bytes, within_part}
 use Rattle.no_std_io2_base.proofs.ReadExactExits.{le_same, exact_short, exact_done}

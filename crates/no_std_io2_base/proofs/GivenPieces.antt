@@ -3,9 +3,8 @@ use Rattle.std.proofs.Common.{◌≡◌, ℕ, ◌<◌, ◌⊎◌, true, false, c
 use Rattle.std.proofs.Common.{◌++◌, length, filter, refl, sym, ap, ap₂, ◌∙◌, subst, arith, append-nil, append_assoc}
 use Rattle.std.proofs.Common.{eq-eqb, ne_eqb, inl, inr, length-append, drop_of_length-le}
 use Rattle.no_std_io2_base.specs.declared.error.Error.{Error}
-use Rattle.no_std_io2_base.specs.Events.{Event, byte, fails, bytes, HasNoFault, EndsInFault}
-use Rattle.no_std_io2_base.specs.Pieces.{Lacks, ends_in, in_front, pieces, GivesPiece, bytes_to_fault, first_fault}
-use Rattle.no_std_io2_base.specs.Pieces.{pieces_before, pieces_given}
+use Rattle.no_std_io2_base.specs.Read.{Event, byte, fails, bytes, HasNoFault, EndsInFault, bytes_to_fault, first_fault}
+use Rattle.no_std_io2_base.specs.Pieces.{Lacks, ends_in, in_front, pieces, GivesPiece, pieces_before, pieces_given}
 use Rattle.no_std_io2_base.proofs.Events.{bytes-append}
 use Rattle.no_std_io2_base.proofs.PieceLaws.{pieces-at, pieces-other}
 

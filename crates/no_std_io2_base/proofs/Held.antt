@@ -1,8 +1,8 @@
 -- What is held stands at the front of the events.
 use Rattle.std.proofs.Common.{◌≡◌, ℕ, zero, suc, ◌≤◌, ◌==◌, true, List, [], ◌∷◌, ◌++◌, length, take, refl, sym, ap, ◌∙◌, arith}
 use Rattle.std.proofs.Common.{append_assoc, append-nil}
-use Rattle.no_std_io2_base.specs.Events.{Event, byte, events_of, cut}
-use Rattle.no_std_io2_base.specs.Lending.{BeginsWith}
+use Rattle.no_std_io2_base.specs.Read.{Event, byte, events_of, cut}
+use Rattle.no_std_io2_base.specs.BufRead.{BeginsWith}
 
 -- the events that are these bytes begin with all of them
 pub begins_whole : (bs : List ℕ) → BeginsWith (events_of bs) bs

@@ -8,7 +8,7 @@ use Rattle.std.specs.List.{concat}
 use Rattle.std.specs.Result.{OnOk}
 use Rattle.no_std_io2_base.specs.declared.error.Error.{Error}
 use Rattle.no_std_io2_base.specs.Errors.{is_interruption}
-use Rattle.no_std_io2_base.specs.Writes.{Told, IsFront, HasSpent, Moves, MovesFront, MovesEach, Sends, zero_write}
+use Rattle.no_std_io2_base.specs.Write.{Told, IsFront, HasSpent, Moves, MovesFront, MovesEach, Sends, zero_write}
 
 -- a list is a front of itself
 pub IsFront-refl : (xs : List ℕ) → IsFront xs xs

@@ -8,10 +8,10 @@ use Rattle.std.proofs.lemmas.List.Elements.{recursion_from_All}
 use Rattle.std.specs.List.{AllWithin}
 use Rattle.std.specs.Borrow.{Bor}
 use Rattle.no_std_io2_base.specs.declared.error.Error.{Error}
-use Rattle.no_std_io2_base.specs.Lending.{BeginsWith, Lends, LendsFrom, LendingTurn}
-use Rattle.no_std_io2_base.specs.Writes.{IsFront}
+use Rattle.no_std_io2_base.specs.BufRead.{BeginsWith, Lends, LendsFrom, LendingTurn}
+use Rattle.no_std_io2_base.specs.Write.{IsFront}
 use Rattle.no_std_io2_base.specs.Errors.{is_interruption, IsInterruption, IsFault, IsOutOfMemory}
-use Rattle.no_std_io2_base.specs.Events.{Event, byte, fails, events_of, bytes, HasNoFault}
+use Rattle.no_std_io2_base.specs.Read.{Event, byte, fails, events_of, bytes, HasNoFault}
 use Rattle.no_std_io2_base.specs.Pieces.{Lacks, EndsPiece, FindsPiece, GivesPiece, IsByteNext, StopsInPiece}
 use Rattle.no_std_io2_base.proofs.Events.{bytes-append, bytes-events_of, events_of-append, HasNoFault-append, HasNoFault-events_of}
 

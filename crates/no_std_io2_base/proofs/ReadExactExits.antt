@@ -4,7 +4,7 @@ use Rattle.std.proofs.Common.{take_all, length-take, length-drop}
 use borrow.Rule.Slice.PartMut.{put_mid, same_len_mid}
 use Rattle.no_std_io2_base.specs.declared.error.Error.{Error}
 use Rattle.no_std_io2_base.specs.Errors.{IsUnexpectedEnd}
-use Rattle.no_std_io2_base.specs.Events.{Event, Reads, Fills, FallsShort}
+use Rattle.no_std_io2_base.specs.Read.{Event, Reads, Fills, FallsShort}
 use Rattle.no_std_io2_base.proofs.Taken.{Taken, taken_fills, taken_short}
 use Rattle.no_std_io2_base.proofs.TakenToEnd.{nothing_read}
 

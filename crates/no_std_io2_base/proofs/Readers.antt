@@ -6,8 +6,7 @@ use Rattle.no_std_io2_base.specs.declared.traits.stored.Stored.{Ghosts as Stores
 use Rattle.no_std_io2_base.specs.declared.traits.chain.Chain.{Chain}
 use Rattle.no_std_io2_base.specs.declared.traits.take.Take.{Take}
 use Rattle.no_std_io2_base.specs.Chain.{chain_tells, chain_events, chain_turns}
-use Rattle.no_std_io2_base.specs.Events.{Event, events_of}
-use Rattle.no_std_io2_base.specs.ReadLaws.{Reader}
+use Rattle.no_std_io2_base.specs.Read.{Event, events_of, Reader}
 use Rattle.no_std_io2_base.specs.Take.{take_inner, take_events}
 
 -- the members of a bound

@@ -3,7 +3,7 @@ use Rattle.std.proofs.Common.{◌≡◌, ℕ, ◌+◌, ◌-◌, ◌<◌, ◌≤�
 use Rattle.std.proofs.Common.{sym, ap, subst, ◌∙◌, arith, take_all, length-take, length-take-le, length-drop}
 use lib.Seq.{take-take}
 use Rattle.no_std_io2_base.specs.declared.error.Error.{Error}
-use Rattle.no_std_io2_base.specs.Events.{Event, given, Reads, ReadsToEnd}
+use Rattle.no_std_io2_base.specs.Read.{Event, given, Reads, ReadsToEnd}
 use Rattle.no_std_io2_base.proofs.Gathered.{Gathered, gathered_end}
 use Rattle.no_std_io2_base.proofs.Taken.{moved_read}
 

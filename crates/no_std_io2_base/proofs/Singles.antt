@@ -2,8 +2,7 @@
 use Rattle.std.proofs.Common.{◌≡◌, List, [], ◌∷◌, ◌++◌, refl, sym, ap, ◌∙◌, append_assoc, append-nil}
 use Rattle.no_std_io2_base.specs.declared.error.Error.{Error}
 use Rattle.no_std_io2_base.specs.Errors.{IsInterruption}
-use Rattle.no_std_io2_base.specs.Events.{Event, fails, bytes}
-use Rattle.no_std_io2_base.specs.SingleBytes.{IsInterruptionsAlone}
+use Rattle.no_std_io2_base.specs.Read.{Event, fails, bytes, IsInterruptionsAlone}
 use Rattle.no_std_io2_base.proofs.Events.{bytes-append, HasNoFault-append}
 
 -- interruptions alone are gone from E

@@ -5,10 +5,8 @@ use Rattle.std.proofs.Math.Seq.{drop-append_seam}
 use Rattle.std.proofs.lemmas.List.{length-append, take_at}
 use Rattle.no_std_io2_base.specs.declared.error.Error.{Error}
 use Rattle.no_std_io2_base.specs.Errors.{IsOutOfMemory}
-use Rattle.no_std_io2_base.specs.Events.{events_of, bytes, HasNoFault, ReadsToEnd}
-use Rattle.no_std_io2_base.specs.Pieces.{bytes_to_fault}
-use Rattle.no_std_io2_base.specs.ReadLaws.{HasRoom}
-use Rattle.no_std_io2_base.specs.Slices.{HasMoved}
+use Rattle.no_std_io2_base.specs.Read.{events_of, bytes, HasNoFault, ReadsToEnd, bytes_to_fault, HasRoom}
+use Rattle.no_std_io2_base.specs.Cursor.{HasMoved}
 use Rattle.no_std_io2_base.proofs.CursorLemmas.{left_after}
 use Rattle.no_std_io2_base.proofs.Events.{HasNoFault-events_of, bytes-events_of, events_of-append, length-events_of}
 

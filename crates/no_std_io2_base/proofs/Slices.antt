@@ -2,8 +2,7 @@
 use Rattle.std.proofs.Common.{◌≡◌, ℕ, ◌-◌, ◌<◌, min, List, ◌++◌, length, take, drop, sym, ap, ◌∙◌, subst, arith, Ok}
 use Rattle.std.proofs.Common.{append-nil, take-append-drop, drop_of_length-le}
 use Rattle.std.proofs.lemmas.List.{take_rest, drop_min}
-use Rattle.no_std_io2_base.specs.Laws.{bytes-events_of}
-use Rattle.no_std_io2_base.specs.Events.{events_of, bytes, HasNoFault, cut, Reads, Fills}
+use Rattle.no_std_io2_base.specs.Read.{bytes-events_of, events_of, bytes, HasNoFault, cut, Reads, Fills}
 use Rattle.no_std_io2_base.proofs.Events.{events_of-append, HasNoFault-events_of, cut-bytes}
 
 -- all bytes, as events, are the first n of them and then the others

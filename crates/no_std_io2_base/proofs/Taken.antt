@@ -3,7 +3,7 @@ use Rattle.std.proofs.Common.{◌≡◌, ℕ, ◌+◌, ◌-◌, ◌<◌, ◌≤�
 use Rattle.std.proofs.Common.{arith, Ok, length-take-le, append_assoc, append-nil, inl, length-append}
 use Rattle.no_std_io2_base.specs.declared.error.Error.{Error}
 use Rattle.no_std_io2_base.specs.Errors.{IsInterruption, IsFault, IsUnexpectedEnd}
-use Rattle.no_std_io2_base.specs.Events.{Event, fails, events_of, bytes, HasNoFault, cut, Reads, Fills, FallsShort, StopsAtFault}
+use Rattle.no_std_io2_base.specs.Read.{Event, fails, events_of, bytes, HasNoFault, cut, Reads, Fills, FallsShort, StopsAtFault}
 use Rattle.no_std_io2_base.proofs.Events.{bytes-append, bytes-events_of, length-events_of, HasNoFault-append}
 use Rattle.no_std_io2_base.proofs.Events.{HasNoFault-events_of, cut-append, cut-bytes}
 

@@ -2,7 +2,7 @@
 use Rattle.std.proofs.Common.{◌≡◌, ℕ, ◌+◌, ◌-◌, ◌<◌, ◌≤◌, List, [], ◌∷◌, Result, Ok, length, refl, sym, ap, subst, ◌∙◌, arith, le_refl}
 use Rattle.no_std_io2_base.specs.declared.error.Error.{Error}
 use Rattle.no_std_io2_base.specs.declared.traits.take.Take.{Take}
-use Rattle.no_std_io2_base.specs.Events.{Event, given, cut, Reads, ReadsToEnd}
+use Rattle.no_std_io2_base.specs.Read.{Event, given, cut, Reads, ReadsToEnd}
 use Rattle.no_std_io2_base.specs.Take.{take_inner, take_limit, take_events, TakesAlong}
 use Rattle.no_std_io2_base.proofs.Along.{along_none}
 use Rattle.no_std_io2_base.proofs.Gathered.{Gathered, gathered_end}

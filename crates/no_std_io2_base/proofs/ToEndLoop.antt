@@ -3,7 +3,7 @@ use Rattle.std.proofs.Common.{◌≡◌, ℕ, ◌+◌, ◌-◌, ◌<◌, ◌≤�
 use Rattle.std.proofs.Common.{arith, le_refl, le_trans, length-take, length-drop, Vec, vec_len, vec_capacity}
 use Rattle.no_std_io2_base.specs.declared.error.Error.{Error}
 use Rattle.no_std_io2_base.specs.Errors.{IsInterruption, IsFault, IsOutOfMemory}
-use Rattle.no_std_io2_base.specs.ReadLaws.{Reader, GoesOn, ReadLaw, ReadToEndLaw}
+use Rattle.no_std_io2_base.specs.Read.{Reader, GoesOn, ReadLaw, ReadToEndLaw}
 use Rattle.no_std_io2_base.proofs.Gathered.{Gathered, gathered_none, gathered_same, gathered_read, gathered_interruption}
 use Rattle.no_std_io2_base.proofs.Gathered.{gathered_fault, gathered_first_fault, gathered_memory, gathered_fits}
 use Rattle.no_std_io2_base.proofs.Parts.{written, take-written, take-written_below, take-stays}

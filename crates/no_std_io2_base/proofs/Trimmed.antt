@@ -3,9 +3,8 @@ use Rattle.std.proofs.Common.{◌≡◌, ℕ, zero, suc, ◌-◌, ◌<◌, ◌==
 use Rattle.std.proofs.Common.{take, get_or, sym, ap, ◌∙◌, subst, arith, eq-eqb, ne_eqb, Result, Ok, Err, Some, IfOk}
 use Rattle.std.proofs.Common.{IfErr, IsUtf8, inr}
 use Rattle.no_std_io2_base.specs.declared.error.Error.{Error}
-use Rattle.no_std_io2_base.specs.Events.{Event}
-use Rattle.no_std_io2_base.specs.Pieces.{ends_in, but_last, without, line_text, GivesPiece}
-use Rattle.no_std_io2_base.specs.PieceItems.{IsInvalidText, RefusesLine, YieldsPiece}
+use Rattle.no_std_io2_base.specs.Read.{Event}
+use Rattle.no_std_io2_base.specs.Pieces.{ends_in, but_last, without, line_text, GivesPiece, IsInvalidText, RefusesLine, YieldsPiece}
 
 -- the last byte, by its place
 ends_in-at : (d d' : ℕ) (bs : List ℕ) (k : ℕ) → length bs ≡ suc k → ends_in d bs ≡ (get_or bs k d' == d)

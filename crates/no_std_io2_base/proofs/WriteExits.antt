@@ -8,7 +8,7 @@ use Rattle.no_std_io2_base.specs.declared.error.Error.{Error}
 use Rattle.no_std_io2_base.specs.declared.error.ErrorKind.{ErrorKind}
 use Rattle.no_std_io2_base.specs.declared.error.ErrorKind.TheVariants.{WriteZero}
 use Rattle.no_std_io2_base.specs.Errors.{error_kind, is_interruption, IsInterruption}
-use Rattle.no_std_io2_base.specs.Writes.{Told, Moves, Sends, taken, write_mishap, zero_write, calls_for}
+use Rattle.no_std_io2_base.specs.Write.{Told, Moves, Sends, taken, write_mishap, zero_write, calls_for}
 use Rattle.no_std_io2_base.proofs.MovesLemmas.{Moves-more, Moves-ends, Moves-refl}
 
 -- what a loop of writes has sent so far of `start`

@@ -1,7 +1,7 @@
 -- What a clause reads of a `Chain`.
 use Rattle.std.specs.Prelude.{◌≡◌, ℕ, ◌+◌, true, false, Bool, List, [], ◌++◌, if◌then◌else◌}
 use Rattle.no_std_io2_base.specs.declared.traits.chain.Chain.{Chain}
-use Rattle.no_std_io2_base.specs.Events.{Event}
+use Rattle.no_std_io2_base.specs.Read.{Event}
 
 -- `c.into_inner().0`
 abbrev pub chain_first : {T U : Type 0} → Chain T U → T

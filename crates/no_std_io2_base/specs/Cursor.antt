@@ -1,6 +1,6 @@
 -- What a clause reads of a `Cursor`.
-use Rattle.std.specs.Prelude.{◌≡◌, ℕ, ◌+◌, ◌-◌, ◌^◌, ◌<◌, ◌≤◌, ◌⊎◌, List, ◌++◌, length, take, drop, replicate, codes}
-use Rattle.std.specs.Prelude.{None, Some, Ok, Err, Result, OnOk, OnErr, IfErr}
+use Rattle.std.specs.Prelude.{◌≡◌, ℕ, ◌+◌, ◌-◌, ◌^◌, ◌<◌, ◌≤◌, ◌⊎◌, List, ◌++◌, length, take, drop, replicate, codes, None, Some, Ok, Err}
+use Rattle.std.specs.Prelude.{Result, OnOk, OnErr, IfErr}
 use Rattle.no_std_io2_base.specs.declared.cursor.Cursor.{Cursor}
 use Rattle.no_std_io2_base.specs.declared.error.Error.{Error}
 use Rattle.no_std_io2_base.specs.declared.error.ErrorKind.TheVariants.{InvalidInput, OutOfMemory}
@@ -77,3 +77,7 @@ pub record IsPut (bs : List ℕ) (capacity place : ℕ) (x : List ℕ) (reply : 
   pub refused : IfErr reply (IsRefusal place x)
   pub same : OnErr reply (bs' ≡ bs)
   pub full : OnErr reply (capacity < place + length x)
+
+-- some bytes went from the front of a slice to the end of a vector
+abbrev pub HasMoved : List ℕ → List ℕ → List ℕ → List ℕ → Type 0
+HasMoved rest rest' items items' = (part : List ℕ) × (rest ≡ part ++ rest') × (items' ≡ items ++ part)

@@ -1,5 +1,5 @@
--- Where a seek goes.
-use Rattle.std.specs.Prelude.{◌≡◌, ℕ, ℤ, pos, negsuc, ◌+◌, ◌^◌, ◌<◌, Ok, Err, Result}
+-- Where a seek goes, and the law of each call of `Seek`.
+use Rattle.std.specs.Prelude.{◌≡◌, ℕ, ℤ, pos, negsuc, ◌+◌, ◌^◌, ◌<◌, Ok, Err, Result, List, length, IfOk, IsOk, IsOkAnd}
 use Rattle.no_std_io2_base.specs.declared.error.Error.{Error}
 use Rattle.no_std_io2_base.specs.declared.traits.seek.SeekFrom.{SeekFrom}
 use Rattle.no_std_io2_base.specs.declared.traits.seek.SeekFrom.TheVariants.{Start, End, Current}
@@ -29,3 +29,45 @@ here = Current (pos 0)
 abbrev pub WithoutPosition : (Result ℕ Error → Type 0) → Result (Unit {0}) Error → Type 0
 WithoutPosition answers (Ok done) = (n : ℕ) × answers (Ok n)
 WithoutPosition answers (Err e) = answers (Err e)
+
+-- what a seeker tells, as `⟦<S as Seek>⟧` names it: the members of its store, and its own
+abbrev pub Seeker : Type 0 → Type 1
+Seeker X = record {
+  has_store : X → Type 0;
+  content : X → List ℕ;
+  position : X → ℕ;
+  may_seek : X → SeekFrom → X → Result ℕ Error → Type 0;
+}
+
+-- `seek(target)`
+pub record SeekLaw {X : Type 0} (S : Seeker X) (old : X) (target : SeekFrom) (reply : Result ℕ Error) (new : X) : Type 0 where
+  -- a told store keeps its content, and its position moves to the target, or stays where there is none
+  pub store : S.has_store old → S.has_store new × (S.content new ≡ S.content old)
+      × Seeks (length (S.content old)) (S.position old) target reply (S.position new)
+  -- the answer is the position
+  pub position : IfOk reply (λ n. S.has_store new → S.position new ≡ n)
+  -- it did what one seek of this type may do
+  pub sought : S.may_seek old target new reply
+
+-- `stream_position()`
+pub record StreamPositionLaw {X : Type 0} (S : Seeker X) (old : X) (reply : Result ℕ Error) (new : X) : Type 0 where
+  -- a told store stays as it is, and its position is the answer
+  pub store : S.has_store old → S.has_store new × (S.content new ≡ S.content old)
+      × (S.position new ≡ S.position old) × IsOkAnd reply (λ n. n ≡ S.position old)
+  -- the answer is the position
+  pub position : IfOk reply (λ n. S.has_store new → S.position new ≡ n)
+  -- it made one seek, of no distance
+  pub sought : S.may_seek old here new reply
+
+-- `rewind()`
+pub record RewindLaw {X : Type 0} (S : Seeker X) (old : X) (reply : Result (Unit {0}) Error) (new : X) : Type 0 where
+  -- a told store keeps its content, and its position is the start
+  pub store : S.has_store old → S.has_store new × (S.content new ≡ S.content old) × (S.position new ≡ 0) × IsOk reply
+  -- it made one seek, to the start
+  pub sought : WithoutPosition (S.may_seek old (Start 0) new) reply
+
+-- `stream_len()`
+pub record StreamLenLaw {X : Type 0} (S : Seeker X) (old : X) (reply : Result ℕ Error) (new : X) : Type 0 where
+  -- a told store stays as it is, and its length is the answer
+  pub store : S.has_store old → S.has_store new × (S.content new ≡ S.content old)
+      × (S.position new ≡ S.position old) × IsOkAnd reply (λ n. n ≡ length (S.content old))

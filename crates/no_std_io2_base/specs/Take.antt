@@ -1,7 +1,7 @@
 -- What a clause reads of a `Take`, and what its calls do.
 use Rattle.std.specs.Prelude.{◌≡◌, ℕ, ◌+◌, List, ◌++◌, length, take}
 use Rattle.no_std_io2_base.specs.declared.traits.take.Take.{Take}
-use Rattle.no_std_io2_base.specs.Events.{Event, bytes, cut}
+use Rattle.no_std_io2_base.specs.Read.{Event, bytes, cut}
 
 -- `t.limit()`
 abbrev pub take_limit : {T : Type 0} → Take T → ℕ

@@ -2,8 +2,7 @@
 //! [`ErrorKind`] and perhaps a static text.
 ghost use Rattle.std.specs.Prelude.{◌≡◌, Some, None};
 ghost use Rattle.std.specs.Option.{option_map};
-ghost use Rattle.no_std_io2_base.specs.Errors.{kind_text, error_kind, error_text, error_display, is_interruption};
-ghost use Rattle.no_std_io2_base.specs.Errors.{IsPlain, IsOutOfMemory};
+ghost use Rattle.no_std_io2_base.specs.Errors.{kind_text, error_kind, error_text, error_display, is_interruption, IsPlain, IsOutOfMemory};
 
 pub(crate) use crate::shared::{failed_to_fill, failed_to_write};
 use std::alloc::AllocError;

@@ -6,10 +6,9 @@ ghost use Rattle.std.specs.Prelude.{IsTrue, IsOk, IsOkAnd, IfOk, IfErr, IfSome, 
 ghost use Rattle.no_std_io2_base.specs.Chain.{chain_first, chain_second, chain_is_done};
 ghost use Rattle.no_std_io2_base.specs.Cursor.{cursor_inner, cursor_place};
 ghost use Rattle.no_std_io2_base.specs.Errors.{IsFault, error_display, kind_number};
-ghost use Rattle.no_std_io2_base.specs.Events.{events_of, cut};
-ghost use Rattle.no_std_io2_base.specs.SingleBytes.{bytes_reader, NextByte};
+ghost use Rattle.no_std_io2_base.specs.Read.{events_of, cut, bytes_reader, NextByte};
 ghost use Rattle.no_std_io2_base.specs.Take.{take_inner, take_limit};
-ghost use Rattle.no_std_io2_base.specs.Writes.{told_out};
+ghost use Rattle.no_std_io2_base.specs.Write.{told_out};
 
 use crate::cursor::{AsSlice, Cursor};
 use crate::error::{Error, ErrorKind, Result};

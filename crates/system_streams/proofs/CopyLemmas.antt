@@ -5,8 +5,8 @@ use Rattle.std.proofs.Common.{count_by, eq-eqb, if◌then◌else◌, refl}
 use Rattle.no_std_io2.specs.declared.io.ErrorKind.{ErrorKind}
 use Rattle.no_std_io2.specs.declared.io.Error.{Error}
 use Rattle.no_std_io2.specs.Errors.{error_kind, kind_number, is_interruption, IsInterruption, IsFault}
-use Rattle.no_std_io2.specs.Events.{Event, byte, fails, bytes, HasNoFault}
-use Rattle.no_std_io2.specs.Writes.{Told, Moves, HasSpent}
+use Rattle.no_std_io2.specs.Read.{Event, byte, fails, bytes, HasNoFault}
+use Rattle.no_std_io2.specs.Write.{Told, Moves, HasSpent}
 use Rattle.no_std_io2.proofs.MovesLemmas.{Moves-then, Moves-ends, Moves-steady}
 use Rattle.no_std_io2.specs.BufWriter.{with_buffer}
 use Rattle.no_std_io2.proofs.BufWriterLemmas.{Moves-bare}

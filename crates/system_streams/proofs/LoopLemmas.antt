@@ -10,7 +10,7 @@ use Rattle.std.proofs.lemmas.Slice.{take-put_mid_below}
 use Rattle.std.specs.Io.KnownBytes.{Appends, Consumes, Keeps, WriteAppends, ReadConsumes}
 use Rattle.no_std_io2.specs.declared.io.Error.{Error}
 use Rattle.no_std_io2.specs.Errors.{error_kind, is_interruption, IsInterruption, IsFault, IsUnwritten}
-use Rattle.no_std_io2.specs.Writes.{Sends, call_mishap, taken}
+use Rattle.no_std_io2.specs.Write.{Sends, call_mishap, taken}
 use Rattle.system_streams.specs.Turns.{Gives, AnswersRead, AnswersWrite, EndsReads, EndsWrites, IsOutOfTurns}
 use Rattle.system_streams.specs.Turns.{IsPlainInterruption, IsDeviceFault}
 

@@ -3,8 +3,8 @@ use Rattle.std.specs.Prelude.{◌≡◌, ℕ, ◌<◌, ◌==◌, List, [], ◌�
 use Rattle.no_std_io2.specs.declared.io.ErrorKind.{ErrorKind}
 use Rattle.no_std_io2.specs.declared.io.Error.{Error}
 use Rattle.no_std_io2.specs.Errors.{error_kind, kind_number, IsInterruption}
-use Rattle.no_std_io2.specs.Events.{Event, EndsInFault}
-use Rattle.no_std_io2.specs.Writes.{Told, Moves}
+use Rattle.no_std_io2.specs.Read.{Event, EndsInFault}
+use Rattle.no_std_io2.specs.Write.{Told, Moves}
 use Rattle.no_std_io2.specs.Copy.{counted}
 
 -- A writer accepted b without a mishap, and n counts it.

@@ -1,6 +1,6 @@
 -- What a clause reads of a `Patient`.
 use Rattle.std.specs.Prelude.{ℕ, List, [], None}
-use Rattle.no_std_io2.specs.Writes.{Told}
+use Rattle.no_std_io2.specs.Write.{Told}
 use Rattle.system_streams.specs.declared.patient.Patient.{Patient}
 
 -- `p.into_inner()`

@@ -1,9 +1,8 @@
 // The copy from a reader to a writer, with a buffer at each.
 ghost use Rattle.std.specs.Prelude.{◌≡◌, ◌⊎◌, [], Some, IfOk, IsOk, IfErr};
-ghost use Rattle.no_std_io2.specs.Events.{bytes, HasNoFault};
-ghost use Rattle.no_std_io2.specs.BufReader.{reader_inner, reader_events};
+ghost use Rattle.no_std_io2.specs.Read.{bytes, HasNoFault};
+ghost use Rattle.no_std_io2.specs.BufReader.{reader_inner, reader_events, BufReaderFits};
 ghost use Rattle.system_streams.specs.Copies.{Passes, PassesSome, HasFirstFault, HasFailed, MayFail};
-ghost use Rattle.no_std_io2.specs.BufReader.{BufReaderFits};
 ghost use Rattle.no_std_io2.specs.BufWriter.{BufWriterFits};
 ghost use Rattle.no_std_io2.specs.LineWriter.{LineWriterFits};
 

@@ -1,10 +1,9 @@
 // A reader or a writer of the system's, with a number of turns that bounds every loop over it.
 ghost use Rattle.std.specs.Prelude.{◌≡◌, ℕ, List, ◌+◌, ◌<◌, ◌≤◌, ◌⊎◌, ◌++◌, [], Ok, IsOk, IfOk, IfErr, IsErrAnd, length, OnOk};
 ghost use Rattle.std.specs.Io.KnownBytes.{ReadConsumes, WriteAppends, Keeps};
-ghost use Rattle.no_std_io2.specs.ReadLaws.{ReadLaw, ReadExactLaw};
+ghost use Rattle.no_std_io2.specs.Read.{ReadLaw, ReadExactLaw};
 ghost use Rattle.no_std_io2.specs.Errors.{IsNoInterruption, IsUnwritten, IsUnexpectedEnd};
-ghost use Rattle.no_std_io2.specs.WriteLaws.{WriteLaw, FlushLaw, WriteAllLaw, WriteRestLaw};
-ghost use Rattle.no_std_io2.specs.Writes.{taken};
+ghost use Rattle.no_std_io2.specs.Write.{WriteLaw, FlushLaw, WriteAllLaw, WriteRestLaw, taken};
 ghost use Rattle.system_streams.specs.Turns.{IsOutOfTurns, IsPlainInterruption, IsDeviceFault, AnswersRead};
 ghost use Rattle.system_streams.specs.Turns.{AnswersWrite, EndsReads, EndsWrites, Gives, Got};
 

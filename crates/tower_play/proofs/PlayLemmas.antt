@@ -2,7 +2,7 @@
 use Rattle.std.proofs.Common.{◌≡◌, ℕ, List, [], ◌∷◌, subst, Ok, Err, ◌∙◌}
 use Rattle.no_std_io2_base.specs.declared.error.Error.{Error}
 use Rattle.no_std_io2_base.specs.Errors.{error_kind}
-use Rattle.no_std_io2_base.specs.Writes.{Told, Moves, MovesFront}
+use Rattle.no_std_io2_base.specs.Write.{Told, Moves, MovesFront}
 use Rattle.no_std_io2_base.proofs.MovesLemmas.{Moves-ends}
 use Rattle.system_streams.specs.Copies.{MayFail}
 use Rattle.system_streams.proofs.CopyLemmas.{may_fail}

@@ -6,9 +6,8 @@ use Rattle.std.specs.Prelude.{min, is_some}
 use Rattle.std.specs.Option.{IfSome}
 use Rattle.no_std_io2_base.specs.declared.error.Error.{Error}
 use Rattle.no_std_io2_base.specs.Errors.{IsOutOfMemory}
-use Rattle.no_std_io2_base.specs.Events.{Event, fails}
-use Rattle.no_std_io2_base.specs.Pieces.{without}
-use Rattle.no_std_io2_base.specs.PieceItems.{YieldsPiece}
+use Rattle.no_std_io2_base.specs.Read.{Event, fails}
+use Rattle.no_std_io2_base.specs.Pieces.{without, YieldsPiece}
 use Rattle.io_bench.specs.PieceRuns.{GathersPieces}
 use Rattle.io_bench.proofs.PieceRunLemmas.{GatheredSoFar, gathered_to}
 use Rattle.system_streams.specs.Copies.{HasFirstFault}

@@ -1,12 +1,12 @@
 -- What a play does and prints.
 use Rattle.std.specs.Prelude.{◌≡◌, ℕ, List, []}
-use Rattle.no_std_io2_base.specs.Writes.{Told, Moves, told_out}
+use Rattle.no_std_io2_base.specs.Write.{Told, Moves, told_out}
 use Rattle.io_bench.specs.declared.faulty.Act.{Act}
 use Rattle.io_bench.specs.declared.runs.Op.{Op}
 use Rattle.io_bench.specs.declared.runs.Reply.{Reply}
 use Rattle.io_bench.specs.Faulty.{with_acts}
 use Rattle.io_bench.specs.Runs.{Ran}
-use Rattle.no_std_io2_base.specs.Events.{Event}
+use Rattle.no_std_io2_base.specs.Read.{Event}
 use Rattle.tower_play.specs.declared.script.Script.{Script}
 use Rattle.tower_play.specs.Calls.{AreCalls}
 use Rattle.tower_play.specs.Reading.{IsRead}

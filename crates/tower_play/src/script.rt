@@ -7,7 +7,7 @@ ghost use Rattle.tower_play.specs.Faults.{IsNumbered, IfIo, IfLine};
 ghost use Rattle.tower_play.specs.Script.{kind_name, IsCount, IsTextArgument, unescaped, Appends};
 ghost use Rattle.tower_play.specs.Calls.{IsNext, AreCalls, AddsText, IsFull};
 ghost use Rattle.tower_play.specs.Reading.{Adds, IsBadLine, IsRead, IsBadAt, LacksRoom};
-ghost use Rattle.no_std_io2_base.specs.PieceItems.{split_reader, split_delim, split_is_ended};
+ghost use Rattle.no_std_io2_base.specs.Pieces.{split_reader, split_delim, split_is_ended};
 ghost use Rattle.tower_play.specs.declared.script.Line.{Line as Said};
 ghost use Rattle.tower_play.specs.declared.script.Line.TheVariants.{Bad};
 ghost use Rattle.tower_play.specs.Lines.{Says, IsGood, text_step};

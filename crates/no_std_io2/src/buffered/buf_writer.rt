@@ -3,9 +3,9 @@ ghost use Rattle.std.specs.Prelude.{Some, ◌≡◌, ◌+◌, ◌<◌, ◌≤◌
 ghost use Rattle.std.specs.Prelude.{IsOkAnd, OnOk, OnErr, false};
 ghost use Rattle.std.specs.Borrow.{Lends, sem};
 ghost use Rattle.no_std_io2.specs.contracts.buffered.buf_writer.BufWriter.{the_row as writer-row};
-ghost use Rattle.no_std_io2_base.specs.WriteLaws.{WriteLaw, FlushLaw, WriteAllLaw};
+ghost use Rattle.no_std_io2_base.specs.Write.{WriteLaw, FlushLaw, WriteAllLaw};
 ghost use Rattle.no_std_io2_base.specs.Errors.{error_kind, IsFault, IsNoInterruption};
-ghost use Rattle.no_std_io2_base.specs.Writes.{Moves, MovesFront, taken, write_mishap, call_mishap, Sends, calls_for};
+ghost use Rattle.no_std_io2_base.specs.Write.{Moves, MovesFront, taken, write_mishap, call_mishap, Sends, calls_for};
 ghost use Rattle.no_std_io2.specs.BufWriter.{writer_inner, writer_buffer, writer_told, into_inner_error_writer};
 ghost use Rattle.no_std_io2.specs.BufWriter.{into_inner_error_cause, writing_calls, buffer_after, writer_with_inner};
 ghost use Rattle.no_std_io2.specs.Buffer.{IsEnd};

@@ -3,7 +3,7 @@ ghost use Rattle.std.specs.Prelude.{◌≡◌, ◌+◌, ◌-◌, ◌<◌, ◌≤
 ghost use Rattle.std.specs.Prelude.{vec_len, vec_capacity};
 ghost use Rattle.std.specs.Bool.{OnTrue, OnFalse};
 ghost use Rattle.no_std_io2_base.specs.Errors.{IsOutOfMemory};
-ghost use Rattle.no_std_io2_base.specs.Slices.{HasMoved};
+ghost use Rattle.no_std_io2_base.specs.Cursor.{HasMoved};
 
 use no_std_io2_base::error::Result;
 use no_std_io2_base::shared::{append_rest, copy_bytes};

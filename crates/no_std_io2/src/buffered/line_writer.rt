@@ -7,9 +7,9 @@ ghost use Rattle.no_std_io2.specs.Lines.{IsLineState, HasNoNewline, HasNewline, 
 ghost use Rattle.no_std_io2.specs.LineWriter.{line_inner, line_buffer, line_told, line_with_inner, WritesLines};
 ghost use Rattle.no_std_io2.specs.Buffer.{IsEnd};
 ghost use Rattle.no_std_io2.specs.BufWriter.{HoldsEnd, buffer_after, into_inner_error_writer, into_inner_error_cause};
-ghost use Rattle.no_std_io2_base.specs.WriteLaws.{WriteLaw, FlushLaw, WriteAllLaw};
+ghost use Rattle.no_std_io2_base.specs.Write.{WriteLaw, FlushLaw, WriteAllLaw};
 ghost use Rattle.no_std_io2_base.specs.Errors.{error_kind, IsFault, IsNoInterruption};
-ghost use Rattle.no_std_io2_base.specs.Writes.{Moves, MovesFront, taken, write_mishap, call_mishap, calls_for};
+ghost use Rattle.no_std_io2_base.specs.Write.{Moves, MovesFront, taken, write_mishap, call_mishap, calls_for};
 
 mod state;
 mod steps;

@@ -1,7 +1,7 @@
 // What a caller of `copy` knows over a writer that has no mishap to come. Nothing calls this: its
 // contract holds that of `copy` to what such a caller needs.
 ghost use Rattle.std.specs.Prelude.{◌≡◌, ◌<◌, ◌^◌, ◌++◌, length, [], Some, IsOk, IsOkAnd};
-ghost use Rattle.no_std_io2_base.specs.Events.{bytes, HasNoFault};
+ghost use Rattle.no_std_io2_base.specs.Read.{bytes, HasNoFault};
 ghost use Rattle.no_std_io2.specs.Copy.{counted};
 
 use super::copy;

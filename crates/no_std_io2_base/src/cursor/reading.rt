@@ -1,10 +1,8 @@
 ghost use Rattle.std.specs.Prelude.{◌≡◌, ◌+◌, ◌++◌, ◌≤◌, ◌<◌, ◌^◌, ◌↔◌, min, length, take, IsOk, IsOkAnd, IfOk, IfErr, OnErr};
 ghost use Rattle.no_std_io2_base.specs.Cursor.{cursor_place, cursor_inner, cursor_left, cursor_stores};
-ghost use Rattle.no_std_io2_base.specs.BufReadLaws.{ConsumeLaw};
+ghost use Rattle.no_std_io2_base.specs.BufRead.{ConsumeLaw};
 ghost use Rattle.no_std_io2_base.specs.Errors.{IsUnexpectedEnd};
-ghost use Rattle.no_std_io2_base.specs.Events.{events_of, given};
-ghost use Rattle.no_std_io2_base.specs.Laws.{bytes_alone};
-ghost use Rattle.no_std_io2_base.specs.ReadLaws.{ReadLaw, ReadExactLaw};
+ghost use Rattle.no_std_io2_base.specs.Read.{events_of, given, bytes_alone, ReadLaw, ReadExactLaw};
 ghost use Rattle.std.proofs.Common.{rules};
 
 use super::{AsSlice, Cursor};

@@ -1,7 +1,6 @@
 ghost use Rattle.std.specs.Prelude.{◌≡◌, length, Ok};
 ghost use Rattle.no_std_io2_base.specs.Cursor.{cursor_place, cursor_inner};
-ghost use Rattle.no_std_io2_base.specs.Seek.{Seeks};
-ghost use Rattle.no_std_io2_base.specs.SeekLaws.{SeekLaw, StreamPositionLaw, RewindLaw, StreamLenLaw};
+ghost use Rattle.no_std_io2_base.specs.Seek.{Seeks, SeekLaw, StreamPositionLaw, RewindLaw, StreamLenLaw};
 
 use super::{AsSlice, Cursor};
 use crate::error::{Error, ErrorKind, Result};

@@ -1,9 +1,7 @@
 ghost use Rattle.std.specs.Prelude.{◌≡◌, ◌≤◌, ◌<◌, ◌+◌, ◌++◌, length, [], IfErr, OnOk, OnErr, vec_len, vec_capacity};
 ghost use Rattle.no_std_io2_base.specs.Errors.{IsOutOfMemory};
-ghost use Rattle.no_std_io2_base.specs.Events.{events_of};
-ghost use Rattle.no_std_io2_base.specs.Laws.{bytes_alone};
-ghost use Rattle.no_std_io2_base.specs.ReadLaws.{ReadExactLaw};
-ghost use Rattle.no_std_io2_base.specs.Slices.{HasMoved};
+ghost use Rattle.no_std_io2_base.specs.Read.{events_of, bytes_alone, ReadExactLaw};
+ghost use Rattle.no_std_io2_base.specs.Cursor.{HasMoved};
 
 use super::copying::copy_prefix;
 use crate::error::{Result, failed_to_fill};

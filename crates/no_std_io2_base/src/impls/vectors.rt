@@ -1,8 +1,8 @@
 ghost use Rattle.std.specs.Prelude.{◌≡◌, ℕ, ◌+◌, ◌++◌, ◌≤◌, ◌<◌, nat_lt, if◌then◌else◌, [], Ok, IsOk, OnOk, OnErr, IfOk};
 ghost use Rattle.std.specs.Prelude.{IfErr, length, vec_len, vec_capacity};
 ghost use Rattle.no_std_io2_base.specs.Errors.{IsNoInterruption, IsOutOfMemory};
-ghost use Rattle.no_std_io2_base.specs.WriteLaws.{WriteLaw, FlushLaw, WriteAllLaw};
-ghost use Rattle.no_std_io2_base.specs.Writes.{Moves, MovesFront, taken, write_mishap, call_mishap, told_out};
+ghost use Rattle.no_std_io2_base.specs.Write.{WriteLaw, FlushLaw, WriteAllLaw};
+ghost use Rattle.no_std_io2_base.specs.Write.{Moves, MovesFront, taken, write_mishap, call_mishap, told_out};
 
 use crate::error::Result;
 use crate::traits::Write;

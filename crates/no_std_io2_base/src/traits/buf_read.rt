@@ -1,8 +1,7 @@
 ghost use Rattle.std.specs.Prelude.{◌≡◌, ℕ, List, ◌≤◌, length, false};
 ghost use types.Logic.{sem};
-ghost use Rattle.no_std_io2_base.specs.BufReadLaws.{FillBufLaw, AfterLoan, ConsumeLaw, ReadUntilLaw, ReadLineLaw};
-ghost use Rattle.no_std_io2_base.specs.Lending.{Rests};
-ghost use Rattle.no_std_io2_base.specs.PieceItems.{split_reader, split_delim, split_is_ended, lines_reader, lines_is_ended};
+ghost use Rattle.no_std_io2_base.specs.BufRead.{FillBufLaw, AfterLoan, ConsumeLaw, ReadUntilLaw, ReadLineLaw, Rests};
+ghost use Rattle.no_std_io2_base.specs.Pieces.{split_reader, split_delim, split_is_ended, lines_reader, lines_is_ended};
 
 use super::lines::Lines;
 use super::pieces::{append_line, find_piece};

@@ -1,7 +1,7 @@
 ghost use Rattle.std.specs.Prelude.{◌≡◌, ◌≤◌, ◌<◌, IfErr, IfSome, OnSome};
 ghost use Rattle.std.specs.Iterator.{at_most};
 ghost use Rattle.no_std_io2_base.specs.Errors.{IsFault};
-ghost use Rattle.no_std_io2_base.specs.SingleBytes.{bytes_reader, NextByte};
+ghost use Rattle.no_std_io2_base.specs.Read.{bytes_reader, NextByte};
 
 use super::read::Read;
 use crate::error::Result;

@@ -4,10 +4,8 @@ ghost use Rattle.std.specs.Borrow.{LendsBoth};
 ghost use Rattle.no_std_io2_base.specs.contracts.traits.chain.Chain.{the_row as chain-row};
 ghost use Rattle.no_std_io2_base.specs.Chain.{chain_first, chain_second, chain_is_done, chain_with_readers};
 ghost use Rattle.no_std_io2_base.specs.Chain.{chain_tells, chain_events, chain_turns, chain_held, InTurn};
-ghost use Rattle.no_std_io2_base.specs.BufReadLaws.{FillBufLaw, AfterLoan, ConsumeLaw};
-ghost use Rattle.no_std_io2_base.specs.Events.{events_of};
-ghost use Rattle.no_std_io2_base.specs.Lending.{Rests, IsNotEmpty};
-ghost use Rattle.no_std_io2_base.specs.ReadLaws.{ReadLaw, ReadExactLaw, ReadToEndLaw};
+ghost use Rattle.no_std_io2_base.specs.BufRead.{FillBufLaw, AfterLoan, ConsumeLaw, Rests, IsNotEmpty};
+ghost use Rattle.no_std_io2_base.specs.Read.{events_of, ReadLaw, ReadExactLaw, ReadToEndLaw};
 
 use super::buf_read::BufRead;
 use super::read::Read;

@@ -2,8 +2,7 @@
 ghost use Rattle.std.specs.Prelude.{◌≡◌, ◌≤◌, ◌<◌, true, false, None, IfSome, IfErr, OnSome, string_bytes};
 ghost use Rattle.std.specs.Iterator.{at_most};
 ghost use Rattle.no_std_io2_base.specs.Errors.{IsFault};
-ghost use Rattle.no_std_io2_base.specs.Pieces.{line_text};
-ghost use Rattle.no_std_io2_base.specs.PieceItems.{lines_reader, lines_is_ended, RefusesLine, YieldsPiece, ends_at, items_left};
+ghost use Rattle.no_std_io2_base.specs.Pieces.{line_text, lines_reader, lines_is_ended, RefusesLine, YieldsPiece, ends_at, items_left};
 
 use super::buf_read::BufRead;
 use super::pieces::{text_of, trim_line};

@@ -3,10 +3,9 @@ ghost use Rattle.std.specs.Prelude.{◌≡◌, ◌≢◌, ◌<◌, ◌≤◌, �
 ghost use Rattle.std.specs.Prelude.{IfNone, OnOk, OnErr, IfErr, IfOk, IsOk, IsUtf8, vec_len, vec_capacity};
 ghost use Rattle.std.specs.Prelude.{string_bytes, string_len, string_capacity};
 ghost use Rattle.std.specs.List.{AllWithin};
-ghost use Rattle.no_std_io2_base.specs.Pieces.{FindsPiece, ends_in, without, line_text};
-ghost use Rattle.no_std_io2_base.specs.PieceItems.{IsInvalidText, AnswersLine};
+ghost use Rattle.no_std_io2_base.specs.Pieces.{FindsPiece, ends_in, without, line_text, IsInvalidText, AnswersLine};
 ghost use Rattle.no_std_io2_base.specs.Errors.{IsFault};
-ghost use Rattle.no_std_io2_base.specs.Writes.{IsFront};
+ghost use Rattle.no_std_io2_base.specs.Write.{IsFront};
 
 use crate::error::{Error, ErrorKind, Result};
 

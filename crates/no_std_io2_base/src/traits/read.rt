@@ -1,8 +1,6 @@
 ghost use Rattle.std.specs.Prelude.{◌≡◌, ℕ, false, List, ◌++◌, drop, ◌<◌, ◌^◌, length};
 ghost use Rattle.no_std_io2_base.specs.Chain.{chain_first, chain_second, chain_is_done, chain_tells, chain_events};
-ghost use Rattle.no_std_io2_base.specs.Events.{Event, cut, bytes, events_of};
-ghost use Rattle.no_std_io2_base.specs.ReadLaws.{ReadLaw, ReadExactLaw, ReadToEndLaw};
-ghost use Rattle.no_std_io2_base.specs.SingleBytes.{bytes_reader};
+ghost use Rattle.no_std_io2_base.specs.Read.{Event, cut, bytes, events_of, ReadLaw, ReadExactLaw, ReadToEndLaw, bytes_reader};
 ghost use Rattle.no_std_io2_base.specs.Take.{take_inner, take_limit, take_events};
 
 use super::bytes::Bytes;

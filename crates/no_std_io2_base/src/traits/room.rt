@@ -1,8 +1,7 @@
 // Room in a vector for the reads of `read_to_end`.
 ghost use Rattle.std.specs.Prelude.{◌≡◌, take, ◌+◌, ◌≤◌, ◌<◌, false, IfOk, IfErr, OnOk, OnErr, vec_len, vec_capacity};
 ghost use Rattle.no_std_io2_base.specs.Errors.{IsFault, IsOutOfMemory};
-ghost use Rattle.no_std_io2_base.specs.Events.{FillsRoom};
-ghost use Rattle.no_std_io2_base.specs.ReadLaws.{GoesOn};
+ghost use Rattle.no_std_io2_base.specs.Read.{FillsRoom, GoesOn};
 
 use super::read::Read;
 use crate::error::Result;

@@ -26,7 +26,7 @@ pub enum SeekFrom {
 pub trait Seek: Stored {
     ghost use Rattle.no_std_io2_base.specs.declared.error.Error.{Error};
     ghost use Rattle.no_std_io2_base.specs.declared.traits.seek.SeekFrom.{SeekFrom};
-    ghost use Rattle.no_std_io2_base.specs.SeekLaws.{SeekLaw, StreamPositionLaw, RewindLaw, StreamLenLaw};
+    ghost use Rattle.no_std_io2_base.specs.Seek.{SeekLaw, StreamPositionLaw, RewindLaw, StreamLenLaw};
 
     // What one `seek` of this type may do: the state before, the target, the state after, the answer. Left out, anything.
     ghost may_seek: { Self → SeekFrom → Self → Result ℕ Error → Type 0 } = { λ old pos new reply. ⊤ };

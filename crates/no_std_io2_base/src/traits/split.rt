@@ -2,8 +2,7 @@
 ghost use Rattle.std.specs.Prelude.{◌≡◌, ◌≤◌, ◌<◌, true, false, None, IfSome, IfErr, OnSome, vec_items};
 ghost use Rattle.std.specs.Iterator.{at_most};
 ghost use Rattle.no_std_io2_base.specs.Errors.{IsFault};
-ghost use Rattle.no_std_io2_base.specs.Pieces.{without};
-ghost use Rattle.no_std_io2_base.specs.PieceItems.{split_reader, split_delim, split_is_ended, YieldsPiece, ends_at, items_left};
+ghost use Rattle.no_std_io2_base.specs.Pieces.{without, split_reader, split_delim, split_is_ended, YieldsPiece, ends_at, items_left};
 
 use super::buf_read::BufRead;
 use super::pieces::drop_last;

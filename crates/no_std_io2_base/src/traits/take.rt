@@ -3,13 +3,9 @@ ghost use Rattle.std.specs.Prelude.{OnOk, Some, vec_len, vec_capacity};
 ghost use types.Logic.{sem};
 ghost use Rattle.std.specs.Borrow.{Lends};
 ghost use Rattle.no_std_io2_base.specs.contracts.traits.take.Take.{the_row as take-row};
-ghost use Rattle.no_std_io2_base.specs.BufReadLaws.{FillBufLaw, AfterLoan, ConsumeLaw, ReadUntilLaw, ReadLineLaw};
+ghost use Rattle.no_std_io2_base.specs.BufRead.{FillBufLaw, AfterLoan, ConsumeLaw, ReadUntilLaw, ReadLineLaw, Rests, LendsFrom};
 ghost use Rattle.no_std_io2_base.specs.Take.{take_with_inner, take_limit, take_inner, take_events, take_held, TakesAlong};
-ghost use Rattle.no_std_io2_base.specs.Events.{events_of, given};
-ghost use Rattle.no_std_io2_base.specs.Lending.{Rests, LendsFrom};
-ghost use Rattle.no_std_io2_base.specs.Laws.{cut_alone};
-ghost use Rattle.no_std_io2_base.specs.Pieces.{first_fault};
-ghost use Rattle.no_std_io2_base.specs.ReadLaws.{HasRoom, ReadLaw, ReadExactLaw, ReadToEndLaw};
+ghost use Rattle.no_std_io2_base.specs.Read.{events_of, given, cut_alone, first_fault, HasRoom, ReadLaw, ReadExactLaw, ReadToEndLaw};
 
 use super::buf_read::BufRead;
 use super::pieces::{append_line, find_piece};

@@ -1,7 +1,7 @@
 ghost use Rattle.std.specs.Prelude.{◌≡◌, ℕ, ◌+◌, ◌≤◌, [], Some, Ok, OnOk, IfOk, IsOk, length};
 ghost use Rattle.no_std_io2_base.specs.Errors.{IsNoInterruption};
-ghost use Rattle.no_std_io2_base.specs.WriteLaws.{WriteLaw, FlushLaw, WriteAllLaw, WriteRestLaw};
-ghost use Rattle.no_std_io2_base.specs.Writes.{Told, Moves, MovesFront, Sends, taken, write_mishap, call_mishap, calls_for};
+ghost use Rattle.no_std_io2_base.specs.Write.{WriteLaw, FlushLaw, WriteAllLaw, WriteRestLaw};
+ghost use Rattle.no_std_io2_base.specs.Write.{Told, Moves, MovesFront, Sends, taken, write_mishap, call_mishap, calls_for};
 
 use crate::error::{Result, failed_to_write};
 

@@ -1,8 +1,8 @@
 use Rattle.std.proofs.Common.{◌≡◌, ◌-◌, length, drop, ap, sym, subst, ◌∙◌, arith, ⊎_elim, inl, inr}
 use Rattle.std.proofs.lemmas.Bool.{cases_lt}
 use Rattle.std.proofs.lemmas.Result.{err_from_is_err_and}
-use Rattle.no_std_io2.specs.Events.{bytes, cut}
-use Rattle.no_std_io2.specs.Writes.{IsFront}
+use Rattle.no_std_io2.specs.Read.{bytes, cut}
+use Rattle.no_std_io2.specs.Write.{IsFront}
 use Rattle.no_std_io2.specs.BufReader.{reader_held, reader_behind, reader_inner, reader_events, sound_tells}
 use Rattle.no_std_io2.proofs.BufReaderBehind.{sound_held}
 use Rattle.no_std_io2.proofs.BufReaderCalls.{not_ok}

@@ -1,6 +1,6 @@
 use Rattle.std.proofs.Common.{◌≤◌, All, map, length, drop, ap, ◌∙◌}
 use Rattle.std.proofs.lemmas.Result.{err_from_is_err_and}
-use Rattle.no_std_io2.specs.Events.{events_of}
+use Rattle.no_std_io2.specs.Read.{events_of}
 use Rattle.framing.specs.Part.{most}
 use Rattle.framing.specs.Sending.{writer_tells, still_to_go}
 use Rattle.framing.proofs.WentOut.{drop_none, shown_frames, come_frames, all_short, only_memory, memory_alone, all_given, slice_from}

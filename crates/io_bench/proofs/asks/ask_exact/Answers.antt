@@ -1,6 +1,6 @@
 use Rattle.std.proofs.Common.{length, arith, ◌∙◌}
 use Rattle.std.proofs.lemmas.Bool.Decides.{nat_tests}
-use Rattle.no_std_io2_base.specs.Events.{cut}
+use Rattle.no_std_io2_base.specs.Read.{cut}
 use Rattle.no_std_io2.specs.BufReader.{reader_held}
 use Rattle.io_bench.proofs.AskLemmas.{exact_asked, failed_front, filled-le, falls_short, bytes_behind}
 use Rattle.io_bench.proofs.asks.ask_exact.Goals as goal

@@ -1,5 +1,5 @@
 use Rattle.std.proofs.Common.{length, take, arith, refl, sym, ap, ◌∙◌, length-take-le, length-drop}
-use Rattle.no_std_io2_base.specs.Events.{events_of}
+use Rattle.no_std_io2_base.specs.Read.{events_of}
 use Rattle.no_std_io2.specs.BufReader.{reader_held, reader_inner, reader_events}
 use Rattle.no_std_io2.proofs.BufReaderRoom.{some_room}
 use Rattle.no_std_io2.proofs.BufReaderExact.{length-events}

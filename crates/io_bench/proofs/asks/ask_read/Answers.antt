@@ -1,6 +1,6 @@
 use Rattle.std.proofs.Common.{◌∷◌, [], length, arith, ap}
 use Rattle.std.proofs.lemmas.Bool.Decides.{nat_tests}
-use Rattle.no_std_io2_base.specs.Events.{fails}
+use Rattle.no_std_io2_base.specs.Read.{fails}
 use Rattle.no_std_io2.specs.BufReader.{reader_held, reader_inner}
 use Rattle.no_std_io2.proofs.BufReaderRoom.{some_room}
 use Rattle.io_bench.proofs.AskLemmas.{read_asked}

@@ -1,6 +1,5 @@
 use Rattle.std.proofs.Common.{◌≡◌, ◌∙◌, ap, refl, map, string_bytes, Global, [], ◌∷◌, ◌++◌, Some, Ok}
-use Rattle.no_std_io2_base.specs.Pieces.{line_text}
-use Rattle.no_std_io2_base.specs.PieceItems.{lines_reader, RefusesLine, ends_at}
+use Rattle.no_std_io2_base.specs.Pieces.{line_text, lines_reader, RefusesLine, ends_at}
 use Rattle.io_bench.specs.Runs.{appended}
 use Rattle.io_bench.proofs.PieceRunLemmas.{one_gathered, all_gathered, gathered_to, appended-more, shown-one, yields_at}
 use Rattle.io_bench.proofs.pieces.run_lines.Goals as goal

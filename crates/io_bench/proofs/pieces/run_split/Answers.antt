@@ -1,6 +1,5 @@
 use Rattle.std.proofs.Common.{◌≡◌, ℕ, ◌∙◌, ap, map, vec_items, Global, [], ◌∷◌, ◌++◌, Some, Ok}
-use Rattle.no_std_io2_base.specs.Pieces.{without}
-use Rattle.no_std_io2_base.specs.PieceItems.{split_reader, split_delim, ends_at}
+use Rattle.no_std_io2_base.specs.Pieces.{without, split_reader, split_delim, ends_at}
 use Rattle.io_bench.specs.Runs.{appended}
 use Rattle.io_bench.proofs.PieceRunLemmas.{one_gathered, all_gathered, gathered_to, appended-more, shown-one, yields_at}
 use Rattle.io_bench.proofs.pieces.run_split.Goals as goal

@@ -1,9 +1,8 @@
 // A `BufReader` as a reader.
 ghost use Rattle.std.specs.Prelude.{◌≡◌, ◌+◌, ◌-◌, ◌<◌, ◌≤◌, [], ◌++◌, min, length, take, drop, IsOk, IsOkAnd, IfOk};
 ghost use Rattle.std.specs.Prelude.{IfErr, OnErr, vec_len, vec_capacity, OnOk};
-ghost use Rattle.no_std_io2_base.specs.Events.{events_of, given};
-ghost use Rattle.no_std_io2_base.specs.ReadLaws.{ReadLaw, ReadExactLaw, ReadToEndLaw};
-ghost use Rattle.no_std_io2_base.specs.Lending.{IsNotEmpty, reads_needed};
+ghost use Rattle.no_std_io2_base.specs.Read.{events_of, given, ReadLaw, ReadExactLaw, ReadToEndLaw};
+ghost use Rattle.no_std_io2_base.specs.BufRead.{IsNotEmpty, reads_needed};
 ghost use Rattle.no_std_io2.specs.BufReader.{reader_held, reader_behind, reader_inner, reader_events, reader_turns};
 ghost use Rattle.no_std_io2.specs.BufReader.{reader_has_store, reader_is_sound, reader_position, behind_anew};
 ghost use Rattle.no_std_io2.specs.BufReader.{held_or_to_come, exact_reads, exact_left, exact_behind, EmptiesInto};

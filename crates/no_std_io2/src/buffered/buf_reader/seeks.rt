@@ -1,9 +1,8 @@
 // A `BufReader` as a seeker.
 ghost use Rattle.std.specs.Prelude.{FitsSigned, SomeIff, ◌≡◌, ◌<◌, ◌^◌, ◌⊎◌, ◌-ℤ◌, pos, [], List, length, IfOk, IsOk, IsOkAnd, OnOk, OnErr};
 ghost use Rattle.std.specs.Int.{w64};
-ghost use Rattle.no_std_io2_base.specs.Seek.{Seeks, WithoutPosition};
-ghost use Rattle.no_std_io2_base.specs.SeekLaws.{SeekLaw, StreamPositionLaw, RewindLaw, StreamLenLaw};
-ghost use Rattle.no_std_io2_base.specs.Events.{Event};
+ghost use Rattle.no_std_io2_base.specs.Seek.{Seeks, WithoutPosition, SeekLaw, StreamPositionLaw, RewindLaw, StreamLenLaw};
+ghost use Rattle.no_std_io2_base.specs.Read.{Event};
 ghost use Rattle.no_std_io2.specs.Buffer.{IsInBuffer, IsCutOn, MovesEvents};
 ghost use Rattle.no_std_io2.specs.BufReader.{reader_held, reader_behind, reader_inner, reader_events, reader_has_store};
 ghost use Rattle.no_std_io2.specs.BufReader.{reader_is_sound, reader_position, KeepsBuffer, HasNoBuffer, IsTooFarBack};

@@ -1,8 +1,7 @@
 ghost use Rattle.std.specs.Prelude.{◌≡◌, ◌<◌, [], ◌∷◌, length, IsOk, IfOk, IfErr, OnOk, IsOkAnd};
 ghost use Rattle.no_std_io2_base.specs.Errors.{error_kind, IsFault};
-ghost use Rattle.no_std_io2_base.specs.Seek.{WithoutPosition, here};
-ghost use Rattle.no_std_io2_base.specs.SeekLaws.{SeekLaw, StreamPositionLaw, RewindLaw, StreamLenLaw};
-ghost use Rattle.no_std_io2_base.specs.Writes.{Moves};
+ghost use Rattle.no_std_io2_base.specs.Seek.{WithoutPosition, here, SeekLaw, StreamPositionLaw, RewindLaw, StreamLenLaw};
+ghost use Rattle.no_std_io2_base.specs.Write.{Moves};
 ghost use Rattle.no_std_io2.specs.BufWriter.{writer_inner, writer_buffer, writer_told, SeeksAfterSending, WriterSeeks};
 ghost use Rattle.no_std_io2.specs.BufWriter.{MeasuredAfterSending};
 ghost use Rattle.no_std_io2.specs.Buffer.{IsEnd};

@@ -2,13 +2,12 @@
 ghost use Rattle.std.specs.Bool.{OnTrue, OnFalse};
 ghost use Rattle.std.specs.Prelude.{◌≡◌, ◌≢◌, ◌+◌, ◌-◌, ◌<◌, ◌≤◌, ◌⊎◌, ◌++◌, [], length, Ok, IsOk, IfOk, IsOkAnd, OnOk};
 ghost use Rattle.std.specs.Prelude.{OnErr, drop, take, slice_index, slice_range};
-ghost use Rattle.no_std_io2.specs.Lines.{IsLineState, HasNoNewline, IsLinesLen, unfinished_line, held_tail};
-ghost use Rattle.no_std_io2.specs.Lines.{whole_if_short};
+ghost use Rattle.no_std_io2.specs.Lines.{IsLineState, HasNoNewline, IsLinesLen, unfinished_line, held_tail, whole_if_short};
 ghost use Rattle.no_std_io2.specs.LineWriter.{WritesLines};
 ghost use Rattle.no_std_io2.specs.BufWriter.{sender_inner, sender_buffer, sender_told, buffer_after, HoldsEnd};
 ghost use Rattle.no_std_io2.specs.Buffer.{IsEnd};
 ghost use Rattle.no_std_io2_base.specs.Errors.{IsNoInterruption};
-ghost use Rattle.no_std_io2_base.specs.Writes.{Moves, MovesFront, taken, write_mishap, call_mishap, calls_for};
+ghost use Rattle.no_std_io2_base.specs.Write.{Moves, MovesFront, taken, write_mishap, call_mishap, calls_for};
 
 use crate::buffered::sender::Sender;
 use memchr::memrchr;

@@ -1,5 +1,5 @@
 use Rattle.std.proofs.Common.{subst, sym}
-use Rattle.no_std_io2.specs.Events.{HasNoFault}
+use Rattle.no_std_io2.specs.Read.{HasNoFault}
 use Rattle.system_streams.proofs.CopyLemmas.{ok_unless, no_failure, either_failed}
 use Rattle.system_streams.proofs.copy.copy_through.Goals as goal
 

@@ -1,6 +1,6 @@
 -- What is gone from `rest` was accepted, each call counted, and each turn shortens it or spends a turn of the writer.
 use Rattle.std.proofs.Common.{◌≡◌, ◌+◌, [], length}
-use Rattle.no_std_io2_base.specs.Writes.{calls_for}
+use Rattle.no_std_io2_base.specs.Write.{calls_for}
 use Rattle.no_std_io2_base.proofs.WriteExits.{SentSoFar}
 use Rattle.io_bench.specs.Tally.{tally_inner, tally_writes, tally_reads}
 use Rattle.io_bench.proofs.CountLemmas.{CountedSoFar}

@@ -1,6 +1,6 @@
 use Rattle.std.proofs.Common.{◌≡◌, ◌++◌, [], sym, ap, ◌∙◌, subst, append-nil}
-use Rattle.no_std_io2_base.specs.Events.{bytes}
-use Rattle.no_std_io2_base.specs.Writes.{Moves}
+use Rattle.no_std_io2_base.specs.Read.{bytes}
+use Rattle.no_std_io2_base.specs.Write.{Moves}
 use Rattle.no_std_io2_base.proofs.MovesLemmas.{Moves-steady}
 use Rattle.no_std_io2.specs.Copy.{counted}
 use Rattle.no_std_io2.proofs.CopyLemmas.{copies_steadily, stays_steady, flushed}

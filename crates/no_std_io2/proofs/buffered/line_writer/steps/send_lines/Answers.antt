@@ -1,6 +1,6 @@
 use Rattle.std.proofs.Common.{refl, inr, ◌≡◌, ◌<◌, [], rules, arith, ap}
 use Rattle.no_std_io2.specs.BufWriter.{sender_buffer}
-use Rattle.no_std_io2_base.specs.Writes.{calls_for}
+use Rattle.no_std_io2_base.specs.Write.{calls_for}
 use Rattle.no_std_io2.proofs.BufWriterCounts.{writing_then_sending}
 use Rattle.std.proofs.lemmas.Result.{err_from_is_err_and}
 use Rattle.no_std_io2.proofs.BufWriterCalls.{no_ok}

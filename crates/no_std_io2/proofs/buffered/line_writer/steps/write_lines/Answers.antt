@@ -1,7 +1,7 @@
 use Rattle.std.proofs.Common.{refl, ◌≡◌, ◌+◌, ◌-◌, ◌<◌, ◌++◌, [], length, take, arith, ◌∙◌, sym, ap, append-nil, subst}
 use Rattle.std.specs.List.{slice_range}
 use Rattle.std.proofs.lemmas.Result.{err_from_is_err_and}
-use Rattle.no_std_io2_base.specs.Writes.{Moves}
+use Rattle.no_std_io2_base.specs.Write.{Moves}
 use Rattle.no_std_io2_base.proofs.MovesLemmas.{Moves-then, Moves-quiet}
 use Rattle.no_std_io2.specs.BufWriter.{sender_told, sender_inner, sender_buffer, with_buffer}
 use Rattle.no_std_io2.specs.LineWriter.{WritesLines}

@@ -1,6 +1,6 @@
 use Rattle.std.proofs.Common.{sym, refl, ap, ◌∙◌, ◌++◌, take, arith, length-drop}
 use Rattle.std.proofs.lemmas.Grind.{common_steps}
-use Rattle.no_std_io2_base.specs.Events.{events_of}
+use Rattle.no_std_io2_base.specs.Read.{events_of}
 use Rattle.no_std_io2_base.specs.Cursor.{cursor_left}
 use Rattle.no_std_io2_base.proofs.Slices.{events_of-split}
 use Rattle.no_std_io2_base.proofs.CursorLemmas.{left_after}

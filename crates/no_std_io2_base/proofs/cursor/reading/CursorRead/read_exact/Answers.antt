@@ -1,7 +1,7 @@
 use Rattle.std.proofs.Common.{◌≡◌, ◌+◌, ◌≤◌, ◌++◌, arith, rules, length, take, drop, ap, ◌∙◌, inr, refl, append-nil, drop_of_length-le}
 use Rattle.std.proofs.Common.{length-drop, le_refl}
 use Rattle.no_std_io2_base.specs.Cursor.{cursor_left}
-use Rattle.no_std_io2_base.specs.Laws.{bytes-events_of}
+use Rattle.no_std_io2_base.specs.Read.{bytes-events_of}
 use Rattle.no_std_io2_base.proofs.Slices.{fill_bytes}
 use Rattle.no_std_io2_base.proofs.SliceReads.{fewer_behind, spent_behind}
 use Rattle.no_std_io2_base.proofs.Events.{length-events_of, HasNoFault-events_of}

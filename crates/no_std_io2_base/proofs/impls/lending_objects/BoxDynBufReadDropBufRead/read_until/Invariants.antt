@@ -1,6 +1,6 @@
 -- As the trait's: it ends with its reader's turns, and has appended what it took, without an end so far.
 use Rattle.std.proofs.Common.{◌≡◌, ◌≤◌, ◌<◌, vec_len, vec_capacity}
-use Rattle.no_std_io2_base.specs.Writes.{IsFront}
+use Rattle.no_std_io2_base.specs.Write.{IsFront}
 use Rattle.no_std_io2_base.proofs.PieceLemmas.{PieceSoFar}
 use Rattle.no_std_io2_base.proofs.impls.lending_objects.BoxDynBufReadDropBufRead.read_until.Given as goal
 

@@ -1,7 +1,7 @@
 use Rattle.std.proofs.Common.{◌++◌, length, rules, arith, take, refl, ap, ◌∙◌, inr, append-nil, drop_of_length-le, le_refl, length-drop}
 use Rattle.std.proofs.lemmas.Grind.{common_steps}
 use Rattle.std.proofs.lemmas.List.{take_rest, get_or_read}
-use Rattle.no_std_io2_base.specs.Laws.{bytes-events_of}
+use Rattle.no_std_io2_base.specs.Read.{bytes-events_of}
 use Rattle.no_std_io2_base.proofs.Slices.{fill_bytes}
 use Rattle.no_std_io2_base.proofs.Events.{HasNoFault-events_of}
 use Rattle.no_std_io2_base.proofs.impls.slices.RefSliceU8Read.read_exact.Goals as goal

@@ -1,6 +1,6 @@
 -- `read_until` ends with its reader's turns, and has appended what it took, without an end so far.
 use Rattle.std.proofs.Common.{◌≡◌, ◌≤◌, ◌<◌, ◌+◌, length, vec_len, vec_capacity}
-use Rattle.no_std_io2_base.specs.Writes.{IsFront}
+use Rattle.no_std_io2_base.specs.Write.{IsFront}
 use Rattle.no_std_io2_base.proofs.PieceLemmas.{PieceSoFar}
 use Rattle.no_std_io2_base.proofs.traits.buf_read.BufRead.read_until.Given as goal
 

@@ -1,5 +1,5 @@
 use Rattle.std.proofs.Common.{◌≡◌, take, false, rules, arith, ap, ◌++◌, append_assoc, ◌∙◌}
-use Rattle.no_std_io2_base.specs.Events.{events_of}
+use Rattle.no_std_io2_base.specs.Read.{events_of}
 use Rattle.no_std_io2_base.proofs.traits.chain.ChainBufRead.consume.Goals as goal
 
 pub returns-else-self-clause-law : goal.returns-else-self-clause-law

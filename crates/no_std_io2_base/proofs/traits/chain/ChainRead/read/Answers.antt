@@ -1,6 +1,6 @@
 use Rattle.std.proofs.Common.{◌≡◌, ◌≤◌, ◌<◌, ◌++◌, false, true≢false, length, refl, sym, ap, subst, ◌∙◌, arith, rules}
 use Rattle.std.proofs.lemmas.Result.{err_from_is_err_and}
-use Rattle.no_std_io2_base.specs.Events.{Reads, SpendsTurn}
+use Rattle.no_std_io2_base.specs.Read.{Reads, SpendsTurn}
 use Rattle.no_std_io2_base.proofs.ChainReads.{PastFirst, past_done, past_read, both_turns, second_turn, first_turn}
 use Rattle.no_std_io2_base.proofs.ChainReads.{turn_of_first, turn_past, gave_none, failed_none, read_before}
 use Rattle.no_std_io2_base.proofs.TakenToEnd.{nothing_read}

@@ -1,5 +1,5 @@
 use Rattle.std.proofs.Common.{◌≡◌, ◌+◌, ◌-◌, false, length, refl, ap, ◌∙◌, arith, le_trans}
-use Rattle.no_std_io2_base.specs.Pieces.{first_fault}
+use Rattle.no_std_io2_base.specs.Read.{first_fault}
 use Rattle.std.proofs.lemmas.Result.{err_from_is_err_and}
 use Rattle.no_std_io2_base.proofs.ChainReads.{room_of_first, room_of_second, room_left, room_when_done, fault_of_room, first_fault-first}
 use Rattle.no_std_io2_base.proofs.ChainReads.{room_while_going, after_ok, turn_of_first, turn_of_second, turn_of_both, spent_then}

@@ -1,7 +1,7 @@
 -- `read_until` ends with its reader's turns, and has appended what it took, without an end so far; the limit fell by that.
 use Rattle.std.proofs.Common.{◌≡◌, ◌≤◌, ◌<◌, ◌+◌, vec_len, vec_capacity}
 use Rattle.no_std_io2_base.specs.Take.{take_inner, take_limit, take_events, TakesAlong}
-use Rattle.no_std_io2_base.specs.Writes.{IsFront}
+use Rattle.no_std_io2_base.specs.Write.{IsFront}
 use Rattle.no_std_io2_base.proofs.PieceLemmas.{PieceSoFar}
 use Rattle.no_std_io2_base.proofs.traits.take.TakeBufRead.read_until.Given as goal
 

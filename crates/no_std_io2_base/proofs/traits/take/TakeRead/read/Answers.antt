@@ -1,7 +1,7 @@
 -- Far from the limit the inner reader is read into the whole buffer, and else into a part of it.
 use Rattle.std.proofs.Common.{◌≡◌, length, refl, arith, ap, le_refl, length-take-le}
 use Rattle.std.proofs.lemmas.Result.{err_from_is_err_and}
-use Rattle.no_std_io2_base.specs.Events.{cut}
+use Rattle.no_std_io2_base.specs.Read.{cut}
 use Rattle.no_std_io2_base.proofs.Along.{along_none, along_read, along_error}
 use Rattle.no_std_io2_base.proofs.Cut.{cut_reads, cut_reads_whole, cut-length, cut_error, part_within, part_room, fits_whole, limit_falls}
 use Rattle.no_std_io2_base.proofs.ReadExactExits.{some_bytes}

@@ -1,6 +1,6 @@
 -- What is gone from `rest` was accepted, and each turn shortens it or spends a turn of the writer.
 use Rattle.std.proofs.Common.{◌≡◌, ℕ, ◌+◌, ◌++◌, List, [], length}
-use Rattle.no_std_io2_base.specs.Writes.{Moves, calls_for}
+use Rattle.no_std_io2_base.specs.Write.{Moves, calls_for}
 use Rattle.no_std_io2_base.proofs.traits.write.Write.write_rest.Given as goal
 
 abbrev pub invariant-writes : goal.invariant-writes

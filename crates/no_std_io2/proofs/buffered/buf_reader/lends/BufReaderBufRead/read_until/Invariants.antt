@@ -1,6 +1,6 @@
 -- `read_until` ends with its reader's turns, and has appended what it took, without an end so far.
 use Rattle.std.proofs.Common.{◌≡◌, ◌≤◌, ◌<◌, ◌+◌, ◌++◌, length, drop, vec_len, vec_capacity}
-use Rattle.no_std_io2_base.specs.Writes.{IsFront}
+use Rattle.no_std_io2_base.specs.Write.{IsFront}
 use Rattle.no_std_io2_base.proofs.PieceLemmas.{PieceSoFar}
 use Rattle.no_std_io2.specs.Buffer.{IsEnd}
 use Rattle.no_std_io2.specs.BufReader.{reader_behind, reader_is_sound, reader_inner, reader_events, reader_turns}

@@ -1,6 +1,6 @@
 -- An exact read, by its two ends: past what is held, and out of it.
 use Rattle.std.proofs.Common.{◌≡◌, ◌-◌, ◌<◌, ◌≤◌, ◌++◌, length, arith, ap, refl, ◌∙◌, length-drop, length-take-le}
-use Rattle.no_std_io2_base.specs.Events.{events_of}
+use Rattle.no_std_io2_base.specs.Read.{events_of}
 use Rattle.no_std_io2.specs.Buffer.{buffer_held, buffer_behind}
 use Rattle.no_std_io2.specs.BufReader.{reader_held, reader_behind, reader_inner}
 use Rattle.no_std_io2.proofs.BufReaderBehind.{sound_moved}

@@ -1,10 +1,10 @@
--- What a writer tells, and what a call may do to it.
-use Rattle.std.specs.Prelude.{◌≡◌, ℕ, ◌+◌, ◌≤◌, ◌==◌, ◌&&◌, nat_lt, Bool, if◌then◌else◌, List, [], ◌∷◌, ◌++◌, length}
-use Rattle.std.specs.Prelude.{take, ⊤, Option, None, Some, Result, Ok, Err, OnOk, count_by}
+-- What a writer tells, what its calls do to that, and the law of each call of `Write`.
+use Rattle.std.specs.Prelude.{◌≡◌, ℕ, ◌+◌, ◌≤◌, ◌==◌, ◌&&◌, nat_lt, Bool, if◌then◌else◌, List, [], ◌∷◌, ◌++◌, length, take, ⊤, Option}
+use Rattle.std.specs.Prelude.{None, Some, Result, Ok, Err, OnOk, count_by, IfOk, IsOk}
 use Rattle.no_std_io2_base.specs.declared.error.Error.{Error}
 use Rattle.no_std_io2_base.specs.declared.error.ErrorKind.{ErrorKind}
 use Rattle.no_std_io2_base.specs.declared.error.ErrorKind.TheVariants.{WriteZero}
-use Rattle.no_std_io2_base.specs.Errors.{error_kind, is_interruption}
+use Rattle.no_std_io2_base.specs.Errors.{error_kind, is_interruption, IsNoInterruption}
 
 -- What a writer tells.
 pub record Told : Type 0 where
@@ -83,3 +83,36 @@ calls_for x = if nat_lt 0 (length x) then 1 else 0
 -- what a writer tells whose bytes are out as soon as they are accepted, and that tells no mishaps
 abbrev pub told_out : List ℕ → Told
 told_out bytes = record { out = bytes; held = []; mishaps = None; turns = 0 }
+
+-- `write(x)`
+pub record WriteLaw {S : Type 0} (told : S → Told) (takes_all : S → Type 0) (cost : S → ℕ) (is_metered : S → Type 0)
+    (old : S) (x : List ℕ) (reply : Result ℕ Error) (new : S) : Type 0 where
+  pub bound : IfOk reply (λ n. n ≤ length x)
+  pub moves : Moves (told old) (taken reply x) (write_mishap reply x) (told new)
+  pub all : takes_all old → takes_all new × (reply ≡ Ok (length x))
+  pub counts : is_metered old → takes_all old → is_metered new × (cost new ≡ cost old + 1)
+
+-- `flush()`
+pub record FlushLaw {S : Type 0} (told : S → Told) (takes_all : S → Type 0) (cost : S → ℕ) (is_metered : S → Type 0)
+    (old : S) (reply : Result (Unit {0}) Error) (new : S) : Type 0 where
+  pub empty : OnOk reply ((told new).held ≡ [])
+  pub moves : Moves (told old) [] (call_mishap reply) (told new)
+  pub all : takes_all old → takes_all new
+  pub counts : is_metered old → takes_all old → is_metered new × (cost new ≡ cost old)
+
+-- `write_all(x)`
+pub record WriteAllLaw {S : Type 0} (told : S → Told) (takes_all : S → Type 0) (cost : S → ℕ) (is_metered : S → Type 0)
+    (old : S) (x : List ℕ) (reply : Result (Unit {0}) Error) (new : S) : Type 0 where
+  pub fault : IsNoInterruption reply
+  pub moves : MovesFront (told old) x reply (told new)
+  pub all : takes_all old → takes_all new
+  pub counts : is_metered old → takes_all old → is_metered new × (cost new ≡ cost old + calls_for x)
+
+-- `write_rest(&mut x)`
+pub record WriteRestLaw {S : Type 0} (told : S → Told) (takes_all : S → Type 0) (cost : S → ℕ) (is_metered : S → Type 0)
+    (old : S) (x : List ℕ) (reply : Result (Unit {0}) Error) (new : S) (left : List ℕ) : Type 0 where
+  pub fault : IsNoInterruption reply
+  pub sends : Sends (told old) x reply (told new) left
+  pub done : OnOk reply (left ≡ [])
+  pub all : takes_all old → takes_all new × IsOk reply
+  pub counts : is_metered old → takes_all old → is_metered new × (cost new ≡ cost old + calls_for x)

@@ -1,0 +1,233 @@
+-- What a reader has left to give, what its calls do to that, and the law of each call of `Read`; what `Bytes` yields.
+use Rattle.std.specs.Prelude.{◌≡◌, ℕ, zero, suc, ◌<◌, Bool, true, List, [], ◌∷◌, ◌++◌, length, take, ⊤, Ok, Err, Result, ◌⊎◌, ◌+◌, ◌≤◌}
+use Rattle.std.specs.Prelude.{min, Vec, vec_len, vec_capacity, Some, IfOk, IfErr, OnOk, IsOk, IsOkAnd, Option, None, refl, if◌then◌else◌}
+use Rattle.no_std_io2_base.specs.declared.error.Error.{Error}
+use Rattle.no_std_io2_base.specs.Errors.{IsInterruption, IsFault, IsUnexpectedEnd, IsOutOfMemory, IsNoInterruption, error_kind}
+use Rattle.no_std_io2_base.specs.Errors.{is_interruption}
+use Rattle.no_std_io2_base.specs.declared.traits.bytes.Bytes.{Bytes}
+use Rattle.std.proofs.Common.{ap, sym, ◌∙◌}
+
+-- what is still to come of a reader: a byte, or an error that a call answers
+pub data Event : Type 0 where
+  byte : ℕ → Event
+  fails : Error → Event
+
+-- the events that are these bytes
+abbrev pub events_of : List ℕ → List Event
+events_of [] = []
+events_of (b ∷ bs) = byte b ∷ events_of bs
+
+-- the bytes of E, in order
+abbrev pub bytes : List Event → List ℕ
+bytes [] = []
+bytes (byte b ∷ E) = b ∷ bytes E
+bytes (fails e ∷ E) = bytes E
+
+-- E has no fault
+abbrev pub HasNoFault : List Event → Type 0
+HasNoFault [] = ⊤
+HasNoFault (byte b ∷ E) = HasNoFault E
+HasNoFault (fails e ∷ E) = IsInterruption e × HasNoFault E
+
+-- E up to and with its byte number `limit`, all of E where it has fewer; nothing at 0
+abbrev pub cut : ℕ → List Event → List Event
+cut zero E = []
+cut (suc k) [] = []
+cut (suc k) (byte b ∷ E) = byte b ∷ cut k E
+cut (suc k) (fails e ∷ E) = fails e ∷ cut (suc k) E
+
+-- one read into buf turned E into after: n bytes now stand at its front, or the error that stood first is gone; no byte
+-- comes only at the end or with no room
+abbrev pub Reads : List Event → Result ℕ Error → List ℕ → List Event → Type 0
+Reads E (Ok n) buf after = (E ≡ events_of (take n buf) ++ after) × (n ≡ 0 → 0 < length buf → E ≡ [])
+Reads E (Err e) buf after = E ≡ fails e ∷ after
+
+-- a call spent a turn, where it gave bytes or an error
+abbrev pub SpendsTurn : Result ℕ Error → ℕ → ℕ → Type 0
+SpendsTurn (Ok n) old new = 0 < n → new < old
+SpendsTurn (Err e) old new = new < old
+
+-- P ends in the fault e, its only one
+abbrev pub EndsInFault : List Event → Error → Type 0
+EndsInFault P e = (Q : List Event) × (P ≡ Q ++ fails e ∷ []) × HasNoFault Q × IsFault e
+
+-- how many bytes a call gave
+abbrev pub given : Result ℕ Error → ℕ
+given (Ok n) = n
+given (Err e) = 0
+
+-- The front of E that fills a buffer with these bytes is taken: it ends right behind the last of them.
+pub record Fills (E : List Event) (buf : List ℕ) (after : List Event) : Type 0 where
+  pub split : E ≡ cut (length buf) E ++ after
+  pub no_fault : HasNoFault (cut (length buf) E)
+  pub filled : bytes (cut (length buf) E) ≡ buf
+
+-- E has no fault and fewer bytes than `room`, and all of it is taken; or, by a reader that may take none, nothing.
+pub record FallsShort (may_take_none : Type 0) (E : List Event) (room : ℕ) (e : Error) (after : List Event) : Type 0 where
+  pub no_fault : HasNoFault E
+  pub short : length (bytes E) < room
+  pub answer : IsUnexpectedEnd e
+  pub left : (after ≡ []) ⊎ (may_take_none × (after ≡ E))
+
+-- E up to and with its first fault, the answer, is taken, and has fewer bytes than `room`.
+pub record StopsAtFault (E : List Event) (room : ℕ) (e : Error) (after : List Event) : Type 0 where
+  pub taken : List Event
+  pub split : E ≡ taken ++ after
+  pub ends : EndsInFault taken e
+  pub short : length (bytes taken) < room
+
+-- `read_exact(buf)` turned E into after
+abbrev pub ReadsExact : {A : Type 0} → Type 0 → List Event → Result A Error → List ℕ → List Event → Type 0
+ReadsExact may_take_none E (Ok _) buf after = Fills E buf after
+ReadsExact may_take_none E (Err e) buf after = StopsAtFault E (length buf) e after ⊎ FallsShort may_take_none E (length buf) e after
+
+-- reads into the room of a vector turned E into after and appended the bytes that they took: all of them where the answer is
+-- that the end was met, or those up to the first fault
+abbrev pub FillsRoom : List Event → Result Bool Error → List ℕ → List ℕ → List Event → Type 0
+FillsRoom E (Ok at_end) old new after =
+    (P : List Event) × (E ≡ P ++ after) × HasNoFault P × (new ≡ old ++ bytes P) × (at_end ≡ true → after ≡ [])
+FillsRoom E (Err e) old new after = (P : List Event) × (E ≡ P ++ after) × (new ≡ old ++ bytes P) × EndsInFault P e
+
+-- `read_to_end` turned E into after and appended the bytes that it took: all of them, or those up to the first fault or
+-- to where memory was refused
+abbrev pub ReadsToEnd : List Event → Result ℕ Error → List ℕ → List ℕ → List Event → Type 0
+ReadsToEnd E (Ok n) old new after = HasNoFault E × (new ≡ old ++ bytes E) × (n ≡ length (bytes E)) × (after ≡ [])
+ReadsToEnd E (Err e) old new after =
+    (P : List Event) × (E ≡ P ++ after) × (new ≡ old ++ bytes P) × (EndsInFault P e ⊎ (HasNoFault P × IsOutOfMemory e))
+
+-- the bytes that stand before the first fault
+abbrev pub bytes_to_fault : List Event → List ℕ
+bytes_to_fault [] = []
+bytes_to_fault (byte b ∷ E) = b ∷ bytes_to_fault E
+bytes_to_fault (fails e ∷ E) = if is_interruption (error_kind e) then bytes_to_fault E else []
+
+-- the first fault, if there is one
+abbrev pub first_fault : List Event → Option Error
+first_fault [] = None
+first_fault (byte b ∷ E) = first_fault E
+first_fault (fails e ∷ E) = if is_interruption (error_kind e) then first_fault E else Some e
+
+-- what a reader tells, as `⟦<R as Read>⟧` names it: the members of its store, and its own
+abbrev pub Reader : Type 0 → Type 1
+Reader S = record {
+  has_store : S → Type 0;
+  content : S → List ℕ;
+  position : S → ℕ;
+  tells : S → Type 0;
+  events : S → List Event;
+  turns : S → ℕ;
+  cost : S → ℕ;
+  is_metered : S → Type 0;
+  is_filling : S → Type 0;
+  may_take_none : S → Type 0;
+}
+
+-- a told store keeps its content, and the position moves on by as many bytes as are gone from the events
+abbrev pub GoesOn : {S : Type 0} → Reader S → S → S → Type 0
+GoesOn R old new = R.has_store old → R.has_store new × (R.content new ≡ R.content old)
+    × (R.position new + length (R.events new) ≡ R.position old + length (R.events old))
+
+-- a vector of this length and capacity has room for the bytes before the first fault of E, and for so many more
+abbrev pub HasRoom : ℕ → List Event → ℕ → ℕ → Type 0
+HasRoom more E len capacity = len + length (bytes_to_fault E) + more ≤ capacity
+
+-- `read(buf)`
+pub record ReadLaw {S : Type 0} (R : Reader S) (old : S) (buf : List ℕ) (reply : Result ℕ Error) (buf' : List ℕ) (new : S) : Type 0 where
+  -- it gives no more than fits
+  pub bound : IfOk reply (λ n. n ≤ length buf')
+  -- it takes what it gives off the front of the events
+  pub told : R.tells old → R.tells new × Reads (R.events old) reply buf' (R.events new)
+  -- turns are never won
+  pub turns : R.turns new ≤ R.turns old
+  -- bytes spend one, and so does an error
+  pub turn : SpendsTurn reply (R.turns old) (R.turns new)
+  -- a read into some room is counted
+  pub counts : R.is_metered old → R.is_metered new × (R.cost new ≡ R.cost old + min 1 (length buf))
+  -- a filling reader gives as much as fits
+  pub fills : R.is_filling old → R.is_filling new × IsOkAnd reply (λ n. n ≡ min (length buf) (length (R.events old)))
+  -- a told store keeps its content, and the position moves by what was given
+  pub store : R.has_store old → R.has_store new × (R.content new ≡ R.content old) × (R.position new ≡ R.position old + given reply)
+
+-- `read_exact(buf)`
+pub record ReadExactLaw {S : Type 0} (R : Reader S) (old : S) (buf : List ℕ) (reply : Result (Unit {0}) Error) (buf' : List ℕ)
+    (new : S) : Type 0 where
+  -- the front of the events is taken that fills the buffer, or that ends in a fault; or they fall short
+  pub told : R.tells old → R.tells new × ReadsExact (R.may_take_none old) (R.events old) reply buf' (R.events new)
+  -- no interruption is answered
+  pub fault : IsNoInterruption reply
+  -- an empty buffer makes no call
+  pub empty : length buf ≡ 0 → IsOk reply × (new ≡ old)
+  -- turns are never won
+  pub turns : R.turns new ≤ R.turns old
+  -- a buffer that was filled spent one
+  pub turn : 0 < length buf → OnOk reply (R.turns new < R.turns old)
+  -- a metered reader stays so
+  pub metered : R.is_metered old → R.is_metered new
+  -- and so does a filling one
+  pub filling : R.is_filling old → R.is_filling new
+  -- a told store keeps its content, and the position moves by what was taken
+  pub store : GoesOn R old new
+
+-- `read_to_end(&mut buf)`
+pub record ReadToEndLaw {S A : Type 0} (R : Reader S) (old : S) (buf : Vec ℕ A) (reply : Result ℕ Error) (buf' : Vec ℕ A)
+    (new : S) : Type 0 where
+  -- all events are taken, or those up to the first fault or to where memory was refused, and their bytes appended
+  pub told : R.tells old → R.tells new × ReadsToEnd (R.events old) reply buf.items buf'.items (R.events new)
+  -- what stood in the vector stays
+  pub appends : take (vec_len buf) buf'.items ≡ buf.items
+  -- the answer is how many bytes it grew by
+  pub count : IfOk reply (λ n. vec_len buf' ≡ vec_len buf + n)
+  -- room is never given back
+  pub capacity : vec_capacity buf ≤ vec_capacity buf'
+  -- a vector with ample room is never refused memory: what fails is the first fault
+  pub room : R.tells old → HasRoom 32 (R.events old) (vec_len buf) (vec_capacity buf)
+      → IfErr reply (λ e. first_fault (R.events old) ≡ Some e)
+  -- no interruption is answered
+  pub fault : IsNoInterruption reply
+  -- turns are never won
+  pub turns : R.turns new ≤ R.turns old
+  -- appended bytes spent one
+  pub turn : vec_len buf < vec_len buf' → R.turns new < R.turns old
+  -- a metered reader stays so
+  pub metered : R.is_metered old → R.is_metered new
+  -- and so does a filling one
+  pub filling : R.is_filling old → R.is_filling new
+  -- a told store keeps its content, and the position moves by what was taken
+  pub store : GoesOn R old new
+
+-- the reader behind
+abbrev pub bytes_reader : {R : Type 0} → Bytes R → R
+bytes_reader s = s.inner
+
+-- E has neither a byte nor a fault
+abbrev pub IsInterruptionsAlone : List Event → Type 0
+IsInterruptionsAlone E = HasNoFault E × (bytes E ≡ [])
+
+-- E up to and with this event is taken, and before it stand interruptions alone
+abbrev pub TakesFirst : List Event → Event → List Event → Type 0
+TakesFirst E event after = (P : List Event) × (E ≡ P ++ event ∷ after) × IsInterruptionsAlone P
+
+-- `next` took E up to and with its first byte or fault and yields that, or it ended where E has neither
+abbrev pub NextByte : List Event → Option (Result ℕ Error) → List Event → Type 0
+NextByte E None after = IsInterruptionsAlone E × (after ≡ [])
+NextByte E (Some (Ok b)) after = TakesFirst E (byte b) after
+NextByte E (Some (Err e)) after = TakesFirst E (fails e) after × IsFault e
+
+-- bytes turned into events and back are the same bytes
+pub bytes-events_of : (bs : List ℕ) → bytes (events_of bs) ≡ bs
+bytes-events_of [] = refl
+bytes-events_of (b ∷ bs) = ap (λ l. b ∷ l) (bytes-events_of bs)
+
+-- the events of bytes are bytes alone
+pub bytes_alone : (bs : List ℕ) → events_of bs ≡ events_of (bytes (events_of bs))
+bytes_alone bs = ap events_of (sym (bytes-events_of bs))
+
+-- a cut of bytes alone is bytes alone
+pub cut_alone-events_of : (k : ℕ) (bs : List ℕ) → cut k (events_of bs) ≡ events_of (bytes (cut k (events_of bs)))
+cut_alone-events_of zero bs = refl
+cut_alone-events_of (suc k) [] = refl
+cut_alone-events_of (suc k) (b ∷ bs) = ap (λ l. byte b ∷ l) (cut_alone-events_of k bs)
+
+-- events that are bytes alone are so when they are cut
+pub cut_alone : (k : ℕ) (E : List Event) → E ≡ events_of (bytes E) → cut k E ≡ events_of (bytes (cut k E))
+cut_alone k E h = ap (cut k) h ∙ cut_alone-events_of k (bytes E) ∙ ap (λ l. events_of (bytes (cut k l))) (sym h)
