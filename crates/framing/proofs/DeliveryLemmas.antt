@@ -1,15 +1,14 @@
 -- How tries follow one another.
-use Rattle.std.proofs.Common.{◌≡◌, ℕ, ◌+◌, ◌<◌, ◌^◌, List, [], ◌∷◌, ◌++◌, length, true, Option, None, Some, Result, Ok}
+use Rattle.std.proofs.Common.{◌≡◌, ℕ, ◌+◌, List, [], ◌∷◌, ◌++◌, length, true, Option, None, Some, Result, Ok}
 use Rattle.std.proofs.Common.{Err, refl, sym, ap, ◌∙◌, subst, arith, append_assoc, count_by}
 use Rattle.std.specs.Result.{result_err, OnOk}
 use Rattle.std.proofs.lemmas.List.Recursion.{is_count_by}
 use Rattle.no_std_io2.specs.declared.io.Error.{Error}
 use Rattle.no_std_io2.specs.declared.io.ErrorKind.{ErrorKind}
 use Rattle.no_std_io2.specs.Write.{Told, Moves, Sends, HasSpent, call_mishap}
-use Rattle.no_std_io2.proofs.MovesLemmas.{Moves-refl, Moves-then, Moves-quiet}
-use Rattle.framing.specs.Sending.{SendsFrames, TakesOff}
+use Rattle.no_std_io2.proofs.MovesLemmas.{Moves-then, Moves-quiet}
+use Rattle.framing.specs.Sending.{SendsFrames}
 use Rattle.framing.specs.Delivering.{TriesOnce, Delivers, HasAtMost, HasSpentTries, tried_mishap}
-use Rattle.std.proofs.lemmas.List.Elements.{All-append}
 
 -- the mishap of a flush
 flushed_mishap : (reply : Result (Unit {0}) Error) (fault : Option Error) → fault ≡ result_err reply
@@ -34,10 +33,6 @@ tried_flush {a} {b} {c} {end} shown under_way reply fault f s is none same = rec
 count_all : (xs : List ErrorKind) → length xs ≡ count_by (λ _. true) xs
 count_all = is_count_by length (λ _. true) refl (λ x xs. omega arith)
 
--- before the first try nothing went
-pub delivers_none : (a : Told) (to_go : List ℕ) → Delivers a to_go a to_go
-delivers_none a to_go = record { sent = []; split = refl; moves = Moves-refl a }
-
 -- one try more
 pub delivers_more : {a b c : Told} {whole to_go left : List ℕ} (reply : Result (Option Error) Error)
     → Delivers a whole b to_go → TriesOnce b to_go reply c left → Delivers a whole c left
@@ -45,14 +40,6 @@ delivers_more {left = left} reply f s = record {
   sent = f.sent ++ s.sent;
   split = f.split ∙ ap (λ l. f.sent ++ l) s.split ∙ sym (append_assoc f.sent s.sent left);
   moves = Moves-quiet (Moves-then f.moves s.moves);
-}
-
--- what was taken off in one step and then in another was taken off in both together
-pub off_then : {xs ys zs : List (List ℕ)} → TakesOff xs ys → TakesOff ys zs → TakesOff xs zs
-off_then {zs = zs} f g = record {
-  front = f.front ++ g.front;
-  split = f.split ∙ ap (λ l. f.front ++ l) g.split ∙ sym (append_assoc f.front g.front zs);
-  short = All-append (λ p. length p < 2 ^ 32) f.front g.front f.short g.short;
 }
 
 -- no try was made, and no mishap spent

@@ -1,4 +1,3 @@
-pub mod SendingLemmas
 pub mod DeliveryLemmas
 pub mod TakingLemmas
 pub mod FrameLemmas

@@ -1,12 +1,10 @@
 -- How what was taken of events follows one another.
-use Rattle.std.proofs.Common.{◌≡◌, ℕ, ◌+◌, Bool, true, false, List, [], ◌∷◌, ◌++◌, length, Result, Ok, Err, refl, sym}
+use Rattle.std.proofs.Common.{◌≡◌, ℕ, ◌+◌, Bool, true, false, List, [], ◌++◌, length, Result, Ok, Err, sym}
 use Rattle.std.proofs.Common.{ap, ◌∙◌, subst, inl, inr, arith, append_assoc, append-nil, length-append}
 use Rattle.no_std_io2.specs.declared.io.Error.{Error}
-use Rattle.no_std_io2.specs.Errors.{IsInterruption}
-use Rattle.no_std_io2.specs.Read.{Event, fails, events_of, bytes, bytes-events_of}
-use Rattle.no_std_io2.specs.Passing.{Passes, Gathered}
+use Rattle.no_std_io2.specs.Read.{Event}
+use Rattle.no_std_io2.specs.Passing.{Gathered}
 use Rattle.framing.specs.Taking.{Gathers}
-use Rattle.no_std_io2.proofs.EventLemmas.{bytes-append, HasNoFault-append, HasNoFault-events_of}
 
 -- the same part, with the same to come
 pub gathered_to : {E mid : List Event} {old part : List ℕ} (new : List ℕ) (after : List Event) → Gathered E old part mid

@@ -38,7 +38,7 @@ went_out a b to_go left sent d none all before after =
 pub all_short : (most : ℕ) (old new : List (List ℕ)) → TakesOff old new → new ≡ [] → most ≡ 4294967295 → All (λ p. length p ≤ most) old
 all_short most old new t none is = λ k d lt.
     let same : old ≡ t.front = t.split ∙ ap (λ l. t.front ++ l) none ∙ append-nil t.front in
-    let short : All (λ p. length p < 2 ^ 32) old = subst (All (λ p. length p < 2 ^ 32)) (sym same) t.short in
+    let short : All (λ p. length p < 2 ^ 32) old = subst (All (λ p. length p < 2 ^ 32)) (sym same) t.each in
     let at : length (get_or old k d) < 2 ^ 32 = short k d lt in
     omega arith
 

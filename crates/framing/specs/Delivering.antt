@@ -1,7 +1,7 @@
 -- What sending again and again does.
 use Rattle.std.specs.Prelude.{◌≡◌, ◌≤◌, ◌+◌, ℕ, List, [], ◌∷◌, ◌++◌, length, Option, Some, None, Result, Ok, Err, ⊤}
 use Rattle.no_std_io2.specs.Errors.{error_kind}
-use Rattle.no_std_io2.specs.Write.{Told, Moves}
+use Rattle.no_std_io2.specs.Write.{Told, Moves, Sends}
 use Rattle.no_std_io2.specs.declared.io.Error.{Error}
 use Rattle.no_std_io2.specs.declared.io.ErrorKind.{ErrorKind}
 
@@ -29,7 +29,5 @@ pub record TriesOnce (old : Told) (to_go : List ℕ) (reply : Result (Option Err
   pub moves : Moves old sent (tried_mishap reply) new
 
 -- what all tries did: what is no longer to go was accepted, each byte once, in order
-pub record Delivers (old : Told) (to_go : List ℕ) (new : Told) (left : List ℕ) : Type 0 where
-  pub sent : List ℕ
-  pub split : to_go ≡ sent ++ left
-  pub moves : Moves old sent [] new
+abbrev pub Delivers : Told → List ℕ → Told → List ℕ → Type 0
+Delivers old to_go new left = Sends old to_go (Ok tt) new left

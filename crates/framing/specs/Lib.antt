@@ -1,5 +1,4 @@
 pub mod Frames
-pub mod Pending
 pub mod Sending
 pub mod Delivering
 pub mod Taking

@@ -2,7 +2,7 @@
 use Rattle.std.specs.Prelude.{◌≡◌, ◌⊎◌, ℕ, ◌<◌, ◌≤◌, List, [], ◌∷◌, ◌++◌, length, drop, All}
 use Rattle.std.specs.Prelude.{Bool, true, false, Option, Some, None, Result, Ok, Err, OnOk, IfErr}
 use Rattle.no_std_io2.specs.Errors.{error_kind, IsFault, IsOutOfMemory}
-use Rattle.no_std_io2.specs.Read.{Event, fails, events_of, bytes, HasNoFault}
+use Rattle.no_std_io2.specs.Read.{Event, fails, events_of}
 use Rattle.no_std_io2.specs.Passing.{Passes, Gathered}
 use Rattle.no_std_io2.specs.declared.io.Error.{Error}
 use Rattle.no_std_io2.specs.declared.io.ErrorKind.TheVariants.{InvalidData, UnexpectedEof}

@@ -3,13 +3,12 @@ ghost use Rattle.std.specs.Prelude.{◌≡◌, ◌⊎◌, ◌<◌, ◌^◌, [], 
 ghost use Rattle.no_std_io2.specs.Errors.{error_kind, IsNoInterruption, IsFault};
 ghost use Rattle.no_std_io2.specs.Write.{Moves, Sends};
 ghost use Rattle.no_std_io2.specs.BufWriter.{writer_told, into_inner_error_writer, into_inner_error_cause};
-ghost use Rattle.framing.specs.Frames.{frames};
+ghost use Rattle.pending.specs.Pending.{pending_bytes, pending_rest};
+ghost use Rattle.framing.specs.Frames.{frame, frames, IsRefusal};
 ghost use Rattle.framing.specs.Sending.{writes_to, frames_held, writer_tells, under_way, still_to_go};
 ghost use Rattle.framing.specs.Sending.{SendsFrame, SendsFrames, RefusesFirst, TakesOff};
 
-mod pending;
-
-use no_std_io2::io::{BufWriter, IntoInnerError, Result, Write};
+use no_std_io2::io::{BufWriter, Error, ErrorKind, IntoInnerError, Result, Write};
 use pending::Pending;
 use std::alloc::Global;
 
@@ -80,15 +79,9 @@ impl<W: Write + Drop, const S: usize> FrameWriter<W, S> {
         if !self.is_under_way() {
             return Ok(());
         }
-        let mut rest = self.pending.rest();
-        let reply = self.inner.write_rest(&mut rest);
-        let left = rest.len();
-        if reply.is_ok() {
-            self.pending.clear();
-        } else {
-            self.pending.keep_last(left);
-        }
-        reply
+        self.pending.send_to(&mut self.inner)?;
+        self.pending.clear();
+        Ok(())
     }
 
     /// Sends a payload: after `Ok` its whole frame was accepted, and is out or held. It isn't flushed. No
@@ -104,7 +97,7 @@ impl<W: Write + Drop, const S: usize> FrameWriter<W, S> {
         ensures small { OnOk result (length payload.now < 2 ^ 32) }
         ensures fault { IsNoInterruption result }
     {
-        self.pending.stage(payload)?;
+        stage(&mut self.pending, payload)?;
         self.retry()
     }
 
@@ -138,7 +131,7 @@ impl<W: Write + Drop, const S: usize> FrameWriter<W, S> {
             let Some((payload, others)) = rest.split_first() else {
                 return Ok(());
             };
-            self.pending.stage(payload.as_slice())?;
+            stage(&mut self.pending, payload.as_slice())?;
             *rest = others;
         }
     }
@@ -178,4 +171,21 @@ impl<W: Write + Drop, const S: usize> FrameWriter<W, S> {
         } = self;
         inner.into_inner()
     }
+}
+
+// Puts the frame of this payload under way, with none of it gone; at an `Err` none is.
+fn stage(pending: &mut Pending, payload: &[u8]) -> Result<()>
+    ensures frame { OnOk result (pending_bytes pending.new ≡ frame payload.now) }
+    ensures rest { OnOk result (pending_rest pending.new ≡ frame payload.now) }
+    ensures err { OnErr result (pending_bytes pending.new ≡ []) }
+    ensures none { OnErr result (pending_rest pending.new ≡ []) }
+    ensures small { OnOk result (length payload.now < 2 ^ 32) }
+    ensures refused { IfErr result (IsRefusal payload.now) }
+{
+    pending.clear();
+    let Ok(len) = u32::try_from(payload.len()) else {
+        let text = "a frame has fewer than 2^32 bytes";
+        return Err(Error::new(ErrorKind::InvalidInput, text));
+    };
+    pending.stage(&len.to_le_bytes(), payload)
 }

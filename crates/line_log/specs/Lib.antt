@@ -1,4 +1,2 @@
 pub mod Lines
-pub mod Pending
 pub mod Log
-pub mod Logging

@@ -13,13 +13,12 @@ ghost use Rattle.no_std_io2.specs.Write.{Moves, Sends};
 ghost use Rattle.no_std_io2.specs.BufWriter.{into_inner_error_writer, into_inner_error_cause};
 ghost use Rattle.no_std_io2.specs.Lines.{HasNoNewline};
 ghost use Rattle.no_std_io2.specs.LineWriter.{line_told};
-ghost use Rattle.line_log.specs.Lines.{lines_of};
+ghost use Rattle.pending.specs.Pending.{pending_bytes, pending_rest};
+ghost use Rattle.line_log.specs.Lines.{line_of, lines_of, IsRefusal};
 ghost use Rattle.line_log.specs.Log.{log_inner, log_told, log_buffer, under_way, still_to_go};
-ghost use Rattle.line_log.specs.Logging.{LogsLine, LogsLines, RefusesFirst, TakesOff};
+ghost use Rattle.line_log.specs.Log.{LogsLine, LogsLines, RefusesFirst, TakesOff};
 
-mod pending;
-
-use no_std_io2::io::{IntoInnerError, LineWriter, Result, Write};
+use no_std_io2::io::{Error, ErrorKind, IntoInnerError, LineWriter, Result, Write};
 use pending::Pending;
 use std::alloc::Global;
 
@@ -94,11 +93,7 @@ impl<W: Write + Drop, const S: usize> LineLog<W, S> {
         if !self.is_under_way() {
             return Ok(());
         }
-        let mut rest = self.pending.rest();
-        let reply = self.lines.write_rest(&mut rest);
-        let left = rest.len();
-        self.pending.keep_last(left);
-        reply?;
+        self.pending.send_to(&mut self.lines)?;
         // The end of the line may be held: a write of nothing sends it.
         self.lines.write_all(b"")?;
         self.pending.clear();
@@ -121,7 +116,7 @@ impl<W: Write + Drop, const S: usize> LineLog<W, S> {
         ensures started { 0 < length (under_way self.new) → HasNoNewline line.now }
         ensures fault { IsNoInterruption result }
     {
-        self.pending.stage(line)?;
+        stage(&mut self.pending, line)?;
         self.retry()
     }
 
@@ -155,7 +150,7 @@ impl<W: Write + Drop, const S: usize> LineLog<W, S> {
             let Some((line, others)) = rest.split_first() else {
                 return Ok(());
             };
-            self.pending.stage(line.as_str())?;
+            stage(&mut self.pending, line.as_str())?;
             *rest = others;
         }
     }
@@ -195,4 +190,21 @@ impl<W: Write + Drop, const S: usize> LineLog<W, S> {
         } = self;
         lines.into_inner()
     }
+}
+
+// Puts the line of this text under way, with none of it gone; at an `Err` none is.
+fn stage(pending: &mut Pending, text: &str) -> Result<()>
+    ensures line { OnOk result (pending_bytes pending.new ≡ line_of text.now) }
+    ensures rest { OnOk result (pending_rest pending.new ≡ line_of text.now) }
+    ensures err { OnErr result (pending_bytes pending.new ≡ []) }
+    ensures none { OnErr result (pending_rest pending.new ≡ []) }
+    ensures plain { OnOk result (HasNoNewline text.now) }
+    ensures refused { IfErr result (IsRefusal text.now) }
+{
+    pending.clear();
+    if text.as_bytes().contains(&b'\n') {
+        let message = "a newline stands in a line";
+        return Err(Error::new(ErrorKind::InvalidInput, message));
+    }
+    pending.stage(text.as_bytes(), b"\n")
 }

@@ -1,30 +1,30 @@
-use Rattle.std.proofs.Common.{◌≡◌, ◌++◌, ◌∷◌, length, map, string_bytes, refl, sym, ap, ◌∙◌, subst}
+use Rattle.std.proofs.Common.{◌≡◌, ◌++◌, ◌∷◌, length, map, string_bytes, sym, ap, ◌∙◌, subst}
+use Rattle.std.proofs.lemmas.List.{nil_from_length}
 use Rattle.std.proofs.lemmas.Result.{err_from_is_err_and}
 use Rattle.no_std_io2.specs.Lines.{HasNoNewline}
-use Rattle.line_log.specs.Lines.{lines_of}
-use Rattle.line_log.proofs.LogLemmas.{goes_none, goes_on, goes_stopped, goes_refused, goes_all, goes_shown, off_none}
-use Rattle.line_log.proofs.LogLemmas.{off_more, none_left, staged}
+use Rattle.line_log.specs.Lines.{line_of, lines_of}
+use Rattle.pending.proofs.RecordLemmas.{sends_none, sends_on, sends_shown, all_sent, stopped, refused, off_none, off_more, staged}
 use Rattle.line_log.proofs.LineLog.log_all.Goals as goal
 
 pub lines-init : goal.lines-init
-lines-init g c = record { goes = goes_none _ _; off = off_none _ }
+lines-init g c = record { goes = sends_none _ _; off = off_none _ }
 
 pub returns-in_err-retry-clause-sends : goal.returns-in_err-retry-clause-sends
 returns-in_err-retry-clause-sends g c =
     let p = err_from_is_err_and c.from_residual.result c.from_residual.ensures.1 in
     let said = c.in_err-retry.ensures in
     rw (p.1, p.2)
-    (goes_stopped (lines_of (map string_bytes c.lines.rest.now)) c.in_err-retry.field-0.0 _ c.lines.invariant.goes
-    said.sends said.some)
+    (stopped c.in_err-retry.field-0.0 _ (sends_on (lines_of (map string_bytes c.lines.rest.now)) c.lines.invariant.goes said.sends)
+    said.some)
 
 pub returns-in_default-clause-sends : goal.returns-in_default-clause-sends
 returns-in_default-clause-sends g c =
-    goes_all _ _ (goes_on (lines_of (map string_bytes c.lines.rest.now)) c.lines.invariant.goes c.in_ok-retry.ensures.sends) refl
+    all_sent _ (sends_on (lines_of (map string_bytes c.lines.rest.now)) c.lines.invariant.goes c.in_ok-retry.ensures.sends)
 
 pub returns-in_default-clause-done : goal.returns-in_default-clause-done
 returns-in_default-clause-done g c =
     let none : length c.lines.rest.now ≡ 0 = rw c.in_default.is at c.split_first.ensures.cases in
-    (c.in_ok-retry.ensures.done, c.in_ok-retry.ensures.none, none_left c.lines.rest.now none)
+    (c.in_ok-retry.ensures.done, c.in_ok-retry.ensures.none, nil_from_length c.lines.rest.now none)
 
 pub returns-in_err-stage-clause-sends : goal.returns-in_err-stage-clause-sends
 returns-in_err-stage-clause-sends g c =
@@ -32,8 +32,9 @@ returns-in_err-stage-clause-sends g c =
     let said = c.in_err-stage.ensures in
     let more = lines_of (map string_bytes c.lines.rest.now) in
     rw (p.1, p.2)
-    (goes_refused _ _ c.in_err-stage.field-0.0 (goes_on more c.lines.invariant.goes c.in_ok-retry.ensures.sends)
-    (ap (λ l. l ++ more) (c.in_ok-retry.ensures.none ∙ sym said.none)) said.err)
+    (refused c.in_err-stage.field-0.0 _
+    (sends_shown _ (sends_on more c.lines.invariant.goes c.in_ok-retry.ensures.sends)
+    (ap (λ l. l ++ more) (c.in_ok-retry.ensures.none ∙ sym said.none))) said.err)
 
 pub lines-preserved : goal.lines-preserved
 lines-preserved g c =
@@ -45,7 +46,7 @@ lines-preserved g c =
     let same = c.as_str.ensures.value in
     let plain : HasNoNewline (string_bytes line) = subst HasNoNewline same said.plain in
     record {
-      goes = goes_shown _ (goes_on (lines_of (map string_bytes rest)) c.lines.invariant.goes c.in_ok-retry.ensures.sends)
-          (staged string_bytes rest line others _ _ c.as_str.result.now first c.in_ok-retry.ensures.none same said.rest);
+      goes = sends_shown _ (sends_on (lines_of (map string_bytes rest)) c.lines.invariant.goes c.in_ok-retry.ensures.sends)
+          (staged line_of string_bytes rest line others _ _ c.as_str.result.now first c.in_ok-retry.ensures.none same said.rest);
       off = off_more (string_bytes line) (map string_bytes others) _ c.lines.invariant.off (ap (map string_bytes) first) plain;
     }

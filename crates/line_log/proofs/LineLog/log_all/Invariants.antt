@@ -1,17 +1,16 @@
 -- What is no longer to go was accepted, and no newline stands in the texts that were taken off.
-use Rattle.std.proofs.Common.{◌++◌, map, length, string_bytes}
+use Rattle.std.proofs.Common.{◌++◌, map, length, Ok, string_bytes}
+use Rattle.no_std_io2.specs.Write.{Sends}
 use Rattle.line_log.specs.Lines.{lines_of}
-use Rattle.line_log.specs.Log.{log_told, still_to_go}
-use Rattle.line_log.specs.Logging.{TakesOff}
-use Rattle.line_log.proofs.LogLemmas.{Goes}
+use Rattle.line_log.specs.Log.{log_told, still_to_go, TakesOff}
 use Rattle.line_log.proofs.LineLog.log_all.Given as goal
 
 abbrev pub invariant-lines : goal.invariant-lines
 invariant-lines g l =
     let told = g.W.Write.told in
     record {
-      goes : Goes (log_told told l.initial.self)
-          (still_to_go l.initial.self ++ lines_of (map string_bytes l.initial.rest.now)) (log_told told l.self)
+      goes : Sends (log_told told l.initial.self)
+          (still_to_go l.initial.self ++ lines_of (map string_bytes l.initial.rest.now)) (Ok tt) (log_told told l.self)
           (still_to_go l.self ++ lines_of (map string_bytes l.rest.now));
       off : TakesOff (map string_bytes l.initial.rest.now) (map string_bytes l.rest.now);
     }

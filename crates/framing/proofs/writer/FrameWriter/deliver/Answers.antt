@@ -1,10 +1,10 @@
 use Rattle.std.proofs.Common.{arith}
-use Rattle.framing.proofs.DeliveryLemmas.{delivers_none, delivers_more, off_then, spent_none, spent_more, spent_all}
-use Rattle.framing.proofs.SendingLemmas.{off_none}
+use Rattle.framing.proofs.DeliveryLemmas.{delivers_more, spent_none, spent_more, spent_all}
+use Rattle.pending.proofs.RecordLemmas.{sends_none, off_none, off_then}
 use Rattle.framing.proofs.writer.FrameWriter.deliver.Goals as goal
 
 pub tries-init : goal.tries-init
-tries-init g c = record { goes = delivers_none _ _; off = off_none _; spent = spent_none _ _ }
+tries-init g c = record { goes = sends_none _ _; off = off_none _; spent = spent_none _ _ }
 
 pub returns-in_err-try_once-clause-sends : goal.returns-in_err-try_once-clause-sends
 returns-in_err-try_once-clause-sends g c = delivers_more c.try_once.result c.tries.invariant.goes c.try_once.ensures.sends

@@ -1,29 +1,29 @@
-use Rattle.std.proofs.Common.{◌≡◌, ◌<◌, ◌^◌, ◌++◌, ◌∷◌, length, map, refl, sym, ap, ◌∙◌, subst}
+use Rattle.std.proofs.Common.{◌≡◌, ◌<◌, ◌^◌, ◌++◌, ◌∷◌, length, map, sym, ap, ◌∙◌, subst}
+use Rattle.std.proofs.lemmas.List.{nil_from_length}
 use Rattle.std.proofs.lemmas.Result.{err_from_is_err_and}
-use Rattle.framing.specs.Frames.{frames}
-use Rattle.framing.proofs.SendingLemmas.{goes_none, goes_on, goes_stopped, goes_refused, goes_all, goes_shown, off_none}
-use Rattle.framing.proofs.SendingLemmas.{off_more, none_left, staged}
+use Rattle.framing.specs.Frames.{frame, frames}
+use Rattle.pending.proofs.RecordLemmas.{sends_none, sends_on, sends_shown, all_sent, stopped, refused, off_none, off_more, staged}
 use Rattle.framing.proofs.writer.FrameWriter.send_all.Goals as goal
 
 pub frames-init : goal.frames-init
-frames-init g c = record { goes = goes_none _ _; off = off_none _ }
+frames-init g c = record { goes = sends_none _ _; off = off_none _ }
 
 pub returns-in_err-retry-clause-sends : goal.returns-in_err-retry-clause-sends
 returns-in_err-retry-clause-sends g c =
     let p = err_from_is_err_and c.from_residual.result c.from_residual.ensures.1 in
     let said = c.in_err-retry.ensures in
     rw (p.1, p.2)
-    (goes_stopped (frames (map (λ v. v.items) c.frames.rest.now)) c.in_err-retry.field-0.0 _ c.frames.invariant.goes
-    said.sends said.some)
+    (stopped c.in_err-retry.field-0.0 _ (sends_on (frames (map (λ v. v.items) c.frames.rest.now)) c.frames.invariant.goes said.sends)
+    said.some)
 
 pub returns-in_default-clause-sends : goal.returns-in_default-clause-sends
 returns-in_default-clause-sends g c =
-    goes_all _ _ (goes_on (frames (map (λ v. v.items) c.frames.rest.now)) c.frames.invariant.goes c.in_ok-retry.ensures.sends) refl
+    all_sent _ (sends_on (frames (map (λ v. v.items) c.frames.rest.now)) c.frames.invariant.goes c.in_ok-retry.ensures.sends)
 
 pub returns-in_default-clause-done : goal.returns-in_default-clause-done
 returns-in_default-clause-done g c =
     let none : length c.frames.rest.now ≡ 0 = rw c.in_default.is at c.split_first.ensures.cases in
-    (c.in_ok-retry.ensures.done, c.in_ok-retry.ensures.none, none_left c.frames.rest.now none)
+    (c.in_ok-retry.ensures.done, c.in_ok-retry.ensures.none, nil_from_length c.frames.rest.now none)
 
 pub returns-in_err-stage-clause-sends : goal.returns-in_err-stage-clause-sends
 returns-in_err-stage-clause-sends g c =
@@ -31,8 +31,9 @@ returns-in_err-stage-clause-sends g c =
     let said = c.in_err-stage.ensures in
     let more = frames (map (λ v. v.items) c.frames.rest.now) in
     rw (p.1, p.2)
-    (goes_refused _ _ c.in_err-stage.field-0.0 (goes_on more c.frames.invariant.goes c.in_ok-retry.ensures.sends)
-    (ap (λ l. l ++ more) (c.in_ok-retry.ensures.none ∙ sym said.none)) said.err)
+    (refused c.in_err-stage.field-0.0 _
+    (sends_shown _ (sends_on more c.frames.invariant.goes c.in_ok-retry.ensures.sends)
+    (ap (λ l. l ++ more) (c.in_ok-retry.ensures.none ∙ sym said.none))) said.err)
 
 pub frames-preserved : goal.frames-preserved
 frames-preserved g c =
@@ -44,7 +45,7 @@ frames-preserved g c =
     let same = c.as_slice.ensures.value in
     let short : length payload.items < 2 ^ 32 = subst (λ l. length l < 2 ^ 32) same said.small in
     record {
-      goes = goes_shown _ (goes_on (frames (map (λ v. v.items) rest)) c.frames.invariant.goes c.in_ok-retry.ensures.sends)
-          (staged (λ v. v.items) rest payload others _ _ c.as_slice.result.now first c.in_ok-retry.ensures.none same said.rest);
+      goes = sends_shown _ (sends_on (frames (map (λ v. v.items) rest)) c.frames.invariant.goes c.in_ok-retry.ensures.sends)
+          (staged frame (λ v. v.items) rest payload others _ _ c.as_slice.result.now first c.in_ok-retry.ensures.none same said.rest);
       off = off_more payload.items (map (λ v. v.items) others) _ c.frames.invariant.off (ap (map (λ v. v.items)) first) short;
     }

@@ -1,16 +1,16 @@
 -- What is no longer to go was accepted, and the payloads that were taken off are short enough for a frame.
-use Rattle.std.proofs.Common.{◌++◌, map, length}
+use Rattle.std.proofs.Common.{◌++◌, map, length, Ok}
+use Rattle.no_std_io2.specs.Write.{Sends}
 use Rattle.framing.specs.Frames.{frames}
 use Rattle.framing.specs.Sending.{writer_tells, still_to_go, TakesOff}
-use Rattle.framing.proofs.SendingLemmas.{Goes}
 use Rattle.framing.proofs.writer.FrameWriter.send_all.Given as goal
 
 abbrev pub invariant-frames : goal.invariant-frames
 invariant-frames g l =
     let told = g.W.Write.told in
     record {
-      goes : Goes (writer_tells told l.initial.self)
-          (still_to_go l.initial.self ++ frames (map (λ v. v.items) l.initial.rest.now)) (writer_tells told l.self)
+      goes : Sends (writer_tells told l.initial.self)
+          (still_to_go l.initial.self ++ frames (map (λ v. v.items) l.initial.rest.now)) (Ok tt) (writer_tells told l.self)
           (still_to_go l.self ++ frames (map (λ v. v.items) l.rest.now));
       off : TakesOff (map (λ v. v.items) l.initial.rest.now) (map (λ v. v.items) l.rest.now);
     }

@@ -1,0 +1,90 @@
+//! A record that a writer is to get whole and once: its bytes, and how many of them were accepted. [`Pending`] is all of it.
+#![tactic(auto)]
+
+ghost use Rattle.std.specs.Prelude.{◌≡◌, ◌≤◌, [], ◌++◌, length, vec_len, nat_lt, OnOk, OnErr, IfErr};
+ghost use Rattle.no_std_io2.specs.Errors.{IsNoInterruption, IsOutOfMemory};
+ghost use Rattle.no_std_io2.specs.Write.{Sends};
+
+use no_std_io2::io::{Result, Write};
+use std::alloc::Global;
+
+/// A record under way. No bytes: none is.
+///
+/// What the writer was told, then what is still to go, is always what it was, followed by exactly the records
+/// that were staged, each once, whatever the device does: after an error the same call of `send_to` goes on.
+#[derive(Drop)]
+pub struct Pending {
+    bytes: Vec<u8>,
+    sent: usize,
+    ghost within: { sent ≤ vec_len bytes },
+}
+
+impl Pending {
+    ghost use Rattle.pending.specs.Pending.{pending_bytes, pending_rest};
+
+    /// No record. Its bytes will be kept by `alloc`.
+    pub fn new(alloc: Global) -> Pending
+        ensures bytes { pending_bytes result ≡ [] }
+        ensures rest { pending_rest result ≡ [] }
+    {
+        Pending {
+            bytes: Vec::new(alloc),
+            sent: 0,
+        }
+    }
+
+    /// Whether a record is under way.
+    pub fn is_some(&self) -> bool
+        ensures { result ≡ nat_lt 0 (length (pending_bytes self.now)) }
+    {
+        !self.bytes.is_empty()
+    }
+
+    /// Puts a record under way, a head and a tail, with none of it gone. One that was under way is cut off.
+    ///
+    /// # Errors
+    /// `OutOfMemory`: none is under way then.
+    pub fn stage(&mut self, head: &[u8], tail: &[u8]) -> Result<()>
+        ensures bytes { OnOk result (pending_bytes self.new ≡ head.now ++ tail.now) }
+        ensures rest { OnOk result (pending_rest self.new ≡ head.now ++ tail.now) }
+        ensures err { OnErr result (pending_bytes self.new ≡ []) }
+        ensures none { OnErr result (pending_rest self.new ≡ []) }
+        ensures memory { IfErr result IsOutOfMemory }
+    {
+        self.clear();
+        self.bytes.extend_from_slice(head)?;
+        if let Err(refused) = self.bytes.extend_from_slice(tail) {
+            self.clear();
+            return Err(refused.into());
+        }
+        Ok(())
+    }
+
+    /// Sends what is still to go, which passes over interruptions. After `Ok` nothing is, and the record is under
+    /// way until `clear`: a writer may have to be asked for more before its bytes count as sent.
+    ///
+    /// # Errors
+    /// The writer's first fault, or `WriteZero` where it took no byte of some; never `Interrupted`. What was not
+    /// accepted is still to go.
+    pub fn send_to<W: Write>(&mut self, writer: &mut W) -> Result<()>
+        ensures sends { Sends (W.told writer.old) (pending_rest self.old) result (W.told writer.new) (pending_rest self.new) }
+        ensures done { OnOk result (pending_rest self.new ≡ []) }
+        ensures bytes { pending_bytes self.new ≡ pending_bytes self.old }
+        ensures fault { IsNoInterruption result }
+    {
+        let mut rest = &self.bytes[self.sent..];
+        let reply = writer.write_rest(&mut rest);
+        let left = rest.len();
+        self.sent = self.bytes.len() - left;
+        reply
+    }
+
+    /// Cuts the record off: none is under way.
+    pub fn clear(&mut self)
+        ensures bytes { pending_bytes self.new ≡ [] }
+        ensures rest { pending_rest self.new ≡ [] }
+    {
+        self.sent = 0;
+        self.bytes.clear();
+    }
+}
