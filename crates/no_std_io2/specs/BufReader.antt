@@ -111,6 +111,21 @@ EmptiesInto old before (Err e) after new =
     (IsFront (before ++ reader_held old) after × HasNoBuffer new)
     ⊎ (IsOutOfMemory e × (reader_inner new ≡ reader_inner old) × HasMoved (reader_held old) (reader_held new) before after)
 
+-- a piece that was held was appended, and the inner reader left alone; or there was no memory for it, and nothing has changed
+abbrev pub TakesHeld : {R : Type 0} {S : ℕ} → List ℕ → List ℕ → BufReader R S → List ℕ → Result ℕ Error → List ℕ → BufReader R S → Type 0
+TakesHeld piece rest old before (Ok n) after new =
+    (n ≡ length piece) × (after ≡ before ++ piece) × (reader_held new ≡ rest) × (reader_behind new ≡ reader_behind old ++ piece)
+    × (reader_inner new ≡ reader_inner old)
+TakesHeld piece rest old before (Err e) after new = IsOutOfMemory e × (after ≡ before) × (new ≡ old)
+
+-- a line that was held was appended, and the inner reader left alone; or the text refused it, and it is taken; or there was no
+-- memory to take it by
+abbrev pub TakesHeldLine : {R : Type 0} {S : ℕ} → List ℕ → List ℕ → BufReader R S → List ℕ → Result ℕ Error → List ℕ → BufReader R S → Type 0
+TakesHeldLine line rest old before (Ok n) after new = TakesHeld line rest old before (Ok n) after new
+TakesHeldLine line rest old before (Err e) after new =
+    (after ≡ before) × (reader_inner new ≡ reader_inner old)
+    × (((reader_held new ≡ rest) × (reader_behind new ≡ reader_behind old ++ line)) ⊎ (IsOutOfMemory e × KeepsBuffer old new))
+
 -- r after `*r.get_mut() = x`
 abbrev pub reader_with_inner : {R : Type 0} {S : ℕ} → BufReader R S → R → BufReader R S
 reader_with_inner r x = record r { inner = x }

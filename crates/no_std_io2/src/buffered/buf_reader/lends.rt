@@ -6,11 +6,11 @@ ghost use Rattle.no_std_io2.specs.Buffer.{IsEnd};
 ghost use Rattle.std.specs.Borrow.{sem};
 ghost use Rattle.no_std_io2_base.specs.BufRead.{FillBufLaw, ConsumeLaw, ReadUntilLaw, ReadLineLaw};
 ghost use Rattle.no_std_io2_base.specs.declared.error.Error.{Error};
-ghost use Rattle.no_std_io2_base.specs.Pieces.{AnswersLine};
+ghost use Rattle.no_std_io2_base.specs.Pieces.{AnswersLine, EndsPiece};
 ghost use Rattle.no_std_io2_base.specs.BufRead.{Rests, IsNotEmpty, Lends, LendsFrom, LendingTurn, reads_needed};
 ghost use Rattle.no_std_io2.specs.contracts.buffered.buf_reader.BufReader.{the_row as reader-row};
 ghost use Rattle.no_std_io2.specs.BufReader.{reader_held, reader_behind, reader_inner, reader_events, reader_turns};
-ghost use Rattle.no_std_io2.specs.BufReader.{reader_has_store, reader_is_sound, reader_position, reader_lent_length};
+ghost use Rattle.no_std_io2.specs.BufReader.{reader_has_store, reader_is_sound, reader_position, reader_lent_length, TakesHeld, TakesHeldLine};
 
 use super::BufReader;
 use super::pieces::find_piece;
@@ -77,6 +77,10 @@ impl<R: Read, const S: usize> BufRead for BufReader<R, S> {
     fn read_until<A: Allocator>(&mut self, delim: u8, buf: &mut Vec<u8, A>) -> Result<usize>
         ensures law { ReadUntilLaw ⟦<Self as BufRead>⟧ self.old delim buf.old result buf.new self.new }
 
+        // With a whole piece held, it takes of the held bytes alone.
+        ensures held { (piece rest : List ℕ) → reader_held self.old ≡ piece ++ rest → EndsPiece delim piece
+            → TakesHeld piece rest self.old buf.old.items result buf.new.items self.new }
+
         // What then lies behind is an end of what lay there and what was appended.
         ensures behind { IsEnd (reader_behind self.old ++ drop (vec_len buf.old) buf.new.items) (reader_behind self.new) }
         ensures sound { reader_is_sound R.has_store R.position R.content self.old
@@ -102,6 +106,10 @@ impl<R: Read, const S: usize> BufRead for BufReader<R, S> {
     // The trait's body.
     fn read_line(&mut self, alloc: Global, buf: &mut String) -> Result<usize>
         ensures law { ReadLineLaw ⟦<Self as BufRead>⟧ self.old buf.old result buf.new self.new }
+
+        // With a whole line held, it takes of the held bytes alone.
+        ensures held { (line rest : List ℕ) → reader_held self.old ≡ line ++ rest → EndsPiece 10 line
+            → TakesHeldLine line rest self.old (string_bytes buf.old) result (string_bytes buf.new) self.new }
 
         // What then lies behind is an end of what lay there and of the line, or of what was lost of it.
         ensures behind { OnOk result (IsEnd (reader_behind self.old ++ drop (string_len buf.old) (string_bytes buf.new))

@@ -1,5 +1,5 @@
 // Where a piece of lent bytes ends, by `memchr`.
-ghost use Rattle.std.specs.Prelude.{◌≡◌, ◌≢◌, ◌<◌, All, length, take, slice_index, IfSome, IfNone};
+ghost use Rattle.std.specs.Prelude.{◌≡◌, ◌≢◌, ◌<◌, false, All, length, take, slice_index, IfSome, IfNone};
 ghost use Rattle.no_std_io2_base.specs.Pieces.{FindsPiece};
 
 use memchr::memchr;
@@ -14,9 +14,10 @@ fn find_byte(bytes: &[u8], wanted: u8) -> Option<usize>
 }
 
 // How many of the lent bytes belong to a piece, and whether it is whole with them: they end in its
-// delimiter, or nothing was lent.
+// delimiter, or nothing was lent. All of them do where it is not.
 pub(super) fn find_piece(lent: &[u8], delim: u8) -> (usize, bool)
-    ensures { FindsPiece delim lent.now result.0 result.1 }
+    ensures finds { FindsPiece delim lent.now result.0 result.1 }
+    ensures all { result.1 ≡ false → result.0 ≡ length lent.now }
 {
     match find_byte(lent, delim) {
         Some(at) => (at + 1, true),
