@@ -33,11 +33,6 @@ __attribute__((constructor)) static void begin(void)
     times = getenv("MISBEHAVE_TIMES") ? atol(getenv("MISBEHAVE_TIMES")) : 1;
 }
 
-static int is_too_large(size_t size)
-{
-    return strcmp(kind, "large") == 0 && size > (size_t)left;
-}
-
 static int has_come(const char *of)
 {
     if (left == 0 || times == 0 || strcmp(kind, of) != 0)
@@ -53,33 +48,32 @@ static int has_come(const char *of)
     return 1;
 }
 
+// Whether an allocation of this size is refused.
+static int is_refused(size_t size)
+{
+    return strcmp(kind, "large") == 0 ? size > (size_t)left : has_come("memory");
+}
+
 void *malloc(size_t size)
 {
-    return is_too_large(size) || has_come("memory") ? NULL : __libc_malloc(size);
+    return is_refused(size) ? NULL : __libc_malloc(size);
 }
 
 void *realloc(void *pointer, size_t size)
 {
-    return is_too_large(size) || has_come("memory") ? NULL : __libc_realloc(pointer, size);
+    return is_refused(size) ? NULL : __libc_realloc(pointer, size);
 }
 
-// A call of read or write on this file, with the one that the C library has.
+// `read` or `write`, of which the calls on this file may misbehave; the others are the C library's.
 #define CALL(name, on, bytes) \
-    ssize_t (*next)(int, bytes, size_t) = (ssize_t (*)(int, bytes, size_t))dlsym(RTLD_NEXT, #name); \
-    if (file == on && size > 0 && has_come(#name)) { \
+    ssize_t name(int file, bytes buffer, size_t size) \
+    { \
+        ssize_t (*next)(int, bytes, size_t) = (ssize_t (*)(int, bytes, size_t))dlsym(RTLD_NEXT, #name); \
+        if (file != on || size == 0 || !has_come(#name)) return next(file, buffer, size); \
         if (takes_nothing) return 0; \
         if (number == 0) return next(file, buffer, 1); \
         errno = number; \
         return -1; \
-    } \
-    return next(file, buffer, size);
-
-ssize_t read(int file, void *buffer, size_t size)
-{
-    CALL(read, 0, void *)
-}
-
-ssize_t write(int file, const void *buffer, size_t size)
-{
-    CALL(write, 1, const void *)
-}
+    }
+CALL(read, 0, void *)
+CALL(write, 1, const void *)
