@@ -1,7 +1,11 @@
 // The devices that `examples` shows, through a buffer and alone.
+ghost use Rattle.std.specs.Prelude.{[]};
+
 use examples::{Broken, Inbox, Narrow, Port, Serial, Source};
 use io_bench::Tally;
-use no_std_io2::io::{BufWriter, Error, ErrorKind, Read, Result as IoResult, Write};
+use no_std_io2::io::{
+    BufWriter, Error, ErrorKind, Read, Result as IoResult, Seek, SeekFrom, Stored, Write,
+};
 use no_std_io2::trace::Trace;
 use std::test::Fail;
 
@@ -115,5 +119,41 @@ fn readers_give_these(rt: HostRuntime) -> Result<(), Fail> {
     'reads: for want in [Err(ErrorKind::NotFound), Ok([0, 0])] {
         assert!(rt; read(&mut broken) == want);
     }
+    Ok(())
+}
+
+// Stands at 9 of 9 bytes, and counts how often it is asked for that.
+#[derive(Drop)]
+struct AtEnd {
+    asked: u8,
+}
+
+impl Stored for AtEnd {
+    ghost has_store = { λ _. ⊥ };
+
+    ghost content = { λ _. [] };
+
+    ghost position = { λ _. 0 };
+}
+
+impl Seek for AtEnd {
+    fn seek(&mut self, _pos: SeekFrom) -> IoResult<u64> {
+        Ok(9)
+    }
+
+    fn stream_position(&mut self) -> IoResult<u64> {
+        self.asked = self.asked.saturating_add(1);
+        Ok(9)
+    }
+
+    ghost seek_fits = { λ s h. absurd h };
+}
+
+// A length that seeks for the position, where the device has an answer of its own.
+#[test]
+fn a_length_asks_the_device_for_its_position(rt: HostRuntime) -> Result<(), Fail> {
+    let mut device = AtEnd { asked: 0 };
+    assert!(rt; device.stream_len()? == 9);
+    assert!(rt; device.asked == 1);
     Ok(())
 }
