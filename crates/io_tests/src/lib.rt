@@ -1,8 +1,11 @@
-//! Tests of what neither a clause nor a row of a table says: printed texts, kinds as keys, long streams, and clients.
+//! Tests of what neither a clause nor a row of a table says: how often a device is asked, printed texts, kinds as keys, long
+//! streams, and clients.
 //!
 //! The line above each test says which mistake it is to find.
 #![tactic(auto)]
 
+#[cfg(test)]
+mod asking;
 #[cfg(test)]
 mod clients;
 #[cfg(test)]

@@ -1,7 +1,9 @@
 // Tallies and faulty devices over a device that has a body of its own for each call, and notes which of them it was.
 //
-// A row is a call; then its answer, for a read the bytes that it gave, and the calls that reached the device.
-use io_bench::{Faulty, Tally};
+// A row is a call; then its answer, for a read the bytes that it gave, and the calls that reached the device. A line `new` of
+// a faulty device may have its acts before the device's answers, as `new take 2, zero; all, fail Other gone`.
+use super::acts::parse_acts;
+use io_bench::{Act, Faulty, Tally};
 use io_rows::calls::{make_call, new_journal, show_calls};
 use io_rows::fault::Made;
 use io_rows::journal::Journal;
@@ -17,21 +19,21 @@ use std::rc::Rc;
 
 /// A writer over a device.
 pub trait Bench: Write {
-    /// The writer, with no acts.
-    fn over(alloc: Global, device: Noted<Recorder>) -> Self
+    /// The writer, with these acts where it has any.
+    fn over(device: Noted<Recorder>, acts: Vec<Act>) -> Self
     where
         Self: Sized;
 }
 
 impl Bench for Tally<Noted<Recorder>> {
-    fn over(_alloc: Global, device: Noted<Recorder>) -> Tally<Noted<Recorder>> {
+    fn over(device: Noted<Recorder>, _acts: Vec<Act>) -> Tally<Noted<Recorder>> {
         Tally::new(device)
     }
 }
 
 impl Bench for Faulty<Noted<Recorder>> {
-    fn over(alloc: Global, device: Noted<Recorder>) -> Faulty<Noted<Recorder>> {
-        Faulty::new(device, Vec::new(alloc))
+    fn over(device: Noted<Recorder>, acts: Vec<Act>) -> Faulty<Noted<Recorder>> {
+        Faulty::new(device, acts)
     }
 }
 
@@ -44,14 +46,13 @@ pub struct BenchWrites<W: Drop> {
 
 impl<W: Bench + Drop> Subject for BenchWrites<W> {
     fn make(alloc: Global, words: &str) -> Made<BenchWrites<W>> {
-        let journal = new_journal(alloc, words)?;
-        let writer = W::over(
-            alloc,
-            Noted::new(
-                Recorder::new(alloc, journal.clone()?, Name::Only),
-                journal.clone()?,
-            ),
+        let (acts, answers) = words.split_once("; ").unwrap_or(("", words));
+        let journal = new_journal(alloc, answers)?;
+        let device = Noted::new(
+            Recorder::new(alloc, journal.clone()?, Name::Only),
+            journal.clone()?,
         );
+        let writer = W::over(device, parse_acts(alloc, acts)?);
         Ok(BenchWrites { writer, journal })
     }
 

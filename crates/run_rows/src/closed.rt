@@ -1,7 +1,7 @@
-// `run_closed` over a tally of a sink that notes the length of each write.
+// `run_closed` over a tally of a sink that notes the length of each write, and each flush.
 //
 // A row is `run` and the calls; then their replies, how many inner writes they took and how many at most, and the lengths
-// of the inner writes.
+// of the inner writes with `flush` for each inner flush.
 ghost use Rattle.std.specs.Prelude.{⊤, refl, ◌<◌};
 
 use super::ops::{ops_of, parse_calls, show_replies};
@@ -12,11 +12,18 @@ use io_rows::rows::{Call, Subject};
 use no_std_io2::io::{Result, Write};
 use std::alloc::Global;
 
-/// Takes all, and notes the lengths of its writes.
+/// Takes all, and notes the lengths of its writes, and its flushes.
 #[derive(Drop)]
 pub struct Lengths {
     sink: Sink,
     lengths: Line,
+}
+
+// Begins what is noted of one more call.
+fn begin_note(lengths: &mut Line) {
+    if !lengths.is_empty() {
+        let _ = lengths.word(", ");
+    }
 }
 
 impl Write for Lengths {
@@ -31,14 +38,14 @@ impl Write for Lengths {
     ghost is_metered = { λ _. ⊥ };
 
     fn write(&mut self, buf: &[u8]) -> Result<usize> {
-        if !self.lengths.is_empty() {
-            let _ = self.lengths.word(", ");
-        }
+        begin_note(&mut self.lengths);
         let _ = self.lengths.number(buf.len() as u64);
         self.sink.write(buf)
     }
 
     fn flush(&mut self) -> Result<()> {
+        begin_note(&mut self.lengths);
+        let _ = self.lengths.word("flush");
         self.sink.flush()
     }
 
