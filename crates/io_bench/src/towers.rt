@@ -9,9 +9,8 @@ ghost use Rattle.io_bench.specs.Runs.{appended, failures, AreWhole, IsShorterBy}
 
 use crate::faulty::Faulty;
 use crate::runs::{Op, Reply, run_writes};
-use no_std_io2::io::Sink;
 use crate::tally::Tally;
-use no_std_io2::io::{BufWriter, Chain, LineWriter, Read, Result, Write};
+use no_std_io2::io::{BufWriter, Chain, LineWriter, Read, Result, Sink, Write};
 
 // Over a writer that takes all, a tower of buffers answers each call whole.
 fn run_whole<const S: usize, const T: usize>(
