@@ -4,7 +4,7 @@
 ghost use Rattle.std.specs.Mem.{FitsInMemory};
 
 use io_rows::calls::{make_call, make_seek, new_journal, show_calls};
-use io_rows::fault::Made;
+use io_rows::fault::{Fault, Made};
 use io_rows::journal::Journal;
 use io_rows::line::Line;
 use io_rows::noted::Noted;
@@ -120,23 +120,30 @@ impl<const S: usize> Front for LineWriter<Device, S> {
     }
 }
 
-/// A front and its device's journal.
+/// A front, which a `drop` takes away, and its device's journal.
 #[derive(Drop)]
 pub struct Handing<T: Drop> {
-    front: T,
+    front: Option<T>,
     journal: Rc<RefCell<Journal>>,
 }
 
 impl<T: Front + Drop> Subject for Handing<T> {
     fn make(alloc: Global, words: &str) -> Made<Handing<T>> {
         let journal = new_journal(alloc, words)?;
-        let front = T::over(alloc, device(alloc, &journal)?)?;
+        let front = Some(T::over(alloc, device(alloc, &journal)?)?);
         Ok(Handing { front, journal })
     }
 
     fn play(mut self, call: &Call<'_>, line: &mut Line) -> Made<Handing<T>> {
         line.column()?;
-        self.front.make_call(call, line)?;
+        match &mut self.front {
+            Some(_) if call.word == "drop" => {
+                self.front = None;
+                line.word("-")?;
+            }
+            Some(front) => front.make_call(call, line)?,
+            None => return Err(Fault::Malformed("a call behind a drop")),
+        }
         show_calls(&self.journal, line)?;
         Ok(self)
     }
