@@ -25,7 +25,7 @@ struct Kept {
 }
 
 impl Write for Kept {
-    ghost use Rattle.io_bench.specs.Sink.{sink_told};
+    ghost use Rattle.no_std_io2.specs.Sink.{sink_told};
 
     ghost told = { λ w. sink_told w.sink };
 
