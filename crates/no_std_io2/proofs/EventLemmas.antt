@@ -1,14 +1,15 @@
 -- How what was taken of events follows one another, and what a loan leaves.
 use Rattle.std.proofs.Common.{◌≡◌, ℕ, ◌+◌, ◌<◌, ◌==◌, Bool, true, false, Bor, List, [], ◌∷◌, ◌++◌, length, take, Result, Ok, Err}
-use Rattle.std.proofs.Common.{refl, sym, ap, ◌∙◌, subst, arith, append_assoc, append-nil, length-append}
+use Rattle.std.proofs.Common.{refl, sym, ap, ◌∙◌, subst, inl, inr, ◌⊎◌, arith, append_assoc, append-nil, length-append}
 use Rattle.std.proofs.lemmas.Bool.Decides.{nat_tests}
 use Rattle.no_std_io2_base.specs.declared.error.Error.{Error}
-use Rattle.no_std_io2_base.specs.Errors.{IsInterruption, IsFault, IsOutOfMemory}
+use Rattle.no_std_io2_base.specs.Errors.{IsInterruption, IsFault, IsOutOfMemory, IsUnexpectedEnd}
 use Rattle.no_std_io2_base.specs.Read.{Event, fails, events_of, bytes, HasNoFault, cut, Fills}
+use Rattle.no_std_io2_base.specs.Read.{StopsAtFault, FallsShort, ReadsExact}
 use Rattle.no_std_io2_base.specs.BufRead.{Lends, LendsFrom, LendingTurn}
 use Rattle.no_std_io2_base.proofs.Events as below
 use Rattle.no_std_io2_base.proofs.PieceLemmas as pieces
-use Rattle.no_std_io2.specs.Passing.{Passes, PassesOver, Gathered}
+use Rattle.no_std_io2.specs.Passing.{Passes, PassesOver, Gathered, StopsThere}
 
 -- the bytes of P and then Q are the bytes of P, and then those of Q
 pub bytes-append : (P Q : List Event) → bytes (P ++ Q) ≡ bytes P ++ bytes Q
@@ -50,6 +51,38 @@ Passes-interruption {e} is again = record { front = fails e ∷ []; split = is; 
 -- a buffer was filled
 pub Passes-fills : {E : List Event} {buf : List ℕ} {after : List Event} → Fills E buf after → Passes E buf after
 Passes-fills {E} {buf} f = record { front = cut (length buf) E; split = f.split; no_fault = f.no_fault; gave = f.filled }
+
+-- a `read_exact` that failed left this: bytes are gone and an error came behind them, or the reader took none
+abbrev Failed : Type 0 → List Event → Error → List Event → Type 0
+Failed may_take_none E e after = ((taken : List ℕ) × (mid : List Event) × Passes E taken mid × StopsThere mid e after)
+    ⊎ (may_take_none × (after ≡ E) × IsUnexpectedEnd e)
+
+-- a reader that fell short
+fell_short : {may_take_none : Type 0} {E : List Event} {room : ℕ} {e : Error} {after : List Event}
+    → FallsShort may_take_none E room e after → (after ≡ []) ⊎ (may_take_none × (after ≡ E)) → Failed may_take_none E e after
+fell_short {E} f (inl end) =
+    inl (bytes E, [], record { front = E; split = sym (append-nil E); no_fault = f.no_fault; gave = refl }, inr (refl, end, f.answer))
+fell_short f (inr none) = inr (none.0, none.1, f.answer)
+
+-- a reader that failed, by a fault or by too few bytes
+failed : {may_take_none : Type 0} {E : List Event} {room : ℕ} {e : Error} {after : List Event}
+    → StopsAtFault E room e after ⊎ FallsShort may_take_none E room e after → Failed may_take_none E e after
+failed {e} {after} (inl s) =
+    let Q = s.ends.0 in
+    inl (bytes Q, fails e ∷ after, record {
+      front = Q;
+      split = s.split ∙ ap (λ l. l ++ after) s.ends.1 ∙ append_assoc Q (fails e ∷ []) after;
+      no_fault = s.ends.2;
+      gave = refl;
+    }, inl (refl, s.ends.3))
+failed (inr f) = fell_short f f.left
+
+-- a `read_exact` failed
+pub Passes-fails : {may_take_none : Type 0} {E : List Event} {reply : Result (Unit {0}) Error} {e : Error} (buf : List ℕ) {after : List Event}
+    → reply ≡ Err e → ReadsExact may_take_none E reply buf after
+    → ((taken : List ℕ) × (mid : List Event) × Passes E taken mid × StopsThere mid e after)
+        ⊎ (may_take_none × (after ≡ E) × IsUnexpectedEnd e)
+Passes-fails {may_take_none} {E} buf {after} is f = failed (subst (λ r. ReadsExact may_take_none E r buf after) is f)
 
 -- one after another
 pub Passes-then : {E mid after : List Event} {x y : List ℕ} → Passes E x mid → Passes mid y after → Passes E (x ++ y) after

@@ -35,6 +35,7 @@ pub record Moves (old : Told) (accepted : List ℕ) (happened : List ErrorKind) 
   pub front : IsFront old.out new.out
   -- no byte is lost, repeated or moved
   pub bytes : new.out ++ new.held ≡ old.out ++ old.held ++ accepted
+  -- what happened is no more to come
   pub mishaps : HasSpent old.mishaps happened new.mishaps
   -- an interruption spends a turn
   pub turns : new.turns + count_by is_interruption happened ≤ old.turns
@@ -87,32 +88,49 @@ told_out bytes = record { out = bytes; held = []; mishaps = None; turns = 0 }
 -- `write(x)`
 pub record WriteLaw {S : Type 0} (told : S → Told) (takes_all : S → Type 0) (cost : S → ℕ) (is_metered : S → Type 0)
     (old : S) (x : List ℕ) (reply : Result ℕ Error) (new : S) : Type 0 where
+  -- it takes no more than it is given
   pub bound : IfOk reply (λ n. n ≤ length x)
+  -- what the answer says is accepted, and an error or a zero is a mishap
   pub moves : Moves (told old) (taken reply x) (write_mishap reply x) (told new)
+  -- who takes all took the whole, and goes on taking all
   pub all : takes_all old → takes_all new × (reply ≡ Ok (length x))
+  -- the call is counted
   pub counts : is_metered old → takes_all old → is_metered new × (cost new ≡ cost old + 1)
 
 -- `flush()`
 pub record FlushLaw {S : Type 0} (told : S → Told) (takes_all : S → Type 0) (cost : S → ℕ) (is_metered : S → Type 0)
     (old : S) (reply : Result (Unit {0}) Error) (new : S) : Type 0 where
+  -- nothing is held then
   pub empty : OnOk reply ((told new).held ≡ [])
+  -- no byte is accepted, and an error is a mishap
   pub moves : Moves (told old) [] (call_mishap reply) (told new)
+  -- who takes all goes on taking all
   pub all : takes_all old → takes_all new
+  -- flushes are not counted
   pub counts : is_metered old → takes_all old → is_metered new × (cost new ≡ cost old)
 
 -- `write_all(x)`
 pub record WriteAllLaw {S : Type 0} (told : S → Told) (takes_all : S → Type 0) (cost : S → ℕ) (is_metered : S → Type 0)
     (old : S) (x : List ℕ) (reply : Result (Unit {0}) Error) (new : S) : Type 0 where
+  -- no interruption is answered
   pub fault : IsNoInterruption reply
+  -- some front is accepted, the whole at `Ok`, and an error is a mishap
   pub moves : MovesFront (told old) x reply (told new)
+  -- who takes all goes on taking all
   pub all : takes_all old → takes_all new
+  -- one call is counted, and none for no bytes
   pub counts : is_metered old → takes_all old → is_metered new × (cost new ≡ cost old + calls_for x)
 
 -- `write_rest(&mut x)`
 pub record WriteRestLaw {S : Type 0} (told : S → Told) (takes_all : S → Type 0) (cost : S → ℕ) (is_metered : S → Type 0)
     (old : S) (x : List ℕ) (reply : Result (Unit {0}) Error) (new : S) (left : List ℕ) : Type 0 where
+  -- no interruption is answered
   pub fault : IsNoInterruption reply
+  -- exactly what is gone from the front is accepted, and an error is a mishap
   pub sends : Sends (told old) x reply (told new) left
+  -- nothing is left at `Ok`
   pub done : OnOk reply (left ≡ [])
+  -- who takes all took the whole, and goes on taking all
   pub all : takes_all old → takes_all new × IsOk reply
+  -- one call is counted, and none for no bytes
   pub counts : is_metered old → takes_all old → is_metered new × (cost new ≡ cost old + calls_for x)

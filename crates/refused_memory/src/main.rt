@@ -44,7 +44,7 @@ fn outcome_of(error: &Error) -> Outcome {
 }
 
 // After a refusal the text is as it was, and the rest of the reader is an end of the whole text.
-fn after_refusal(alloc: Global, mut r: Reader, text: &str, len: usize) -> Outcome {
+fn after_refusal<R: Read>(alloc: Global, r: &mut R, text: &str, len: usize) -> Outcome {
     if text.len() != len || !TEXT.starts_with(text) {
         return Outcome::Wrong("a text that a refusal has changed");
     }
@@ -56,8 +56,7 @@ fn after_refusal(alloc: Global, mut r: Reader, text: &str, len: usize) -> Outcom
     }
 }
 
-fn by_read_line(alloc: Global) -> Outcome {
-    let mut r = reader();
+fn by_read_line<R: BufRead>(alloc: Global, r: &mut R) -> Outcome {
     let mut text = String::new(alloc);
     for _ in 0..LINES.len() {
         let len = text.len();
@@ -108,7 +107,9 @@ fn by_lines(alloc: Global) -> Outcome {
 fn main(rt: HostRuntime) -> ExitCode {
     let alloc = rt.alloc();
     let outcomes = [
-        by_read_line(alloc),
+        by_read_line(alloc, &mut reader()),
+        by_read_line(alloc, &mut reader().take(99)),
+        by_read_line(alloc, &mut Cursor::new(TEXT.as_bytes())),
         by_split(alloc),
         by_lines(alloc),
         by_frames(alloc),
