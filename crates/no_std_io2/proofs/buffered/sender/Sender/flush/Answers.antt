@@ -4,6 +4,5 @@ use Rattle.no_std_io2.proofs.buffered.sender.Sender.flush.Goals as goal
 
 pub returns : goal.returns
 returns g c =
-    let inner = c.flush.ensures.law in
     flushed c.args.self.now c.send.new.self c.flush.result c.flush.new.self (λ w h. g.met.W.Write.steady w h)
-    c.in_ok-send.ensures inner.empty inner.moves inner.all inner.counts
+    c.in_ok-send.ensures c.flush.ensures.law

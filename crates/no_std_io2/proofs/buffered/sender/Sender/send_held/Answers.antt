@@ -10,9 +10,8 @@ sends-init g c = sending_begins c.args.self.now
 
 pub sends-preserved-in-Ok : goal.sends-preserved-in-Ok
 sends-preserved-in-Ok g c =
-    let wrote = c.in-Ok.ensures.law in
     sending_took c.args.self.now c.sends.self _ c.as_slice.result.now _ c.sends.invariant (omega arith) c.as_slice.ensures.value
-    wrote.moves wrote.all wrote.counts c.drop_front.ensures.held c.drop_front.ensures.unmoved
+    c.in-Ok.ensures.law c.drop_front.ensures.held c.drop_front.ensures.unmoved
 
 pub sends-smaller-in-Ok : goal.sends-smaller-in-Ok
 sends-smaller-in-Ok g c =
@@ -22,7 +21,7 @@ sends-smaller-in-Ok g c =
 pub sends-preserved : goal.sends-preserved
 sends-preserved g c =
     sending_again c.args.self.now c.sends.self c.write.new.self c.as_slice.result.now _ c.sends.invariant (omega arith)
-    c.in-Err.ensures.law.moves c.in-Err.ensures.law.all
+    c.in-Err.ensures.law
 
 pub sends-smaller : goal.sends-smaller
 sends-smaller g c = fewer_turns c.in-Err.e _ (sym c.is_interrupted.ensures ∙ c.if-is_interrupted.true) c.in-Err.ensures.law.moves
@@ -30,8 +29,7 @@ sends-smaller g c = fewer_turns c.in-Err.e _ (sym c.is_interrupted.ensures ∙ c
 pub returns-in-Ok-eq0 : goal.returns-in-Ok-eq0
 returns-in-Ok-eq0 g c =
     sending_stuck c.args.self.now c.sends.self c.write.new.self c.as_slice.result.now c.write.result _ _ c.sends.invariant
-    (omega arith) c.as_slice.ensures.value c.in-Ok-eq0.is c.in-Ok-eq0.field-0-test c.new.ensures.kind c.write.ensures.law.moves
-    c.write.ensures.law.all
+    (omega arith) c.as_slice.ensures.value c.in-Ok-eq0.is c.in-Ok-eq0.field-0-test c.new.ensures.kind c.write.ensures.law
 
 pub returns-in-Err-2 : goal.returns-in-Err-2
 returns-in-Err-2 g c =

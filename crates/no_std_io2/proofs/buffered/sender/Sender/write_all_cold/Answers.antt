@@ -11,10 +11,8 @@ returns-in_err-make_way g c =
 
 pub returns-then-buf : goal.returns-then-buf
 returns-then-buf g c =
-    let inner = c.write_all.ensures.law in
     passed_all c.args.self.now c.make_way.new.self c.args.buf.now c.write_all.result c.write_all.new.self
-    (λ w h. g.met.W.Write.steady w h) c.in_ok-make_way.ensures c.if-buf.true inner.fault inner.moves inner.all
-    inner.counts
+    (λ w h. g.met.W.Write.steady w h) c.in_ok-make_way.ensures c.if-buf.true c.write_all.ensures.law
 
 pub returns : goal.returns
 returns g c =

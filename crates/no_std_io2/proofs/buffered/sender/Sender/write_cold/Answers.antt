@@ -11,9 +11,8 @@ returns-in_err-make_way g c =
 
 pub returns-then-buf : goal.returns-then-buf
 returns-then-buf g c =
-    let inner = c.write.ensures.law in
     passed c.args.self.now c.make_way.new.self c.args.buf.now c.write.result c.write.new.self c.in_ok-make_way.ensures
-    c.if-buf.true inner.bound inner.moves inner.all inner.counts
+    c.if-buf.true c.write.ensures.law
 
 pub returns : goal.returns
 returns g c =
