@@ -66,9 +66,9 @@ ifok (Ok n) f = f n
 ifok (Err e) f = tt
 
 -- there is room beside what is held: nothing has to be sent
-pub way_kept : {W : Type 0} {S : ℕ} {I : Writer W} (old : Sender W S) (more : ℕ)
+pub way_kept : {W : Type 0} {S : ℕ} {I : Writer W} {old : Sender W S} {more : ℕ}
     → length (sender_buffer old) + more ≤ S → MakesWay I old more (Ok tt) old
-way_kept {I} old more room = record {
+way_kept {I} {old} room = record {
   fault = tt;
   moves = Moves-kept I.told _ _ (sender_buffer old) (sender_buffer old) [] refl (sym (append-nil _));
   rest = ([], refl);
@@ -81,9 +81,9 @@ way_kept {I} old more room = record {
 }
 
 -- nothing is held: nothing has to be sent
-pub way_empty : {W : Type 0} {S : ℕ} {I : Writer W} (old mid : Sender W S) (more : ℕ)
+pub way_empty : {W : Type 0} {S : ℕ} {I : Writer W} {old mid : Sender W S} {more : ℕ}
     → mid ≡ old → sender_buffer mid ≡ [] → MakesWay I old more (Ok tt) mid
-way_empty {S} {I} old mid more same none =
+way_empty {S} {I} {mid} {more} same none =
     subst (λ w. MakesWay I w more (Ok tt) mid) same (record {
       fault = tt;
       moves = Moves-kept I.told _ _ (sender_buffer mid) (sender_buffer mid) [] refl (sym (append-nil _));
@@ -97,9 +97,9 @@ way_empty {S} {I} old mid more same none =
     })
 
 -- they don't, and what was held was sent
-pub way_sent : {W : Type 0} {S : ℕ} {I : Writer W} {r : Result (Unit {0}) Error} (old new : Sender W S) (more : ℕ)
+pub way_sent : {W : Type 0} {S : ℕ} {I : Writer W} {r : Result (Unit {0}) Error} {old new : Sender W S} {more : ℕ}
     → Sent I old r new → S < length (sender_buffer old) + more → MakesWay I old more r new
-way_sent {S} {I} {r} old new more sent over =
+way_sent {S} {I} {r} {old} {more} sent over =
     let sends = sent.sends in
     record {
       fault = sent.fault;
@@ -123,9 +123,9 @@ all_sent {I} {old} sent same =
     (Moves-out {k = []} _ sent.sends.sent _ sent.sends.split sent.empty sent.sends.moves)
 
 -- `write`: sending failed, and nothing was accepted
-pub refused : {W : Type 0} {S : ℕ} {I : Writer W} (old mid : Sender W S) (x : List ℕ) (e : Error)
+pub refused : {W : Type 0} {S : ℕ} {I : Writer W} {old mid : Sender W S} {x : List ℕ} {e : Error}
     → MakesWay I old (length x) (Err e) mid → Buffers I old x (Err e) mid
-refused old mid x e way = record {
+refused {old} way = record {
   bound = tt;
   moves = way.moves;
   rest = rw (append-nil (sender_buffer old)) way.rest;
@@ -139,10 +139,10 @@ refused old mid x e way = record {
 }
 
 -- `write`: one inner write, past the empty buffer
-pub passed : {W : Type 0} {S : ℕ} {I : Writer W} (old mid : Sender W S) (x : List ℕ) (r : Result ℕ Error) (inner : W)
+pub passed : {W : Type 0} {S : ℕ} {I : Writer W} {old mid : Sender W S} {x : List ℕ} {r : Result ℕ Error} {inner : W}
     → MakesWay I old (length x) (Ok tt) mid → S ≤ length x → WriteLaw I.told I.takes_all I.cost I.is_metered (sender_inner mid) x r inner
     → Buffers I old x r (sender_with_inner mid inner)
-passed {S} old mid x r inner way long wrote =
+passed {S} {old} {mid} {x} {r} way long wrote =
     let none = way.empty long in
     record {
       bound = wrote.bound;
@@ -161,19 +161,19 @@ passed {S} old mid x r inner way long wrote =
     }
 
 -- what is held in the end, where x was put behind what was left
-held_after : {W : Type 0} {S : ℕ} {I : Writer W} (old mid new : Sender W S) (x : List ℕ)
+held_after : {W : Type 0} {S : ℕ} {I : Writer W} {old mid : Sender W S} (new : Sender W S) (x : List ℕ)
     → MakesWay I old (length x) (Ok tt) mid → length x < S → sender_buffer new ≡ sender_buffer mid ++ x
     → sender_buffer new ≡ buffer_after S (sender_buffer old) x
-held_after {S} old mid new x way short put = ⊎_elim
+held_after {S} {old} new x way short put = ⊎_elim
     (λ over. put ∙ ap (λ l. l ++ x) (way.sent over) ∙ sym (after_over S (sender_buffer old) x short over))
     (λ room. put ∙ ap (λ l. l ++ x) (way.fits room).2 ∙ sym (after_fits S (sender_buffer old) x short room))
     (cases_lt S (length (sender_buffer old) + length x))
 
 -- `write`: x is held behind what was left
-pub held : {W : Type 0} {S : ℕ} {I : Writer W} (old mid new : Sender W S) (x : List ℕ)
+pub held : {W : Type 0} {S : ℕ} {I : Writer W} {old mid new : Sender W S} {x : List ℕ}
     → MakesWay I old (length x) (Ok tt) mid → length x < S
     → sender_inner new ≡ sender_inner mid → sender_buffer new ≡ sender_buffer mid ++ x → Buffers I old x (Ok (length x)) new
-held {S} {I} old mid new x way short same put =
+held {S} {I} {old} {mid} {new} {x} way short same put =
     let whole = take_all _ x (le_refl (length x)) in
     record {
       bound = le_refl _;
@@ -186,16 +186,16 @@ held {S} {I} old mid new x way short same put =
       whole = λ _. refl;
       calm = λ _. tt;
       all = λ t. (subst I.takes_all (sym same) (way.all t).0, refl);
-      after = held_after old mid new x way short put;
+      after = held_after new x way short put;
       calls = λ m t.
           let first = way.calls m t in
           (subst I.is_metered (sym same) first.0, omega (arith, first.1, ap I.cost same, calls_short S (sender_buffer old) x short));
     }
 
 -- `write_all`: sending failed, and nothing was accepted
-pub refused_all : {W : Type 0} {S : ℕ} {I : Writer W} (old mid : Sender W S) (x : List ℕ) (e : Error)
+pub refused_all : {W : Type 0} {S : ℕ} {I : Writer W} {old mid : Sender W S} {x : List ℕ} {e : Error}
     → MakesWay I old (length x) (Err e) mid → BuffersAll I old x (Err e) mid
-refused_all old mid x e way = record {
+refused_all {x} way = record {
   fault = way.fault;
   moves = record { accepted = []; front = (x, refl); whole = tt; moves = way.moves };
   rest = inr way.rest;
@@ -209,10 +209,10 @@ refused_all old mid x e way = record {
 }
 
 -- `write_all`: one inner `write_all`, past the empty buffer
-pub passed_all : {W : Type 0} {S : ℕ} {I : Writer W} (old mid : Sender W S) (x : List ℕ) (r : Result (Unit {0}) Error) (inner : W)
+pub passed_all : {W : Type 0} {S : ℕ} {I : Writer W} {old mid : Sender W S} {x : List ℕ} {r : Result (Unit {0}) Error} {inner : W}
     → ((w : W) → I.takes_all w → (I.told w).mishaps ≡ Some []) → MakesWay I old (length x) (Ok tt) mid → S ≤ length x
     → WriteAllLaw I.told I.takes_all I.cost I.is_metered (sender_inner mid) x r inner → BuffersAll I old x r (sender_with_inner mid inner)
-passed_all {S} old mid x r inner steady way long wrote =
+passed_all {S} {old} {mid} {x} {r} steady way long wrote =
     let none = way.empty long in
     record {
       fault = wrote.fault;
@@ -234,10 +234,10 @@ passed_all {S} old mid x r inner steady way long wrote =
     }
 
 -- `write_all`: x is held behind what was left
-pub held_all : {W : Type 0} {S : ℕ} {I : Writer W} (old mid new : Sender W S) (x : List ℕ)
+pub held_all : {W : Type 0} {S : ℕ} {I : Writer W} {old mid new : Sender W S} {x : List ℕ}
     → MakesWay I old (length x) (Ok tt) mid → length x < S
     → sender_inner new ≡ sender_inner mid → sender_buffer new ≡ sender_buffer mid ++ x → BuffersAll I old x (Ok tt) new
-held_all {S} {I} old mid new x way short same put = record {
+held_all {S} {I} {old} {mid} {new} {x} way short same put = record {
   fault = tt;
   moves = record {
     accepted = x;
@@ -250,7 +250,7 @@ held_all {S} {I} old mid new x way short same put = record {
   sent = λ over. ([], sym (put ∙ ap (λ l. l ++ x) (way.sent over)));
   none = λ _. tt;
   all = λ t. (subst I.takes_all (sym same) (way.all t).0, refl);
-  after = held_after old mid new x way short put;
+  after = held_after new x way short put;
   calls = λ _ m t.
       let first = way.calls m t in
       (subst I.is_metered (sym same) first.0, omega (arith, first.1, ap I.cost same, calls_short S (sender_buffer old) x short));
@@ -260,10 +260,10 @@ held_all {S} {I} old mid new x way short same put = record {
 }
 
 -- `flush`: all was sent, and then the inner writer was flushed
-pub flushed : {W : Type 0} {S : ℕ} {I : Writer W} (old mid : Sender W S) (r : Result (Unit {0}) Error) (inner : W)
+pub flushed : {W : Type 0} {S : ℕ} {I : Writer W} {old mid : Sender W S} {r : Result (Unit {0}) Error} {inner : W}
     → ((w : W) → I.takes_all w → (I.told w).mishaps ≡ Some []) → Sent I old (Ok tt) mid
     → FlushLaw I.told I.takes_all I.cost I.is_metered (sender_inner mid) r inner → Flushes I old r (sender_with_inner mid inner)
-flushed {I} old mid r inner steady sent done =
+flushed {I} {mid} {r} {inner} steady sent done =
     let none = sent.empty in
     record {
       empty = onok_both r _ _ done.empty (λ e. ap (λ l. (I.told inner).held ++ l) none ∙ append-nil _ ∙ e);

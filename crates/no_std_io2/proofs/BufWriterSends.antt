@@ -29,8 +29,8 @@ pub record Sending {W : Type 0} {S : ℕ} (I : Writer W) (old new : Sender W S) 
   pub unmoved : new.buffer.bytes ≡ old.buffer.bytes
 
 -- nothing was sent yet
-pub sending_begins : {W : Type 0} {S : ℕ} {I : Writer W} (old : Sender W S) → Sending I old old
-sending_begins {I} old = record {
+pub sending_begins : {W : Type 0} {S : ℕ} {I : Writer W} {old : Sender W S} → Sending I old old
+sending_begins {I} {old} = record {
   sent = [];
   split = refl;
   moves = Moves-refl (I.told (sender_inner old));
@@ -41,11 +41,11 @@ sending_begins {I} old = record {
 }
 
 -- the inner writer took n bytes of what was held
-pub sending_took : {W : Type 0} {S : ℕ} {I : Writer W} (old mid new : Sender W S) (x : List ℕ) (n : ℕ)
+pub sending_took : {W : Type 0} {S : ℕ} {I : Writer W} {old mid new : Sender W S} {x : List ℕ} {n : ℕ}
     → Sending I old mid → 0 < length (sender_buffer mid) → x ≡ sender_buffer mid
     → WriteLaw I.told I.takes_all I.cost I.is_metered (sender_inner mid) x (Ok n) (sender_inner new)
     → sender_buffer new ≡ drop n (sender_buffer mid) → new.buffer.bytes ≡ mid.buffer.bytes → Sending I old new
-sending_took old mid new x n before some given wrote rest unmoved =
+sending_took {mid} {x} {n} before some given wrote rest unmoved =
     let held = sender_buffer mid in
     record {
       sent = before.sent ++ take n x;
@@ -70,10 +70,10 @@ pub takes_not_all : {A : Type 0} {x : Error} {n : ℕ} → A × (◌≡◌ {A = 
 takes_not_all h = no_err h.1
 
 -- the inner writer was interrupted
-pub sending_again : {W : Type 0} {S : ℕ} {I : Writer W} (old mid : Sender W S) (inner : W) (x : List ℕ) (e : Error)
+pub sending_again : {W : Type 0} {S : ℕ} {I : Writer W} {old mid : Sender W S} {inner : W} {x : List ℕ} {e : Error}
     → Sending I old mid → 0 < length (sender_buffer mid) → WriteLaw I.told I.takes_all I.cost I.is_metered (sender_inner mid) x (Err e) inner
     → Sending I old (sender_with_inner mid inner)
-sending_again old mid inner x e before some wrote = record {
+sending_again {mid} before some wrote = record {
   sent = before.sent;
   split = before.split;
   moves = Moves-ends before.moves (Moves-quiet wrote.moves);
@@ -84,9 +84,9 @@ sending_again old mid inner x e before some wrote = record {
 }
 
 -- all was sent
-pub sending_ends : {W : Type 0} {S : ℕ} {I : Writer W} (old new : Sender W S)
+pub sending_ends : {W : Type 0} {S : ℕ} {I : Writer W} {old new : Sender W S}
     → Sending I old new → sender_buffer new ≡ [] → Sent I old (Ok tt) new
-sending_ends old new before none = record {
+sending_ends {new} before none = record {
   fault = tt;
   empty = none;
   left = tt;
@@ -98,11 +98,11 @@ sending_ends old new before none = record {
 }
 
 -- a fault came
-pub sending_fails : {W : Type 0} {S : ℕ} {I : Writer W} (old mid : Sender W S) (inner : W) (e : Error)
+pub sending_fails : {W : Type 0} {S : ℕ} {I : Writer W} {old mid : Sender W S} {inner : W} {e : Error}
     → Sending I old mid → 0 < length (sender_buffer mid) → IsFault e
     → Moves (I.told (sender_inner mid)) [] (error_kind e ∷ []) (I.told inner) → (I.takes_all (sender_inner mid) → ⊥)
     → Sent I old (Err e) (sender_with_inner mid inner)
-sending_fails old mid inner e before some fault moves all = record {
+sending_fails {mid} before some fault moves all = record {
   fault = fault;
   empty = tt;
   left = some;
@@ -118,16 +118,16 @@ zero_write-none : (x : List ℕ) → 0 < length x → zero_write 0 x ≡ WriteZe
 zero_write-none x some = grind (arith, nat_tests)
 
 -- the inner writer took no byte of some
-pub sending_stuck : {W : Type 0} {S : ℕ} {I : Writer W} (old mid : Sender W S)
-    (inner : W) (x : List ℕ) (r : Result ℕ Error) (n : ℕ) (e : Error)
+pub sending_stuck : {W : Type 0} {S : ℕ} {I : Writer W} {old mid : Sender W S} {inner : W} {x : List ℕ}
+    {r : Result ℕ Error} {n : ℕ} {e : Error}
     → Sending I old mid → 0 < length (sender_buffer mid) → x ≡ sender_buffer mid → r ≡ Ok n → n ≡ 0 → error_kind e ≡ WriteZero
     → WriteLaw I.told I.takes_all I.cost I.is_metered (sender_inner mid) x r inner → Sent I old (Err e) (sender_with_inner mid inner)
-sending_stuck {I} old mid inner x r n e before some given is zero kind wrote =
+sending_stuck {I} {mid} {inner} {x} {r} {e} before some given is zero kind wrote =
     let answer : r ≡ Ok 0 = is ∙ ap Ok zero in
     let long : 0 < length x = omega (arith, some, ap length given) in
     let none = subst (λ a. Moves (I.told (sender_inner mid)) (taken a x) (write_mishap a x) (I.told inner)) answer wrote.moves in
     let mishap : zero_write 0 x ≡ error_kind e ∷ [] = zero_write-none x long ∙ ap (λ k. k ∷ []) (sym kind) in
-    sending_fails old mid inner e before some (ap is_interruption kind)
+    sending_fails before some (ap is_interruption kind)
     (subst (λ k. Moves (I.told (sender_inner mid)) [] k (I.told inner)) mishap none)
     (λ t. omega (arith, long, ok_same (sym answer ∙ (wrote.all t).1)))
 

@@ -7,11 +7,9 @@ use Rattle.no_std_io2.proofs.buffered.sender.Sender.write.Goals as goal
 pub returns-then-hold_if_room : goal.returns-then-hold_if_room
 returns-then-hold_if_room g c =
     let put = c.if-hold_if_room.ensures.held in
-    held c.args.self.now c.args.self.now c.hold_if_room.new.self c.args.buf.now
-    (way_kept c.args.self.now _ put.1) put.0 put.2 put.3
+    held (way_kept put.1) put.0 put.2 put.3
 
 pub returns-then-len-eq0 : goal.returns-then-len-eq0
 returns-then-len-eq0 g c =
     let none = none_of_length _ (sym c.len.ensures.len ∙ c.if-len-eq0.true) in
-    passed c.args.self.now c.hold_if_room.new.self c.args.buf.now c.write.result c.write.new.self
-    (way_empty c.args.self.now _ _ c.if-hold_if_room.ensures.same none) c.if-buf.true c.write.ensures.law
+    passed (way_empty c.if-hold_if_room.ensures.same none) c.if-buf.true c.write.ensures.law
