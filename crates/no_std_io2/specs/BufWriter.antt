@@ -107,7 +107,7 @@ pub record MakesWay {W : Type 0} {S : ℕ} (I : Writer W) (old : Sender W S) (mo
   -- what is held is an end of what was
   pub rest : IsEnd (sender_buffer old) (sender_buffer new)
   pub room : OnOk reply (more < S → length (sender_buffer new) + more ≤ S)
-  -- nothing is held in front of a buffer's length and more
+  -- in front of S bytes and more nothing is held
   pub empty : OnOk reply (S ≤ more → sender_buffer new ≡ [])
   -- where they fit there is no inner call
   pub fits : length (sender_buffer old) + more ≤ S
@@ -116,7 +116,7 @@ pub record MakesWay {W : Type 0} {S : ℕ} (I : Writer W) (old : Sender W S) (mo
   pub sent : S < length (sender_buffer old) + more → OnOk reply (sender_buffer new ≡ [])
   -- an inner writer that takes all still does, and there is no error
   pub all : I.takes_all (sender_inner old) → I.takes_all (sender_inner new) × IsOk reply
-  -- and at most one call of it is made
+  -- and how many calls of it that takes
   pub calls : I.is_metered (sender_inner old) → I.takes_all (sender_inner old) → I.is_metered (sender_inner new)
       × (I.cost (sender_inner new) ≡ I.cost (sender_inner old) + way_calls S (sender_buffer old) more)
 
@@ -127,7 +127,7 @@ pub record Buffers {W : Type 0} {S : ℕ} (I : Writer W) (old : Sender W S) (x :
   pub bound : IfOk reply (λ n. n ≤ length x)
   -- exactly what the answer says was accepted
   pub moves : Moves (sender_told I.told old) (taken reply x) (write_mishap reply x) (sender_told I.told new)
-  -- what is held is an end of what was, with that behind it
+  -- what is held is an end of what was held and of that
   pub rest : IsEnd (sender_buffer old ++ taken reply x) (sender_buffer new)
   -- where both fit, x is held and there is no inner call
   pub fits : length x < S → length (sender_buffer old) + length x ≤ S
@@ -141,7 +141,7 @@ pub record Buffers {W : Type 0} {S : ℕ} (I : Writer W) (old : Sender W S) (x :
   pub all : I.takes_all (sender_inner old) → I.takes_all (sender_inner new) × (reply ≡ Ok (length x))
   -- what is held after an `Ok`
   pub after : OnOk reply (sender_buffer new ≡ buffer_after S (sender_buffer old) x)
-  -- how many inner calls there are over an inner writer that takes all
+  -- how many calls an inner writer gets that takes all
   pub calls : I.is_metered (sender_inner old) → I.takes_all (sender_inner old) → I.is_metered (sender_inner new)
       × (I.cost (sender_inner new) ≡ I.cost (sender_inner old) + writing_calls S (sender_buffer old) x)
 
@@ -166,7 +166,7 @@ pub record BuffersAll {W : Type 0} {S : ℕ} (I : Writer W) (old : Sender W S) (
   pub all : I.takes_all (sender_inner old) → I.takes_all (sender_inner new) × IsOk reply
   -- what is held after an `Ok`
   pub after : OnOk reply (sender_buffer new ≡ buffer_after S (sender_buffer old) x)
-  -- how many inner calls there are over an inner writer that takes all; with S = 0 an empty x makes none
+  -- how many calls an inner writer gets that takes all; with S = 0 an empty x makes none
   pub calls : 0 < S → I.is_metered (sender_inner old) → I.takes_all (sender_inner old) → I.is_metered (sender_inner new)
       × (I.cost (sender_inner new) ≡ I.cost (sender_inner old) + writing_calls S (sender_buffer old) x)
   -- one call at most beside the one for what was held, whatever the buffer's length
