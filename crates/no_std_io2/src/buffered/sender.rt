@@ -141,7 +141,8 @@ impl<W: Write + Drop, const S: usize> Sender<W, S> {
         self.write_slowly(buf)
     }
 
-    // The call of `write_cold`. It stands between, so that the room for the answer is made on this way alone.
+    // The call of `write_cold`. It stands between, so that the room for the answer is made on this way alone: a write
+    // that is held costs four instructions less so.
     #[inline(always)]
     fn write_slowly(&mut self, buf: &[u8]) -> Result<usize>
         ensures { Buffers W.Write self.old buf.now result self.new }
