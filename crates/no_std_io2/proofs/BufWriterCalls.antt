@@ -4,14 +4,15 @@ use Rattle.std.proofs.Common.{IfOk, OnOk, refl, sym, ap, subst, inl, inr, arith,
 use Rattle.std.proofs.lemmas.Bool.{cases_lt}
 use Rattle.std.proofs.lemmas.Bool.Decides.{nat_tests}
 use Rattle.no_std_io2_base.specs.declared.error.Error.{Error}
-use Rattle.no_std_io2_base.specs.Errors.{IsNoInterruption}
-use Rattle.no_std_io2_base.specs.Write.{Told, Moves, MovesFront, taken, write_mishap, call_mishap, calls_for}
+use Rattle.no_std_io2_base.specs.declared.traits.write.Write.{Ghosts as Writer}
+use Rattle.no_std_io2_base.specs.Write.{Moves, WriteLaw, WriteAllLaw, FlushLaw, calls_for}
 use Rattle.no_std_io2_base.proofs.MovesLemmas.{IsFront-refl, Moves-then, Moves-ends, zero_write-whole}
 use Rattle.no_std_io2.specs.declared.buffered.sender.Sender.{Sender}
 use Rattle.no_std_io2.specs.BufWriter.{sender_inner, sender_buffer, sender_told, sender_with_inner, way_calls}
 use Rattle.no_std_io2.specs.BufWriter.{writing_calls, buffer_after, Sent, MakesWay, Buffers, BuffersAll, Flushes}
 use Rattle.no_std_io2.proofs.BufWriterLemmas.{Moves-kept, Moves-passed, Moves-sent, Moves-sent_part, Moves-out}
-use Rattle.no_std_io2.proofs.BufWriterLemmas.{none_of_length, IsEnd-none, IsEnd-held, call_steady}
+use Rattle.no_std_io2.proofs.BufWriterLemmas.{none_of_length, IsEnd-none, IsEnd-held, call_steady, sending_some}
+use Rattle.no_std_io2.proofs.BufWriterCounts.{calls_for-le}
 use Rattle.no_std_io2.proofs.LineWriterLemmas.{MovesFront-then, MovesFront-passed, onok, onok_map}
 
 -- the buffer after a write, case by case
@@ -50,14 +51,6 @@ way_calls-empty S n held h = grind (arith, nat_tests)
 way_calls-over : (S n : ℕ) (held : List ℕ) → S < length held + n → way_calls S held n ≡ calls_for held
 way_calls-over S n held h = grind (arith, nat_tests)
 
--- some bytes are handed on by one call
-calls_for-some : (x : List ℕ) → 0 < length x → calls_for x ≡ 1
-calls_for-some x h = grind (arith, nat_tests)
-
--- bytes, some or none, are handed on by at most one call
-calls_for-le : (x : List ℕ) → calls_for x ≤ 1
-calls_for-le x = grind (arith, nat_tests)
-
 -- an error is not `Ok`
 pub no_ok : {T : Type 0} → false ≡ true → T
 no_ok h = absurd (let no : ⊥ = cc in no)
@@ -73,11 +66,11 @@ ifok (Ok n) f = f n
 ifok (Err e) f = tt
 
 -- there is room beside what is held: nothing has to be sent
-pub way_kept : {W : Type 0} {S : ℕ} {told : W → Told} {takes_all is_metered : W → Type 0} {cost : W → ℕ} (old : Sender W S) (more : ℕ)
-    → length (sender_buffer old) + more ≤ S → MakesWay told takes_all is_metered cost old more (Ok tt) old
-way_kept {told} old more room = record {
+pub way_kept : {W : Type 0} {S : ℕ} {I : Writer W} {old : Sender W S} {more : ℕ}
+    → length (sender_buffer old) + more ≤ S → MakesWay I old more (Ok tt) old
+way_kept {I} {old} room = record {
   fault = tt;
-  moves = Moves-kept told _ _ (sender_buffer old) (sender_buffer old) [] refl (sym (append-nil _));
+  moves = Moves-kept I.told _ _ (sender_buffer old) (sender_buffer old) [] refl (sym (append-nil _));
   rest = ([], refl);
   room = λ _. room;
   empty = λ long. none_of_length _ (omega (arith, long, room));
@@ -88,12 +81,12 @@ way_kept {told} old more room = record {
 }
 
 -- nothing is held: nothing has to be sent
-pub way_empty : {W : Type 0} {S : ℕ} {told : W → Told} {takes_all is_metered : W → Type 0} {cost : W → ℕ} (old mid : Sender W S) (more : ℕ)
-    → mid ≡ old → sender_buffer mid ≡ [] → MakesWay told takes_all is_metered cost old more (Ok tt) mid
-way_empty {S} {told} {takes_all} {is_metered} {cost} old mid more same none =
-    subst (λ w. MakesWay told takes_all is_metered cost w more (Ok tt) mid) same (record {
+pub way_empty : {W : Type 0} {S : ℕ} {I : Writer W} {old mid : Sender W S} {more : ℕ}
+    → mid ≡ old → sender_buffer mid ≡ [] → MakesWay I old more (Ok tt) mid
+way_empty {S} {I} {mid} {more} same none =
+    subst (λ w. MakesWay I w more (Ok tt) mid) same (record {
       fault = tt;
-      moves = Moves-kept told _ _ (sender_buffer mid) (sender_buffer mid) [] refl (sym (append-nil _));
+      moves = Moves-kept I.told _ _ (sender_buffer mid) (sender_buffer mid) [] refl (sym (append-nil _));
       rest = ([], refl);
       room = λ short. omega (arith, short, ap length none);
       empty = λ _. none;
@@ -103,17 +96,10 @@ way_empty {S} {told} {takes_all} {is_metered} {cost} old mid more same none =
       calls = λ m t. (m, omega (arith, way_calls-empty S more (sender_buffer mid) (ap length none)));
     })
 
--- both fit
-pub way_free : {W : Type 0} {S : ℕ} {told : W → Told} {takes_all is_metered : W → Type 0} {cost : W → ℕ} (old : Sender W S) (x : List ℕ)
-    → length x < S → length (sender_buffer old) + length x ≤ S → MakesWay told takes_all is_metered cost old (length x) (Ok tt) old
-way_free old x short room = way_kept old (length x) room
-
 -- they don't, and what was held was sent
-pub way_sent : {W : Type 0} {S : ℕ} {told : W → Told} {takes_all is_metered : W → Type 0} {cost : W → ℕ} {r : Result (Unit {0}) Error}
-    (old new : Sender W S) (more : ℕ)
-    → Sent told takes_all is_metered cost old r new → S < length (sender_buffer old) + more
-    → MakesWay told takes_all is_metered cost old more r new
-way_sent {S} {cost} {r} old new more sent over =
+pub way_sent : {W : Type 0} {S : ℕ} {I : Writer W} {r : Result (Unit {0}) Error} {old new : Sender W S} {more : ℕ}
+    → Sent I old r new → S < length (sender_buffer old) + more → MakesWay I old more r new
+way_sent {S} {I} {r} {old} {more} sent over =
     let sends = sent.sends in
     record {
       fault = sent.fault;
@@ -126,22 +112,20 @@ way_sent {S} {cost} {r} old new more sent over =
       all = sent.all;
       calls = λ m t.
           let spent = sent.calls m t in
-          (spent.0, spent.1 ∙ ap (λ n. cost (sender_inner old) + n) (sym (way_calls-over S more (sender_buffer old) over)));
+          (spent.0, spent.1 ∙ ap (λ n. I.cost (sender_inner old) + n) (sym (way_calls-over S more (sender_buffer old) over)));
     }
 
 -- all that was held was sent, and the buffer is gone
-pub all_sent : {W : Type 0} {S : ℕ} {told : W → Told} {takes_all is_metered : W → Type 0} {cost : W → ℕ} {old mid : Sender W S}
-    {inner : W} {u : Unit {0}}
-    → Sent told takes_all is_metered cost old (Ok u) mid → inner ≡ sender_inner mid → Moves (sender_told told old) [] [] (told inner)
-all_sent {told} {old} sent same =
-    subst (λ w. Moves (sender_told told old) [] [] (told w)) (sym same)
+pub all_sent : {W : Type 0} {S : ℕ} {I : Writer W} {old mid : Sender W S} {inner : W} {u : Unit {0}}
+    → Sent I old (Ok u) mid → inner ≡ sender_inner mid → Moves (sender_told I.told old) [] [] (I.told inner)
+all_sent {I} {old} sent same =
+    subst (λ w. Moves (sender_told I.told old) [] [] (I.told w)) (sym same)
     (Moves-out {k = []} _ sent.sends.sent _ sent.sends.split sent.empty sent.sends.moves)
 
 -- `write`: sending failed, and nothing was accepted
-pub refused : {W : Type 0} {S : ℕ} {told : W → Told} {takes_all is_metered : W → Type 0} {cost : W → ℕ}
-    (old mid : Sender W S) (x : List ℕ) (e : Error)
-    → MakesWay told takes_all is_metered cost old (length x) (Err e) mid → Buffers told takes_all is_metered cost old x (Err e) mid
-refused old mid x e way = record {
+pub refused : {W : Type 0} {S : ℕ} {I : Writer W} {old mid : Sender W S} {x : List ℕ} {e : Error}
+    → MakesWay I old (length x) (Err e) mid → Buffers I old x (Err e) mid
+refused {old} way = record {
   bound = tt;
   moves = way.moves;
   rest = rw (append-nil (sender_buffer old)) way.rest;
@@ -155,71 +139,63 @@ refused old mid x e way = record {
 }
 
 -- `write`: one inner write, past the empty buffer
-pub passed : {W : Type 0} {S : ℕ} {told : W → Told} {takes_all is_metered : W → Type 0} {cost : W → ℕ}
-    (old mid : Sender W S) (x : List ℕ) (r : Result ℕ Error) (inner : W)
-    → MakesWay told takes_all is_metered cost old (length x) (Ok tt) mid → S ≤ length x
-    → IfOk r (λ n. n ≤ length x)
-    → Moves (told (sender_inner mid)) (taken r x) (write_mishap r x) (told inner)
-    → (takes_all (sender_inner mid) → takes_all inner × (r ≡ Ok (length x)))
-    → (is_metered (sender_inner mid) → takes_all (sender_inner mid) → is_metered inner × (cost inner ≡ cost (sender_inner mid) + 1))
-    → Buffers told takes_all is_metered cost old x r (sender_with_inner mid inner)
-passed {S} old mid x r inner way long bound moves all calls =
+pub passed : {W : Type 0} {S : ℕ} {I : Writer W} {old mid : Sender W S} {x : List ℕ} {r : Result ℕ Error} {inner : W}
+    → MakesWay I old (length x) (Ok tt) mid → S ≤ length x → WriteLaw I.told I.takes_all I.cost I.is_metered (sender_inner mid) x r inner
+    → Buffers I old x r (sender_with_inner mid inner)
+passed {S} {old} {mid} {x} {r} way long wrote =
     let none = way.empty long in
     record {
-      bound = bound;
-      moves = Moves-then {k = []} way.moves (Moves-passed (sender_buffer mid) none moves);
+      bound = wrote.bound;
+      moves = Moves-then {k = []} way.moves (Moves-passed (sender_buffer mid) none wrote.moves);
       rest = IsEnd-none _ (sender_buffer mid) none;
       fits = λ short. absurd (omega (arith, short, long));
       sent = λ _. ifok r (λ n. IsEnd-none _ (sender_buffer mid) none);
       whole = λ short. absurd (omega (arith, short, long));
       calm = λ short. absurd (omega (arith, short, long));
-      all = λ t. all (way.all t).0;
+      all = λ t. wrote.all (way.all t).0;
       after = onok r _ (none ∙ sym (after_long S (sender_buffer old) x long));
       calls = λ m t.
           let first = way.calls m t in
-          let then = calls first.0 (way.all t).0 in
+          let then = wrote.counts first.0 (way.all t).0 in
           (then.0, omega (arith, first.1, then.1, calls_long S (sender_buffer old) x long));
     }
 
 -- what is held in the end, where x was put behind what was left
-held_after : {W : Type 0} {S : ℕ} {told : W → Told} {takes_all is_metered : W → Type 0} {cost : W → ℕ}
-    (old mid new : Sender W S) (x : List ℕ)
-    → MakesWay told takes_all is_metered cost old (length x) (Ok tt) mid → length x < S → sender_buffer new ≡ sender_buffer mid ++ x
+held_after : {W : Type 0} {S : ℕ} {I : Writer W} {old mid : Sender W S} (new : Sender W S) (x : List ℕ)
+    → MakesWay I old (length x) (Ok tt) mid → length x < S → sender_buffer new ≡ sender_buffer mid ++ x
     → sender_buffer new ≡ buffer_after S (sender_buffer old) x
-held_after {S} old mid new x way short put = ⊎_elim
+held_after {S} {old} new x way short put = ⊎_elim
     (λ over. put ∙ ap (λ l. l ++ x) (way.sent over) ∙ sym (after_over S (sender_buffer old) x short over))
     (λ room. put ∙ ap (λ l. l ++ x) (way.fits room).2 ∙ sym (after_fits S (sender_buffer old) x short room))
     (cases_lt S (length (sender_buffer old) + length x))
 
 -- `write`: x is held behind what was left
-pub held : {W : Type 0} {S : ℕ} {told : W → Told} {takes_all is_metered : W → Type 0} {cost : W → ℕ} (old mid new : Sender W S) (x : List ℕ)
-    → MakesWay told takes_all is_metered cost old (length x) (Ok tt) mid → length x < S
-    → sender_inner new ≡ sender_inner mid → sender_buffer new ≡ sender_buffer mid ++ x
-    → Buffers told takes_all is_metered cost old x (Ok (length x)) new
-held {S} {told} {takes_all} {is_metered} {cost} old mid new x way short same put =
+pub held : {W : Type 0} {S : ℕ} {I : Writer W} {old mid new : Sender W S} {x : List ℕ}
+    → MakesWay I old (length x) (Ok tt) mid → length x < S
+    → sender_inner new ≡ sender_inner mid → sender_buffer new ≡ sender_buffer mid ++ x → Buffers I old x (Ok (length x)) new
+held {S} {I} {old} {mid} {new} {x} way short same put =
     let whole = take_all _ x (le_refl (length x)) in
     record {
       bound = le_refl _;
       moves =
           rw (whole, zero_write-whole x)
-          (Moves-then {k = []} way.moves (Moves-kept told _ _ (sender_buffer mid) (sender_buffer new) x same put));
+          (Moves-then {k = []} way.moves (Moves-kept I.told _ _ (sender_buffer mid) (sender_buffer new) x same put));
       rest = rw whole (IsEnd-held _ (sender_buffer mid) _ x way.rest put);
       fits = λ _ room. let kept = way.fits room in (refl, same ∙ kept.1, put ∙ ap (λ l. l ++ x) kept.2);
       sent = λ over. rw whole ([], sym (put ∙ ap (λ l. l ++ x) (way.sent over)));
       whole = λ _. refl;
       calm = λ _. tt;
-      all = λ t. (subst takes_all (sym same) (way.all t).0, refl);
-      after = held_after old mid new x way short put;
+      all = λ t. (subst I.takes_all (sym same) (way.all t).0, refl);
+      after = held_after new x way short put;
       calls = λ m t.
           let first = way.calls m t in
-          (subst is_metered (sym same) first.0, omega (arith, first.1, ap cost same, calls_short S (sender_buffer old) x short));
+          (subst I.is_metered (sym same) first.0, omega (arith, first.1, ap I.cost same, calls_short S (sender_buffer old) x short));
     }
 
 -- `write_all`: sending failed, and nothing was accepted
-pub refused_all : {W : Type 0} {S : ℕ} {told : W → Told} {takes_all is_metered : W → Type 0} {cost : W → ℕ}
-    (old mid : Sender W S) (x : List ℕ) (e : Error)
-    → MakesWay told takes_all is_metered cost old (length x) (Err e) mid → BuffersAll told takes_all is_metered cost old x (Err e) mid
-refused_all old mid x e way = record {
+pub refused_all : {W : Type 0} {S : ℕ} {I : Writer W} {old mid : Sender W S} {x : List ℕ} {e : Error}
+    → MakesWay I old (length x) (Err e) mid → BuffersAll I old x (Err e) mid
+refused_all {x} way = record {
   fault = way.fault;
   moves = record { accepted = []; front = (x, refl); whole = tt; moves = way.moves };
   rest = inr way.rest;
@@ -233,90 +209,75 @@ refused_all old mid x e way = record {
 }
 
 -- `write_all`: one inner `write_all`, past the empty buffer
-pub passed_all : {W : Type 0} {S : ℕ} {told : W → Told} {takes_all is_metered : W → Type 0} {cost : W → ℕ}
-    (old mid : Sender W S) (x : List ℕ) (r : Result (Unit {0}) Error) (inner : W)
-    → ((w : W) → takes_all w → (told w).mishaps ≡ Some [])
-    → MakesWay told takes_all is_metered cost old (length x) (Ok tt) mid → S ≤ length x
-    → IsNoInterruption r
-    → MovesFront (told (sender_inner mid)) x r (told inner)
-    → (takes_all (sender_inner mid) → takes_all inner)
-    → (is_metered (sender_inner mid) → takes_all (sender_inner mid)
-    → is_metered inner × (cost inner ≡ cost (sender_inner mid) + calls_for x))
-    → BuffersAll told takes_all is_metered cost old x r (sender_with_inner mid inner)
-passed_all {S} old mid x r inner steady way long fault moves all calls =
+pub passed_all : {W : Type 0} {S : ℕ} {I : Writer W} {old mid : Sender W S} {x : List ℕ} {r : Result (Unit {0}) Error} {inner : W}
+    → ((w : W) → I.takes_all w → (I.told w).mishaps ≡ Some []) → MakesWay I old (length x) (Ok tt) mid → S ≤ length x
+    → WriteAllLaw I.told I.takes_all I.cost I.is_metered (sender_inner mid) x r inner → BuffersAll I old x r (sender_with_inner mid inner)
+passed_all {S} {old} {mid} {x} {r} steady way long wrote =
     let none = way.empty long in
     record {
-      fault = fault;
-      moves = MovesFront-then x r way.moves (MovesFront-passed x r (sender_buffer mid) (sender_buffer mid) none refl moves);
+      fault = wrote.fault;
+      moves = MovesFront-then x r way.moves (MovesFront-passed x r (sender_buffer mid) (sender_buffer mid) none refl wrote.moves);
       rest = inl (IsEnd-none _ (sender_buffer mid) none);
       fits = λ short. absurd (omega (arith, short, long));
       sent = λ _. onok r _ (IsEnd-none _ (sender_buffer mid) none);
       none = λ short. absurd (omega (arith, short, long));
-      all = λ t. let mid_all = (way.all t).0 in (all mid_all, call_steady r (steady _ mid_all) moves.moves);
+      all = λ t. let mid_all = (way.all t).0 in (wrote.all mid_all, call_steady r (steady _ mid_all) wrote.moves.moves);
       after = onok r _ (none ∙ sym (after_long S (sender_buffer old) x long));
       calls = λ some m t.
           let first = way.calls m t in
-          let then = calls first.0 (way.all t).0 in
-          (then.0, omega (arith, first.1, then.1, calls_long S (sender_buffer old) x long, calls_for-some x (omega (arith, some, long))));
+          let then = wrote.counts first.0 (way.all t).0 in
+          (then.0, omega (arith, first.1, then.1, calls_long S (sender_buffer old) x long, sending_some x (omega (arith, some, long))));
       few = λ m t.
           let first = way.calls m t in
-          let then = calls first.0 (way.all t).0 in
+          let then = wrote.counts first.0 (way.all t).0 in
           (then.0, omega (arith, first.1, then.1, way_calls-le S (length x) (sender_buffer old), calls_for-le x));
     }
 
 -- `write_all`: x is held behind what was left
-pub held_all : {W : Type 0} {S : ℕ} {told : W → Told} {takes_all is_metered : W → Type 0} {cost : W → ℕ}
-    (old mid new : Sender W S) (x : List ℕ)
-    → MakesWay told takes_all is_metered cost old (length x) (Ok tt) mid → length x < S
-    → sender_inner new ≡ sender_inner mid → sender_buffer new ≡ sender_buffer mid ++ x
-    → BuffersAll told takes_all is_metered cost old x (Ok tt) new
-held_all {S} {told} {takes_all} {is_metered} {cost} old mid new x way short same put = record {
+pub held_all : {W : Type 0} {S : ℕ} {I : Writer W} {old mid new : Sender W S} {x : List ℕ}
+    → MakesWay I old (length x) (Ok tt) mid → length x < S
+    → sender_inner new ≡ sender_inner mid → sender_buffer new ≡ sender_buffer mid ++ x → BuffersAll I old x (Ok tt) new
+held_all {S} {I} {old} {mid} {new} {x} way short same put = record {
   fault = tt;
   moves = record {
     accepted = x;
     front = IsFront-refl x;
     whole = refl;
-    moves = Moves-then {k = []} way.moves (Moves-kept told _ _ (sender_buffer mid) (sender_buffer new) x same put);
+    moves = Moves-then {k = []} way.moves (Moves-kept I.told _ _ (sender_buffer mid) (sender_buffer new) x same put);
   };
   rest = inl (IsEnd-held _ (sender_buffer mid) _ x way.rest put);
   fits = λ _ room. let kept = way.fits room in (refl, same ∙ kept.1, put ∙ ap (λ l. l ++ x) kept.2);
   sent = λ over. ([], sym (put ∙ ap (λ l. l ++ x) (way.sent over)));
   none = λ _. tt;
-  all = λ t. (subst takes_all (sym same) (way.all t).0, refl);
-  after = held_after old mid new x way short put;
+  all = λ t. (subst I.takes_all (sym same) (way.all t).0, refl);
+  after = held_after new x way short put;
   calls = λ _ m t.
       let first = way.calls m t in
-      (subst is_metered (sym same) first.0, omega (arith, first.1, ap cost same, calls_short S (sender_buffer old) x short));
+      (subst I.is_metered (sym same) first.0, omega (arith, first.1, ap I.cost same, calls_short S (sender_buffer old) x short));
   few = λ m t.
       let first = way.calls m t in
-      (subst is_metered (sym same) first.0, omega (arith, first.1, ap cost same, way_calls-le S (length x) (sender_buffer old)));
+      (subst I.is_metered (sym same) first.0, omega (arith, first.1, ap I.cost same, way_calls-le S (length x) (sender_buffer old)));
 }
 
 -- `flush`: all was sent, and then the inner writer was flushed
-pub flushed : {W : Type 0} {S : ℕ} {told : W → Told} {takes_all is_metered : W → Type 0} {cost : W → ℕ}
-    (old mid : Sender W S) (r : Result (Unit {0}) Error) (inner : W)
-    → ((w : W) → takes_all w → (told w).mishaps ≡ Some [])
-    → Sent told takes_all is_metered cost old (Ok tt) mid
-    → OnOk r ((told inner).held ≡ [])
-    → Moves (told (sender_inner mid)) [] (call_mishap r) (told inner)
-    → (takes_all (sender_inner mid) → takes_all inner)
-    → (is_metered (sender_inner mid) → takes_all (sender_inner mid) → is_metered inner × (cost inner ≡ cost (sender_inner mid)))
-    → Flushes told takes_all is_metered cost old r (sender_with_inner mid inner)
-flushed {told} old mid r inner steady sent empty moves all calls =
+pub flushed : {W : Type 0} {S : ℕ} {I : Writer W} {old mid : Sender W S} {r : Result (Unit {0}) Error} {inner : W}
+    → ((w : W) → I.takes_all w → (I.told w).mishaps ≡ Some []) → Sent I old (Ok tt) mid
+    → FlushLaw I.told I.takes_all I.cost I.is_metered (sender_inner mid) r inner → Flushes I old r (sender_with_inner mid inner)
+flushed {I} {mid} {r} {inner} steady sent done =
     let none = sent.empty in
     record {
-      empty = onok_both r _ _ empty (λ e. ap (λ l. (told inner).held ++ l) none ∙ append-nil _ ∙ e);
+      empty = onok_both r _ _ done.empty (λ e. ap (λ l. (I.told inner).held ++ l) none ∙ append-nil _ ∙ e);
       moves =
           Moves-ends {k = []}
           (Moves-sent _ (sender_buffer mid) none
           (subst (λ l. Moves _ l [] _) (sym (sent.sends.split ∙ ap (λ l. sent.sends.sent ++ l) none ∙ append-nil _))
           sent.sends.moves))
-          (Moves-passed (sender_buffer mid) none moves);
+          (Moves-passed (sender_buffer mid) none done.moves);
       sent = onok r _ none;
       rest = IsEnd-none _ (sender_buffer mid) none;
-      all = λ t. let mid_all = (sent.all t).0 in (all mid_all, call_steady r (steady _ mid_all) moves);
+      all = λ t. let mid_all = (sent.all t).0 in (done.all mid_all, call_steady r (steady _ mid_all) done.moves);
       calls = λ m t.
           let first = sent.calls m t in
-          let then = calls first.0 (sent.all t).0 in
+          let then = done.counts first.0 (sent.all t).0 in
           (then.0, omega (arith, first.1, then.1));
     }

@@ -6,31 +6,34 @@ use Rattle.no_std_io2_base.specs.declared.error.Error.{Error}
 use Rattle.no_std_io2_base.specs.declared.error.ErrorKind.{ErrorKind}
 use Rattle.no_std_io2_base.specs.declared.error.ErrorKind.TheVariants.{WriteZero}
 use Rattle.no_std_io2_base.specs.Errors.{error_kind, is_interruption, IsFault}
-use Rattle.no_std_io2_base.specs.Write.{Told, Moves, taken, write_mishap, zero_write, calls_for}
+use Rattle.no_std_io2_base.specs.declared.traits.write.Write.{Ghosts as Writer}
+use Rattle.no_std_io2_base.specs.Write.{Told, Moves, WriteLaw, taken, write_mishap, zero_write, calls_for}
 use Rattle.no_std_io2_base.proofs.MovesLemmas.{Moves-refl, Moves-more, Moves-ends, Moves-quiet}
 use Rattle.no_std_io2.specs.declared.buffered.sender.Sender.{Sender}
 use Rattle.no_std_io2.specs.BufWriter.{sender_inner, sender_buffer, sender_with_inner, Sent}
 use Rattle.no_std_io2.proofs.BufWriterLemmas.{none_left, gone_more, drop_whole, sending_none, sending_some, ok_same}
 
 -- so far a front of what was held was sent
-pub record Sending {W : Type 0} {S : ℕ} (told : W → Told) (takes_all is_metered : W → Type 0) (cost : W → ℕ)
-    (old new : Sender W S) : Type 0 where
+pub record Sending {W : Type 0} {S : ℕ} (I : Writer W) (old new : Sender W S) : Type 0 where
   pub sent : List ℕ
   pub split : sender_buffer old ≡ sent ++ sender_buffer new
-  pub moves : Moves (told (sender_inner old)) sent [] (told (sender_inner new))
+  pub moves : Moves (I.told (sender_inner old)) sent [] (I.told (sender_inner new))
+  -- with nothing held there was no inner call
   pub idle : sender_buffer old ≡ [] → sender_inner new ≡ sender_inner old
-  pub all : takes_all (sender_inner old) → takes_all (sender_inner new)
-  pub calls : is_metered (sender_inner old) → takes_all (sender_inner old) → is_metered (sender_inner new)
-      × (cost (sender_inner new) + calls_for (sender_buffer new) ≡ cost (sender_inner old) + calls_for (sender_buffer old))
+  -- an inner writer that takes all still does
+  pub all : I.takes_all (sender_inner old) → I.takes_all (sender_inner new)
+  -- the inner calls so far, and the one for what is still held, are those for all that was held
+  pub calls : I.is_metered (sender_inner old) → I.takes_all (sender_inner old) → I.is_metered (sender_inner new)
+      × (I.cost (sender_inner new) + calls_for (sender_buffer new) ≡ I.cost (sender_inner old) + calls_for (sender_buffer old))
+  -- no byte moved
   pub unmoved : new.buffer.bytes ≡ old.buffer.bytes
 
 -- nothing was sent yet
-pub sending_begins : {W : Type 0} {S : ℕ} {told : W → Told} {takes_all is_metered : W → Type 0} {cost : W → ℕ} (old : Sender W S)
-    → Sending told takes_all is_metered cost old old
-sending_begins {told} old = record {
+pub sending_begins : {W : Type 0} {S : ℕ} {I : Writer W} {old : Sender W S} → Sending I old old
+sending_begins {I} {old} = record {
   sent = [];
   split = refl;
-  moves = Moves-refl (told (sender_inner old));
+  moves = Moves-refl (I.told (sender_inner old));
   idle = λ _. refl;
   all = λ t. t;
   calls = λ m _. (m, refl);
@@ -38,27 +41,22 @@ sending_begins {told} old = record {
 }
 
 -- the inner writer took n bytes of what was held
-pub sending_took : {W : Type 0} {S : ℕ} {told : W → Told} {takes_all is_metered : W → Type 0} {cost : W → ℕ} (old mid new : Sender W S)
-    (x : List ℕ) (n : ℕ)
-    → Sending told takes_all is_metered cost old mid → 0 < length (sender_buffer mid) → x ≡ sender_buffer mid
-    → Moves (told (sender_inner mid)) (take n x) (zero_write n x) (told (sender_inner new))
-    → (takes_all (sender_inner mid) → takes_all (sender_inner new) × (◌≡◌ {A = Result ℕ Error} (Ok n) (Ok (length x))))
-    → (is_metered (sender_inner mid) → takes_all (sender_inner mid) → is_metered (sender_inner new) ×
-    (cost (sender_inner new) ≡ cost (sender_inner mid) + 1))
-    → sender_buffer new ≡ drop n (sender_buffer mid) → new.buffer.bytes ≡ mid.buffer.bytes
-    → Sending told takes_all is_metered cost old new
-sending_took old mid new x n before some given moves all calls rest unmoved =
+pub sending_took : {W : Type 0} {S : ℕ} {I : Writer W} {old mid new : Sender W S} {x : List ℕ} {n : ℕ}
+    → Sending I old mid → 0 < length (sender_buffer mid) → x ≡ sender_buffer mid
+    → WriteLaw I.told I.takes_all I.cost I.is_metered (sender_inner mid) x (Ok n) (sender_inner new)
+    → sender_buffer new ≡ drop n (sender_buffer mid) → new.buffer.bytes ≡ mid.buffer.bytes → Sending I old new
+sending_took {mid} {x} {n} before some given wrote rest unmoved =
     let held = sender_buffer mid in
     record {
       sent = before.sent ++ take n x;
       split = gone_more _ before.sent x n _ (before.split ∙ ap (λ l. before.sent ++ l) (sym given)) (rest ∙ ap (drop n) (sym given));
-      moves = Moves-more before.moves moves;
+      moves = Moves-more before.moves wrote.moves;
       idle = λ e. absurd (omega (arith, some, none_left _ before.sent held before.split e));
-      all = λ t. (all (before.all t)).0;
+      all = λ t. (wrote.all (before.all t)).0;
       calls = λ m t.
-          let count : n ≡ length x = ok_same (all (before.all t)).1 in
+          let count : n ≡ length x = ok_same (wrote.all (before.all t)).1 in
           let next = drop_whole held _ n (count ∙ ap length given) rest in
-          let one = calls (before.calls m t).0 (before.all t) in
+          let one = wrote.counts (before.calls m t).0 (before.all t) in
           (one.0, omega (arith, (before.calls m t).1, one.1, sending_none _ next, sending_some held some));
       unmoved = unmoved ∙ before.unmoved;
     }
@@ -72,26 +70,23 @@ pub takes_not_all : {A : Type 0} {x : Error} {n : ℕ} → A × (◌≡◌ {A = 
 takes_not_all h = no_err h.1
 
 -- the inner writer was interrupted
-pub sending_again : {W : Type 0} {S : ℕ} {told : W → Told} {takes_all is_metered : W → Type 0} {cost : W → ℕ} (old mid : Sender W S)
-    (inner : W) (x : List ℕ) (e : Error)
-    → Sending told takes_all is_metered cost old mid → 0 < length (sender_buffer mid)
-    → Moves (told (sender_inner mid)) [] (error_kind e ∷ []) (told inner)
-    → (takes_all (sender_inner mid) → takes_all inner × (◌≡◌ {A = Result ℕ Error} (Err e) (Ok (length x))))
-    → Sending told takes_all is_metered cost old (sender_with_inner mid inner)
-sending_again old mid inner x e before some moves all = record {
+pub sending_again : {W : Type 0} {S : ℕ} {I : Writer W} {old mid : Sender W S} {inner : W} {x : List ℕ} {e : Error}
+    → Sending I old mid → 0 < length (sender_buffer mid) → WriteLaw I.told I.takes_all I.cost I.is_metered (sender_inner mid) x (Err e) inner
+    → Sending I old (sender_with_inner mid inner)
+sending_again {mid} before some wrote = record {
   sent = before.sent;
   split = before.split;
-  moves = Moves-ends before.moves (Moves-quiet moves);
+  moves = Moves-ends before.moves (Moves-quiet wrote.moves);
   idle = λ none. absurd (omega (arith, some, none_left _ before.sent (sender_buffer mid) before.split none));
-  all = λ t. (all (before.all t)).0;
-  calls = λ m t. no_err (all (before.all t)).1;
+  all = λ t. (wrote.all (before.all t)).0;
+  calls = λ m t. no_err (wrote.all (before.all t)).1;
   unmoved = before.unmoved;
 }
 
 -- all was sent
-pub sending_ends : {W : Type 0} {S : ℕ} {told : W → Told} {takes_all is_metered : W → Type 0} {cost : W → ℕ} (old new : Sender W S)
-    → Sending told takes_all is_metered cost old new → sender_buffer new ≡ [] → Sent told takes_all is_metered cost old (Ok tt) new
-sending_ends old new before none = record {
+pub sending_ends : {W : Type 0} {S : ℕ} {I : Writer W} {old new : Sender W S}
+    → Sending I old new → sender_buffer new ≡ [] → Sent I old (Ok tt) new
+sending_ends {new} before none = record {
   fault = tt;
   empty = none;
   left = tt;
@@ -103,13 +98,11 @@ sending_ends old new before none = record {
 }
 
 -- a fault came
-pub sending_fails : {W : Type 0} {S : ℕ} {told : W → Told} {takes_all is_metered : W → Type 0} {cost : W → ℕ} (old mid : Sender W S)
-    (inner : W) (e : Error)
-    → Sending told takes_all is_metered cost old mid → 0 < length (sender_buffer mid) → IsFault e
-    → Moves (told (sender_inner mid)) [] (error_kind e ∷ []) (told inner)
-    → (takes_all (sender_inner mid) → ⊥)
-    → Sent told takes_all is_metered cost old (Err e) (sender_with_inner mid inner)
-sending_fails old mid inner e before some fault moves all = record {
+pub sending_fails : {W : Type 0} {S : ℕ} {I : Writer W} {old mid : Sender W S} {inner : W} {e : Error}
+    → Sending I old mid → 0 < length (sender_buffer mid) → IsFault e
+    → Moves (I.told (sender_inner mid)) [] (error_kind e ∷ []) (I.told inner) → (I.takes_all (sender_inner mid) → ⊥)
+    → Sent I old (Err e) (sender_with_inner mid inner)
+sending_fails {mid} before some fault moves all = record {
   fault = fault;
   empty = tt;
   left = some;
@@ -125,21 +118,18 @@ zero_write-none : (x : List ℕ) → 0 < length x → zero_write 0 x ≡ WriteZe
 zero_write-none x some = grind (arith, nat_tests)
 
 -- the inner writer took no byte of some
-pub sending_stuck : {W : Type 0} {S : ℕ} {told : W → Told} {takes_all is_metered : W → Type 0} {cost : W → ℕ} (old mid : Sender W S)
-    (inner : W) (x : List ℕ) (r : Result ℕ Error) (n : ℕ) (e : Error)
-    → Sending told takes_all is_metered cost old mid → 0 < length (sender_buffer mid) → x ≡ sender_buffer mid
-    → r ≡ Ok n → n ≡ 0 → error_kind e ≡ WriteZero
-    → Moves (told (sender_inner mid)) (taken r x) (write_mishap r x) (told inner)
-    → (takes_all (sender_inner mid) → takes_all inner × (r ≡ Ok (length x)))
-    → Sent told takes_all is_metered cost old (Err e) (sender_with_inner mid inner)
-sending_stuck {told} old mid inner x r n e before some given is zero kind moves all =
+pub sending_stuck : {W : Type 0} {S : ℕ} {I : Writer W} {old mid : Sender W S} {inner : W} {x : List ℕ}
+    {r : Result ℕ Error} {n : ℕ} {e : Error}
+    → Sending I old mid → 0 < length (sender_buffer mid) → x ≡ sender_buffer mid → r ≡ Ok n → n ≡ 0 → error_kind e ≡ WriteZero
+    → WriteLaw I.told I.takes_all I.cost I.is_metered (sender_inner mid) x r inner → Sent I old (Err e) (sender_with_inner mid inner)
+sending_stuck {I} {mid} {inner} {x} {r} {e} before some given is zero kind wrote =
     let answer : r ≡ Ok 0 = is ∙ ap Ok zero in
     let long : 0 < length x = omega (arith, some, ap length given) in
-    let none = subst (λ a. Moves (told (sender_inner mid)) (taken a x) (write_mishap a x) (told inner)) answer moves in
+    let none = subst (λ a. Moves (I.told (sender_inner mid)) (taken a x) (write_mishap a x) (I.told inner)) answer wrote.moves in
     let mishap : zero_write 0 x ≡ error_kind e ∷ [] = zero_write-none x long ∙ ap (λ k. k ∷ []) (sym kind) in
-    sending_fails old mid inner e before some (ap is_interruption kind)
-    (subst (λ k. Moves (told (sender_inner mid)) [] k (told inner)) mishap none)
-    (λ t. omega (arith, long, ok_same (sym answer ∙ (all t).1)))
+    sending_fails before some (ap is_interruption kind)
+    (subst (λ k. Moves (I.told (sender_inner mid)) [] k (I.told inner)) mishap none)
+    (λ t. omega (arith, long, ok_same (sym answer ∙ (wrote.all t).1)))
 
 -- fewer turns and bytes are left after a write that took some
 pub fewer_left : {a b : Told} {y : List ℕ} {k : List ErrorKind} (x : List ℕ) {held next : List ℕ} {n : ℕ}

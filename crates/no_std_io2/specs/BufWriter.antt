@@ -1,5 +1,5 @@
 -- What a clause reads of a `BufWriter` and of its error, how a buffer is sent, and what its calls do: each relation is the one
--- clause of the private functions that share it.
+-- clause of the private functions that share it. I is what the inner writer tells, K what it tells as a seeker.
 use Rattle.std.specs.Prelude.{◌≡◌, ℕ, ◌+◌, List, [], ◌++◌, length, nat_lt, nat_le, ◌&&◌, if◌then◌else◌, ◌<◌, ◌≤◌, ◌⊎◌, ◌∷◌, take, Some}
 use Rattle.std.specs.Prelude.{Result, Ok, IsOk, IsOkAnd, IfOk, IfErr, OnOk, OnErr}
 use Rattle.no_std_io2_base.specs.declared.error.Error.{Error}
@@ -8,9 +8,10 @@ use Rattle.no_std_io2.specs.Buffer.{buffer_held, IsEnd}
 use Rattle.no_std_io2.specs.declared.buffered.sender.Sender.{Sender}
 use Rattle.no_std_io2.specs.declared.buffered.buf_writer.BufWriter.{BufWriter}
 use Rattle.no_std_io2.specs.declared.buffered.into_inner_error.IntoInnerError.{IntoInnerError}
+use Rattle.no_std_io2_base.specs.declared.traits.write.Write.{Ghosts as Writer}
 use Rattle.no_std_io2_base.specs.Errors.{error_kind, IsFault, IsNoInterruption}
 use Rattle.no_std_io2_base.specs.declared.traits.seek.SeekFrom.{SeekFrom}
-use Rattle.no_std_io2_base.specs.Seek.{Seeks}
+use Rattle.no_std_io2_base.specs.Seek.{Seeks, Seeker}
 use denote.Param.{param, number}
 use denote.RattleType.{RattleType}
 use Rattle.std.specs.Mem.{FitsInMemory}
@@ -78,40 +79,55 @@ abbrev pub writer_with_inner : {W : Type 0} {S : ℕ} → BufWriter W S → W �
 writer_with_inner w x = record { core = sender_with_inner w.core x }
 
 -- What was held was sent: the inner writer accepted some front of it, all of it at `Ok`, and the rest is held.
-pub record Sent {W : Type 0} {S : ℕ} (told : W → Told) (takes_all is_metered : W → Type 0) (cost : W → ℕ)
-    (old : Sender W S) (reply : Result (Unit {0}) Error) (new : Sender W S) : Type 0 where
+pub record Sent {W : Type 0} {S : ℕ} (I : Writer W) (old : Sender W S) (reply : Result (Unit {0}) Error) (new : Sender W S)
+    : Type 0 where
+  -- an error is no interruption
   pub fault : IsNoInterruption reply
   pub empty : OnOk reply (sender_buffer new ≡ [])
+  -- at an `Err` some bytes are left
   pub left : OnErr reply (0 < length (sender_buffer new))
-  pub sends : Sends (told (sender_inner old)) (sender_buffer old) reply (told (sender_inner new)) (sender_buffer new)
+  pub sends : Sends (I.told (sender_inner old)) (sender_buffer old) reply (I.told (sender_inner new)) (sender_buffer new)
   -- with nothing held there is no inner call
   pub idle : sender_buffer old ≡ [] → (sender_inner new ≡ sender_inner old) × IsOk reply
-  pub all : takes_all (sender_inner old) → takes_all (sender_inner new) × IsOk reply
-  pub calls : is_metered (sender_inner old) → takes_all (sender_inner old) → is_metered (sender_inner new)
-      × (cost (sender_inner new) ≡ cost (sender_inner old) + calls_for (sender_buffer old))
+  -- an inner writer that takes all still does, and there is no error
+  pub all : I.takes_all (sender_inner old) → I.takes_all (sender_inner new) × IsOk reply
+  -- and one call of it takes what was held
+  pub calls : I.is_metered (sender_inner old) → I.takes_all (sender_inner old) → I.is_metered (sender_inner new)
+      × (I.cost (sender_inner new) ≡ I.cost (sender_inner old) + calls_for (sender_buffer old))
   -- no byte moves
   pub unmoved : new.buffer.bytes ≡ old.buffer.bytes
 
 -- There is room for `more` bytes, or nothing is held: what was held was sent where they don't fit beside it.
-pub record MakesWay {W : Type 0} {S : ℕ} (told : W → Told) (takes_all is_metered : W → Type 0) (cost : W → ℕ)
-    (old : Sender W S) (more : ℕ) (reply : Result (Unit {0}) Error) (new : Sender W S) : Type 0 where
+pub record MakesWay {W : Type 0} {S : ℕ} (I : Writer W) (old : Sender W S) (more : ℕ) (reply : Result (Unit {0}) Error)
+    (new : Sender W S) : Type 0 where
+  -- an error is no interruption
   pub fault : IsNoInterruption reply
-  pub moves : Moves (sender_told told old) [] (call_mishap reply) (sender_told told new)
+  -- no byte is lost
+  pub moves : Moves (sender_told I.told old) [] (call_mishap reply) (sender_told I.told new)
+  -- what is held is an end of what was
   pub rest : IsEnd (sender_buffer old) (sender_buffer new)
   pub room : OnOk reply (more < S → length (sender_buffer new) + more ≤ S)
+  -- in front of S bytes and more nothing is held
   pub empty : OnOk reply (S ≤ more → sender_buffer new ≡ [])
+  -- where they fit there is no inner call
   pub fits : length (sender_buffer old) + more ≤ S
       → IsOk reply × (sender_inner new ≡ sender_inner old) × (sender_buffer new ≡ sender_buffer old)
+  -- where they don't, all that was held was sent before an `Ok`
   pub sent : S < length (sender_buffer old) + more → OnOk reply (sender_buffer new ≡ [])
-  pub all : takes_all (sender_inner old) → takes_all (sender_inner new) × IsOk reply
-  pub calls : is_metered (sender_inner old) → takes_all (sender_inner old) → is_metered (sender_inner new)
-      × (cost (sender_inner new) ≡ cost (sender_inner old) + way_calls S (sender_buffer old) more)
+  -- an inner writer that takes all still does, and there is no error
+  pub all : I.takes_all (sender_inner old) → I.takes_all (sender_inner new) × IsOk reply
+  -- and how many calls of it that takes
+  pub calls : I.is_metered (sender_inner old) → I.takes_all (sender_inner old) → I.is_metered (sender_inner new)
+      × (I.cost (sender_inner new) ≡ I.cost (sender_inner old) + way_calls S (sender_buffer old) more)
 
 -- `write(x)` through the buffer.
-pub record Buffers {W : Type 0} {S : ℕ} (told : W → Told) (takes_all is_metered : W → Type 0) (cost : W → ℕ)
-    (old : Sender W S) (x : List ℕ) (reply : Result ℕ Error) (new : Sender W S) : Type 0 where
+pub record Buffers {W : Type 0} {S : ℕ} (I : Writer W) (old : Sender W S) (x : List ℕ) (reply : Result ℕ Error) (new : Sender W S)
+    : Type 0 where
+  -- no more is taken than was given
   pub bound : IfOk reply (λ n. n ≤ length x)
-  pub moves : Moves (sender_told told old) (taken reply x) (write_mishap reply x) (sender_told told new)
+  -- exactly what the answer says was accepted
+  pub moves : Moves (sender_told I.told old) (taken reply x) (write_mishap reply x) (sender_told I.told new)
+  -- what is held is an end of what was held and of that
   pub rest : IsEnd (sender_buffer old ++ taken reply x) (sender_buffer new)
   -- where both fit, x is held and there is no inner call
   pub fits : length x < S → length (sender_buffer old) + length x ≤ S
@@ -121,16 +137,22 @@ pub record Buffers {W : Type 0} {S : ℕ} (told : W → Told) (takes_all is_mete
   -- what is shorter than the buffer is taken whole, and no interruption is answered
   pub whole : length x < S → IfOk reply (λ n. n ≡ length x)
   pub calm : length x < S → IsNoInterruption reply
-  pub all : takes_all (sender_inner old) → takes_all (sender_inner new) × (reply ≡ Ok (length x))
+  -- an inner writer that takes all still does, and all of x was taken
+  pub all : I.takes_all (sender_inner old) → I.takes_all (sender_inner new) × (reply ≡ Ok (length x))
+  -- what is held after an `Ok`
   pub after : OnOk reply (sender_buffer new ≡ buffer_after S (sender_buffer old) x)
-  pub calls : is_metered (sender_inner old) → takes_all (sender_inner old) → is_metered (sender_inner new)
-      × (cost (sender_inner new) ≡ cost (sender_inner old) + writing_calls S (sender_buffer old) x)
+  -- how many calls an inner writer gets that takes all
+  pub calls : I.is_metered (sender_inner old) → I.takes_all (sender_inner old) → I.is_metered (sender_inner new)
+      × (I.cost (sender_inner new) ≡ I.cost (sender_inner old) + writing_calls S (sender_buffer old) x)
 
 -- `write_all(x)` through the buffer.
-pub record BuffersAll {W : Type 0} {S : ℕ} (told : W → Told) (takes_all is_metered : W → Type 0) (cost : W → ℕ)
-    (old : Sender W S) (x : List ℕ) (reply : Result (Unit {0}) Error) (new : Sender W S) : Type 0 where
+pub record BuffersAll {W : Type 0} {S : ℕ} (I : Writer W) (old : Sender W S) (x : List ℕ) (reply : Result (Unit {0}) Error)
+    (new : Sender W S) : Type 0 where
+  -- an error is no interruption
   pub fault : IsNoInterruption reply
-  pub moves : MovesFront (sender_told told old) x reply (sender_told told new)
+  -- some front of x was accepted, all of it at `Ok`
+  pub moves : MovesFront (sender_told I.told old) x reply (sender_told I.told new)
+  -- what is held is an end of what was, with x behind it or without
   pub rest : (IsEnd (sender_buffer old ++ x) (sender_buffer new)) ⊎ (IsEnd (sender_buffer old) (sender_buffer new))
   -- where both fit, x is held and there is no inner call
   pub fits : length x < S → length (sender_buffer old) + length x ≤ S
@@ -139,71 +161,86 @@ pub record BuffersAll {W : Type 0} {S : ℕ} (told : W → Told) (takes_all is_m
   pub sent : S < length (sender_buffer old) + length x → OnOk reply (IsEnd x (sender_buffer new))
   -- of what is shorter than the buffer nothing is taken at an `Err`
   pub none : length x < S → OnErr reply (IsEnd (sender_buffer old) (sender_buffer new)
-      × Moves (sender_told told old) [] (call_mishap reply) (sender_told told new))
-  pub all : takes_all (sender_inner old) → takes_all (sender_inner new) × IsOk reply
+      × Moves (sender_told I.told old) [] (call_mishap reply) (sender_told I.told new))
+  -- an inner writer that takes all still does, and there is no error
+  pub all : I.takes_all (sender_inner old) → I.takes_all (sender_inner new) × IsOk reply
+  -- what is held after an `Ok`
   pub after : OnOk reply (sender_buffer new ≡ buffer_after S (sender_buffer old) x)
-  pub calls : 0 < S → is_metered (sender_inner old) → takes_all (sender_inner old) → is_metered (sender_inner new)
-      × (cost (sender_inner new) ≡ cost (sender_inner old) + writing_calls S (sender_buffer old) x)
-  pub few : is_metered (sender_inner old) → takes_all (sender_inner old) → is_metered (sender_inner new)
-      × (cost (sender_inner new) ≤ cost (sender_inner old) + calls_for (sender_buffer old) + 1)
+  -- how many calls an inner writer gets that takes all; with S = 0 an empty x makes none
+  pub calls : 0 < S → I.is_metered (sender_inner old) → I.takes_all (sender_inner old) → I.is_metered (sender_inner new)
+      × (I.cost (sender_inner new) ≡ I.cost (sender_inner old) + writing_calls S (sender_buffer old) x)
+  -- one call at most beside the one for what was held, whatever the buffer's length
+  pub few : I.is_metered (sender_inner old) → I.takes_all (sender_inner old) → I.is_metered (sender_inner new)
+      × (I.cost (sender_inner new) ≤ I.cost (sender_inner old) + calls_for (sender_buffer old) + 1)
 
 -- `flush` through the buffer.
-pub record Flushes {W : Type 0} {S : ℕ} (told : W → Told) (takes_all is_metered : W → Type 0) (cost : W → ℕ)
-    (old : Sender W S) (reply : Result (Unit {0}) Error) (new : Sender W S) : Type 0 where
-  pub empty : OnOk reply ((sender_told told new).held ≡ [])
-  pub moves : Moves (sender_told told old) [] (call_mishap reply) (sender_told told new)
+pub record Flushes {W : Type 0} {S : ℕ} (I : Writer W) (old : Sender W S) (reply : Result (Unit {0}) Error) (new : Sender W S)
+    : Type 0 where
+  -- after an `Ok` nothing is held, here or further in
+  pub empty : OnOk reply ((sender_told I.told new).held ≡ [])
+  -- no byte is lost
+  pub moves : Moves (sender_told I.told old) [] (call_mishap reply) (sender_told I.told new)
   pub sent : OnOk reply (sender_buffer new ≡ [])
+  -- what is held is an end of what was
   pub rest : IsEnd (sender_buffer old) (sender_buffer new)
-  pub all : takes_all (sender_inner old) → takes_all (sender_inner new) × IsOk reply
-  pub calls : is_metered (sender_inner old) → takes_all (sender_inner old) → is_metered (sender_inner new)
-      × (cost (sender_inner new) ≡ cost (sender_inner old) + calls_for (sender_buffer old))
+  -- an inner writer that takes all still does, and there is no error
+  pub all : I.takes_all (sender_inner old) → I.takes_all (sender_inner new) × IsOk reply
+  -- and one call of it takes what was held
+  pub calls : I.is_metered (sender_inner old) → I.takes_all (sender_inner old) → I.is_metered (sender_inner new)
+      × (I.cost (sender_inner new) ≡ I.cost (sender_inner old) + calls_for (sender_buffer old))
 
 -- `into_inner()`: all that was held was sent and the inner writer came back, or a fault came with the writer, which holds the rest.
-pub record Unwraps {W : Type 0} {S : ℕ} (told : W → Told) (takes_all is_metered : W → Type 0) (cost : W → ℕ)
-    (old : Sender W S) (reply : Result W (IntoInnerError (Sender W S))) : Type 0 where
-  pub ok : IfOk reply (λ w. Moves (sender_told told old) [] [] (told w))
-  pub err : IfErr reply (λ e. Moves (sender_told told old) [] (error_kind (into_inner_error_cause e) ∷ [])
-      (sender_told told (into_inner_error_writer e)))
+pub record Unwraps {W : Type 0} {S : ℕ} (I : Writer W) (old : Sender W S) (reply : Result W (IntoInnerError (Sender W S)))
+    : Type 0 where
+  -- no byte is lost
+  pub ok : IfOk reply (λ w. Moves (sender_told I.told old) [] [] (I.told w))
+  pub err : IfErr reply (λ e. Moves (sender_told I.told old) [] (error_kind (into_inner_error_cause e) ∷ [])
+      (sender_told I.told (into_inner_error_writer e)))
+  -- what is still held is an end of what was
   pub rest : IfErr reply (λ e. IsEnd (sender_buffer old) (sender_buffer (into_inner_error_writer e)))
   pub fault : IfErr reply (λ e. IsFault (into_inner_error_cause e))
   -- with nothing held there is no inner call
   pub empty : sender_buffer old ≡ [] → reply ≡ Ok (sender_inner old)
-  pub steady : (told (sender_inner old)).mishaps ≡ Some [] → IsOk reply
-  pub all : takes_all (sender_inner old) → IsOkAnd reply takes_all
-  pub calls : is_metered (sender_inner old) → takes_all (sender_inner old) → IfOk reply (λ w. is_metered w
-      × (cost w ≡ cost (sender_inner old) + calls_for (sender_buffer old)))
+  -- over an inner writer with no mishap to come there is no error
+  pub steady : (I.told (sender_inner old)).mishaps ≡ Some [] → IsOk reply
+  -- an inner writer that takes all comes back so
+  pub all : I.takes_all (sender_inner old) → IsOkAnd reply I.takes_all
+  -- and one call of it takes what was held
+  pub calls : I.is_metered (sender_inner old) → I.takes_all (sender_inner old) → IfOk reply (λ w. I.is_metered w
+      × (I.cost w ≡ I.cost (sender_inner old) + calls_for (sender_buffer old)))
 
 -- All was sent, which left the inner writer in some state, and it was sought from there, once.
-pub record SeeksAfterSending {W : Type 0} (told : W → Told) (has_store : W → Type 0) (content : W → List ℕ)
-    (position : W → ℕ) (may_seek : W → SeekFrom → W → Result ℕ Error → Type 0) (old : Told) (to : SeekFrom) (new : W)
+pub record SeeksAfterSending {W : Type 0} (I : Writer W) (K : Seeker W) (old : Told) (to : SeekFrom) (new : W)
     (reply : Result ℕ Error) : Type 0 where
+  -- the state that the sending left
   pub sent : W
   -- no byte is lost
-  pub moves : Moves old [] [] (told sent)
+  pub moves : Moves old [] [] (I.told sent)
   -- one seek of the inner writer, and its answer
-  pub sought : may_seek sent to new reply
+  pub sought : K.may_seek sent to new reply
   -- a store that it told then was sought
-  pub seeks : has_store sent
-      → has_store new × (content new ≡ content sent)
-      × Seeks (length (content sent)) (position sent) to reply (position new)
+  pub seeks : K.has_store sent
+      → K.has_store new × (K.content new ≡ K.content sent)
+      × Seeks (length (K.content sent)) (K.position sent) to reply (K.position new)
 
 -- A buffered writer that holds this now was sought: all was sent and then its inner writer was sought, or the sending failed.
-pub record WriterSeeks {W : Type 0} (told : W → Told) (has_store : W → Type 0) (content : W → List ℕ)
-    (position : W → ℕ) (may_seek : W → SeekFrom → W → Result ℕ Error → Type 0) (old : Told) (to : SeekFrom)
-    (held : List ℕ) (new : W) (reply : Result ℕ Error) : Type 0 where
+pub record WriterSeeks {W : Type 0} (I : Writer W) (K : Seeker W) (old : Told) (to : SeekFrom) (held : List ℕ) (new : W)
+    (reply : Result ℕ Error) : Type 0 where
   pub empty : OnOk reply (held ≡ [])
+  -- where some bytes are held still, the error is the fault that stopped the sending
   pub fault : IfErr reply (λ e. 0 < length held → IsFault e)
-  pub sent : held ≡ [] → SeeksAfterSending told has_store content position may_seek old to new reply
+  pub sent : held ≡ [] → SeeksAfterSending I K old to new reply
 
 -- All was sent, which left the inner writer in some state; a store that it told then was measured, and stayed.
-pub record MeasuredAfterSending {W : Type 0} (told : W → Told) (has_store : W → Type 0) (content : W → List ℕ)
-    (position : W → ℕ) (old : Told) (reply : Result ℕ Error) (new : W) : Type 0 where
+pub record MeasuredAfterSending {W : Type 0} (I : Writer W) (K : Seeker W) (old : Told) (reply : Result ℕ Error) (new : W)
+    : Type 0 where
+  -- the state that the sending left
   pub sent : W
   -- no byte is lost
-  pub moves : Moves old [] [] (told sent)
-  pub measured : has_store sent
-      → has_store new × (content new ≡ content sent) × (position new ≡ position sent)
-      × IsOkAnd reply (λ n. n ≡ length (content sent))
+  pub moves : Moves old [] [] (I.told sent)
+  pub measured : K.has_store sent
+      → K.has_store new × (K.content new ≡ K.content sent) × (K.position new ≡ K.position sent)
+      × IsOkAnd reply (λ n. n ≡ length (K.content sent))
 
 -- a `BufWriter<W, S>` fits in memory
 abbrev pub BufWriterFits : RattleType → ℕ → Type 0

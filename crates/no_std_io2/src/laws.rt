@@ -40,8 +40,8 @@ fn buffered_seeker_tells<W: Write + Seek + Drop, const S: usize>(
     reply: &Result<u64>,
 )
     ensures { ⟦<BufWriter<W, S> as Seek>⟧.may_seek old.now pos new.now reply.now
-        → WriterSeeks W.told W.has_store W.content W.position W.may_seek (writer_told W.told old.now) pos
-        (writer_buffer new.now) (writer_inner new.now) reply.now }
+        → WriterSeeks W.Write W.Seek (writer_told W.told old.now) pos (writer_buffer new.now)
+        (writer_inner new.now) reply.now }
 {}
 
 // The inner's out; the inner's held, then the own buffer; the inner's mishaps and turns.

@@ -64,7 +64,7 @@ impl<W: Write + Drop, const S: usize> Sender<W, S> {
     /// # Errors
     /// `WriteZero` where the inner writer took no byte of some, else its first fault.
     pub(crate) fn send(&mut self) -> Result<()>
-        ensures { Sent W.told W.takes_all W.is_metered W.cost self.old result self.new }
+        ensures { Sent W.Write self.old result self.new }
     {
         self.send_held()
     }
@@ -72,7 +72,7 @@ impl<W: Write + Drop, const S: usize> Sender<W, S> {
     // The whole of `send`, which the cold functions inline.
     #[inline(always)]
     fn send_held(&mut self) -> Result<()>
-        ensures { Sent W.told W.takes_all W.is_metered W.cost self.old result self.new }
+        ensures { Sent W.Write self.old result self.new }
     {
         'sends: while self.buffer.len() > 0 {
             match self.inner.write(self.buffer.as_slice()) {
@@ -103,7 +103,7 @@ impl<W: Write + Drop, const S: usize> Sender<W, S> {
     /// As `send`.
     #[inline(always)]
     fn make_way(&mut self, more: usize) -> Result<()>
-        ensures { MakesWay W.told W.takes_all W.is_metered W.cost self.old more result self.new }
+        ensures { MakesWay W.Write self.old more result self.new }
     {
         if more > S - self.buffer.len() {
             return self.send_held();
@@ -130,7 +130,7 @@ impl<W: Write + Drop, const S: usize> Sender<W, S> {
     /// As `send`, or the inner `write`'s. Nothing of `buf` was accepted then.
     #[inline(always)]
     pub(crate) fn write(&mut self, buf: &[u8]) -> Result<usize>
-        ensures { Buffers W.told W.takes_all W.is_metered W.cost self.old buf.now result self.new }
+        ensures { Buffers W.Write self.old buf.now result self.new }
     {
         if self.hold_if_room(buf) {
             return Ok(buf.len());
@@ -141,10 +141,11 @@ impl<W: Write + Drop, const S: usize> Sender<W, S> {
         self.write_slowly(buf)
     }
 
-    // The call of `write_cold`. It stands between, so that the room for the answer is made on this way alone.
+    // The call of `write_cold`. It stands between, so that the room for the answer is made on this way alone: a write
+    // that is held costs four instructions less so.
     #[inline(always)]
     fn write_slowly(&mut self, buf: &[u8]) -> Result<usize>
-        ensures { Buffers W.told W.takes_all W.is_metered W.cost self.old buf.now result self.new }
+        ensures { Buffers W.Write self.old buf.now result self.new }
     {
         self.write_cold(buf)
     }
@@ -153,7 +154,7 @@ impl<W: Write + Drop, const S: usize> Sender<W, S> {
     #[cold]
     #[inline(never)]
     fn write_cold(&mut self, buf: &[u8]) -> Result<usize>
-        ensures { Buffers W.told W.takes_all W.is_metered W.cost self.old buf.now result self.new }
+        ensures { Buffers W.Write self.old buf.now result self.new }
     {
         self.make_way(buf.len())?;
         if buf.len() >= S {
@@ -170,7 +171,7 @@ impl<W: Write + Drop, const S: usize> Sender<W, S> {
     /// As `send`, or the inner `write_all`'s.
     #[inline(always)]
     pub(crate) fn write_all(&mut self, buf: &[u8]) -> Result<()>
-        ensures { BuffersAll W.told W.takes_all W.is_metered W.cost self.old buf.now result self.new }
+        ensures { BuffersAll W.Write self.old buf.now result self.new }
     {
         if self.hold_if_room(buf) {
             return Ok(());
@@ -184,7 +185,7 @@ impl<W: Write + Drop, const S: usize> Sender<W, S> {
     // As `write_slowly`.
     #[inline(always)]
     fn write_all_slowly(&mut self, buf: &[u8]) -> Result<()>
-        ensures { BuffersAll W.told W.takes_all W.is_metered W.cost self.old buf.now result self.new }
+        ensures { BuffersAll W.Write self.old buf.now result self.new }
     {
         self.write_all_cold(buf)
     }
@@ -193,7 +194,7 @@ impl<W: Write + Drop, const S: usize> Sender<W, S> {
     #[cold]
     #[inline(never)]
     fn write_all_cold(&mut self, buf: &[u8]) -> Result<()>
-        ensures { BuffersAll W.told W.takes_all W.is_metered W.cost self.old buf.now result self.new }
+        ensures { BuffersAll W.Write self.old buf.now result self.new }
     {
         self.make_way(buf.len())?;
         if buf.len() >= S {
@@ -208,7 +209,7 @@ impl<W: Write + Drop, const S: usize> Sender<W, S> {
     /// # Errors
     /// As `send`, with the inner writer not flushed, or the inner `flush`'s.
     pub(crate) fn flush(&mut self) -> Result<()>
-        ensures { Flushes W.told W.takes_all W.is_metered W.cost self.old result self.new }
+        ensures { Flushes W.Write self.old result self.new }
     {
         self.send()?;
         self.inner.flush()
@@ -219,7 +220,7 @@ impl<W: Write + Drop, const S: usize> Sender<W, S> {
     /// # Errors
     /// As `send`, with this writer, which holds what was not sent.
     pub(crate) fn into_inner(mut self) -> std::result::Result<W, IntoInnerError<Sender<W, S>>>
-        ensures { Unwraps W.told W.takes_all W.is_metered W.cost self result }
+        ensures { Unwraps W.Write self result }
     {
         match self.send() {
             Ok(()) => Ok(self.inner),

@@ -53,8 +53,8 @@ impl<W: Write + Seek + Drop, const S: usize> Seek for BufWriter<W, S> {
 
         // Else all was sent, and the inner seek went from there.
         ensures empty { OnOk result (writer_buffer self.new ≡ []) }
-        ensures sent { writer_buffer self.new ≡ [] → SeeksAfterSending W.told W.has_store W.content W.position W.may_seek
-            (writer_told W.told self.old) pos (writer_inner self.new) result }
+        ensures sent { writer_buffer self.new ≡ [] → SeeksAfterSending W.Write W.Seek (writer_told W.told self.old)
+            pos (writer_inner self.new) result }
     {
         self.core.send()?;
         self.core.get_mut().seek(pos)
@@ -70,8 +70,8 @@ impl<W: Write + Seek + Drop, const S: usize> Seek for BufWriter<W, S> {
             → Moves (writer_told W.told self.old) [] (error_kind e ∷ []) (writer_told W.told self.new)) }
         ensures fault { IfErr result (λ e. 0 < length (writer_buffer self.new) → IsFault e) }
         ensures empty { OnOk result (writer_buffer self.new ≡ []) }
-        ensures sent { writer_buffer self.new ≡ [] → SeeksAfterSending W.told W.has_store W.content W.position W.may_seek
-            (writer_told W.told self.old) here (writer_inner self.new) result }
+        ensures sent { writer_buffer self.new ≡ [] → SeeksAfterSending W.Write W.Seek (writer_told W.told self.old)
+            here (writer_inner self.new) result }
     {
         self.seek(SeekFrom::Current(0))
     }
@@ -85,8 +85,8 @@ impl<W: Write + Seek + Drop, const S: usize> Seek for BufWriter<W, S> {
             → Moves (writer_told W.told self.old) [] (error_kind e ∷ []) (writer_told W.told self.new)) }
         ensures fault { IfErr result (λ e. 0 < length (writer_buffer self.new) → IsFault e) }
         ensures empty { OnOk result (writer_buffer self.new ≡ []) }
-        ensures sent { writer_buffer self.new ≡ [] → WithoutPosition (SeeksAfterSending W.told W.has_store W.content W.position
-            W.may_seek (writer_told W.told self.old) at_start (writer_inner self.new)) result }
+        ensures sent { writer_buffer self.new ≡ [] → WithoutPosition (SeeksAfterSending W.Write W.Seek
+            (writer_told W.told self.old) at_start (writer_inner self.new)) result }
     {
         self.seek(SeekFrom::Start(0))?;
         Ok(())
@@ -102,8 +102,8 @@ impl<W: Write + Seek + Drop, const S: usize> Seek for BufWriter<W, S> {
             → Moves (writer_told W.told self.old) [] (error_kind e ∷ []) (writer_told W.told self.new)) }
         ensures fault { IfErr result (λ e. 0 < length (writer_buffer self.new) → IsFault e) }
         ensures empty { OnOk result (writer_buffer self.new ≡ []) }
-        ensures sent { writer_buffer self.new ≡ [] → MeasuredAfterSending W.told W.has_store W.content
-            W.position (writer_told W.told self.old) result (writer_inner self.new) }
+        ensures sent { writer_buffer self.new ≡ [] → MeasuredAfterSending W.Write W.Seek (writer_told W.told self.old)
+            result (writer_inner self.new) }
     {
         match self.core.send() {
             Ok(()) => length_by_seeks(self.core.get_mut()),
@@ -111,8 +111,8 @@ impl<W: Write + Seek + Drop, const S: usize> Seek for BufWriter<W, S> {
         }
     }
 
-    ghost may_seek = { λ old pos new reply. WriterSeeks W.told W.has_store W.content W.position W.may_seek
-        (writer_told W.told old) pos (writer_buffer new) (writer_inner new) reply };
+    ghost may_seek = { λ old pos new reply. WriterSeeks W.Write W.Seek (writer_told W.told old) pos (writer_buffer new)
+        (writer_inner new) reply };
 
     ghost seek_fits = { λ w h. W.seek_fits (writer_inner w) h.1 };
 }

@@ -3,7 +3,4 @@ use Rattle.no_std_io2.proofs.BufWriterCalls.{flushed}
 use Rattle.no_std_io2.proofs.buffered.sender.Sender.flush.Goals as goal
 
 pub returns : goal.returns
-returns g c =
-    let inner = c.flush.ensures.law in
-    flushed c.args.self.now c.send.new.self c.flush.result c.flush.new.self (λ w h. g.met.W.Write.steady w h)
-    c.in_ok-send.ensures inner.empty inner.moves inner.all inner.counts
+returns g c = flushed g.met.W.Write.steady c.in_ok-send.ensures c.flush.ensures.law

@@ -7,8 +7,7 @@ pub overflow_sub-len : goal.overflow_sub-len
 overflow_sub-len g c = c.len.ensures.bound
 
 pub returns-then-more-len : goal.returns-then-more-len
-returns-then-more-len g c =
-    way_sent c.args.self.now c.send_held.new.self c.args.more c.send_held.ensures (omega (arith, c.if-more-len.true, c.len.ensures.len))
+returns-then-more-len g c = way_sent c.send_held.ensures (omega (arith, c.if-more-len.true, c.len.ensures.len))
 
 pub returns : goal.returns
-returns g c = way_kept c.args.self.now c.args.more (omega (arith, c.if-more-len.false, c.len.ensures.len, c.len.ensures.bound))
+returns g c = way_kept (omega (arith, c.if-more-len.false, c.len.ensures.len, c.len.ensures.bound))

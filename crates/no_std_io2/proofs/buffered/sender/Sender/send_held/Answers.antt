@@ -6,13 +6,12 @@ use Rattle.no_std_io2.proofs.BufWriterSends.{sending_stuck, takes_not_all, fewer
 use Rattle.no_std_io2.proofs.buffered.sender.Sender.send_held.Goals as goal
 
 pub sends-init : goal.sends-init
-sends-init g c = sending_begins c.args.self.now
+sends-init g c = sending_begins
 
 pub sends-preserved-in-Ok : goal.sends-preserved-in-Ok
 sends-preserved-in-Ok g c =
-    let wrote = c.in-Ok.ensures.law in
-    sending_took c.args.self.now c.sends.self _ c.as_slice.result.now _ c.sends.invariant (omega arith) c.as_slice.ensures.value
-    wrote.moves wrote.all wrote.counts c.drop_front.ensures.held c.drop_front.ensures.unmoved
+    sending_took c.sends.invariant (omega arith) c.as_slice.ensures.value c.in-Ok.ensures.law
+    c.drop_front.ensures.held c.drop_front.ensures.unmoved
 
 pub sends-smaller-in-Ok : goal.sends-smaller-in-Ok
 sends-smaller-in-Ok g c =
@@ -20,23 +19,20 @@ sends-smaller-in-Ok g c =
     c.drop_front.ensures.held
 
 pub sends-preserved : goal.sends-preserved
-sends-preserved g c =
-    sending_again c.args.self.now c.sends.self c.write.new.self c.as_slice.result.now _ c.sends.invariant (omega arith)
-    c.in-Err.ensures.law.moves c.in-Err.ensures.law.all
+sends-preserved g c = sending_again c.sends.invariant (omega arith) c.in-Err.ensures.law
 
 pub sends-smaller : goal.sends-smaller
 sends-smaller g c = fewer_turns c.in-Err.e _ (sym c.is_interrupted.ensures ∙ c.if-is_interrupted.true) c.in-Err.ensures.law.moves
 
 pub returns-in-Ok-eq0 : goal.returns-in-Ok-eq0
 returns-in-Ok-eq0 g c =
-    sending_stuck c.args.self.now c.sends.self c.write.new.self c.as_slice.result.now c.write.result _ _ c.sends.invariant
-    (omega arith) c.as_slice.ensures.value c.in-Ok-eq0.is c.in-Ok-eq0.field-0-test c.new.ensures.kind c.write.ensures.law.moves
-    c.write.ensures.law.all
+    sending_stuck c.sends.invariant (omega arith) c.as_slice.ensures.value c.in-Ok-eq0.is c.in-Ok-eq0.field-0-test
+    c.new.ensures.kind c.write.ensures.law
 
 pub returns-in-Err-2 : goal.returns-in-Err-2
 returns-in-Err-2 g c =
-    sending_fails c.args.self.now c.sends.self c.write.new.self _ c.sends.invariant (omega arith)
+    sending_fails c.sends.invariant (omega arith)
     (sym c.is_interrupted.ensures ∙ c.if-is_interrupted.false) c.in-Err.ensures.law.moves (λ t. takes_not_all (c.in-Err.ensures.law.all t))
 
 pub returns : goal.returns
-returns g c = sending_ends c.args.self.now c.sends.self c.sends.invariant (none_of_length _ (omega arith))
+returns g c = sending_ends c.sends.invariant (none_of_length _ (omega arith))

@@ -5,8 +5,7 @@ use Rattle.no_std_io2.proofs.BufWriterSends.{Sending}
 use Rattle.no_std_io2.proofs.buffered.sender.Sender.send_held.Given as goal
 
 abbrev pub invariant-sends : goal.invariant-sends
-invariant-sends g l =
-    Sending g.W.Write.told g.W.Write.takes_all g.W.Write.is_metered g.W.Write.cost l.initial.self l.self
+invariant-sends g l = Sending g.W.Write l.initial.self l.self
 
 abbrev pub decreases-sends : goal.decreases-sends
 decreases-sends g l = (g.W.Write.told l.self.inner).turns + length (sender_buffer l.self)

@@ -1,18 +1,15 @@
 -- The hot paths: there is room, or nothing is held, so nothing has to be sent.
 use Rattle.std.proofs.Common.{sym, ◌∙◌}
 use Rattle.no_std_io2.proofs.BufWriterLemmas.{none_of_length}
-use Rattle.no_std_io2.proofs.BufWriterCalls.{way_empty, way_free, passed, held}
+use Rattle.no_std_io2.proofs.BufWriterCalls.{way_empty, way_kept, passed, held}
 use Rattle.no_std_io2.proofs.buffered.sender.Sender.write.Goals as goal
 
 pub returns-then-hold_if_room : goal.returns-then-hold_if_room
 returns-then-hold_if_room g c =
     let put = c.if-hold_if_room.ensures.held in
-    held c.args.self.now c.args.self.now c.hold_if_room.new.self c.args.buf.now
-    (way_free c.args.self.now c.args.buf.now put.0 put.1) put.0 put.2 put.3
+    held (way_kept put.1) put.0 put.2 put.3
 
 pub returns-then-len-eq0 : goal.returns-then-len-eq0
 returns-then-len-eq0 g c =
-    let inner = c.write.ensures.law in
     let none = none_of_length _ (sym c.len.ensures.len ∙ c.if-len-eq0.true) in
-    passed c.args.self.now c.hold_if_room.new.self c.args.buf.now c.write.result c.write.new.self
-    (way_empty c.args.self.now _ _ c.if-hold_if_room.ensures.same none) c.if-buf.true inner.bound inner.moves inner.all inner.counts
+    passed (way_empty c.if-hold_if_room.ensures.same none) c.if-buf.true c.write.ensures.law

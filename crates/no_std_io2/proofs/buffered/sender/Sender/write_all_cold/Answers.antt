@@ -7,16 +7,10 @@ use Rattle.no_std_io2.proofs.buffered.sender.Sender.write_all_cold.Goals as goal
 pub returns-in_err-make_way : goal.returns-in_err-make_way
 returns-in_err-make_way g c =
     let p = err_from_is_err_and c.from_residual.result c.from_residual.ensures.1 in
-    rw (p.1, p.2) (refused_all c.args.self.now c.make_way.new.self c.args.buf.now c.in_err-make_way.field-0.0 c.in_err-make_way.ensures)
+    rw (p.1, p.2) (refused_all c.in_err-make_way.ensures)
 
 pub returns-then-buf : goal.returns-then-buf
-returns-then-buf g c =
-    let inner = c.write_all.ensures.law in
-    passed_all c.args.self.now c.make_way.new.self c.args.buf.now c.write_all.result c.write_all.new.self
-    (λ w h. g.met.W.Write.steady w h) c.in_ok-make_way.ensures c.if-buf.true inner.fault inner.moves inner.all
-    inner.counts
+returns-then-buf g c = passed_all g.met.W.Write.steady c.in_ok-make_way.ensures c.if-buf.true c.write_all.ensures.law
 
 pub returns : goal.returns
-returns g c =
-    held_all c.args.self.now c.make_way.new.self _ c.args.buf.now c.in_ok-make_way.ensures
-    (omega (arith, c.if-buf.false)) refl c.push.ensures.held
+returns g c = held_all c.in_ok-make_way.ensures (omega (arith, c.if-buf.false)) refl c.push.ensures.held
