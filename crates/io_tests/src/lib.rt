@@ -20,3 +20,5 @@ mod long;
 mod printing;
 #[cfg(test)]
 mod shapes;
+#[cfg(test)]
+mod tables;

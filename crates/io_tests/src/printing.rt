@@ -8,9 +8,10 @@ use no_std_io2::io::{
     SeekFrom, Write,
 };
 use std::alloc::Global;
-use std::fmt;
 use std::fmt::{Debug, Display, Write as _};
 use std::test::Fail;
+use std::{fmt, io};
+use system_streams::{Patient, ToStd};
 
 // A writer of texts, with room for so many bytes.
 #[derive(Drop)]
@@ -99,6 +100,15 @@ fn errors_print_their_texts(rt: HostRuntime) -> Result<(), Fail> {
     assert!(rt; is_display(alloc, &error, "entity not found")?);
     assert!(rt; is_debug(alloc, &error, "Error { kind: NotFound, text: None }")?);
     assert!(rt; is_debug(alloc, &ErrorKind::UnexpectedEof, "UnexpectedEof")?);
+    Ok(())
+}
+
+// A text that is lost where an error becomes one of the system's.
+#[test]
+fn an_error_of_the_systems_prints_its_text(rt: HostRuntime) -> Result<(), Fail> {
+    let mut r = ToStd::new(Patient::new(b"a".as_slice(), 1));
+    let refusal = io::Read::read(&mut r, &mut [0u8; 1]).err().ok_or("read")?;
+    assert!(rt; is_display(rt.alloc(), &refusal, "no turns left")?);
     Ok(())
 }
 

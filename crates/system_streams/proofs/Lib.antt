@@ -1,2 +1,3 @@
 pub mod CopyLemmas
 mod LoopLemmas
+mod TellingLemmas

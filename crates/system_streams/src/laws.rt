@@ -1,8 +1,13 @@
 //! Pins what each type tells: with a member that tells nothing, every promise over it would be empty and still be proved.
-ghost use Rattle.std.specs.Prelude.{◌≡◌};
+ghost use Rattle.std.specs.Prelude.{◌≡◌, Some};
+ghost use Rattle.no_std_io2.specs.Read.{bytes};
 ghost use Rattle.system_streams.specs.Patient.{patient_turns, patient_told};
+ghost use Rattle.system_streams.specs.Telling.{telling_inner};
+ghost use Rattle.system_streams.specs.ToStd.{std_inner, accepted};
 
 use crate::patient::Patient;
+use crate::telling::Telling;
+use crate::to_std::ToStd;
 use no_std_io2::io::{Read, Stored, Write};
 use std::io;
 
@@ -23,4 +28,14 @@ pub fn patient_writer_tells<D: io::Write>(p: &Patient<D>)
     ensures takes_all { ⟦<Patient<D> as Write>⟧.takes_all p.now → ⊥ }
     ensures cost { ⟦<Patient<D> as Write>⟧.cost p.now ≡ 0 }
     ensures is_metered { ⟦<Patient<D> as Write>⟧.is_metered p.now → ⊥ }
+{}
+
+/// Its bytes to come.
+pub fn telling_tells<R: Read>(t: &Telling<R>)
+    ensures { ⟦<Telling<R> as io::Read>⟧.remaining t.now ≡ Some (bytes (R.events (telling_inner t.now))) }
+{}
+
+/// The bytes that it accepted.
+pub fn to_std_writer_tells<W: Write>(s: &ToStd<W>)
+    ensures { ⟦<ToStd<W> as io::Write>⟧.contents s.now ≡ Some (accepted (W.told (std_inner s.now))) }
 {}

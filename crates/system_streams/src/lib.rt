@@ -1,8 +1,9 @@
-//! Readers and writers of the system's, as streams of `no_std_io2`.
+//! Readers and writers of the system's as streams of `no_std_io2`, and the other way round.
 //!
 //! A real device tells nothing of what it will give or take, and may be interrupted for ever. [`Patient`] makes a
 //! reader or writer of Rust's `std::io` one of this library's, with a number of turns that bounds every loop over it.
-//! [`copy_through`] copies one stream to another with a buffer at each.
+//! [`copy_through`] copies one stream to another with a buffer at each. [`ToStd`] and [`Telling`] make a stream of this
+//! library one of `std::io`, for the crates that ask for those.
 //!
 //! Standard input and standard output, each asked until it is at its end, however often it is interrupted:
 //!
@@ -15,6 +16,10 @@
 mod copy;
 mod laws;
 mod patient;
+mod telling;
+mod to_std;
 
 pub use copy::copy_through;
 pub use patient::Patient;
+pub use telling::Telling;
+pub use to_std::ToStd;

@@ -1,0 +1,57 @@
+-- What a clause reads of a `ToStd` and of a `Telling`, and what these answer.
+use Rattle.std.specs.Prelude.{◌≡◌, ℕ, List, ◌++◌, Ok, Err, Result}
+use Rattle.std.specs.IoError as Io
+use Rattle.std.specs.declared.io.Error as Std
+use Rattle.std.specs.declared.io.ErrorKind as StdKind
+use Rattle.std.specs.declared.io.ErrorKind.TheVariants as kind
+use Rattle.no_std_io2.specs.declared.io.Error.{Error}
+use Rattle.no_std_io2.specs.declared.io.ErrorKind.{ErrorKind}
+use Rattle.no_std_io2.specs.declared.io.ErrorKind.TheVariants.{NotFound, PermissionDenied, ConnectionRefused}
+use Rattle.no_std_io2.specs.declared.io.ErrorKind.TheVariants.{ConnectionReset, ConnectionAborted, NotConnected}
+use Rattle.no_std_io2.specs.declared.io.ErrorKind.TheVariants.{AddrInUse, AddrNotAvailable, BrokenPipe}
+use Rattle.no_std_io2.specs.declared.io.ErrorKind.TheVariants.{AlreadyExists, WouldBlock, InvalidInput}
+use Rattle.no_std_io2.specs.declared.io.ErrorKind.TheVariants.{InvalidData, TimedOut, WriteZero, Interrupted}
+use Rattle.no_std_io2.specs.declared.io.ErrorKind.TheVariants.{Other, UnexpectedEof, Unsupported, OutOfMemory}
+use Rattle.no_std_io2.specs.declared.io.ErrorKind.TheVariants.{Uncategorized}
+use Rattle.no_std_io2.specs.Errors.{error_kind}
+use Rattle.no_std_io2.specs.Write.{Told}
+use Rattle.system_streams.specs.declared.to_std.ToStd.{ToStd}
+
+-- `s.into_inner()`
+abbrev pub std_inner : {T : Type 0} → ToStd T → T
+std_inner s = s.inner
+
+-- the kind of the same name
+abbrev pub std_kind : ErrorKind → StdKind.ErrorKind
+std_kind NotFound = kind.NotFound
+std_kind PermissionDenied = kind.PermissionDenied
+std_kind ConnectionRefused = kind.ConnectionRefused
+std_kind ConnectionReset = kind.ConnectionReset
+std_kind ConnectionAborted = kind.ConnectionAborted
+std_kind NotConnected = kind.NotConnected
+std_kind AddrInUse = kind.AddrInUse
+std_kind AddrNotAvailable = kind.AddrNotAvailable
+std_kind BrokenPipe = kind.BrokenPipe
+std_kind AlreadyExists = kind.AlreadyExists
+std_kind WouldBlock = kind.WouldBlock
+std_kind InvalidInput = kind.InvalidInput
+std_kind InvalidData = kind.InvalidData
+std_kind TimedOut = kind.TimedOut
+std_kind WriteZero = kind.WriteZero
+std_kind Interrupted = kind.Interrupted
+std_kind Other = kind.Other
+std_kind UnexpectedEof = kind.UnexpectedEof
+std_kind Unsupported = kind.Unsupported
+std_kind OutOfMemory = kind.OutOfMemory
+std_kind Uncategorized = kind.Uncategorized
+
+-- the same answer, with an error of the same kind
+abbrev pub HandsOn : {T : Type 0} → Result T Error → Result T Std.Error → Type 0
+HandsOn (Ok x) (Ok y) = y ≡ x
+HandsOn (Err e) (Err f) = Io.error_kind f ≡ std_kind (error_kind e)
+HandsOn (Ok x) (Err f) = ⊥
+HandsOn (Err e) (Ok y) = ⊥
+
+-- all bytes that a writer has accepted: they are out or held
+abbrev pub accepted : Told → List ℕ
+accepted told = told.out ++ told.held

@@ -1,0 +1,68 @@
+// A reader that tells its events, as one of Rust's `std::io`.
+ghost use Rattle.std.specs.Prelude.{◌≡◌, ℕ, Some, Result};
+ghost use Rattle.std.specs.Io.{ReadsAtMost};
+ghost use Rattle.std.specs.Io.KnownBytes.{ReadConsumes};
+ghost use Rattle.no_std_io2.specs.declared.io.Error.{Error};
+ghost use Rattle.no_std_io2.specs.Read.{bytes, ReadLaw};
+ghost use Rattle.system_streams.specs.ToStd.{std_inner, HandsOn};
+
+use crate::to_std::ToStd;
+use no_std_io2::io::Read;
+use std::io;
+
+/// A reader that tells its events, as one of Rust's `std::io` of which it is known what is to come.
+///
+/// These are the bytes among the events. An error among them is answered in its turn, as by
+/// [`ToStd`], and what comes behind it is still to come.
+///
+/// ```rust
+/// let table = BufReader::<_, 8>::new(Cursor::new(text).take(len));
+/// let mut rows = ReaderBuilder::new()
+///     .has_headers(false)
+///     .from_reader(alloc, Telling::new(table));
+/// ```
+#[derive(Drop)]
+pub struct Telling<R: Read> {
+    stream: ToStd<R>,
+    ghost tells: { ∥ R.tells (std_inner stream) ∥₁ },
+}
+
+impl<R: Read> Telling<R> {
+    ghost use Rattle.system_streams.specs.Telling.{telling_inner};
+
+    /// The reader, where it stands. Slices and cursors tell, and so do adaptors over these.
+    pub fn new(inner: R) -> Telling<R>
+        requires { R.tells inner }
+        ensures { telling_inner result ≡ inner }
+    {
+        Telling {
+            stream: ToStd::new(inner),
+        }
+    }
+
+    /// The reader again, where it stands now.
+    pub fn into_inner(self) -> R
+        ensures value { result ≡ telling_inner self }
+        ensures tells { ∥ R.tells result ∥₁ }
+    {
+        self.stream.into_inner()
+    }
+}
+
+impl<R: Read> io::Read for Telling<R> {
+    ghost use Rattle.system_streams.specs.Telling.{telling_inner};
+
+    ghost remaining = { λ t. Some (bytes (R.events (telling_inner t))) };
+
+    fn read(&mut self, buf: &mut [u8]) -> io::Result<usize>
+        ensures bound { ReadsAtMost result buf.new }
+        ensures bytes { ReadConsumes (Some (bytes (R.events (telling_inner self.old))))
+            (Some (bytes (R.events (telling_inner self.new)))) result buf.new }
+
+        // It is one call of the reader, and its answer.
+        ensures law { (reply : Result ℕ Error) × HandsOn reply result
+            × ReadLaw ⟦<R as Read>⟧ (telling_inner self.old) buf.old reply buf.new (telling_inner self.new) }
+    {
+        io::Read::read(&mut self.stream, buf)
+    }
+}

@@ -1,0 +1,132 @@
+// A stream of this library as one of Rust's `std::io`.
+ghost use Rattle.std.specs.Prelude.{◌≡◌, ℕ, Some, Result};
+ghost use Rattle.std.specs.Io.{ReadsAtMost, WritesAtMost};
+ghost use Rattle.std.specs.IoError.{error_kind as std_error_kind};
+ghost use Rattle.std.specs.Io.KnownBytes.{ReadConsumes, WriteAppends, Keeps};
+ghost use Rattle.no_std_io2.specs.declared.io.Error.{Error};
+ghost use Rattle.no_std_io2.specs.Errors.{error_kind};
+ghost use Rattle.no_std_io2.specs.Read.{ReadLaw};
+ghost use Rattle.no_std_io2.specs.Write.{WriteLaw, FlushLaw};
+ghost use Rattle.system_streams.specs.ToStd.{std_inner, std_kind, HandsOn, accepted};
+
+use no_std_io2::io::{Error, ErrorKind, Read, Write};
+use std::io;
+use std::io::ErrorKind as StdKind;
+
+/// A reader or writer of this library as one of Rust's `std::io`, for code that asks for those.
+///
+/// Each call is one call of the stream. What a writer is known to hold are the bytes that it accepted.
+/// Of a reader nothing is known to come; one that tells its events is a [`Telling`](crate::Telling).
+///
+/// # Errors
+/// Of a call: the stream's own, with the kind of the same name and its text, cut short past 80 bytes.
+/// What stands after it is what the stream says.
+///
+/// ```rust
+/// let lines = LineWriter::<Vec<u8>, 8>::new(Vec::new(rt.alloc()));
+/// let mut rows = Writer::from_writer(ToStd::new(lines));
+/// ```
+#[derive(Drop)]
+pub struct ToStd<T> {
+    inner: T,
+}
+
+impl<T> ToStd<T> {
+    /// The stream, where it stands.
+    pub fn new(inner: T) -> ToStd<T>
+        ensures { std_inner result ≡ inner }
+    {
+        ToStd { inner }
+    }
+
+    /// Gets a reference to the stream.
+    pub fn get_ref(&self) -> &T
+        ensures { result.now ≡ std_inner self.now }
+    {
+        &self.inner
+    }
+
+    /// The stream again, where it stands now.
+    pub fn into_inner(self) -> T
+        ensures { result ≡ std_inner self }
+    {
+        self.inner
+    }
+}
+
+fn std_kind(kind: ErrorKind) -> StdKind
+    ensures { result ≡ std_kind kind }
+{
+    match kind {
+        ErrorKind::NotFound => StdKind::NotFound,
+        ErrorKind::PermissionDenied => StdKind::PermissionDenied,
+        ErrorKind::ConnectionRefused => StdKind::ConnectionRefused,
+        ErrorKind::ConnectionReset => StdKind::ConnectionReset,
+        ErrorKind::ConnectionAborted => StdKind::ConnectionAborted,
+        ErrorKind::NotConnected => StdKind::NotConnected,
+        ErrorKind::AddrInUse => StdKind::AddrInUse,
+        ErrorKind::AddrNotAvailable => StdKind::AddrNotAvailable,
+        ErrorKind::BrokenPipe => StdKind::BrokenPipe,
+        ErrorKind::AlreadyExists => StdKind::AlreadyExists,
+        ErrorKind::WouldBlock => StdKind::WouldBlock,
+        ErrorKind::InvalidInput => StdKind::InvalidInput,
+        ErrorKind::InvalidData => StdKind::InvalidData,
+        ErrorKind::TimedOut => StdKind::TimedOut,
+        ErrorKind::WriteZero => StdKind::WriteZero,
+        ErrorKind::Interrupted => StdKind::Interrupted,
+        ErrorKind::Other => StdKind::Other,
+        ErrorKind::UnexpectedEof => StdKind::UnexpectedEof,
+        ErrorKind::Unsupported => StdKind::Unsupported,
+        ErrorKind::OutOfMemory => StdKind::OutOfMemory,
+        ErrorKind::Uncategorized => StdKind::Uncategorized,
+    }
+}
+
+fn std_error(e: Error) -> io::Error
+    ensures { std_error_kind result ≡ std_kind (error_kind e) }
+{
+    let kind = std_kind(e.kind());
+    match e.into_inner() {
+        Some(text) => io::Error::new(kind, text),
+        None => io::Error::from(kind),
+    }
+}
+
+impl<R: Read> io::Read for ToStd<R> {
+    fn read(&mut self, buf: &mut [u8]) -> io::Result<usize>
+        // It is one call of the reader, and its answer.
+        ensures law { (reply : Result ℕ Error) × HandsOn reply result
+            × ReadLaw ⟦<R as Read>⟧ (std_inner self.old) buf.old reply buf.new (std_inner self.new) }
+    {
+        match self.inner.read(buf) {
+            Ok(n) => Ok(n),
+            Err(e) => Err(std_error(e)),
+        }
+    }
+}
+
+impl<W: Write> io::Write for ToStd<W> {
+    ghost contents = { λ s. Some (accepted (W.told (std_inner s))) };
+
+    fn write(&mut self, buf: &[u8]) -> io::Result<usize>
+        // It is one call of the writer, and its answer.
+        ensures law { (reply : Result ℕ Error) × HandsOn reply result
+            × WriteLaw W.told W.takes_all W.cost W.is_metered (std_inner self.old) buf.now reply (std_inner self.new) }
+    {
+        match self.inner.write(buf) {
+            Ok(n) => Ok(n),
+            Err(e) => Err(std_error(e)),
+        }
+    }
+
+    fn flush(&mut self) -> io::Result<()>
+        // It is one call of the writer, and its answer.
+        ensures law { (reply : Result (Unit {0}) Error) × HandsOn reply result
+            × FlushLaw W.told W.takes_all W.cost W.is_metered (std_inner self.old) reply (std_inner self.new) }
+    {
+        match self.inner.flush() {
+            Ok(()) => Ok(()),
+            Err(e) => Err(std_error(e)),
+        }
+    }
+}
