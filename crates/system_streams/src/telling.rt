@@ -61,7 +61,7 @@ impl<R: Read> io::Read for Telling<R> {
 
         // It is one call of the reader, and its answer.
         ensures law { (reply : Result ℕ Error) × HandsOn reply result
-            × ReadLaw ⟦<R as Read>⟧ (telling_inner self.old) buf.old reply buf.new (telling_inner self.new) }
+            × ReadLaw R.Read (telling_inner self.old) buf.old reply buf.new (telling_inner self.new) }
     {
         io::Read::read(&mut self.stream, buf)
     }

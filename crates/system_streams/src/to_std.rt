@@ -96,7 +96,7 @@ impl<R: Read> io::Read for ToStd<R> {
     fn read(&mut self, buf: &mut [u8]) -> io::Result<usize>
         // It is one call of the reader, and its answer.
         ensures law { (reply : Result ℕ Error) × HandsOn reply result
-            × ReadLaw ⟦<R as Read>⟧ (std_inner self.old) buf.old reply buf.new (std_inner self.new) }
+            × ReadLaw R.Read (std_inner self.old) buf.old reply buf.new (std_inner self.new) }
     {
         match self.inner.read(buf) {
             Ok(n) => Ok(n),
