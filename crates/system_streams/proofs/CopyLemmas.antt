@@ -2,6 +2,7 @@
 use Rattle.std.proofs.Common.{◌≡◌, ℕ, List, [], ◌∷◌, ◌++◌, ap, ◌∙◌, subst, arith, Ok, Err, Result, Some}
 use Rattle.std.proofs.Common.{append-nil, append_assoc, inl, inr, ◌⊎◌, ◌+◌, ◌==◌, None, Option}
 use Rattle.std.proofs.Common.{count_by, eq-eqb, if◌then◌else◌, refl, length, length-append}
+use Rattle.std.proofs.lemmas.List.{nil_from_length}
 use Rattle.no_std_io2.specs.declared.io.ErrorKind.{ErrorKind}
 use Rattle.no_std_io2.specs.declared.io.Error.{Error}
 use Rattle.no_std_io2.specs.Errors.{error_kind, kind_number, is_interruption, IsInterruption, IsFault}
@@ -9,7 +10,7 @@ use Rattle.no_std_io2.specs.Read.{Event, byte, fails, HasNoFault}
 use Rattle.no_std_io2.specs.Write.{Told, Moves, HasSpent}
 use Rattle.no_std_io2.proofs.MovesLemmas.{Moves-ends}
 use Rattle.no_std_io2.specs.BufWriter.{with_buffer}
-use Rattle.no_std_io2.proofs.BufWriterLemmas.{Moves-bare, none_of_length}
+use Rattle.no_std_io2.proofs.BufWriterLemmas.{Moves-bare}
 use Rattle.no_std_io2.specs.Copy.{Copies, CopyEnds}
 use Rattle.system_streams.specs.Copies.{Passes, HasFirstFault, MayFail, TellsMishap}
 
@@ -72,10 +73,10 @@ pub none_held : {a b : Told} → a.held ≡ [] → Moves a [] [] b → b.held �
 none_held {a} {b} none moves =
     let whole : b.out ++ b.held ≡ a.out = moves.bytes ∙ append-nil (a.out ++ a.held) ∙ ap (λ l. a.out ++ l) none ∙ append-nil a.out in
     let grown = ap length moves.front.1 ∙ length-append a.out moves.front.0 in
-    none_of_length b.held (omega (arith, ap length whole, length-append b.out b.held, grown))
+    nil_from_length b.held (omega (arith, ap length whole, length-append b.out b.held, grown))
 
 -- a tower that holds nothing comes apart
 pub comes_apart : {A E : Type 0} {x : A} {e : E} (held buffer : List ℕ) → held ++ buffer ≡ []
     → (buffer ≡ [] → ◌≡◌ {A = Result A E} (Err e) (Ok x)) → ⊥
 comes_apart held buffer none back =
-    let same = back (none_of_length buffer (omega (arith, ap length none, length-append held buffer))) in cc
+    let same = back (nil_from_length buffer (omega (arith, ap length none, length-append held buffer))) in cc
