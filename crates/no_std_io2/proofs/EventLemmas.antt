@@ -1,34 +1,13 @@
 -- How what was taken of events follows one another, and what a loan leaves.
-use Rattle.std.proofs.Common.{◌≡◌, ℕ, ◌+◌, ◌<◌, ◌==◌, Bool, true, false, Bor, List, [], ◌∷◌, ◌++◌, length, take, Result, Ok, Err}
+use Rattle.std.proofs.Common.{◌≡◌, ℕ, ◌+◌, List, [], ◌∷◌, ◌++◌, length}
 use Rattle.std.proofs.Common.{refl, sym, ap, ◌∙◌, subst, arith, append_assoc, append-nil, length-append}
-use Rattle.std.proofs.lemmas.Bool.Decides.{nat_tests}
 use Rattle.no_std_io2_base.specs.declared.error.Error.{Error}
-use Rattle.no_std_io2_base.specs.Errors.{IsInterruption, IsFault, IsOutOfMemory}
-use Rattle.no_std_io2_base.specs.Read.{Event, fails, events_of, bytes, HasNoFault, cut, Fills}
-use Rattle.no_std_io2_base.specs.BufRead.{Lends, LendsFrom, LendingTurn}
-use Rattle.no_std_io2_base.proofs.Events as below
-use Rattle.no_std_io2_base.proofs.PieceLemmas as pieces
+use Rattle.no_std_io2_base.specs.Errors.{IsInterruption}
+use Rattle.no_std_io2_base.specs.Read.{Event, fails, events_of, bytes, cut, Fills}
+pub use Rattle.no_std_io2_base.proofs.Events.{bytes-append, bytes-events_of, events_of-append, HasNoFault-append, HasNoFault-events_of}
+pub use Rattle.no_std_io2_base.proofs.PieceLemmas.{part_taken, none_taken, error_taken, error_turn, memory_fault, front_more}
+pub use Rattle.no_std_io2_base.proofs.WriteExits.{not_empty, is_empty}
 use Rattle.no_std_io2.specs.Passing.{Passes, PassesOver, Gathered}
-
--- the bytes of P and then Q are the bytes of P, and then those of Q
-pub bytes-append : (P Q : List Event) → bytes (P ++ Q) ≡ bytes P ++ bytes Q
-bytes-append P Q = below.bytes-append P Q
-
--- bytes turned into events and back are the same bytes
-pub bytes-events_of : (bs : List ℕ) → bytes (events_of bs) ≡ bs
-bytes-events_of bs = below.bytes-events_of bs
-
--- the events of bs and then cs are the events of bs, and then those of cs
-pub events_of-append : (bs cs : List ℕ) → events_of (bs ++ cs) ≡ events_of bs ++ events_of cs
-events_of-append bs cs = below.events_of-append bs cs
-
--- two lists with no fault, one behind the other, have none
-pub HasNoFault-append : (P Q : List Event) → HasNoFault P → HasNoFault Q → HasNoFault (P ++ Q)
-HasNoFault-append P Q p q = below.HasNoFault-append P Q p q
-
--- events that are bytes alone have no fault
-pub HasNoFault-events_of : (bs : List ℕ) → HasNoFault (events_of bs)
-HasNoFault-events_of bs = below.HasNoFault-events_of bs
 
 -- the bytes of some bytes and then of E
 pub bytes-behind : (bs : List ℕ) (E : List Event) → bytes (events_of bs ++ E) ≡ bs ++ bytes E
@@ -67,10 +46,6 @@ Passes-still {E} {after = after} {x = x} p q = subst (λ l. Passes E l after) (a
 -- the bytes that are to come are those that are gone, and then those that still are
 pub Passes-all : {E after : List Event} {x : List ℕ} → Passes E x after → bytes E ≡ x ++ bytes after
 Passes-all {E} {after} p = ap bytes p.split ∙ bytes-append p.front after ∙ ap (λ l. l ++ bytes after) p.gave
-
--- none was passed over
-pub PassesOver-none : (n : ℕ) (E : List Event) → PassesOver n E n E
-PassesOver-none n E = record { over = []; count = omega arith; passes = Passes-none E }
 
 -- these bytes more were passed over
 pub PassesOver-more : {n k left : ℕ} {E mid : List Event} (more : List ℕ) (after : List Event)
@@ -114,37 +89,3 @@ Gathered-at {E} {old = old} {new = new} g same = subst (λ l. Gathered E old new
 pub Gathered-passes : {E after : List Event} {old new : List ℕ} → Gathered E old new after → Passes (events_of old ++ E) new after
 Gathered-passes {E} {after} {old} {new} g =
     subst (λ l. Passes (events_of old ++ E) l after) (sym g.is) (Passes-then (Passes-bytes old E refl) g.passes)
-
--- what was lent, and then dropped, is gone
-pub part_taken : {reply : Result (Bor (List ℕ)) Error} (s : Bor (List ℕ)) (held : List ℕ) {E E' : List Event} (rest : List Event) (n : ℕ)
-    → reply ≡ Ok s → Lends reply held → LendsFrom E reply E' → E' ≡ events_of (take n held) ++ rest → E ≡ events_of (take n s.now) ++ rest
-part_taken s held rest n is lends same read = pieces.part_taken s held rest n is lends same read
-
--- what was lent, and not dropped, is to come
-pub none_taken : {reply : Result (Bor (List ℕ)) Error} (s : Bor (List ℕ)) {E E' : List Event}
-    → reply ≡ Ok s → LendsFrom E reply E' → E' ≡ E
-none_taken s is same = pieces.none_taken s is same
-
--- an error stood first
-pub error_taken : {reply : Result (Bor (List ℕ)) Error} {e : Error} {E E' : List Event} → reply ≡ Err e
-    → LendsFrom E reply E' → E ≡ fails e ∷ E'
-error_taken is gone = pieces.error_taken is gone
-
--- an error that `fill_buf` answered has spent a turn
-pub error_turn : {reply : Result (Bor (List ℕ)) Error} {e : Error} {old new : ℕ}
-    → reply ≡ Err e → LendingTurn reply old new → new < old
-error_turn is turn = pieces.error_turn is turn
-
--- want of memory is a fault
-pub memory_fault : (e : Error) → IsOutOfMemory e → IsFault e
-memory_fault e refused = pieces.memory_fault e refused
-
--- what was lent is some
-pub some_lent : (bs : List ℕ) (b : Bool) → b ≡ (length bs == 0) → b ≡ false → 0 < length bs
-some_lent [] b e h = let no : ⊥ = grind (arith, nat_tests) in absurd no
-some_lent (x ∷ bs) b e h = omega arith
-
--- what is none
-pub none_of : (bs : List ℕ) (b : Bool) → b ≡ (length bs == 0) → b ≡ true → bs ≡ []
-none_of [] b e h = refl
-none_of (x ∷ bs) b e h = let no : ⊥ = grind (arith, nat_tests) in absurd no

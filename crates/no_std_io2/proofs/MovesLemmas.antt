@@ -1,32 +1,15 @@
 -- How calls of a writer follow one another, for a crate that lists this one alone.
-use Rattle.std.proofs.Common.{◌≡◌, Result, Ok, Err, subst, List, [], ◌++◌, ℕ}
-use Rattle.std.specs.List.{concat}
-use Rattle.std.specs.Result.{OnOk}
+use Rattle.std.proofs.Common.{◌≡◌, Result, Ok, subst, List, [], ◌++◌, ℕ}
 use Rattle.no_std_io2_base.specs.declared.error.Error.{Error}
 use Rattle.no_std_io2_base.specs.declared.error.ErrorKind.{ErrorKind}
-use Rattle.no_std_io2_base.specs.Write.{Told, Moves, MovesFront, MovesEach, Sends, call_mishap}
-use Rattle.no_std_io2_base.proofs.MovesLemmas as calls
-pub use Rattle.no_std_io2_base.proofs.MovesLemmas.{Moves-refl, Moves-quiet, Moves-steady}
+use Rattle.no_std_io2_base.specs.Write.{Told, Moves, MovesFront, call_mishap}
+pub use Rattle.no_std_io2_base.proofs.MovesLemmas.{Moves-refl, Moves-quiet, Moves-steady, Moves-trans, Moves-then, Moves-ends, Moves-each}
+pub use Rattle.no_std_io2_base.proofs.MovesLemmas.{MovesFront-join, MovesFront-first, MovesFront-sends, Sends-then}
+pub use Rattle.no_std_io2.proofs.LineWriterLemmas.{MovesFront-whole}
 use Rattle.no_std_io2.specs.declared.buffered.buf_writer.BufWriter.{BufWriter}
 use Rattle.no_std_io2.specs.BufWriter.{writer_inner, writer_buffer, writer_told}
 use Rattle.no_std_io2.proofs.BufWriterLemmas.{Moves-bare}
-use Rattle.no_std_io2.proofs.LineWriterLemmas as lines
-
--- one step after another
-pub Moves-trans : {a b c : Told} {x y : List ℕ} {k l : List ErrorKind} → Moves a x k b → Moves b y l c → Moves a (x ++ y) (k ++ l) c
-Moves-trans f g = calls.Moves-trans f g
-
--- the first step's mishaps are left out
-pub Moves-then : {a b c : Told} {x y : List ℕ} {k l : List ErrorKind} → Moves a x k b → Moves b y l c → Moves a (x ++ y) l c
-Moves-then f g = calls.Moves-then f g
-
--- a step that accepts nothing after another
-pub Moves-ends : {a b c : Told} {x : List ℕ} {k l : List ErrorKind} → Moves a x k b → Moves b [] l c → Moves a x l c
-Moves-ends f g = calls.Moves-ends f g
-
--- a list of calls accepted the lists joined
-pub Moves-each : (a c : Told) (xs : List (List ℕ)) → MovesEach a xs c → Moves a (concat xs) [] c
-Moves-each a c xs f = calls.Moves-each a c xs f
+use Rattle.no_std_io2.proofs.LineWriterLemmas.{MovesFront-ends}
 
 -- a buffer that was empty over a device, and whatever stands over that device then: what it did is what the device did
 pub Moves-device : {W : Type 0} {S : ℕ} {a : Told} {b : Told} {x : List ℕ} {k : List ErrorKind} (told : W → Told) (w : BufWriter W S) (device : W)
@@ -34,35 +17,12 @@ pub Moves-device : {W : Type 0} {S : ℕ} {a : Told} {b : Told} {x : List ℕ} {
 Moves-device {b = b} {x = x} {k = k} told w device inner none is m =
     subst (λ d. Moves (told d) x k b) inner (Moves-bare (writer_buffer w) none (subst (λ t. Moves t x k b) is m))
 
--- `write_all(x)?; write_all(y)`, where the first answered `Ok`
-pub MovesFront-join : {a b c : Told} (x y : List ℕ) (r : Result (Unit {0}) Error) → MovesFront a x (Ok tt) b
-    → MovesFront b y r c → MovesFront a (x ++ y) r c
-MovesFront-join x y r f g = calls.MovesFront-join x y r f g
-
--- the same, where the first failed: the second made no call
-pub MovesFront-first : {a b : Told} (x y : List ℕ) (e : Error) → MovesFront a x (Err e) b → MovesFront a (x ++ y) (Err e) b
-MovesFront-first x y e f = calls.MovesFront-first x y e f
-
 -- `write_all(x)?; write_all(y)?; write_all(z)`, where the first two answered `Ok`
 pub MovesFront-three : {a b c d : Told} (x y z : List ℕ) (r : Result (Unit {0}) Error) → MovesFront a x (Ok tt) b
     → MovesFront b y (Ok tt) c → MovesFront c z r d → MovesFront a (x ++ y ++ z) r d
-MovesFront-three x y z r f g h = calls.MovesFront-join (x ++ y) z r (calls.MovesFront-join x y (Ok tt) f g) h
-
--- a `write_all` that answered `Ok` accepted the whole, without a mishap
-pub MovesFront-whole : {a b : Told} (x : List ℕ) (u : Unit {0}) → MovesFront a x (Ok u) b → Moves a x [] b
-MovesFront-whole x u f = lines.MovesFront-whole x u f
+MovesFront-three x y z r f g h = MovesFront-join (x ++ y) z r (MovesFront-join x y (Ok tt) f g) h
 
 -- `write_all(x)?; flush()`, where the first answered `Ok`
 pub MovesFront-flush : {a b c : Told} (x : List ℕ) (u : Unit {0}) (r : Result (Unit {0}) Error) → MovesFront a x (Ok u) b
     → Moves b [] (call_mishap r) c → MovesFront a x r c
-MovesFront-flush x u r f g = lines.MovesFront-ends x r (lines.MovesFront-whole x u f) g
-
--- a call that says what is left is a call that accepted some front
-pub MovesFront-sends : {a b : Told} {r : Result (Unit {0}) Error} (x rest : List ℕ) → Sends a x r b rest
-    → OnOk r (rest ≡ []) → MovesFront a x r b
-MovesFront-sends x rest f none = calls.MovesFront-sends x rest f none
-
--- two calls that say what is left, one after the other: nothing went out twice
-pub Sends-then : {a b c : Told} {r s : Result (Unit {0}) Error} {x rest left : List ℕ} → Sends a x r b rest
-    → Sends b rest s c left → Sends a x s c left
-Sends-then f g = calls.Sends-then f g
+MovesFront-flush x u r f g = MovesFront-ends x r (MovesFront-whole x u f) g
