@@ -7,7 +7,7 @@ use Rattle.no_std_io2.specs.declared.io.Error.{Error}
 use Rattle.no_std_io2.specs.declared.io.ErrorKind.{ErrorKind}
 use Rattle.no_std_io2.specs.Write.{Told, Moves, Sends, HasSpent, call_mishap}
 use Rattle.no_std_io2.proofs.MovesLemmas.{Moves-then, Moves-quiet}
-use Rattle.framing.specs.Sending.{SendsFrames}
+use Rattle.pending.specs.Pending.{SendsRecords}
 use Rattle.framing.specs.Delivering.{TriesOnce, Delivers, HasAtMost, HasSpentTries, tried_mishap}
 
 -- the mishap of a flush
@@ -19,7 +19,7 @@ flushed_mishap (Err e) fault is = ap (λ f. tried_mishap (Ok f)) (sym is)
 -- all frames were sent, and then a flush
 pub tried_flush : {a b c : Told} {to_go mid_go left end : List ℕ} (shown under_way : List ℕ) (reply : Result (Unit {0}) Error)
     (fault : Option Error)
-    → SendsFrames a to_go (Ok tt) under_way b mid_go → Sends b left reply c end
+    → SendsRecords a to_go (Ok tt) under_way b mid_go → Sends b left reply c end
     → mid_go ≡ left ++ shown → shown ≡ [] → fault ≡ result_err reply → TriesOnce a to_go (Ok fault) c (end ++ shown)
 tried_flush {a} {b} {c} {end} shown under_way reply fault f s is none same = record {
   sent = f.sent ++ s.sent;

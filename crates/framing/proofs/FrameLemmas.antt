@@ -10,7 +10,7 @@ use Rattle.no_std_io2.specs.Read.{Event, events_of, bytes}
 use Rattle.framing.specs.Frames.{frame, told_length, IsPart}
 use Rattle.no_std_io2.specs.Passing.{Passes, Gathered}
 use Rattle.framing.specs.Taking.{Gathers, TakesNone}
-use Rattle.no_std_io2.proofs.EventLemmas.{bytes-append, bytes-behind}
+use Rattle.no_std_io2.proofs.EventLemmas.{bytes-behind, Passes-all}
 use Rattle.no_std_io2.proofs.EventLemmas.{Gathered-then, Gathered-passes}
 
 -- the length that a header tells, with a payload behind it
@@ -106,14 +106,10 @@ pub turn_spent : (was new : ℕ) {old mid after : ℕ} → (was < new) ⊎ (0 < 
 turn_spent was new {old = old} {mid = mid} (inl grew) turn turns later = let less : mid < old = turn grew in omega arith
 turn_spent was new (inr some) turn turns later = omega arith
 
--- the bytes of what was passed and of what follows
-pub bytes_passed : {E after : List Event} {taken : List ℕ} → Passes E taken after → bytes E ≡ taken ++ bytes after
-bytes_passed {after = after} p = ap bytes p.split ∙ bytes-append p.front after ∙ ap (λ l. l ++ bytes after) p.gave
-
 -- an error loses no byte
 pub none_lost : (limit : ℕ) (E : List Event) (e : Error) (after : List Event) → TakesNone limit E e after → bytes after ≡ bytes E
-none_lost limit E e after (inl (inl h)) = ap bytes h.kept ∙ bytes-behind h.seen h.rest ∙ sym (bytes_passed h.passes)
+none_lost limit E e after (inl (inl h)) = ap bytes h.kept ∙ bytes-behind h.seen h.rest ∙ sym (Passes-all h.passes)
 none_lost limit E e after (inl (inr h)) =
-    ap bytes (h.kept ∙ sym (append-nil (events_of h.seen))) ∙ bytes-behind h.seen [] ∙ sym (bytes_passed h.passes)
-none_lost limit E e after (inr (inl h)) = ap bytes h.kept ∙ bytes-behind h.seen h.rest ∙ sym (bytes_passed h.passes)
-none_lost limit E e after (inr (inr h)) = ap bytes h.kept ∙ bytes-behind h.seen h.rest ∙ sym (bytes_passed h.passes)
+    ap bytes (h.kept ∙ sym (append-nil (events_of h.seen))) ∙ bytes-behind h.seen [] ∙ sym (Passes-all h.passes)
+none_lost limit E e after (inr (inl h)) = ap bytes h.kept ∙ bytes-behind h.seen h.rest ∙ sym (Passes-all h.passes)
+none_lost limit E e after (inr (inr h)) = ap bytes h.kept ∙ bytes-behind h.seen h.rest ∙ sym (Passes-all h.passes)

@@ -1,5 +1,4 @@
 pub mod DeliveryLemmas
-pub mod TakingLemmas
 pub mod FrameLemmas
 pub mod RunLemmas
 pub mod RoundTrip

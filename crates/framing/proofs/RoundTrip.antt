@@ -12,8 +12,8 @@ use Rattle.no_std_io2.specs.Errors.{IsOutOfMemory}
 use Rattle.no_std_io2.specs.Read.{Event, bytes}
 use Rattle.framing.specs.Frames.{frame, frames, told_length, IsPart}
 use Rattle.framing.specs.Taking.{TakesNone, TakesFrames, ComesBack, IsFirstFault}
-use Rattle.no_std_io2.proofs.EventLemmas.{Passes-then}
-use Rattle.framing.proofs.FrameLemmas.{bytes_passed, none_lost}
+use Rattle.no_std_io2.proofs.EventLemmas.{Passes-all, Passes-then}
+use Rattle.framing.proofs.FrameLemmas.{none_lost}
 
 -- a frame begins with its length
 front_of_frame : (p rest : List ℕ) → take 4 (frame p ++ rest) ≡ to_le_bytes w32 (length p)
@@ -108,7 +108,7 @@ pub comes_back : (limit : ℕ) (sent : List (List ℕ)) {E : List Event}
     → bytes E ≡ frames sent → All (λ p. length p ≤ limit) sent → ComesBack sent E reply given (bytes after)
 comes_back limit sent {E = E} (Ok u) {given = given} after small h is within =
     let m =
-    front_frames given sent (bytes after) (sym is ∙ bytes_passed h.0.passes)
+    front_frames given sent (bytes after) (sym is ∙ Passes-all h.0.passes)
     (all_within limit (2 ^ 32) small sent within) (all_within limit (2 ^ 32) small given h.0.each) in
     record { more = m.0; split = m.1; rest = m.2; ok = no_frames m.0 (sym m.2 ∙ ap bytes h.1); err = tt }
   where
@@ -117,7 +117,7 @@ comes_back limit sent {E = E} (Ok u) {given = given} after small h is within =
     no_frames (p ∷ ps) e = absurd (omega (arith, ap length e, long_frame p (frames ps)))
 comes_back limit sent {E = E} (Err e) {given = given} after small (mid, run, none) is within =
     let m =
-    front_frames given sent (bytes mid) (sym is ∙ bytes_passed run.passes)
+    front_frames given sent (bytes mid) (sym is ∙ Passes-all run.passes)
     (all_within limit (2 ^ 32) small sent within) (all_within limit (2 ^ 32) small given run.each) in
     let others : All (λ p. length p ≤ limit) m.0 =
     All-right (λ p. length p ≤ limit) given m.0 (subst (All (λ p. length p ≤ limit)) m.1 within) in
@@ -131,8 +131,8 @@ comes_back limit sent {E = E} (Err e) {given = given} after small (mid, run, non
         { seen = frames given ++ t.seen; rest = t.rest; passes = Passes-then run.passes t.passes; fault = t.fault })
     why more left fit (inl (inr t)) =
         absurd
-        (no_part t.seen more (sym (bytes_passed t.passes) ∙ left) (all_within limit (2 ^ 32) small more fit) t.some
+        (no_part t.seen more (sym (Passes-all t.passes) ∙ left) (all_within limit (2 ^ 32) small more fit) t.some
         t.part)
     why more left fit (inr (inl t)) =
-        absurd (no_long limit t.seen (bytes t.rest) more small (sym (bytes_passed t.passes) ∙ left) fit t.header t.above)
+        absurd (no_long limit t.seen (bytes t.rest) more small (sym (Passes-all t.passes) ∙ left) fit t.header t.above)
     why more left fit (inr (inr t)) = inr t.memory

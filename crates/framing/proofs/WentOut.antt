@@ -8,9 +8,10 @@ use Rattle.std.proofs.lemmas.List.Elements.{All-head}
 use Rattle.no_std_io2.specs.declared.io.Error.{Error}
 use Rattle.no_std_io2.specs.Errors.{IsOutOfMemory}
 use Rattle.no_std_io2.specs.Read.{Event, fails, events_of, bytes, bytes-events_of}
-use Rattle.framing.specs.Frames.{frames}
+use Rattle.framing.specs.Frames.{frames, IsRefusal}
 use Rattle.no_std_io2.specs.Write.{Told}
-use Rattle.framing.specs.Sending.{RefusesFirst, TakesOff}
+use Rattle.framing.specs.Sending.{TakesOff}
+use Rattle.pending.specs.Pending.{RefusesFirst}
 use Rattle.framing.specs.Delivering.{Delivers}
 use Rattle.framing.specs.Taking.{ComesBack, IsFirstFault, appended}
 use Rattle.framing.proofs.RoundTrip.{All-right}
@@ -44,7 +45,7 @@ all_short most old new t none is = λ k d lt.
 
 -- payloads that are short enough are refused for want of memory alone
 pub only_memory : (old new : List (List ℕ)) (e : Error) → TakesOff old new → All (λ p. length p < 2 ^ 32) old
-    → RefusesFirst new e → IsOutOfMemory e
+    → RefusesFirst IsRefusal new e → IsOutOfMemory e
 only_memory old [] e t short h = absurd h
 only_memory old (p ∷ ps) e t short (inl long) =
     let others : All (λ q. length q < 2 ^ 32) (p ∷ ps) =

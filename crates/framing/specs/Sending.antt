@@ -1,11 +1,9 @@
 -- What a clause reads of a writer of frames, and what its calls do.
-use Rattle.std.specs.Prelude.{◌<◌, ◌^◌, Result, List, ℕ, [], ◌∷◌, length}
+use Rattle.std.specs.Prelude.{◌<◌, ◌^◌, List, ℕ, length}
 use Rattle.no_std_io2.specs.Write.{Told}
 use Rattle.no_std_io2.specs.BufWriter.{writer_inner, writer_buffer, writer_told}
-use Rattle.no_std_io2.specs.declared.io.Error.{Error}
 use Rattle.pending.specs.Pending.{pending_bytes, pending_rest}
 use Rattle.pending.specs.Pending as records
-use Rattle.framing.specs.Frames.{frame, IsRefusal}
 use Rattle.framing.specs.declared.writer.FrameWriter.{FrameWriter}
 
 -- the writer below
@@ -31,16 +29,3 @@ still_to_go w = pending_rest w.pending
 -- these payloads were taken off the front, and each is short enough for a frame
 abbrev pub TakesOff : List (List ℕ) → List (List ℕ) → Type 0
 TakesOff = records.TakesOff (λ p. length p < 2 ^ 32)
-
--- the first of these payloads was refused
-abbrev pub RefusesFirst : List (List ℕ) → Error → Type 0
-RefusesFirst [] e = ⊥
-RefusesFirst (payload ∷ payloads) e = IsRefusal payload e
-
--- A payload was sent: its frame was accepted whole, once; or it was refused; or its frame is under way.
-abbrev pub SendsFrame : Told → List ℕ → Result (Unit {0}) Error → List ℕ → List ℕ → Told → Type 0
-SendsFrame old payload = records.SendsRecord (frame payload) (IsRefusal payload) old
-
--- Frames were sent: what is no longer to go was accepted, each byte once, in order.
-abbrev pub SendsFrames : Told → List ℕ → Result (Unit {0}) Error → List ℕ → Told → List ℕ → Type 0
-SendsFrames = records.SendsRecords

@@ -1,8 +1,9 @@
 //! Frames that are sent until the device has them all.
 ghost use Rattle.std.specs.Prelude.{◌≡◌, [], ◌++◌, None, map, OnOk, IfOk, IfErr};
-ghost use Rattle.framing.specs.Frames.{frames};
-ghost use Rattle.framing.specs.Sending.{writer_tells, under_way, still_to_go, RefusesFirst, TakesOff};
+ghost use Rattle.framing.specs.Frames.{frames, IsRefusal};
+ghost use Rattle.framing.specs.Sending.{writer_tells, under_way, still_to_go, TakesOff};
 ghost use Rattle.framing.specs.Delivering.{TriesOnce, Delivers, HasAtMost};
+ghost use Rattle.pending.specs.Pending.{RefusesFirst};
 
 use crate::writer::FrameWriter;
 use no_std_io2::io::{Error, Result, Write};
@@ -16,7 +17,7 @@ impl<W: Write + Drop, const S: usize> FrameWriter<W, S> {
         ensures rest { TakesOff (map (λ v. v.items) rest.old.now) (map (λ v. v.items) rest.new.now) }
         ensures done { IfOk result (λ fault. fault ≡ None → (under_way self.new ≡ []) × (still_to_go self.new ≡ [])
             × (rest.new.now ≡ []) × ((writer_tells W.told self.new).held ≡ [])) }
-        ensures refused { IfErr result (RefusesFirst (map (λ v. v.items) rest.new.now)) }
+        ensures refused { IfErr result (RefusesFirst IsRefusal (map (λ v. v.items) rest.new.now)) }
     {
         match self.send_all(rest) {
             Ok(()) => Ok(self.flush().err()),
@@ -47,7 +48,7 @@ impl<W: Write + Drop, const S: usize> FrameWriter<W, S> {
         ensures done { OnOk result ((under_way self.new ≡ []) × (still_to_go self.new ≡ [])
             × (rest.new.now ≡ []) × ((writer_tells W.told self.new).held ≡ [])) }
         ensures enough { HasAtMost tries (writer_tells W.told self.old).mishaps
-            → IfErr result (RefusesFirst (map (λ v. v.items) rest.new.now)) }
+            → IfErr result (RefusesFirst IsRefusal (map (λ v. v.items) rest.new.now)) }
     {
         let mut left = tries;
         'tries: loop {

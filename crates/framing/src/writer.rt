@@ -3,10 +3,9 @@ ghost use Rattle.std.specs.Prelude.{◌≡◌, ◌⊎◌, ◌<◌, ◌^◌, [], 
 ghost use Rattle.no_std_io2.specs.Errors.{error_kind, IsNoInterruption, IsFault};
 ghost use Rattle.no_std_io2.specs.Write.{Moves, Sends};
 ghost use Rattle.no_std_io2.specs.BufWriter.{writer_told, into_inner_error_writer, into_inner_error_cause};
-ghost use Rattle.pending.specs.Pending.{pending_bytes, pending_rest};
+ghost use Rattle.pending.specs.Pending.{pending_bytes, pending_rest, SendsRecord, SendsRecords, RefusesFirst};
 ghost use Rattle.framing.specs.Frames.{frame, frames, IsRefusal};
-ghost use Rattle.framing.specs.Sending.{writes_to, frames_held, writer_tells, under_way, still_to_go};
-ghost use Rattle.framing.specs.Sending.{SendsFrame, SendsFrames, RefusesFirst, TakesOff};
+ghost use Rattle.framing.specs.Sending.{writes_to, frames_held, writer_tells, under_way, still_to_go, TakesOff};
 
 use no_std_io2::io::{BufWriter, Error, ErrorKind, IntoInnerError, Result, Write};
 use pending::Pending;
@@ -92,7 +91,7 @@ impl<W: Write + Drop, const S: usize> FrameWriter<W, S> {
     /// no frame is under way. Else those of `retry`, and the frame is under way.
     pub fn send(&mut self, payload: &[u8]) -> Result<()>
         requires { under_way self.old ≡ [] }
-        ensures sends { SendsFrame (writer_tells W.told self.old) payload.now result
+        ensures sends { SendsRecord (frame payload.now) (IsRefusal payload.now) (writer_tells W.told self.old) result
             (under_way self.new) (still_to_go self.new) (writer_tells W.told self.new) }
         ensures small { OnOk result (length payload.now < 2 ^ 32) }
         ensures fault { IsNoInterruption result }
@@ -118,11 +117,11 @@ impl<W: Write + Drop, const S: usize> FrameWriter<W, S> {
     /// assert!(rt; rest.is_empty());
     /// ```
     pub fn send_all(&mut self, rest: &mut &[Vec<u8>]) -> Result<()>
-        ensures sends { SendsFrames (writer_tells W.told self.old)
+        ensures sends { SendsRecords (writer_tells W.told self.old)
             (still_to_go self.old ++ frames (map (λ v. v.items) rest.old.now)) result (under_way self.new)
             (writer_tells W.told self.new) (still_to_go self.new ++ frames (map (λ v. v.items) rest.new.now)) }
         ensures rest { TakesOff (map (λ v. v.items) rest.old.now) (map (λ v. v.items) rest.new.now) }
-        ensures refused { IfErr result (λ e. under_way self.new ≡ [] → RefusesFirst (map (λ v. v.items) rest.new.now) e) }
+        ensures refused { IfErr result (λ e. under_way self.new ≡ [] → RefusesFirst IsRefusal (map (λ v. v.items) rest.new.now) e) }
         ensures done { OnOk result ((under_way self.new ≡ []) × (still_to_go self.new ≡ []) × (rest.new.now ≡ [])) }
         ensures fault { IsNoInterruption result }
     {

@@ -14,9 +14,9 @@ use Rattle.no_std_io2_base.specs.declared.error.Error.{Error}
 use Rattle.no_std_io2_base.specs.declared.error.ErrorKind.TheVariants.{UnexpectedEof}
 use Rattle.no_std_io2_base.specs.Errors.{error_kind}
 use Rattle.no_std_io2_base.specs.BufRead.{Lends, LendsFrom}
-use Rattle.no_std_io2_base.proofs.Events.{bytes-events_of, length-events_of, events_of-append, HasNoFault-events_of}
+use Rattle.no_std_io2_base.proofs.Events.{bytes-events_of, length-events_of, events_of-append, HasNoFault-events_of, HasNoFault-front}
 use Rattle.no_std_io2.proofs.BufReaderExact.{length-events, no_bytes}
-use Rattle.no_std_io2.proofs.CopyLemmas.{HasNoFault-front, no_fault_at_end}
+use Rattle.no_std_io2.proofs.CopyLemmas.{no_fault_at_end}
 use Rattle.no_std_io2.specs.BufReader.{held_or_to_come, filled_length, exact_reads, exact_left}
 use Rattle.io_bench.proofs.ReadsPaid.{ReadsPaid, paid_ask, paid_same, asked-le}
 use Rattle.io_bench.specs.Asks.{Drops, Step, Steps, TakesFront, Fits, AllFit, Asked, meets_end, asked_bytes, asked_reads, asked_left}
@@ -174,11 +174,6 @@ lent_error e {E = E} {E' = E'} is lends = (fails e ∷ [], subst (λ r. LendsFro
 -- what it lent is held, and still to come
 pub lent_held : (reply : Result (Bor (List ℕ)) Error) (s : Bor (List ℕ)) (held : List ℕ) → reply ≡ Ok s → Lends reply held → held ≡ s.now
 lent_held reply s held is lends = subst (λ r. Lends r held) is lends
-
--- where `fill_buf` answered `Ok`, nothing is gone of what was to come
-pub lent_to_come : {reply : Result (Bor (List ℕ)) Error} (s : Bor (List ℕ)) {E E' : List Event} → reply ≡ Ok s
-    → LendsFrom E reply E' → E' ≡ E
-lent_to_come s {E = E} {E' = E'} is lends = subst (λ r. LendsFrom E r E') is lends
 
 -- an exact read takes a front, whatever its fault
 pub failed_front : {E : List Event} (e : Error) (room : List ℕ) {E' : List Event}

@@ -1,5 +1,5 @@
 -- How many calls a loop of writes or of reads made.
-use Rattle.std.proofs.Common.{◌≡◌, ℕ, ◌+◌, ◌-◌, ◌<◌, ◌≤◌, List, length, take, drop, Ok, Err, min, arith, inl, inr, length-take, length-drop}
+use Rattle.std.proofs.Common.{◌≡◌, ℕ, ◌+◌, ◌<◌, ◌≤◌, Ok, Err, min, arith, inl, inr}
 use Rattle.no_std_io2_base.specs.declared.error.Error.{Error}
 use Rattle.no_std_io2_base.specs.Errors.{IsOutOfMemory}
 use Rattle.io_bench.specs.Calls.{CountsLoop, CountsToEnd}
@@ -32,10 +32,6 @@ pub counted_more : {wanted budget was left budget' now left' budget'' now' : ℕ
     → now' ≡ now + 1 → budget'' < budget' → CountedSoFar wanted budget was left' budget'' now'
 counted_more so_far one fewer =
     record { least = omega (arith, so_far.least, one); most = omega (arith, so_far.most, one, fewer) }
-
--- the part of a buffer that is not filled yet has room
-pub part_room : (at : ℕ) (xs : List ℕ) → at < length xs → 0 < length (take (length xs - at) (drop at xs))
-part_room at xs below = omega (arith, below, length-take (length xs - at) (drop at xs), length-drop at xs)
 
 -- a read into some room counts once
 pub one_read : {room : ℕ} (was : ℕ) {now : ℕ} → 0 < room → now ≡ was + min 1 room → now ≡ was + 1

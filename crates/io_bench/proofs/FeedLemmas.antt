@@ -1,16 +1,12 @@
 -- What a feed's events give to a reader.
 use Rattle.std.proofs.Common.{◌≡◌, ℕ, zero, suc, ◌+◌, ◌<◌, ◌≤◌, min, List, [], ◌∷◌, ◌++◌, length, take, drop, set}
-use Rattle.std.proofs.Common.{Option, None, Some, Ok, refl, sym, ap, ◌∙◌, arith, add-one, length-drop}
+use Rattle.std.proofs.Common.{None, Ok, refl, sym, ap, ◌∙◌, arith, add-one, length-drop}
 use Rattle.std.proofs.Math.Seq.{take-add}
 use Rattle.std.proofs.lemmas.List.{take_more_set}
-use Rattle.std.specs.Option.{option_map}
-use Rattle.no_std_io2_base.specs.declared.error.Error.{Error}
-use Rattle.no_std_io2_base.specs.declared.error.ErrorKind.{ErrorKind}
-use Rattle.no_std_io2_base.specs.Errors.{error_kind, error_text}
 use Rattle.no_std_io2_base.specs.Read.{byte, events_of, Reads}
 use Rattle.io_bench.specs.declared.feed.Event.{Event}
 use Rattle.io_bench.specs.declared.feed.Event.TheVariants.{Byte, Fail}
-use Rattle.io_bench.specs.Feed.{error_of, all_to_come, leading_bytes, first_failure}
+use Rattle.io_bench.specs.Feed.{all_to_come, leading_bytes, first_failure}
 
 -- the first n bytes are given, and what stands behind them is left
 pub given_first : (n : ℕ) (left : List Event) → n ≤ length (leading_bytes left)
@@ -68,16 +64,6 @@ given_all n left rest enough e none =
       ap length (leading-drop n left enough),
       length-drop n (leading_bytes left),
     )
-
--- an option that is `None` after a map was `None` before it
-no_text : {A B : Type 0} (f : A → B) (text : Option A) → option_map f text ≡ None → text ≡ None
-no_text f None h = refl
-no_text f (Some x) h = absurd (cc)
-
--- an error of this kind without a text is this one
-pub is_error_of : (kind : ErrorKind) (e : Error) → error_kind e ≡ kind → error_text e ≡ None → e ≡ error_of kind
-is_error_of kind e k t =
-    ap (λ text. record { kind = e.kind; text = text }) (no_text _ e.text t) ∙ ap error_of k
 
 -- a read that gives bytes
 pub feed_reads : (n : ℕ) {room piece : ℕ} {old left new : List Event} (buf : List ℕ) → 0 < piece → length buf ≡ room

@@ -3,7 +3,7 @@ use Rattle.std.proofs.Common.{◌≡◌, ℕ, true, false, Bool, if◌then◌els
 use Rattle.std.proofs.Common.{◌∷◌, ◌++◌, map, filter, refl, sym, ap, ◌∙◌, subst, append-nil, append_assoc, inl, inr}
 use Rattle.std.proofs.Common.{⊎_elim}
 use Rattle.no_std_io2_base.specs.declared.error.Error.{Error}
-use Rattle.no_std_io2_base.specs.Errors.{error_kind, is_interruption, IsFault, IsOutOfMemory}
+use Rattle.no_std_io2_base.specs.Errors.{error_kind, is_interruption, IsFault}
 use Rattle.no_std_io2_base.specs.Read.{Event, byte, fails, bytes, HasNoFault, bytes_to_fault, first_fault}
 use Rattle.no_std_io2_base.specs.Pieces.{ends_in, pieces, pieces_before, pieces_given, YieldsPiece}
 use Rattle.no_std_io2_base.proofs.GivenPieces.{given_next, given_none, given_fault}
@@ -30,14 +30,6 @@ map-end trim (q ∷ ps) p = ap (λ l. trim q ∷ l) (map-end trim ps p)
 appended-are : {T : Type 0} (old got : List T) → appended old (old ++ got) ≡ got
 appended-are [] got = refl
 appended-are (x ∷ old) got = appended-are old got
-
--- a list to which nothing was appended is the old one, and then what was appended
-pub appended-none : {T : Type 0} (old : List T) → old ≡ old ++ appended old old
-appended-none old = sym (append-nil old) ∙ ap (λ l. old ++ l) (sym (ap (appended old) (sym (append-nil old)) ∙ appended-are old []))
-
--- where mid is the old list and then what was appended, so is a list that is equal to mid
-pub appended-same : {T : Type 0} (old mid new : List T) → new ≡ mid → mid ≡ old ++ appended old mid → new ≡ old ++ appended old new
-appended-same old mid new same h = subst (λ l. l ≡ old ++ appended old l) (sym same) h
 
 -- and one more
 pub appended-one : {T : Type 0} (old mid new : List T) (x : T) → mid ≡ old ++ appended old mid → new ≡ mid ++ x ∷ []
@@ -193,13 +185,3 @@ gathered_to A view trim refuses d E items shown mid e after same t (piece, inl s
     (record
     { before = t.before; behind = pieces_given d mid; given = t.given; refused = memory.1; are = same ∙ t.are })))
     stops.stops
-
--- there was no room for one item more
-pub gathered_full : (A : Type 0) (trim : List ℕ → List ℕ) (refuses : List ℕ → Error → Type 0) (d : ℕ) (E : List Event)
-    (items shown : List (List ℕ)) (mid : List Event) (e : Error)
-    → shown ≡ items → GatheredSoFar trim d E items mid → IsOutOfMemory e → GathersPieces {A = A} trim refuses d E (Err e) shown
-gathered_full A trim refuses d E items shown mid e same t refused =
-    inr
-    (inr
-    (record
-    { before = t.before; behind = pieces_given d mid; given = t.given; refused = refused; are = same ∙ t.are }))

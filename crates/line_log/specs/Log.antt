@@ -1,12 +1,10 @@
 -- What a clause reads of a log, and what its calls do.
-use Rattle.std.specs.Prelude.{Result, ℕ, List, [], ◌∷◌}
+use Rattle.std.specs.Prelude.{ℕ, List}
 use Rattle.no_std_io2.specs.Write.{Told}
 use Rattle.no_std_io2.specs.Lines.{HasNoNewline}
 use Rattle.no_std_io2.specs.LineWriter.{line_inner, line_told, line_buffer}
-use Rattle.no_std_io2.specs.declared.io.Error.{Error}
 use Rattle.pending.specs.Pending.{pending_bytes, pending_rest}
 use Rattle.pending.specs.Pending as records
-use Rattle.line_log.specs.Lines.{line_of, IsRefusal}
 use Rattle.line_log.specs.declared.LineLog.{LineLog}
 
 -- the writer below
@@ -29,19 +27,6 @@ under_way l = pending_bytes l.pending
 abbrev pub still_to_go : {W : Type 0} {S : ℕ} → LineLog W S → List ℕ
 still_to_go l = pending_rest l.pending
 
--- A text was logged: its line was accepted whole, once; or it was refused; or its line is under way.
-abbrev pub LogsLine : Told → List ℕ → Result (Unit {0}) Error → List ℕ → List ℕ → Told → Type 0
-LogsLine old text = records.SendsRecord (line_of text) (IsRefusal text) old
-
--- Lines were logged: what is no longer to go was accepted, each byte once, in order.
-abbrev pub LogsLines : Told → List ℕ → Result (Unit {0}) Error → List ℕ → Told → List ℕ → Type 0
-LogsLines = records.SendsRecords
-
 -- these texts were taken off the front, and no newline stands in any
 abbrev pub TakesOff : List (List ℕ) → List (List ℕ) → Type 0
 TakesOff = records.TakesOff HasNoNewline
-
--- the first of these texts was refused
-abbrev pub RefusesFirst : List (List ℕ) → Error → Type 0
-RefusesFirst [] e = ⊥
-RefusesFirst (text ∷ texts) e = IsRefusal text e

@@ -13,10 +13,9 @@ ghost use Rattle.no_std_io2.specs.Write.{Moves, Sends};
 ghost use Rattle.no_std_io2.specs.BufWriter.{into_inner_error_writer, into_inner_error_cause};
 ghost use Rattle.no_std_io2.specs.Lines.{HasNoNewline};
 ghost use Rattle.no_std_io2.specs.LineWriter.{line_told};
-ghost use Rattle.pending.specs.Pending.{pending_bytes, pending_rest};
+ghost use Rattle.pending.specs.Pending.{pending_bytes, pending_rest, SendsRecord, SendsRecords, RefusesFirst};
 ghost use Rattle.line_log.specs.Lines.{line_of, lines_of, IsRefusal};
-ghost use Rattle.line_log.specs.Log.{log_inner, log_told, log_buffer, under_way, still_to_go};
-ghost use Rattle.line_log.specs.Log.{LogsLine, LogsLines, RefusesFirst, TakesOff};
+ghost use Rattle.line_log.specs.Log.{log_inner, log_told, log_buffer, under_way, still_to_go, TakesOff};
 
 use no_std_io2::io::{Error, ErrorKind, IntoInnerError, LineWriter, Result, Write};
 use pending::Pending;
@@ -109,7 +108,7 @@ impl<W: Write + Drop, const S: usize> LineLog<W, S> {
     /// is under way. Else those of `retry`, and the line is under way.
     pub fn log(&mut self, line: &str) -> Result<()>
         requires { under_way self.old ≡ [] }
-        ensures sends { LogsLine (log_told W.told self.old) line.now result
+        ensures sends { SendsRecord (line_of line.now) (IsRefusal line.now) (log_told W.told self.old) result
             (under_way self.new) (still_to_go self.new) (log_told W.told self.new) }
         ensures passed { OnOk result (log_buffer self.new ≡ []) }
         ensures plain { OnOk result (HasNoNewline line.now) }
@@ -137,11 +136,11 @@ impl<W: Write + Drop, const S: usize> LineLog<W, S> {
     /// assert!(rt; log.get_ref().as_slice() == b"one\ntwo\n".as_slice());
     /// ```
     pub fn log_all(&mut self, rest: &mut &[String]) -> Result<()>
-        ensures sends { LogsLines (log_told W.told self.old)
+        ensures sends { SendsRecords (log_told W.told self.old)
             (still_to_go self.old ++ lines_of (map string_bytes rest.old.now)) result (under_way self.new)
             (log_told W.told self.new) (still_to_go self.new ++ lines_of (map string_bytes rest.new.now)) }
         ensures rest { TakesOff (map string_bytes rest.old.now) (map string_bytes rest.new.now) }
-        ensures refused { IfErr result (λ e. under_way self.new ≡ [] → RefusesFirst (map string_bytes rest.new.now) e) }
+        ensures refused { IfErr result (λ e. under_way self.new ≡ [] → RefusesFirst IsRefusal (map string_bytes rest.new.now) e) }
         ensures done { OnOk result ((under_way self.new ≡ []) × (still_to_go self.new ≡ []) × (rest.new.now ≡ [])) }
         ensures fault { IsNoInterruption result }
     {

@@ -8,8 +8,8 @@ use Rattle.no_std_io2_base.specs.declared.error.ErrorKind.{ErrorKind}
 use Rattle.no_std_io2_base.specs.Errors.{IsInterruption, IsFault}
 use Rattle.no_std_io2_base.specs.Read.{Event, byte, fails, events_of, bytes, HasNoFault, Reads}
 use Rattle.no_std_io2_base.specs.Write.{Told, Moves, MovesFront, HasSpent}
-use Rattle.no_std_io2_base.proofs.Events.{bytes-append, bytes-events_of, HasNoFault-append, HasNoFault-events_of}
-use Rattle.no_std_io2_base.proofs.MovesLemmas.{Moves-refl, Moves-then, Moves-steady}
+use Rattle.no_std_io2_base.proofs.Events.{bytes-append, bytes-events_of, HasNoFault-append, HasNoFault-events_of, HasNoFault-front}
+use Rattle.no_std_io2_base.proofs.MovesLemmas.{Moves-then, Moves-steady}
 use Rattle.no_std_io2.specs.Copy.{counted, Copies, CopyMoves}
 
 -- the writer accepted these bytes, which are counted
@@ -25,14 +25,6 @@ pub record Copied (E : List Event) (old new : Told) (copied : ℕ) (after : List
   pub no_fault : HasNoFault front
   pub moves : Moves old (bytes front) [] new
   pub count : copied ≡ counted (bytes front)
-
--- at the start the writer has accepted nothing, and the count is 0
-pub written_none : (old : Told) → Written old old 0
-written_none old = record { accepted = []; moves = Moves-refl old; count = refl }
-
--- at the start nothing is gone of E, the writer has accepted nothing, and the count is 0
-pub copied_none : (E : List Event) (old : Told) → Copied E old old 0 E
-copied_none E old = record { front = []; split = refl; no_fault = tt; moves = Moves-refl old; count = refl }
 
 -- the count of b, and n more for the n bytes of got, up to the greatest `u64`, is the count of b ++ got
 count_more : (n m k : ℕ) (b got : List ℕ) → m ≡ counted b → length got ≡ n → k ≡ min (m + n) (2 ^ 64 - 1) → k ≡ counted (b ++ got)
@@ -151,12 +143,6 @@ copied_refused room n buf {rest} e t read some fits long w =
 pub written_refused : {old mid new : Told} {m : ℕ} {x : List ℕ} (e : Error) → Written old mid m
     → MovesFront mid x (Err e) new → CopyMoves (Err e) old new
 written_refused e t w = (t.accepted ++ w.accepted, inr (Moves-then t.moves w.moves))
-
--- all of a list without faults has none in front
-pub HasNoFault-front : (P Q : List Event) → HasNoFault (P ++ Q) → HasNoFault P
-HasNoFault-front [] Q h = tt
-HasNoFault-front (byte b ∷ P) Q h = HasNoFault-front P Q h
-HasNoFault-front (fails e ∷ P) Q h = (h.0, HasNoFault-front P Q h.1)
 
 -- events without a fault do not end in one
 pub no_fault_at_end : (Q : List Event) (e : Error) → HasNoFault (Q ++ fails e ∷ []) → IsFault e → ⊥

@@ -1,7 +1,7 @@
--- How what was taken of events follows one another, and what a loan leaves.
+-- How what was taken of events follows one another, and what a loan leaves. Those of the base are stated again, since `rt lemma`
+-- finds none behind a `pub use`.
 use Rattle.std.proofs.Common.{◌≡◌, ℕ, ◌+◌, ◌<◌, ◌==◌, Bool, true, false, Bor, List, [], ◌∷◌, ◌++◌, length, take, Result, Ok, Err}
 use Rattle.std.proofs.Common.{refl, sym, ap, ◌∙◌, subst, inl, inr, ◌⊎◌, arith, append_assoc, append-nil, length-append}
-use Rattle.std.proofs.lemmas.Bool.Decides.{nat_tests}
 use Rattle.no_std_io2_base.specs.declared.error.Error.{Error}
 use Rattle.no_std_io2_base.specs.Errors.{IsInterruption, IsFault, IsOutOfMemory, IsUnexpectedEnd}
 use Rattle.no_std_io2_base.specs.Read.{Event, fails, events_of, bytes, HasNoFault, cut, Fills}
@@ -9,6 +9,8 @@ use Rattle.no_std_io2_base.specs.Read.{StopsAtFault, FallsShort, ReadsExact}
 use Rattle.no_std_io2_base.specs.BufRead.{Lends, LendsFrom, LendingTurn}
 use Rattle.no_std_io2_base.proofs.Events as below
 use Rattle.no_std_io2_base.proofs.PieceLemmas as pieces
+pub use Rattle.no_std_io2_base.proofs.PieceLemmas.{front_more}
+use Rattle.no_std_io2_base.proofs.WriteExits as exits
 use Rattle.no_std_io2.specs.Passing.{Passes, PassesOver, Gathered, StopsThere}
 
 -- the bytes of P and then Q are the bytes of P, and then those of Q
@@ -78,7 +80,7 @@ failed {e} {after} (inl s) =
 failed (inr f) = fell_short f f.left
 
 -- a `read_exact` failed
-pub Passes-fails : {may_take_none : Type 0} {E : List Event} {reply : Result (Unit {0}) Error} {e : Error} (buf : List ℕ) {after : List Event}
+pub Passes-fails : {may_take_none : Type 0} {E after : List Event} {reply : Result (Unit {0}) Error} {e : Error} (buf : List ℕ)
     → reply ≡ Err e → ReadsExact may_take_none E reply buf after
     → ((taken : List ℕ) × (mid : List Event) × Passes E taken mid × StopsThere mid e after)
         ⊎ (may_take_none × (after ≡ E) × IsUnexpectedEnd e)
@@ -100,10 +102,6 @@ Passes-still {E} {after = after} {x = x} p q = subst (λ l. Passes E l after) (a
 -- the bytes that are to come are those that are gone, and then those that still are
 pub Passes-all : {E after : List Event} {x : List ℕ} → Passes E x after → bytes E ≡ x ++ bytes after
 Passes-all {E} {after} p = ap bytes p.split ∙ bytes-append p.front after ∙ ap (λ l. l ++ bytes after) p.gave
-
--- none was passed over
-pub PassesOver-none : (n : ℕ) (E : List Event) → PassesOver n E n E
-PassesOver-none n E = record { over = []; count = omega arith; passes = Passes-none E }
 
 -- these bytes more were passed over
 pub PassesOver-more : {n k left : ℕ} {E mid : List Event} (more : List ℕ) (after : List Event)
@@ -173,11 +171,9 @@ pub memory_fault : (e : Error) → IsOutOfMemory e → IsFault e
 memory_fault e refused = pieces.memory_fault e refused
 
 -- what was lent is some
-pub some_lent : (bs : List ℕ) (b : Bool) → b ≡ (length bs == 0) → b ≡ false → 0 < length bs
-some_lent [] b e h = let no : ⊥ = grind (arith, nat_tests) in absurd no
-some_lent (x ∷ bs) b e h = omega arith
+pub not_empty : (b : Bool) (lent : List ℕ) → b ≡ (length lent == 0) → b ≡ false → 0 < length lent
+not_empty b lent is h = exits.not_empty b lent is h
 
--- what is none
-pub none_of : (bs : List ℕ) (b : Bool) → b ≡ (length bs == 0) → b ≡ true → bs ≡ []
-none_of [] b e h = refl
-none_of (x ∷ bs) b e h = let no : ⊥ = grind (arith, nat_tests) in absurd no
+-- what was lent is none
+pub is_empty : (b : Bool) (lent : List ℕ) → b ≡ (length lent == 0) → b ≡ true → lent ≡ []
+is_empty b lent is h = exits.is_empty b lent is h

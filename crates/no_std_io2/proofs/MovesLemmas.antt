@@ -1,4 +1,5 @@
--- How calls of a writer follow one another, for a crate that lists this one alone.
+-- How calls of a writer follow one another, for a crate that lists this one alone. Those of the base are stated again: `rt lemma` finds none
+-- behind a `pub use`.
 use Rattle.std.proofs.Common.{◌≡◌, Result, Ok, Err, subst, List, [], ◌++◌, ℕ}
 use Rattle.std.specs.List.{concat}
 use Rattle.std.specs.Result.{OnOk}

@@ -1,5 +1,5 @@
 -- How bytes, cuts and faults of events go with `++`.
-use Rattle.std.proofs.Common.{◌≡◌, ℕ, zero, suc, ◌+◌, ◌-◌, ◌<◌, ◌≤◌, List, [], ◌∷◌, ◌++◌, length, take, drop, refl, sym, ap, ◌∙◌, arith}
+use Rattle.std.proofs.Common.{◌≡◌, ℕ, zero, suc, ◌+◌, ◌-◌, ◌<◌, ◌≤◌, List, [], ◌∷◌, ◌++◌, length, take, refl, sym, ap, ◌∙◌, arith}
 use Rattle.no_std_io2_base.specs.Read.{Event, byte, fails, events_of, bytes, HasNoFault, cut}
 
 -- the bytes of P and then Q are the bytes of P, and then those of Q
@@ -61,12 +61,6 @@ cut-bytes (b ∷ bs) R zero fits = absurd (omega arith)
 cut-bytes (b ∷ bs) R (suc k) fits =
     let same : suc k - suc (length bs) ≡ k - length bs = omega arith in
     ap (λ l. byte b ∷ l) (cut-bytes bs R k (omega arith)) ∙ ap (λ n. byte b ∷ (events_of bs ++ cut n R)) (sym same)
-
--- to drop the first n of the events of some bytes is to drop the first n bytes
-pub drop-events_of : (n : ℕ) (bs : List ℕ) → drop n (events_of bs) ≡ events_of (drop n bs)
-drop-events_of zero bs = refl
-drop-events_of (suc n) [] = refl
-drop-events_of (suc n) (b ∷ bs) = drop-events_of n bs
 
 -- of the bytes of E, a cut at k keeps the first k
 pub bytes-cut : (k : ℕ) (E : List Event) → bytes (cut k E) ≡ take k (bytes E)

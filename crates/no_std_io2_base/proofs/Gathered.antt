@@ -2,7 +2,6 @@
 use Rattle.std.proofs.Common.{◌≡◌, ℕ, ◌-◌, ◌<◌, ◌≤◌, Bool, true, if◌then◌else◌, Some, List, [], ◌∷◌, ◌++◌, length, take}
 use Rattle.std.proofs.Common.{refl, sym, ap, ◌∙◌, subst, arith, Ok, Err, append_assoc, append-nil, inl, inr}
 use Rattle.std.proofs.Common.{length-append}
-use lib.Seq.{take-append-le}
 use Rattle.no_std_io2_base.specs.declared.error.Error.{Error}
 use Rattle.no_std_io2_base.specs.Errors.{IsInterruption, IsFault, IsOutOfMemory}
 use Rattle.no_std_io2_base.specs.Read.{Event, fails, events_of, bytes, HasNoFault, FillsRoom, Reads, ReadsToEnd}
@@ -167,7 +166,3 @@ pub gathered_then_failed : {E : List Event} {old mid new : List ℕ} {after rest
     → Gathered E old mid after → FillsRoom after (Err e) mid new rest → ReadsToEnd E (Err e) old new rest
 gathered_then_failed e t more =
     gathered_stop e t (more.0, more.1, more.2, inl more.3)
-
--- a front stays where more is appended
-pub take-grown : (k : ℕ) (old mid new more : List ℕ) → take k mid ≡ old → k ≤ length mid → new ≡ mid ++ more → take k new ≡ old
-take-grown k old mid new more h fits is = ap (take k) is ∙ take-append-le k mid more fits ∙ h

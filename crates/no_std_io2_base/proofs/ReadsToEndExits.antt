@@ -1,6 +1,6 @@
 -- What each exit of a loop of reads into a vector says of the vector and of the reader's store.
-use Rattle.std.proofs.Common.{◌≡◌, ℕ, ◌+◌, ◌-◌, ◌<◌, ◌≤◌, List, ◌++◌, Result, Ok, Err, append_assoc, length, take, drop}
-use Rattle.std.proofs.Common.{sym, ap, subst, ◌∙◌, arith, take_all, length-take, length-take-le, length-drop}
+use Rattle.std.proofs.Common.{◌≡◌, ℕ, ◌+◌, ◌-◌, ◌<◌, ◌≤◌, List, ◌++◌, Result, Ok, Err, append_assoc, length, take}
+use Rattle.std.proofs.Common.{sym, ap, subst, ◌∙◌, arith, take_all, length-take-le}
 use lib.Seq.{take-take}
 use Rattle.no_std_io2_base.specs.declared.error.Error.{Error}
 use Rattle.no_std_io2_base.specs.Read.{Event, given, Reads, ReadsToEnd}
@@ -44,12 +44,6 @@ whole_room filled len mid within long full = take_all filled mid (omega (arith, 
 -- so many bytes were gathered
 pub filled_bytes : (filled len : ℕ) (mid : List ℕ) → filled ≤ len → len ≡ length mid → length (take filled mid) ≡ filled
 filled_bytes filled len mid within long = length-take-le filled mid (omega (arith, within, long))
-
--- the part of a vector's slice behind the filled bytes has room
-pub some_room : (filled len : ℕ) (slice part : List ℕ) → filled < len → length slice ≡ len
-    → length part ≡ length (take (length slice - filled) (drop filled slice)) → 0 < length part
-some_room filled len slice part room long is =
-    omega (arith, room, long, is, length-take (length slice - filled) (drop filled slice), length-drop filled slice)
 
 -- a read that gave nothing ends the loop
 pub gathered_stops : {E : List Event} {old new : List ℕ} {after rest : List Event} {reply : Result ℕ Error} {n k : ℕ} (buf : List ℕ)

@@ -1,5 +1,5 @@
 -- One byte or fault after interruptions.
-use Rattle.std.proofs.Common.{◌≡◌, List, [], ◌∷◌, ◌++◌, refl, sym, ap, ◌∙◌, append_assoc, append-nil}
+use Rattle.std.proofs.Common.{◌≡◌, List, [], ◌∷◌, ◌++◌, sym, ap, ◌∙◌, append_assoc, append-nil}
 use Rattle.no_std_io2_base.specs.declared.error.Error.{Error}
 use Rattle.no_std_io2_base.specs.Errors.{IsInterruption}
 use Rattle.no_std_io2_base.specs.Read.{Event, fails, bytes, IsInterruptionsAlone}
@@ -10,10 +10,6 @@ pub record Passed (E after : List Event) : Type 0 where
   pub front : List Event
   pub split : E ≡ front ++ after
   pub alone : IsInterruptionsAlone front
-
--- at the start nothing is gone of E
-pub passed_none : (E : List Event) → Passed E E
-passed_none E = record { front = []; split = refl; alone = (tt, refl) }
 
 -- where interruptions alone are gone, and one more stands first, that one is passed over too
 pub passed_interruption : {E after rest : List Event} {e : Error} → Passed E after → after ≡ fails e ∷ rest

@@ -1,7 +1,6 @@
 -- Bytes in memory, as events.
-use Rattle.std.proofs.Common.{◌≡◌, ℕ, ◌-◌, ◌<◌, min, List, ◌++◌, length, take, drop, sym, ap, ◌∙◌, subst, arith, Ok}
+use Rattle.std.proofs.Common.{◌≡◌, ℕ, ◌-◌, ◌<◌, List, ◌++◌, length, take, drop, sym, ap, ◌∙◌, subst, arith, Ok}
 use Rattle.std.proofs.Common.{append-nil, take-append-drop, drop_of_length-le}
-use Rattle.std.proofs.lemmas.List.{take_rest, drop_min}
 use Rattle.no_std_io2_base.specs.Read.{bytes-events_of, events_of, bytes, HasNoFault, cut, Reads, Fills}
 use Rattle.no_std_io2_base.proofs.Events.{events_of-append, HasNoFault-events_of, cut-bytes}
 
@@ -35,10 +34,3 @@ fill_bytes all {buf = buf} {rest = rest} n front long is =
       no_fault = subst HasNoFault (sym stop) (HasNoFault-events_of buf);
       filled = ap bytes stop ∙ bytes-events_of buf;
     }
-
--- what a cursor's read copies from: the part from its position on, cut at the end
-pub part_from : (shown all : List ℕ) (start position : ℕ) → shown ≡ all → start ≡ min (length shown) position
-    → take (length shown - start) (drop start shown) ≡ drop position all
-part_from shown all start position is at =
-    let least : start ≡ min position (length shown) = omega arith in
-    take_rest shown start ∙ ap (λ k. drop k shown) least ∙ drop_min position shown ∙ ap (drop position) is

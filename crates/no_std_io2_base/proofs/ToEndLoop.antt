@@ -34,10 +34,10 @@ pub record Wrote (filled len : ℕ) (was now part : List ℕ) : Type 0 where
   pub shown : (n : ℕ) → n ≤ length part → take (filled + n) now ≡ take filled was ++ take n part
 
 -- as the vector and its slice say it
-pub wrote : (filled len : ℕ) (slice items part : List ℕ) {was : List ℕ} → filled ≤ len → len ≡ length items → slice ≡ items
+pub wrote : {filled len : ℕ} {slice items part was : List ℕ} → filled ≤ len → len ≡ length items → slice ≡ items
     → length part ≡ length (take (length slice - filled) (drop filled slice)) → take filled items ≡ take filled was
     → Wrote filled len was (written len filled slice items part) part
-wrote filled len slice items part within long is room front =
+wrote {filled} {len} {slice} {items} {part} within long is room front =
     let fits : filled + length part ≡ len =
     omega (arith, within, long, ap length is, room, length-take (length slice - filled) (drop filled slice), length-drop filled slice) in
     record {
@@ -156,10 +156,11 @@ module _ {S A : Type 0} {R : Reader S} {old now : S} {buf xs : Vec ℕ A} {fille
     module _ {len : ℕ} {items : List ℕ} {v : Vec ℕ A} (w : Wrote filled len xs.items items part) (cut : v.items ≡ take filled items)
         (grown : vec_capacity xs ≤ vec_capacity v) where
       -- a read met the end
-      pub to_end_done : {reply : Result ℕ Error} {n start : ℕ} → ReadLaw R now room reply part new → reply ≡ Ok n → n ≡ 0 → 0 < length part
+      pub to_end_done : {reply : Result ℕ Error} {n start : ℕ} → ReadLaw R now room reply part new → reply ≡ Ok n → n ≡ 0 → filled < len
           → start ≡ vec_len buf → ReadToEndLaw R old buf (Ok (filled - start)) v new
-      to_end_done {start = start} read is none some from =
+      to_end_done {start = start} read is none room from =
           let same = cut ∙ w.kept in
+          let some : 0 < length part = omega (arith, room, w.fits) in
           let within : filled ≤ length xs.items = omega (arith, before.within, xs.ok.0) in
           let long = filled_length filled (vec_len v) v.items xs.items v.ok.0 same within in
           let count = count_cut start filled v.items xs.items buf.items (from ∙ buf.ok.0) same within in

@@ -7,17 +7,13 @@ use Rattle.std.proofs.lemmas.Bool.Decides.{nat_tests}
 use Rattle.no_std_io2_base.specs.declared.error.Error.{Error}
 use Rattle.no_std_io2_base.specs.declared.error.ErrorKind.{ErrorKind}
 use Rattle.no_std_io2_base.specs.declared.error.ErrorKind.TheVariants.{WriteZero}
-use Rattle.no_std_io2_base.specs.Errors.{error_kind, is_interruption, IsInterruption}
-use Rattle.no_std_io2_base.specs.Write.{Told, Moves, Sends, taken, write_mishap, zero_write, calls_for}
+use Rattle.no_std_io2_base.specs.Errors.{error_kind, is_interruption, IsInterruption, IsFault}
+use Rattle.no_std_io2_base.specs.Write.{Told, Moves, WriteLaw, WriteRestLaw, taken, write_mishap, zero_write, calls_for}
 use Rattle.no_std_io2_base.proofs.MovesLemmas.{Moves-more, Moves-ends, Moves-refl}
 
 -- what a loop of writes has sent so far of `start`
 abbrev pub SentSoFar : Told → List ℕ → Told → List ℕ → Type 0
 SentSoFar old start new left = (sent : List ℕ) × (start ≡ sent ++ left) × Moves old sent [] new
-
--- at the start nothing is sent
-pub sent_none : (a : Told) (start : List ℕ) → SentSoFar a start a start
-sent_none a start = ([], refl, Moves-refl a)
 
 -- a write that took nothing of some bytes is a mishap
 zero_write-some : (buf : List ℕ) → 0 < length buf → zero_write 0 buf ≡ WriteZero ∷ []
@@ -32,38 +28,12 @@ not_empty b (x ∷ left) is h = omega arith
 pub is_empty : (b : Bool) (left : List ℕ) → b ≡ (length left == 0) → b ≡ true → left ≡ []
 is_empty b left is h = drop_of_length-le left {i = 0} (omega (arith, eqb-true (length left) 0 (sym is ∙ h)))
 
--- no byte was taken of some
-pub sends_zero : {a b c : Told} {start left : List ℕ} {reply : Result ℕ Error} {n : ℕ} {e : Error}
-    → SentSoFar a start b left → Moves b (taken reply left) (write_mishap reply left) c → reply ≡ Ok n → n ≡ 0 → 0 < length left
-    → error_kind e ≡ WriteZero
-    → Sends a start (Err e) c left
-sends_zero {b} {c} {left} {e} so_far moves is none some kind =
-    let zero : Moves b [] (zero_write 0 left) c = subst (λ r. Moves b (taken r left) (write_mishap r left) c) (is ∙ ap Ok none) moves in
-    let told : Moves b [] (error_kind e ∷ []) c = subst (λ k. Moves b [] k c)
-    (zero_write-some left some ∙ ap (λ k. k ∷ []) (sym kind)) zero in
-    record { sent = so_far.0; split = so_far.1; moves = Moves-ends so_far.2 told }
-
--- a fault stopped it
-pub sends_fault : {a b c : Told} {start left : List ℕ} {e : Error} → SentSoFar a start b left → Moves b [] (error_kind e ∷ []) c
-    → Sends a start (Err e) c left
-sends_fault so_far moves = record { sent = so_far.0; split = so_far.1; moves = Moves-ends so_far.2 moves }
-
--- all was sent
-pub sends_done : {a b : Told} {start left : List ℕ} → SentSoFar a start b left → Sends a start (Ok tt) b left
-sends_done so_far = record { sent = so_far.0; split = so_far.1; moves = so_far.2 }
-
--- an interruption is passed over
-pub sent_interruption : {a b c : Told} {start left : List ℕ} {k : List ErrorKind} → SentSoFar a start b left → Moves b [] k c
-    → SentSoFar a start c left
-sent_interruption {a} {c} so_far moves =
-    (so_far.0, so_far.1, subst (λ s. Moves a s [] c) (append-nil so_far.0) (Moves-more so_far.2 moves))
-
 -- the rest of a slice from n on is its end
 pub rest_is : (n : ℕ) (left : List ℕ) → take (length left - n) (drop n left) ≡ drop n left
 rest_is n left = take_all (length left - n) (drop n left) (omega (arith, length-drop n left))
 
 -- n bytes more were sent
-pub sent_more : {a b c : Told} {start : List ℕ} (left : List ℕ) (k : List ErrorKind) (n : ℕ)
+sent_more : {a b c : Told} {start : List ℕ} (left : List ℕ) (k : List ErrorKind) (n : ℕ)
     → SentSoFar a start b left → Moves b (take n left) k c → SentSoFar a start c (take (length left - n) (drop n left))
 sent_more left k n so_far moves = (
   so_far.0 ++ take n left,
@@ -86,21 +56,21 @@ fewer_turns e turns turns' len spent again =
     omega (arith, spent, one)
 
 -- a writer that takes all answers no error
-pub no_error_there : (e : Error) (n : ℕ) → Err e ≡ Ok n → ⊥
+no_error_there : (e : Error) (n : ℕ) → Err e ≡ Ok n → ⊥
 no_error_there e n same = cc
 
 -- an answer has one count
-pub same_count : {reply : Result ℕ Error} {n m : ℕ} → reply ≡ Ok n → reply ≡ Ok m → n ≡ m
+same_count : {reply : Result ℕ Error} {n m : ℕ} → reply ≡ Ok n → reply ≡ Ok m → n ≡ m
 same_count is same = cc
 
 -- a writer that takes all takes some of some
-pub takes_some : {reply : Result ℕ Error} {n : ℕ} (left : List ℕ) → reply ≡ Ok (length left) → reply ≡ Ok n → n ≡ 0 → 0 < length left → ⊥
+takes_some : {reply : Result ℕ Error} {n : ℕ} (left : List ℕ) → reply ≡ Ok (length left) → reply ≡ Ok n → n ≡ 0 → 0 < length left → ⊥
 takes_some {n} left all is none some =
     let same : length left ≡ n = cc in
     omega (arith, same, none, some)
 
 -- and counts one call for them
-pub one_call : (n : ℕ) (left : List ℕ) (cost : ℕ) {cost' : ℕ} (was for_all : ℕ)
+one_call : (n : ℕ) (left : List ℕ) (cost : ℕ) {cost' : ℕ} (was for_all : ℕ)
     → n ≡ length left → 0 < length left → cost' ≡ cost + 1
     → cost + calls_for left ≡ was + for_all
     → cost' + calls_for (take (length left - n) (drop n left)) ≡ was + for_all
@@ -111,5 +81,84 @@ one_call n left cost was for_all whole some counted so_far =
     omega (arith, no_more, one, counted, so_far)
 
 -- nothing that is left asks for no call
-pub no_call : {left : List ℕ} {cost total : ℕ} → left ≡ [] → cost + calls_for left ≡ total → cost ≡ total
+no_call : {left : List ℕ} {cost total : ℕ} → left ≡ [] → cost + calls_for left ≡ total → cost ≡ total
 no_call none so_far = omega (arith, so_far, ap calls_for none)
+
+-- what a loop of writes has done so far
+pub record WritesSoFar {S : Type 0} (told : S → Told) (takes_all : S → Type 0) (cost : S → ℕ) (is_metered : S → Type 0)
+    (old : S) (start : List ℕ) (now : S) (left : List ℕ) : Type 0 where
+  -- what is gone of `start` was accepted
+  pub sent : SentSoFar (told old) start (told now) left
+  pub all : takes_all old → takes_all now
+  pub counts : is_metered old → takes_all old → is_metered now × (cost now + calls_for left ≡ cost old + calls_for start)
+
+-- before the first write nothing is done
+pub writes_none : {S : Type 0} {told : S → Told} {takes_all : S → Type 0} {cost : S → ℕ} {is_metered : S → Type 0} {old : S}
+    {start : List ℕ} → WritesSoFar told takes_all cost is_metered old start old start
+writes_none = record { sent = ([], refl, Moves-refl _); all = λ a. a; counts = λ m a. (m, refl) }
+
+module _ {S : Type 0} {told : S → Told} {takes_all : S → Type 0} {cost : S → ℕ} {is_metered : S → Type 0} {old now : S}
+    {start left : List ℕ} (before : WritesSoFar told takes_all cost is_metered old start now left) where
+  -- all was sent
+  pub writes_done : left ≡ [] → WriteRestLaw told takes_all cost is_metered old start (Ok tt) now left
+  writes_done none = record {
+    fault = tt;
+    sends = record { sent = before.sent.0; split = before.sent.1; moves = before.sent.2 };
+    done = none;
+    all = λ a. (before.all a, refl);
+    counts = λ m a. let so_far = before.counts m a in (so_far.0, no_call none so_far.1);
+  }
+
+  module _ {new : S} where
+    -- n bytes more were sent
+    pub writes_more : {n : ℕ} → WriteLaw told takes_all cost is_metered now left (Ok n) new → 0 < length left
+        → WritesSoFar told takes_all cost is_metered old start new (take (length left - n) (drop n left))
+    writes_more {n} wrote some = record {
+      sent = sent_more left _ n before.sent wrote.moves;
+      all = λ a. (wrote.all (before.all a)).0;
+      counts = λ m a.
+          let so_far = before.counts m a in
+          let after = wrote.counts so_far.0 (before.all a) in
+          (after.0, one_call n left _ _ _ (same_count refl (wrote.all (before.all a)).1) some after.1 so_far.1);
+    }
+
+    -- an interruption is passed over
+    pub writes_interruption : {e : Error} → WriteLaw told takes_all cost is_metered now left (Err e) new
+        → WritesSoFar told takes_all cost is_metered old start new left
+    writes_interruption wrote = record {
+      sent = (
+        before.sent.0,
+        before.sent.1,
+        subst (λ s. Moves (told old) s [] (told new)) (append-nil before.sent.0) (Moves-more before.sent.2 wrote.moves),
+      );
+      all = λ a. (wrote.all (before.all a)).0;
+      counts = λ m a. absurd (no_error_there _ _ (wrote.all (before.all a)).1);
+    }
+
+    -- a fault stopped it
+    pub writes_fault : {e : Error} → WriteLaw told takes_all cost is_metered now left (Err e) new → IsFault e
+        → WriteRestLaw told takes_all cost is_metered old start (Err e) new left
+    writes_fault wrote fault = record {
+      fault = fault;
+      sends = record { sent = before.sent.0; split = before.sent.1; moves = Moves-ends before.sent.2 wrote.moves };
+      done = tt;
+      all = λ a. absurd (no_error_there _ _ (wrote.all (before.all a)).1);
+      counts = λ m a. absurd (no_error_there _ _ (wrote.all (before.all a)).1);
+    }
+
+    -- no byte was taken of some
+    pub writes_zero : {reply : Result ℕ Error} {n : ℕ} {e : Error} → WriteLaw told takes_all cost is_metered now left reply new
+        → reply ≡ Ok n → n ≡ 0 → 0 < length left → error_kind e ≡ WriteZero
+        → WriteRestLaw told takes_all cost is_metered old start (Err e) new left
+    writes_zero {e = e} wrote is none some kind =
+        let zero : Moves (told now) [] (zero_write 0 left) (told new) =
+        subst (λ r. Moves (told now) (taken r left) (write_mishap r left) (told new)) (is ∙ ap Ok none) wrote.moves in
+        let mishap : Moves (told now) [] (error_kind e ∷ []) (told new) =
+        subst (λ k. Moves (told now) [] k (told new)) (zero_write-some left some ∙ ap (λ k. k ∷ []) (sym kind)) zero in
+        record {
+          fault = ap is_interruption kind;
+          sends = record { sent = before.sent.0; split = before.sent.1; moves = Moves-ends before.sent.2 mishap };
+          done = tt;
+          all = λ a. absurd (takes_some left (wrote.all (before.all a)).1 is none some);
+          counts = λ m a. absurd (takes_some left (wrote.all (before.all a)).1 is none some);
+        }

@@ -49,3 +49,8 @@ pub record TakesOff (fits : List ℕ → Type 0) (old new : List (List ℕ)) : T
   pub front : List (List ℕ)
   pub split : old ≡ front ++ new
   pub each : All fits front
+
+-- the first of these was refused
+abbrev pub RefusesFirst : (List ℕ → Error → Type 0) → List (List ℕ) → Error → Type 0
+RefusesFirst refusal [] e = ⊥
+RefusesFirst refusal (x ∷ xs) e = refusal x e

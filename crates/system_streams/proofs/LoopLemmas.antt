@@ -1,18 +1,36 @@
 -- What loops of a patient's calls have moved.
-use Rattle.std.proofs.Common.{◌≡◌, ℕ, zero, suc, ◌+◌, ◌-◌, ◌<◌, ◌≤◌, List, [], ◌∷◌, ◌++◌, Option, None, Some, Result}
+use Rattle.std.proofs.Common.{◌≡◌, ℕ, zero, suc, ◌+◌, ◌-◌, ◌<◌, ◌≤◌, List, [], ◌++◌, Option, None, Some, Result}
 use Rattle.std.proofs.Common.{Ok, Err, length, take, drop, refl, sym, ap, subst, ◌∙◌, arith, append_assoc, append-nil}
-use Rattle.std.proofs.Common.{take-append-drop, take_all, length-drop, length-take, count_by, if◌then◌else◌, ◌==◌, Bool}
-use Rattle.std.proofs.Common.{true, false, true≢false, eqb-true, drop_of_length-le, inl, inr, ◌⊎◌, length-take-le}
+use Rattle.std.proofs.Common.{take-append-drop, take_all, length-drop}
+use Rattle.std.proofs.Common.{inl, inr, ◌⊎◌}
 use Rattle.std.specs.Result.{IsErrAnd}
-use borrow.Rule.Slice.PartMut.{put_mid, post_of, same_len_mid}
-use lib.Seq.{take-append-le, take-append-add}
+use borrow.Rule.Slice.PartMut.{put_mid}
 use Rattle.std.proofs.lemmas.Slice.{take-put_mid_below}
 use Rattle.std.specs.Io.KnownBytes.{Appends, Consumes, Keeps, WriteAppends, ReadConsumes}
+use Rattle.no_std_io2.proofs.Parts.{take-put_mid}
 use Rattle.no_std_io2.specs.declared.io.Error.{Error}
-use Rattle.no_std_io2.specs.Errors.{error_kind, is_interruption, IsInterruption, IsFault, IsUnwritten}
-use Rattle.no_std_io2.specs.Write.{Sends, call_mishap, taken}
+use Rattle.no_std_io2.specs.Errors.{is_interruption, IsFault, IsUnwritten}
+use Rattle.no_std_io2.specs.Write.{taken}
+use Rattle.no_std_io2.specs.Read.{Reader}
+use Rattle.system_streams.specs.declared.patient.Patient.{Patient}
+use Rattle.system_streams.specs.Patient.{patient_turns}
 use Rattle.system_streams.specs.Turns.{Gives, AnswersRead, AnswersWrite, EndsReads, EndsWrites, IsOutOfTurns}
 use Rattle.system_streams.specs.Turns.{IsPlainInterruption, IsDeviceFault}
+
+-- what a patient reader tells
+abbrev pub patient_reader : {D : Type 0} → Reader (Patient D)
+patient_reader = record {
+  has_store = λ _. ⊥;
+  content = λ _. [];
+  position = λ _. 0;
+  tells = λ _. ⊥;
+  events = λ _. [];
+  turns = patient_turns;
+  cost = λ _. 0;
+  is_metered = λ _. ⊥;
+  is_filling = λ _. ⊥;
+  may_take_none = λ _. ⊥;
+}
 
 -- known bytes that stay as they are have grown by nothing
 appends_nil : (a : Option (List ℕ)) → Appends a a []
@@ -86,22 +104,6 @@ ends_zero e {old} {new} kind fewer is asked =
     let same : new ≡ old = subst (λ r. AnswersWrite r old new) is asked in
     (omega (arith, fewer, same), inr (inr kind))
 
--- what a patient tells of such a loop
-pub gives_sends : {text left out out' : List ℕ} {known known' : Option (List ℕ)} (reply : Result (Unit {0}) Error) {turns turns' : ℕ}
-    → Gives text left out out' known known' → turns' + count_by is_interruption (call_mishap reply) ≤ turns
-    → Sends (record { out = out; held = []; mishaps = None; turns = turns }) text reply
-    (record { out = out'; held = []; mishaps = None; turns = turns' }) left
-gives_sends {out} {out'} reply {turns = turns} so_far spent = record {
-  sent = so_far.given;
-  split = so_far.split;
-  moves = record {
-    front = (so_far.given, so_far.taken);
-    bytes = append-nil out' ∙ so_far.taken ∙ ap (λ l. l ++ so_far.given) (sym (append-nil out));
-    mishaps = tt;
-    turns = spent;
-  };
-}
-
 -- known bytes stay as they were where nothing happens to them
 keeps_refl : (a : Option (List ℕ)) → Keeps a a
 keeps_refl None = tt
@@ -130,39 +132,12 @@ consumes_kept (Some x) None c bs p q = absurd p
 consumes_kept (Some x) (Some y) None bs p q = absurd q
 consumes_kept (Some x) (Some y) (Some z) bs p q = p ∙ ap (λ l. bs ++ l) (sym q)
 
--- a fault is no interruption
-pub no_turn : (e : Error) (turns turns' : ℕ) → IsFault e → turns' ≤ turns → turns' + count_by is_interruption (error_kind e ∷ []) ≤ turns
-no_turn e turns turns' fault fewer =
-    let none : count_by is_interruption (error_kind e ∷ []) ≡ 0 = ap (λ b. 0 + (if b then 1 else 0)) fault in
-    omega (arith, fewer, none)
-
--- an interruption of the device's spends a turn
-pub turn_spent : (e : Error) (old new : ℕ) → IsInterruption e → AnswersWrite {T = ℕ} (Err e) old new → new < old
-turn_spent e old new again (inl plain) = omega (arith, plain.1)
-turn_spent e old new again (inr (inl out)) = let kind = out.0.0 in let no = ap is_interruption kind in absurd cc
-turn_spent e old new again (inr (inr fault)) = let kind = fault.0.0 in let no = ap is_interruption kind in absurd cc
-
 -- another error ends a loop of writes
 pub ends_writes : (e : Error) {first old new : ℕ} → IsFault e → old ≤ first → AnswersWrite {T = ℕ} (Err e) old new
     → EndsWrites {T = Unit {0}} (Err e) first new
 ends_writes e fault fewer (inl plain) = let no = ap is_interruption plain.0.0 in absurd cc
 ends_writes e fault fewer (inr (inl out)) = (omega (arith, out.2), inl (out.0, out.2))
 ends_writes e fault fewer (inr (inr device)) = (omega (arith, fewer, device.1), inr (inl device.0))
-
--- what the test of the loop says
-pub not_empty : (b : Bool) (left : List ℕ) → b ≡ (length left == 0) → b ≡ false → 0 < length left
-not_empty b [] is h = absurd (true≢false (sym is ∙ h))
-not_empty b (x ∷ left) is h = omega arith
-
--- where the test of the loop says that nothing is left, nothing is
-pub is_empty : (b : Bool) (left : List ℕ) → b ≡ (length left == 0) → b ≡ true → left ≡ []
-is_empty b left is h = drop_of_length-le left {i = 0} (omega (arith, eqb-true (length left) 0 (sym is ∙ h)))
-
--- some bytes fewer are left
-pub fewer_left : (n turns turns' : ℕ) (left : List ℕ) → (n ≡ 0 → ⊥) → n ≤ length left → turns' ≡ turns
-    → turns' + length (take (length left - n) (drop n left)) < turns + length left
-fewer_left n turns turns' left some fits same =
-    omega (arith, some, fits, same, length-take (length left - n) (drop n left), length-drop n left)
 
 -- what a read that gave bytes consumed: the device was asked then
 pub consumed_some : {A C : Type 0} {old : ℕ} (n : ℕ) (known known' : Option (List ℕ)) (buf : List ℕ) → (n ≡ 0 → ⊥)
@@ -204,19 +179,6 @@ ends_reads room e {first = first} {old = suc (suc old)} {new = new} fault fewer 
     device (inl plain) = let no = ap is_interruption plain.0 in absurd cc
     device (inr f) = (omega (arith, fewer, spent), inr (inl (f, omega (arith, fewer, spent))))
 
--- a buffer keeps its length where a part of it is written
-pub length_stays : (at : ℕ) (xs ys : List ℕ) → length ys ≡ length (take (length xs - at) (drop at xs))
-    → length (put_mid at (length xs - at) xs ys) ≡ length xs
-length_stays at xs ys same = same_len_mid at (length xs - at) xs ys same
-
--- and what stands there is what was there, and then what was read
-pub read_behind : (a k n : ℕ) (xs ys : List ℕ) → a ≤ length xs → n ≤ length ys → take (a + n) (put_mid a k xs ys) ≡ take a xs ++ take n ys
-read_behind a k n xs ys within fits =
-    let front = take a xs in
-    let same : a + n ≡ length front + n = ap (λ m. m + n) (sym (length-take-le a xs within)) in
-    ap (λ m. take m (put_mid a k xs ys)) same ∙ take-append-add front (ys ++ post_of a k xs) n
-    ∙ ap (λ l. front ++ l) (take-append-le n ys (post_of a k xs) fits)
-
 -- what stood before the part still stands there, and the device kept its bytes, or gave none
 pub got_same : (a k : ℕ) (xs ys : List ℕ) (known known' known'' : Option (List ℕ)) → a ≤ length xs → Consumes known known' (take a xs)
     → Keeps known' known'' → Consumes known known'' (take a (put_mid a k xs ys))
@@ -236,15 +198,5 @@ pub got_more : (a k n : ℕ) (xs ys : List ℕ) (known known' known'' : Option (
     → Consumes known known' (take a xs)
     → Consumes known' known'' (take n ys) → Consumes known known'' (take (a + n) (put_mid a k xs ys))
 got_more a k n xs ys known known' known'' within fits got more =
-    subst (λ l. Consumes known known'' l) (sym (read_behind a k n xs ys within fits))
+    subst (λ l. Consumes known known'' l) (sym (take-put_mid a k n xs ys within fits))
     (consumes_then known known' known'' (take a xs) (take n ys) got more)
-
--- the part that is not filled yet has room
-pub part_room : (at : ℕ) (xs : List ℕ) → at < length xs → 0 < length (take (length xs - at) (drop at xs))
-part_room at xs below = omega (arith, below, length-take (length xs - at) (drop at xs), length-drop at xs)
-
--- what a read gave stands within the buffer
-pub within_part : (at n : ℕ) (xs ys now : List ℕ) → at ≤ length xs → n ≤ length ys
-    → length ys ≡ length (take (length xs - at) (drop at xs)) → length now ≡ length xs → at + n ≤ length now
-within_part at n xs ys now within fits same stays =
-    omega (arith, within, fits, same, stays, length-take (length xs - at) (drop at xs), length-drop at xs)

@@ -1,5 +1,5 @@
 -- What a copy through a buffered writer does.
-use Rattle.std.specs.Prelude.{◌≡◌, ℕ, ◌<◌, ◌==◌, List, [], ◌∷◌, ◌++◌, count_by, Option, None, Some, ⊤}
+use Rattle.std.specs.Prelude.{◌≡◌, ℕ, ◌<◌, ◌==◌, List, [], ◌++◌, count_by, Option, None, Some, ⊤}
 use Rattle.no_std_io2.specs.declared.io.ErrorKind.{ErrorKind}
 use Rattle.no_std_io2.specs.declared.io.Error.{Error}
 use Rattle.no_std_io2.specs.Errors.{error_kind, kind_number, IsInterruption}
@@ -23,12 +23,6 @@ pub record HasFirstFault (E : List Event) (e : Error) : Type 0 where
   pub rest : List Event
   pub split : E ≡ front ++ rest
   pub ends : EndsInFault front e
-
--- After some bytes a writer answered e, and so one of its mishaps to come has happened.
-pub record HasFailed (old : Told) (e : Error) : Type 0 where
-  pub accepted : List ℕ
-  pub new : Told
-  pub moves : Moves old accepted (error_kind e ∷ []) new
 
 -- where the mishaps to come are told, one is of this kind
 abbrev pub TellsMishap : Option (List ErrorKind) → ErrorKind → Type 0

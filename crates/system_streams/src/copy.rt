@@ -1,8 +1,8 @@
 // The copy from a reader to a writer, with a buffer at each.
 ghost use Rattle.std.specs.Prelude.{◌≡◌, ◌⊎◌, [], Some, IfOk, IsOk, IfErr};
 ghost use Rattle.no_std_io2.specs.Read.{bytes, HasNoFault};
-ghost use Rattle.no_std_io2.specs.BufReader.{reader_inner, reader_events, BufReaderFits};
-ghost use Rattle.system_streams.specs.Copies.{Passes, PassesSome, HasFirstFault, HasFailed, MayFail};
+ghost use Rattle.no_std_io2.specs.BufReader.{BufReaderFits};
+ghost use Rattle.system_streams.specs.Copies.{Passes, PassesSome, HasFirstFault, MayFail};
 ghost use Rattle.no_std_io2.specs.BufWriter.{BufWriterFits};
 ghost use Rattle.no_std_io2.specs.LineWriter.{LineWriterFits};
 
@@ -11,47 +11,18 @@ use no_std_io2::io::{BufReader, BufWriter, LineWriter, Read, Result, Write, copy
 // The room of each buffer, in bytes.
 const ROOM: usize = 64;
 
-fn through_buffer<R: Read, W: Write + Drop>(
-    input: &mut BufReader<R, ROOM>,
-    output: W,
-) -> Result<(u64, W)>
-    requires reader_fits { BufReaderFits R.row 64 }
-    requires fits { BufWriterFits W.row 64 }
-    ensures some { IfOk result (λ r. PassesSome (W.told output) r.0 (W.told r.1)) }
-    ensures all { R.tells (reader_inner input.old) → IfOk result
-        (λ r. HasNoFault (reader_events R.events input.old)
-        × Passes (W.told output) (bytes (reader_events R.events input.old)) r.0 (W.told r.1)) }
-    ensures empty { IfOk result (λ r. (W.told r.1).held ≡ []) }
-    ensures err { R.tells (reader_inner input.old) → IfErr result
-        (λ e. HasFirstFault (reader_events R.events input.old) e ⊎ HasFailed (W.told output) e) }
+// Copies all of `input` to `tower`, flushes it, and hands it back.
+fn copy_and_flush<R: Read + Drop, T: Write + Drop>(mut input: R, mut tower: T) -> Result<(u64, T)>
+    ensures some { IfOk result (λ r. PassesSome (T.told tower) r.0 (T.told r.1)) }
+    ensures all { R.tells input → IfOk result (λ r. HasNoFault (R.events input)
+        × Passes (T.told tower) (bytes (R.events input)) r.0 (T.told r.1)) }
+    ensures empty { IfOk result (λ r. (T.told r.1).held ≡ []) }
+    ensures err { R.tells input → IfErr result (λ e. HasFirstFault (R.events input) e
+        ⊎ MayFail (T.told tower) e) }
 {
-    let mut tower = BufWriter::<W, ROOM>::new(output);
-    let count = copy::<BufReader<R, ROOM>, BufWriter<W, ROOM>, ROOM>(input, &mut tower)?;
+    let count = copy::<R, T, ROOM>(&mut input, &mut tower)?;
     tower.flush()?;
-    let output = tower.into_inner()?;
-    Ok((count, output))
-}
-
-// The same, but each line is sent as it ends.
-fn through_lines<R: Read, W: Write + Drop>(
-    input: &mut BufReader<R, ROOM>,
-    output: W,
-) -> Result<(u64, W)>
-    requires reader_fits { BufReaderFits R.row 64 }
-    requires fits { LineWriterFits W.row 64 }
-    ensures some { IfOk result (λ r. PassesSome (W.told output) r.0 (W.told r.1)) }
-    ensures all { R.tells (reader_inner input.old) → IfOk result
-        (λ r. HasNoFault (reader_events R.events input.old)
-        × Passes (W.told output) (bytes (reader_events R.events input.old)) r.0 (W.told r.1)) }
-    ensures empty { IfOk result (λ r. (W.told r.1).held ≡ []) }
-    ensures err { R.tells (reader_inner input.old) → IfErr result
-        (λ e. HasFirstFault (reader_events R.events input.old) e ⊎ HasFailed (W.told output) e) }
-{
-    let mut tower = LineWriter::<W, ROOM>::new(output);
-    let count = copy::<BufReader<R, ROOM>, LineWriter<W, ROOM>, ROOM>(input, &mut tower)?;
-    tower.flush()?;
-    let output = tower.into_inner()?;
-    Ok((count, output))
+    Ok((count, tower))
 }
 
 /// Copies all of `input` to `output` through a buffer of 64 bytes, sends and flushes it, and returns
@@ -89,10 +60,12 @@ pub fn copy_through<R: Read + Drop, W: Write + Drop>(
     ensures steady { R.tells input → HasNoFault (R.events input) → (W.told output).mishaps ≡ Some []
         → IsOk result }
 {
-    let mut input = BufReader::<R, ROOM>::new(input);
+    let input = BufReader::<R, ROOM>::new(input);
     if line {
-        through_lines(&mut input, output)
+        let (count, tower) = copy_and_flush(input, LineWriter::<W, ROOM>::new(output))?;
+        Ok((count, tower.into_inner()?))
     } else {
-        through_buffer(&mut input, output)
+        let (count, tower) = copy_and_flush(input, BufWriter::<W, ROOM>::new(output))?;
+        Ok((count, tower.into_inner()?))
     }
 }

@@ -1,5 +1,5 @@
 -- What a text stands for, byte by byte.
-use Rattle.std.proofs.Common.{◌≡◌, ◌≢◌, ℕ, ◌+◌, ◌-◌, ◌<◌, Bool, true, false, not, List, [], ◌∷◌, ◌++◌, length, get_or, drop}
+use Rattle.std.proofs.Common.{◌≡◌, ◌≢◌, ℕ, ◌+◌, ◌-◌, ◌<◌, Bool, true, false, List, [], ◌∷◌, ◌++◌, length, get_or, drop}
 use Rattle.std.proofs.Common.{Option, Some, None, refl, sym, ap, subst, ◌∙◌, arith, append_assoc, append-nil, add-one, drop-cons}
 use Rattle.std.proofs.Common.{length-append}
 use Rattle.std.proofs.lemmas.Grind.{common_steps}
@@ -48,22 +48,6 @@ goes_on {old = old} {left2 = left2} x is more so = record {
 pub by_itself : (b : ℕ) (rest : List ℕ) → b ≢ 92 → unescaped (b ∷ rest) ≡ before (b ∷ []) (unescaped rest)
 by_itself b [] plain = grind (arith, common_steps, nat_tests)
 by_itself b (c ∷ rest) plain = grind (arith, common_steps, nat_tests)
-
--- no other byte stands behind a backslash
-pub no_escape : (b : ℕ) (rest : List ℕ) → b ≢ 110 → b ≢ 92 → unescaped (92 ∷ b ∷ rest) ≡ None
-no_escape b rest no_n no_backslash = grind (arith, common_steps, nat_tests)
-
--- where the rest stands for nothing, the text stands for nothing
-pub means_nothing : {old new text left : List ℕ} → unescaped left ≡ None → Halfway old new text left
-    → Appends (unescaped text) false old new
-means_nothing {old = old} {new} none so = subst (λ o. Appends o false old new) (sym (so.meant ∙ ap (before so.so_far) none)) refl
-
--- at the end of the text it stands for what was appended, unless a backslash is left
-pub all_meant : (is_escaped : Bool) {old new text : List ℕ} → Halfway old new text (waiting is_escaped [])
-    → Appends (unescaped text) (not is_escaped) old new
-all_meant true so = means_nothing refl so
-all_meant false {old} {new} so =
-    subst (λ o. Appends o true old new) (sym so.meant) (refl, so.appends ∙ ap (λ l. old ++ l) (sym (append-nil so.so_far)))
 
 -- a byte of the text, and what follows it
 at_front : (text : List ℕ) (i : ℕ) → i < length text → drop i text ≡ get_or text i 0 ∷ drop (i + 1) text

@@ -1,7 +1,7 @@
 use Rattle.std.proofs.Common.{[], sym, ◌∙◌, subst, inl, inr}
 use Rattle.std.proofs.lemmas.Result.{err_from_is_err_and}
 use Rattle.no_std_io2.specs.Passing.{Passes}
-use Rattle.no_std_io2.proofs.EventLemmas.{Passes-none, Passes-still, Passes-interruption, none_taken, error_taken, none_of, some_lent}
+use Rattle.no_std_io2.proofs.EventLemmas.{Passes-none, Passes-still, Passes-interruption, none_taken, error_taken, is_empty, not_empty}
 use Rattle.examples.specs.Lengths.{none}
 use Rattle.examples.proofs.RecordLemmas.{record_more}
 use Rattle.examples.proofs.lengths.pass_records.Goals as goal
@@ -14,7 +14,7 @@ returns-then-is_empty-clause-told g c = λ t.
     let run = c.records.invariant.told t in
     let loan = c.fill_buf.follows.holds-at-none.told run.0 in
     let same = none_taken c.in-Ok.lent c.in-Ok.is loan.1 in
-    let end = c.in-Ok.ensures.law.end run.0 (none_of _ _ c.is_empty.ensures c.if-is_empty.true) in
+    let end = c.in-Ok.ensures.law.end run.0 (is_empty _ _ c.is_empty.ensures c.if-is_empty.true) in
     let passes = subst (λ l. Passes (g.B.Read.events c.args.r.now) run.1.0 l) (sym same) run.1.2 in
     (loan.0, (run.1.0, run.1.1, passes, same ∙ end))
 
@@ -43,7 +43,7 @@ records-preserved-in-Continue-1 g c = record {
       let same = none_taken c.in-Ok.lent c.in-Ok.is loan.1 in
       let front = c.in-Ok.ensures.law.front run.0 in
       let passes = subst (λ l. Passes (g.B.Read.events c.args.r.now) run.1.0 l) (sym same) run.1.2 in
-      let some = some_lent _ _ c.is_empty.ensures c.if-is_empty.false in
+      let some = not_empty _ _ c.is_empty.ensures c.if-is_empty.false in
       let said = c.in_ok-skip-in-Ok.ensures.told loan.0 in
       (said.0, record_more c.in-Ok.lent.now front.rest run.1.1 passes some (same ∙ front.is) c.from.ensures said.1 c.in_ok-skip-in-Ok.ensures.done);
 }

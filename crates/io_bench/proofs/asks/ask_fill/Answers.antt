@@ -3,7 +3,8 @@ use Rattle.no_std_io2_base.specs.Read.{events_of}
 use Rattle.no_std_io2.specs.BufReader.{reader_held, reader_inner, reader_events}
 use Rattle.no_std_io2.proofs.BufReaderRoom.{some_room}
 use Rattle.no_std_io2.proofs.BufReaderExact.{length-events}
-use Rattle.io_bench.proofs.AskLemmas.{fill_asked, lent_error, lent_held, lent_to_come}
+use Rattle.io_bench.proofs.AskLemmas.{fill_asked, lent_error, lent_held}
+use Rattle.no_std_io2_base.proofs.PieceLemmas.{none_taken}
 use Rattle.io_bench.proofs.asks.ask_fill.Goals as goal
 
 pub returns-in_err-lent-clause-told : goal.returns-in_err-lent-clause-told
@@ -24,7 +25,7 @@ returns-clause-asked g c = λ m f.
     let told = after.told tells.0 in
     let rest = dropped.told told.0 in
     let held = lent_held _ c.in_ok-lent.field-0 _ c.in_ok-lent.was after.lends in
-    let same = lent_to_come c.in_ok-lent.field-0 c.in_ok-lent.was told.1 in
+    let same = none_taken c.in_ok-lent.field-0 c.in_ok-lent.was told.1 in
     let counted = after.counts m in
     let last = dropped.counts counted.0 in
     let within = length-take-le n (reader_held mid) (omega (arith, ap length held, c.min.ensures)) in

@@ -1,6 +1,6 @@
 use Rattle.std.proofs.Common.{◌≡◌, ◌<◌, ◌≤◌, length, take, sym, ◌∙◌, arith, inl, inr, length-take-le}
 use Rattle.no_std_io2.proofs.EventLemmas.{PassesOver-more, PassesOver-still, Passes-interruption}
-use Rattle.no_std_io2.proofs.EventLemmas.{part_taken, none_taken, error_taken, none_of, some_lent}
+use Rattle.no_std_io2.proofs.EventLemmas.{part_taken, none_taken, error_taken, is_empty, not_empty}
 use Rattle.no_std_io2.proofs.util.skip.Goals as goal
 
 pub returns-then-is_empty-clause-told : goal.returns-then-is_empty-clause-told
@@ -8,7 +8,7 @@ returns-then-is_empty-clause-told g c = λ t.
     let filled = c.fill_buf.follows.holds-at-none in
     let so_far = c.pieces.invariant.told t in
     let loan = filled.told so_far.0 in
-    let end = c.in-Ok.ensures.law.end so_far.0 (none_of _ _ c.is_empty.ensures c.if-is_empty.true) in
+    let end = c.in-Ok.ensures.law.end so_far.0 (is_empty _ _ c.is_empty.ensures c.if-is_empty.true) in
     (loan.0, (_, so_far.1, inr (end, none_taken c.in-Ok.lent c.in-Ok.is loan.1 ∙ end, c.failed_to_fill.ensures)))
 
 pub returns-in-Err-2-clause-told : goal.returns-in-Err-2-clause-told
@@ -26,7 +26,7 @@ pieces-preserved-in-Ok g c =
     let dropped = c.consume.ensures.law in
     let len = c.min-len.result in
     let lent = c.in-Ok.lent.now in
-    let some : 0 < length lent = some_lent lent c.is_empty.result c.is_empty.ensures c.if-is_empty.false in
+    let some : 0 < length lent = not_empty _ lent c.is_empty.ensures c.if-is_empty.false in
     let within : len ≤ length lent = omega (arith, c.min-len.ensures) in
     let is : length (take len lent) ≡ len = length-take-le len lent within in
     let many : len ≤ c.pieces.left = omega (arith, c.min-len.ensures) in

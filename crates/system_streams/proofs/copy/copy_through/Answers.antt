@@ -1,24 +1,63 @@
-use Rattle.std.proofs.Common.{subst, sym}
-use Rattle.no_std_io2.specs.Read.{HasNoFault}
-use Rattle.system_streams.proofs.CopyLemmas.{ok_unless, no_failure, either_failed}
+use Rattle.std.proofs.Common.{ap, ◌∙◌, sym, subst}
+use Rattle.system_streams.proofs.CopyLemmas.{passes_off, none_held, comes_apart, no_failure}
 use Rattle.system_streams.proofs.copy.copy_through.Goals as goal
 
-pub returns-then-line-clause-steady : goal.returns-then-line-clause-steady
-returns-then-line-clause-steady g c = λ t none steady.
+pub returns-in_err-count-clause-steady : goal.returns-in_err-count-clause-steady
+returns-in_err-count-clause-steady g c = λ t none steady.
     let tells = subst g.R.Read.tells (sym c.new-input.ensures.inner) t in
-    ok_unless _ _ (c.through_lines.ensures.err tells) (no_failure _ _ (subst HasNoFault (sym c.new-input.ensures.events) none) steady)
+    let same = ap (λ w. (g.W.Write.told w).mishaps) c.new.ensures.inner in
+    absurd (no_failure _ _ (rw c.new-input.ensures.events none) (same ∙ steady) _ (c.in_err-count.ensures.err tells))
 
-pub returns-clause-steady : goal.returns-clause-steady
-returns-clause-steady g c = λ t none steady.
-    let tells = subst g.R.Read.tells (sym c.new-input.ensures.inner) t in
-    ok_unless _ _ (c.through_buffer.ensures.err tells) (no_failure _ _ (subst HasNoFault (sym c.new-input.ensures.events) none) steady)
+pub returns-in_err-into_inner-clause-err : goal.returns-in_err-into_inner-clause-err
+returns-in_err-into_inner-clause-err g c =
+    absurd (comes_apart _ _ c.in_ok-count.ensures.empty c.in_err-into_inner.ensures.empty)
 
-pub returns-then-line-clause-err : goal.returns-then-line-clause-err
-returns-then-line-clause-err g c = λ t.
-    let tells = subst g.R.Read.tells (sym c.new-input.ensures.inner) t in
-    either_failed _ c.through_lines.result c.new-input.ensures.events (c.through_lines.ensures.err tells)
+pub returns-in_err-into_inner-clause-steady : goal.returns-in_err-into_inner-clause-steady
+returns-in_err-into_inner-clause-steady g c =
+    absurd (comes_apart _ _ c.in_ok-count.ensures.empty c.in_err-into_inner.ensures.empty)
 
-pub returns-clause-err : goal.returns-clause-err
-returns-clause-err g c = λ t.
+pub returns-in_ok-into_inner-clause-empty : goal.returns-in_ok-into_inner-clause-empty
+returns-in_ok-into_inner-clause-empty g c = none_held c.in_ok-count.ensures.empty c.in_ok-into_inner.ensures.ok
+
+pub returns-in_ok-into_inner-clause-some : goal.returns-in_ok-into_inner-clause-some
+returns-in_ok-into_inner-clause-some g c =
+    let poured = c.in_ok-count.ensures.some in
+    let same = ap g.W.Write.told c.new.ensures.inner in
+    let passes = passes_off _ same c.new.ensures.empty poured.passes c.in_ok-into_inner.ensures.ok in
+    record { accepted = poured.accepted; passes = passes }
+
+pub returns-in_ok-into_inner-clause-all : goal.returns-in_ok-into_inner-clause-all
+returns-in_ok-into_inner-clause-all g c = λ t.
+    let poured = c.in_ok-count.ensures.all (subst g.R.Read.tells (sym c.new-input.ensures.inner) t) in
+    let same = ap g.W.Write.told c.new.ensures.inner in
+    rw (sym c.new-input.ensures.events) (poured.0, passes_off _ same c.new.ensures.empty poured.1 c.in_ok-into_inner.ensures.ok)
+
+pub returns-in_err-count-2-clause-steady : goal.returns-in_err-count-2-clause-steady
+returns-in_err-count-2-clause-steady g c = λ t none steady.
     let tells = subst g.R.Read.tells (sym c.new-input.ensures.inner) t in
-    either_failed _ c.through_buffer.result c.new-input.ensures.events (c.through_buffer.ensures.err tells)
+    let same = ap (λ w. (g.W.Write.told w).mishaps) c.new-else-line.ensures.inner in
+    absurd (no_failure _ _ (rw c.new-input.ensures.events none) (same ∙ steady) _ (c.in_err-count-2.ensures.err tells))
+
+pub returns-in_err-into_inner-2-clause-err : goal.returns-in_err-into_inner-2-clause-err
+returns-in_err-into_inner-2-clause-err g c =
+    absurd (comes_apart _ _ c.in_ok-count-2.ensures.empty c.in_err-into_inner-2.ensures.empty)
+
+pub returns-in_err-into_inner-2-clause-steady : goal.returns-in_err-into_inner-2-clause-steady
+returns-in_err-into_inner-2-clause-steady g c =
+    absurd (comes_apart _ _ c.in_ok-count-2.ensures.empty c.in_err-into_inner-2.ensures.empty)
+
+pub returns-in_ok-into_inner-2-clause-empty : goal.returns-in_ok-into_inner-2-clause-empty
+returns-in_ok-into_inner-2-clause-empty g c = none_held c.in_ok-count-2.ensures.empty c.in_ok-into_inner-2.ensures.ok
+
+pub returns-in_ok-into_inner-2-clause-some : goal.returns-in_ok-into_inner-2-clause-some
+returns-in_ok-into_inner-2-clause-some g c =
+    let poured = c.in_ok-count-2.ensures.some in
+    let same = ap g.W.Write.told c.new-else-line.ensures.inner in
+    let passes = passes_off _ same c.new-else-line.ensures.empty poured.passes c.in_ok-into_inner-2.ensures.ok in
+    record { accepted = poured.accepted; passes = passes }
+
+pub returns-in_ok-into_inner-2-clause-all : goal.returns-in_ok-into_inner-2-clause-all
+returns-in_ok-into_inner-2-clause-all g c = λ t.
+    let poured = c.in_ok-count-2.ensures.all (subst g.R.Read.tells (sym c.new-input.ensures.inner) t) in
+    let same = ap g.W.Write.told c.new-else-line.ensures.inner in
+    rw (sym c.new-input.ensures.events) (poured.0, passes_off _ same c.new-else-line.ensures.empty poured.1 c.in_ok-into_inner-2.ensures.ok)

@@ -3,7 +3,7 @@ use Rattle.std.proofs.lemmas.Result.{err_from_is_err_and}
 use Rattle.std.specs.Int.{w32, from_le_bytes}
 use Rattle.framing.specs.Part.{part_bytes, part_header, part_payload, most}
 use Rattle.no_std_io2.proofs.EventLemmas.{Gathered-none, Gathered-then, Gathered-passes}
-use Rattle.no_std_io2.proofs.EventLemmas.{some_lent, none_of}
+use Rattle.no_std_io2.proofs.EventLemmas.{not_empty, is_empty}
 use Rattle.framing.proofs.FrameLemmas.{told_behind, stopped, ended, no_frame, whole_part, too_long, frame_whole}
 use Rattle.framing.proofs.FrameLemmas.{passes_as, part_short, turn_spent}
 use Rattle.framing.proofs.reader.FrameReader.gather_frame.Goals as goal
@@ -21,13 +21,13 @@ returns-in_err-fill_header-clause-told g c = λ t.
 pub returns-then-is_empty-clause-told : goal.returns-then-is_empty-clause-told
 returns-then-is_empty-clause-told g c = λ t.
     let said = c.in_ok-fill_header.ensures.told t in
-    let none : part_bytes c.fill_header.new.self ≡ [] = none_of _ _ c.is_empty.ensures c.if-is_empty.true in
+    let none : part_bytes c.fill_header.new.self ≡ [] = is_empty _ _ c.is_empty.ensures c.if-is_empty.true in
     (said.0, no_frame 4 _ _ c.in_ok-fill_header.field-0 c.if-not-branch.true said.1 none)
 
 pub returns-then-not-branch-clause-told : goal.returns-then-not-branch-clause-told
 returns-then-not-branch-clause-told g c = λ t.
     let said = c.in_ok-fill_header.ensures.told t in
-    let some : 0 < length (part_bytes c.fill_header.new.self) = some_lent _ _ c.is_empty.ensures c.if-is_empty.false in (
+    let some : 0 < length (part_bytes c.fill_header.new.self) = not_empty _ _ c.is_empty.ensures c.if-is_empty.false in (
       said.0,
       ended (most c.args.self.now) 4 _ _ c.in_ok-fill_header.field-0 c.ended_inside.result c.if-not-branch.true
           (Gathered-none _ _) said.1 (λ h. inl h) some c.ended_inside.ensures,

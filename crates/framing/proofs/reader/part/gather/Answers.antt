@@ -1,5 +1,5 @@
 use Rattle.std.proofs.Common.{◌≡◌, ◌<◌, ◌≤◌, length, take, sym, ◌∙◌, arith, le_trans, length-take-le}
-use Rattle.no_std_io2.proofs.EventLemmas.{part_taken, error_taken, some_lent, Gathered-more, Gathered-still, Passes-interruption}
+use Rattle.no_std_io2.proofs.EventLemmas.{part_taken, error_taken, not_empty, Gathered-more, Gathered-still, Passes-interruption}
 use Rattle.framing.proofs.reader.part.gather.Goals as goal
 
 pub pieces-preserved-in-Ok : goal.pieces-preserved-in-Ok
@@ -11,7 +11,7 @@ pieces-preserved-in-Ok g c =
     let len = c.min-len.result in
     let lent = c.in-Ok.lent.now in
     let appended = c.in_ok-extend_from_slice-in-Ok.ensures in
-    let some : 0 < length lent = some_lent lent c.is_empty.result c.is_empty.ensures c.if-is_empty.false in
+    let some : 0 < length lent = not_empty _ lent c.is_empty.ensures c.if-is_empty.false in
     let within : len ≤ length lent = omega (arith, c.min-len.ensures, c.len-in-Ok.ensures) in
     let is : length (take len lent) ≡ len = length-take-le len lent within in
     record {

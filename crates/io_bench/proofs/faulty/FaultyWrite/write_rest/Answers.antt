@@ -1,7 +1,6 @@
-use Rattle.std.proofs.Common.{length, rules, refl, arith, ap}
-use Rattle.no_std_io2_base.proofs.WriteExits.{not_empty, is_empty, sent_none, sends_zero, sends_fault, sends_done}
-use Rattle.no_std_io2_base.proofs.WriteExits.{sent_interruption, sent_more, fewer_left, fewer_turns, takes_some}
-use Rattle.no_std_io2_base.proofs.WriteExits.{no_error_there}
+use Rattle.std.proofs.Common.{length, arith, ap}
+use Rattle.no_std_io2_base.proofs.WriteExits.{not_empty, is_empty, fewer_left, fewer_turns}
+use Rattle.no_std_io2_base.proofs.WriteExits.{writes_none, writes_more, writes_interruption, writes_fault, writes_zero, writes_done}
 use Rattle.no_std_io2_base.specs.Errors.{IsInterruption}
 use Rattle.io_bench.specs.Faulty.{acts_left}
 use Rattle.io_bench.proofs.SpentActs.{spent_none, spent_more, spent_stop, spent_done, went_on_by, interrupted_by, left_of}
@@ -9,25 +8,16 @@ use Rattle.io_bench.proofs.faulty.FaultyWrite.write_rest.Goals as goal
 
 pub writes-init : goal.writes-init
 writes-init g c = record {
-  sent = sent_none _ _;
-  all = λ a. a;
+  law = writes_none;
   acts = spent_none;
 }
 
 pub returns-in-Ok-eq0 : goal.returns-in-Ok-eq0
 returns-in-Ok-eq0 g c =
     let before = c.writes.invariant in
-    let is = c.in-Ok-eq0.is in
-    let none = c.in-Ok-eq0.field-0-test in
     let some = not_empty _ c.writes.rest.now c.is_empty.ensures c.writes-test.true in
     record {
-      law = record {
-        fault = search rules;
-        sends = sends_zero before.sent c.write.ensures.law.moves is none some cc;
-        done = tt;
-        all = λ a. absurd (takes_some _ (c.write.ensures.law.all (before.all a)).1 is none some);
-        counts = λ no. absurd no;
-      };
+      law = writes_zero before.law c.write.ensures.law c.in-Ok-eq0.is c.in-Ok-eq0.field-0-test some cc;
       acts = spent_stop before.acts c.write.ensures.acts some (omega (arith, c.write.ensures.law.moves.turns));
     }
 
@@ -47,8 +37,7 @@ writes-preserved-in-Ok g c =
     (λ kind is. (wrote.fail kind is).0) (λ is. (wrote.zero is).0) (λ is. (wrote.take_none is).0)
     (λ m some is. (wrote.take m some is).bound) in
     record {
-      sent = sent_more left _ n before.sent wrote.law.moves;
-      all = λ a. (wrote.law.all (before.all a)).0;
+      law = writes_more before.law wrote.law (not_empty _ left c.is_empty.ensures c.writes-test.true);
       acts = spent_more n before.acts went wrote.acts (left_of n left wrote.law.bound) (omega (arith, fewer));
     }
 
@@ -66,8 +55,7 @@ writes-preserved g c =
     let went = interrupted_by (acts_left c.writes.self) c.in-Err.e again
     (λ kind is. (wrote.fail kind is).0) (λ is. (wrote.zero is).0) (λ is. (wrote.take_none is).0) in
     record {
-      sent = sent_interruption before.sent wrote.law.moves;
-      all = λ a. (wrote.law.all (before.all a)).0;
+      law = writes_interruption before.law wrote.law;
       acts = spent_more 0 before.acts went wrote.acts (omega arith) (omega (arith, fewer));
     }
 
@@ -77,13 +65,7 @@ returns-in-Err-2 g c =
     let wrote = c.in-Err.ensures in
     let some = not_empty _ c.writes.rest.now c.is_empty.ensures c.writes-test.true in
     record {
-      law = record {
-        fault = cc;
-        sends = sends_fault before.sent wrote.law.moves;
-        done = tt;
-        all = λ a. absurd (no_error_there _ _ (wrote.law.all (before.all a)).1);
-        counts = λ no. absurd no;
-      };
+      law = writes_fault before.law wrote.law cc;
       acts = spent_stop before.acts wrote.acts some (omega (arith, wrote.law.moves.turns));
     }
 
@@ -92,12 +74,6 @@ returns g c =
     let before = c.writes.invariant in
     let none = is_empty _ c.writes.rest.now c.is_empty.ensures c.writes-test.false in
     record {
-      law = record {
-        sends = sends_done before.sent;
-        fault = tt;
-        done = none;
-        all = λ a. (before.all a, refl);
-        counts = λ no. absurd no;
-      };
+      law = writes_done before.law none;
       acts = spent_done before.acts (ap length none);
     }

@@ -1,11 +1,10 @@
 use Rattle.std.proofs.Common.{arith, refl, sym, ◌∙◌}
 use Rattle.std.proofs.lemmas.Result.{err_from_is_err_and}
-use Rattle.no_std_io2_base.proofs.ReadExactExits.{some_bytes}
-use Rattle.no_std_io2_base.proofs.ReadsToEndExits.{some_room}
+use Rattle.no_std_io2_base.proofs.ReadExactExits.{some_bytes, some_part}
 use Rattle.no_std_io2_base.proofs.ToEndLoop.{wrote, to_end_none, to_end_no_room, to_end_refused, to_end_read}
 use Rattle.no_std_io2_base.proofs.ToEndLoop.{to_end_interruption, to_end_done, to_end_fault}
 use Rattle.io_bench.proofs.CountLemmas.{counted_none, counted_more, counted_end, counted_fault, counted_refused}
-use Rattle.io_bench.proofs.CountLemmas.{handed_once, one_read, part_room}
+use Rattle.io_bench.proofs.CountLemmas.{handed_once, one_read}
 use Rattle.io_bench.proofs.tally.TallyRead.read_to_end.Goals as goal
 
 pub returns-in_err-reserve_room : goal.returns-in_err-reserve_room
@@ -48,17 +47,13 @@ returns-in-Ok-eq0 g c =
     let before = c.reads.invariant in
     let read = c.read.ensures in
     let room = c.open_room.ensures in
-    let opened = c.open_room.new.buf in
-    let w = wrote c.reads.filled opened.len c.deref_mut.result.now opened.items c.read.new.buf room.within opened.ok.0
-    c.deref_mut.ensures.value c.read.auto.buf room.front in
-    let one = one_read _ (part_room c.reads.filled c.deref_mut.result.now
-    (omega (arith, c.in_ok-open_room.ensures.room, c.deref_mut.ensures.len))) read.reads in
-    let some = some_room c.reads.filled opened.len _ c.read.new.buf c.in_ok-open_room.ensures.room c.deref_mut.ensures.len
-    c.read.auto.buf in
+    let w = wrote room.within c.open_room.new.buf.ok.0 c.deref_mut.ensures.value c.read.auto.buf room.front in
+    let one = one_read _ (some_part c.reads.filled c.deref_mut.result.now _
+    (omega (arith, c.in_ok-open_room.ensures.room, c.deref_mut.ensures.len)) refl) read.reads in
     record {
       law = to_end_done before.law (λ t told. g.met.T.Read.store_tells _ told) w c.truncate.ensures.items
-          (omega (arith, room.grows, c.truncate.ensures.capacity)) read.law c.in-Ok-eq0.is c.in-Ok-eq0.field-0-test some
-          c.len-start.ensures;
+          (omega (arith, room.grows, c.truncate.ensures.capacity)) read.law c.in-Ok-eq0.is c.in-Ok-eq0.field-0-test
+          c.in_ok-open_room.ensures.room c.len-start.ensures;
       counts = counted_end before.counts one read.law.turns;
       handed = λ m. handed_once _ _ _ _ _ (before.handed m) (read.handed.counts (before.handed m).0) read.reads;
       writes = read.writes ∙ before.writes;
@@ -75,11 +70,9 @@ returns-in-Err-2 g c =
     let before = c.reads.invariant in
     let read = c.in-Err.ensures in
     let room = c.open_room.ensures in
-    let opened = c.open_room.new.buf in
-    let w = wrote c.reads.filled opened.len c.deref_mut.result.now opened.items c.read.new.buf room.within opened.ok.0
-    c.deref_mut.ensures.value c.read.auto.buf room.front in
-    let one = one_read _ (part_room c.reads.filled c.deref_mut.result.now
-    (omega (arith, c.in_ok-open_room.ensures.room, c.deref_mut.ensures.len))) read.reads in
+    let w = wrote room.within c.open_room.new.buf.ok.0 c.deref_mut.ensures.value c.read.auto.buf room.front in
+    let one = one_read _ (some_part c.reads.filled c.deref_mut.result.now _
+    (omega (arith, c.in_ok-open_room.ensures.room, c.deref_mut.ensures.len)) refl) read.reads in
     record {
       law = to_end_fault before.law (λ t told. g.met.T.Read.store_tells _ told) w c.truncate-in-Err-2.ensures.items
           (omega (arith, room.grows, c.truncate-in-Err-2.ensures.capacity)) read.law
@@ -94,11 +87,9 @@ reads-preserved-in-Ok g c =
     let before = c.reads.invariant in
     let read = c.in-Ok.ensures in
     let room = c.open_room.ensures in
-    let opened = c.open_room.new.buf in
-    let w = wrote c.reads.filled opened.len c.deref_mut.result.now opened.items c.read.new.buf room.within opened.ok.0
-    c.deref_mut.ensures.value c.read.auto.buf room.front in
-    let one = one_read _ (part_room c.reads.filled c.deref_mut.result.now
-    (omega (arith, c.in_ok-open_room.ensures.room, c.deref_mut.ensures.len))) read.reads in
+    let w = wrote room.within c.open_room.new.buf.ok.0 c.deref_mut.ensures.value c.read.auto.buf room.front in
+    let one = one_read _ (some_part c.reads.filled c.deref_mut.result.now _
+    (omega (arith, c.in_ok-open_room.ensures.room, c.deref_mut.ensures.len)) refl) read.reads in
     record {
       law = to_end_read before.law (λ t told. g.met.T.Read.store_tells _ told) read.law c.in-Ok.n-test.1 w room.grows;
       counts = counted_more before.counts one (read.law.turn (some_bytes c.in-Ok.n c.in-Ok.n-test.1));
@@ -111,11 +102,9 @@ reads-preserved g c =
     let before = c.reads.invariant in
     let read = c.in-Err.ensures in
     let room = c.open_room.ensures in
-    let opened = c.open_room.new.buf in
-    let w = wrote c.reads.filled opened.len c.deref_mut.result.now opened.items c.read.new.buf room.within opened.ok.0
-    c.deref_mut.ensures.value c.read.auto.buf room.front in
-    let one = one_read _ (part_room c.reads.filled c.deref_mut.result.now
-    (omega (arith, c.in_ok-open_room.ensures.room, c.deref_mut.ensures.len))) read.reads in
+    let w = wrote room.within c.open_room.new.buf.ok.0 c.deref_mut.ensures.value c.read.auto.buf room.front in
+    let one = one_read _ (some_part c.reads.filled c.deref_mut.result.now _
+    (omega (arith, c.in_ok-open_room.ensures.room, c.deref_mut.ensures.len)) refl) read.reads in
     record {
       law = to_end_interruption before.law (λ t told. g.met.T.Read.store_tells _ told) read.law (sym c.is_interrupted.ensures ∙ c.if-is_interrupted.true) w
           room.grows;

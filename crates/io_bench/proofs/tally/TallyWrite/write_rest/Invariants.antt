@@ -1,7 +1,7 @@
 -- What is gone from `rest` was accepted, each call counted, and each turn shortens it or spends a turn of the writer.
 use Rattle.std.proofs.Common.{◌≡◌, ◌+◌, [], length}
-use Rattle.no_std_io2_base.specs.Write.{calls_for}
-use Rattle.no_std_io2_base.proofs.WriteExits.{SentSoFar}
+use Rattle.std.specs.Bool.{⊤}
+use Rattle.no_std_io2_base.proofs.WriteExits.{WritesSoFar}
 use Rattle.io_bench.specs.Tally.{tally_inner, tally_writes, tally_reads}
 use Rattle.io_bench.proofs.CountLemmas.{CountedSoFar}
 use Rattle.io_bench.proofs.tally.TallyWrite.write_rest.Given as goal
@@ -12,9 +12,8 @@ invariant-writes g l =
     let before = tally_inner l.initial.self in
     let now = tally_inner l.self in
     record {
-      sent : SentSoFar (w.told before) l.initial.rest.now (w.told now) l.rest.now;
-      all : w.takes_all before → w.takes_all now;
-      cost : w.takes_all before → tally_writes l.self + calls_for l.rest.now ≡ tally_writes l.initial.self + calls_for l.initial.rest.now;
+      law : WritesSoFar (λ t. w.told (tally_inner t)) (λ t. w.takes_all (tally_inner t)) tally_writes (λ _. ⊤)
+          l.initial.self l.initial.rest.now l.self l.rest.now;
       counts : CountedSoFar (length l.initial.rest.now) (length l.initial.rest.now + (w.told before).turns) (tally_writes l.initial.self)
           (length l.rest.now) (length l.rest.now + (w.told now).turns) (tally_writes l.self);
       none : l.initial.rest.now ≡ [] → (l.self ≡ l.initial.self) × (l.rest.now ≡ []);

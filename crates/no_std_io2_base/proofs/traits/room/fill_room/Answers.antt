@@ -1,8 +1,8 @@
 -- As the trait's `read_to_end`, but for the room, which is what there is.
-use Rattle.std.proofs.Common.{◌≤◌, false, true, true≢false, length, arith, refl, sym, ◌∙◌, le_refl, le_trans}
+use Rattle.std.proofs.Common.{◌<◌, ◌≤◌, false, true, true≢false, length, arith, refl, sym, ◌∙◌, le_refl, le_trans}
 use Rattle.no_std_io2_base.proofs.Gathered.{gathered_same, gathered_room, gathered_failed, gathered_over}
 use Rattle.no_std_io2_base.proofs.ReadExactExits.{some_bytes}
-use Rattle.no_std_io2_base.proofs.ReadsToEndExits.{front_cut, filled_length, some_room, whole_room, stays_at_end}
+use Rattle.no_std_io2_base.proofs.ReadsToEndExits.{front_cut, filled_length, whole_room, stays_at_end}
 use Rattle.no_std_io2_base.proofs.Taken.{no_error}
 use Rattle.no_std_io2_base.proofs.TakenToEnd.{nothing_read}
 use Rattle.no_std_io2_base.proofs.ToEndLoop.{wrote, to_end_none, to_end_read, to_end_interruption}
@@ -23,15 +23,13 @@ returns-in-Ok-eq0 g c =
     let none = c.in-Ok-eq0.field-0-test in
     let filled = c.reads.filled in
     let room = c.open_room.ensures in
-    let opened = c.open_room.new.buf in
     let mid = c.reads.buf.items in
     let new = c.truncate.new.self in
-    let w = wrote filled opened.len c.deref_mut.result.now opened.items c.read.new.buf room.within opened.ok.0
-    c.deref_mut.ensures.value c.read.auto.buf room.front in
+    let w = wrote room.within c.open_room.new.buf.ok.0 c.deref_mut.ensures.value c.read.auto.buf room.front in
     let same = c.truncate.ensures.items ∙ w.kept in
     let within : filled ≤ length mid = omega (arith, before.within, c.reads.buf.ok.0) in
     let long = filled_length filled new.len new.items mid new.ok.0 same within in
-    let some = some_room filled opened.len _ c.read.new.buf c.in_ok-open_room.ensures.room c.deref_mut.ensures.len c.read.auto.buf in
+    let some : 0 < length c.read.new.buf = omega (arith, w.fits, c.in_ok-open_room.ensures.room) in
     record {
       told = λ t.
           let so_far = before.told t in
@@ -64,11 +62,9 @@ returns-in-Err-2 g c =
     let read = c.in-Err.ensures.law in
     let filled = c.reads.filled in
     let room = c.open_room.ensures in
-    let opened = c.open_room.new.buf in
     let mid = c.reads.buf.items in
     let new = c.truncate-in-Err-2.new.self in
-    let w = wrote filled opened.len c.deref_mut.result.now opened.items c.read.new.buf room.within opened.ok.0
-    c.deref_mut.ensures.value c.read.auto.buf room.front in
+    let w = wrote room.within c.open_room.new.buf.ok.0 c.deref_mut.ensures.value c.read.auto.buf room.front in
     let same = c.truncate-in-Err-2.ensures.items ∙ w.kept in
     let fault = sym c.is_interrupted.ensures ∙ c.if-is_interrupted.false in
     let within : filled ≤ length mid = omega (arith, before.within, c.reads.buf.ok.0) in
@@ -93,17 +89,13 @@ returns-in-Err-2 g c =
 pub reads-preserved-in-Ok : goal.reads-preserved-in-Ok
 reads-preserved-in-Ok g c =
     let room = c.open_room.ensures in
-    let opened = c.open_room.new.buf in
-    let w = wrote c.reads.filled opened.len c.deref_mut.result.now opened.items c.read.new.buf room.within opened.ok.0
-    c.deref_mut.ensures.value c.read.auto.buf room.front in
+    let w = wrote room.within c.open_room.new.buf.ok.0 c.deref_mut.ensures.value c.read.auto.buf room.front in
     to_end_read c.reads.invariant g.met.R.Read.store_tells c.in-Ok.ensures.law c.in-Ok.n-test.1 w room.grows
 
 pub reads-preserved : goal.reads-preserved
 reads-preserved g c =
     let room = c.open_room.ensures in
-    let opened = c.open_room.new.buf in
-    let w = wrote c.reads.filled opened.len c.deref_mut.result.now opened.items c.read.new.buf room.within opened.ok.0
-    c.deref_mut.ensures.value c.read.auto.buf room.front in
+    let w = wrote room.within c.open_room.new.buf.ok.0 c.deref_mut.ensures.value c.read.auto.buf room.front in
     to_end_interruption c.reads.invariant g.met.R.Read.store_tells c.in-Err.ensures.law
     (sym c.is_interrupted.ensures ∙ c.if-is_interrupted.true) w room.grows
 

@@ -1,20 +1,14 @@
-use Rattle.std.proofs.Common.{◌-◌, length, rules, arith, ap, refl, ◌∙◌, le_refl, inr}
+use Rattle.std.proofs.Common.{◌-◌, length, arith, ap, refl, ◌∙◌, inr}
 use Rattle.no_std_io2.specs.Errors.{IsFault}
 use Rattle.system_streams.specs.Patient.{patient_device}
 use Rattle.system_streams.proofs.LoopLemmas.{consumes_nil, consumed_some, consumed_none, consumed_end, ends_reads}
-use Rattle.system_streams.proofs.LoopLemmas.{length_stays, part_room, within_part, got_same, got_none, got_more}
+use Rattle.system_streams.proofs.LoopLemmas.{got_same, got_none, got_more}
+use Rattle.no_std_io2.proofs.ReadExactExits.{length_stays, some_part}
+use Rattle.no_std_io2.proofs.ExactLoop.{exact_none, exact_read, exact_interruption, exact_end, exact_fault, exact_all}
 use Rattle.system_streams.proofs.patient.PatientRead.read_exact.Goals as goal
 
 pub reads-init : goal.reads-init
-reads-init g c = record {
-  long = refl;
-  within = omega arith;
-  got = consumes_nil _;
-  turns = le_refl _;
-  spent = λ some. omega (arith, some);
-  empty = λ e. refl;
-  taken = refl;
-}
+reads-init g c = record { law = exact_none; got = consumes_nil _; taken = refl }
 
 pub returns-in-Ok-eq0 : goal.returns-in-Ok-eq0
 returns-in-Ok-eq0 g c =
@@ -22,30 +16,22 @@ returns-in-Ok-eq0 g c =
     let read = c.read.ensures in
     let at = c.reads.at in
     let old = c.reads.buf in
-    let room = part_room at old c.reads-test.true in
+    let room = some_part at old _ c.reads-test.true refl in
     let stays = length_stays at old c.read.new.buf c.read.auto.buf in
     let known = g.D.Read.remaining in
     let none = consumed_end c.read.result _ c.in-Ok-eq0.is c.in-Ok-eq0.field-0-test
     (λ e. ap (λ p. known (patient_device p)) (read.over e).1)
     (λ e. (read.last room e).0) read.bytes in
     record {
-      law = record {
-        told = λ t. absurd t;
-        fault = search rules;
-        empty = λ e. absurd (omega (arith, e, before.long, c.reads-test.true));
-        turns = omega (arith, read.law.turns, before.turns);
-        turn = λ some. tt;
-        metered = λ m. m;
-        filling = λ f. f;
-        store = λ s. absurd s;
-      };
+      law = exact_end before.law (λ x told. absurd told) c.reads-test.true c.read.auto.buf read.law c.in-Ok-eq0.is c.in-Ok-eq0.field-0-test
+          c.gave_too_little.ensures;
       bytes = record {
         count = at;
-        within = omega (arith, stays, before.within);
+        within = omega (arith, stays, before.law.within);
         whole = tt;
-        device = got_none at (length old - at) old c.read.new.buf _ _ _ before.within before.got none;
+        device = got_none at (length old - at) old c.read.new.buf _ _ _ before.law.within before.got none;
       };
-      ends = (omega (arith, read.law.turns, before.turns), inr (inr c.gave_too_little.ensures));
+      ends = (omega (arith, read.law.turns, before.law.turns), inr (inr c.gave_too_little.ensures));
       taken = read.taken ∙ before.taken;
     }
 
@@ -62,17 +48,11 @@ reads-preserved-in-Ok g c =
     let n = c.in-Ok.n in
     let at = c.reads.at in
     let old = c.reads.buf in
-    let room = part_room at old c.reads-test.true in
-    let stays = length_stays at old c.read.new.buf c.read.auto.buf in
-    let spent = read.law.turn (omega (arith, c.in-Ok.n-test.1)) in
+    let room = some_part at old _ c.reads-test.true refl in
     let gave = consumed_some n _ _ _ c.in-Ok.n-test.1 read.over (λ e. (read.last room e).0) read.bytes in
     record {
-      long = stays ∙ before.long;
-      within = within_part at n old _ _ before.within read.law.bound c.read.auto.buf stays;
-      got = got_more at (length old - at) n old c.read.new.buf _ _ _ before.within read.law.bound before.got gave;
-      turns = omega (arith, spent, before.turns);
-      spent = λ some. omega (arith, spent, before.turns);
-      empty = λ e. absurd (omega (arith, e, before.long, c.reads-test.true));
+      law = exact_read before.law (λ x told. absurd told) c.reads-test.true c.read.auto.buf read.law c.in-Ok.n-test.1;
+      got = got_more at (length old - at) n old c.read.new.buf _ _ _ before.law.within read.law.bound before.got gave;
       taken = read.taken ∙ before.taken;
     }
 
@@ -82,17 +62,12 @@ reads-preserved g c =
     let read = c.in-Err.ensures in
     let at = c.reads.at in
     let old = c.reads.buf in
-    let room = part_room at old c.reads-test.true in
-    let stays = length_stays at old c.read.new.buf c.read.auto.buf in
+    let room = some_part at old _ c.reads-test.true refl in
     let known = g.D.Read.remaining in
     let kept = consumed_none c.in-Err.e read.over (λ e. let l = read.last room e in (l.0, l.1, ap known l.2)) read.bytes in
     record {
-      long = stays ∙ before.long;
-      within = omega (arith, stays, before.within);
-      got = got_same at (length old - at) old c.read.new.buf _ _ _ before.within before.got kept;
-      turns = omega (arith, read.law.turn, before.turns);
-      spent = λ some. omega (arith, read.law.turn, before.turns);
-      empty = λ e. absurd (omega (arith, e, before.long, c.reads-test.true));
+      law = exact_interruption before.law (λ x told. absurd told) c.reads-test.true c.read.auto.buf read.law cc;
+      got = got_same at (length old - at) old c.read.new.buf _ _ _ before.law.within before.got kept;
       taken = read.taken ∙ before.taken;
     }
 
@@ -102,29 +77,20 @@ returns-in-Err-2 g c =
     let read = c.in-Err.ensures in
     let at = c.reads.at in
     let old = c.reads.buf in
-    let room = part_room at old c.reads-test.true in
+    let room = some_part at old _ c.reads-test.true refl in
     let stays = length_stays at old c.read.new.buf c.read.auto.buf in
     let known = g.D.Read.remaining in
     let kept = consumed_none c.in-Err.e read.over (λ e. let l = read.last room e in (l.0, l.1, ap known l.2)) read.bytes in
     let fault : IsFault c.in-Err.e = cc in
     record {
-      law = record {
-        told = λ t. absurd t;
-        fault = fault;
-        empty = λ e. absurd (omega (arith, e, before.long, c.reads-test.true));
-        turns = omega (arith, read.law.turn, before.turns);
-        turn = λ some. tt;
-        metered = λ m. m;
-        filling = λ f. f;
-        store = λ s. absurd s;
-      };
+      law = exact_fault before.law (λ x told. absurd told) c.reads-test.true c.read.auto.buf read.law fault;
       bytes = record {
         count = at;
-        within = omega (arith, stays, before.within);
+        within = omega (arith, stays, before.law.within);
         whole = tt;
-        device = got_same at (length old - at) old c.read.new.buf _ _ _ before.within before.got kept;
+        device = got_same at (length old - at) old c.read.new.buf _ _ _ before.law.within before.got kept;
       };
-      ends = ends_reads (length c.args.buf.now) c.in-Err.e fault before.turns read.law.turn (read.last room) (read.asked room);
+      ends = ends_reads (length c.args.buf.now) c.in-Err.e fault before.law.turns read.law.turn (read.last room) (read.asked room);
       taken = read.taken ∙ before.taken;
     }
 
@@ -132,22 +98,13 @@ pub returns : goal.returns
 returns g c =
     let before = c.reads.invariant in
     record {
-      law = record {
-        told = λ t. absurd t;
-        fault = tt;
-        empty = λ e. (refl, before.empty e);
-        turns = before.turns;
-        turn = λ some. before.spent (omega (arith, some, c.reads-test.false, before.long));
-        metered = λ m. m;
-        filling = λ f. f;
-        store = λ s. absurd s;
-      };
+      law = exact_all before.law c.reads-test.false;
       bytes = record {
         count = c.reads.at;
-        within = before.within;
-        whole = omega (arith, before.within, c.reads-test.false);
+        within = before.law.within;
+        whole = omega (arith, before.law.within, c.reads-test.false);
         device = before.got;
       };
-      ends = (before.turns, λ some. before.spent (omega (arith, some, c.reads-test.false, before.long)));
+      ends = (before.law.turns, λ some. before.law.turn (omega (arith, some, c.reads-test.false, before.law.long)));
       taken = before.taken;
     }

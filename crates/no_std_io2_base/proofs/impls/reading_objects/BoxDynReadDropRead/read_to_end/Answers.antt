@@ -1,7 +1,6 @@
 use Rattle.std.proofs.Common.{sym, arith, ◌∙◌}
 use Rattle.std.proofs.lemmas.Result.{err_from_is_err_and}
 use Rattle.no_std_io2_base.proofs.ReadExactExits.{some_bytes}
-use Rattle.no_std_io2_base.proofs.ReadsToEndExits.{some_room}
 use Rattle.no_std_io2_base.proofs.ToEndLoop.{wrote, to_end_none, to_end_no_room, to_end_refused, to_end_read}
 use Rattle.no_std_io2_base.proofs.ToEndLoop.{to_end_interruption, to_end_done, to_end_fault}
 use Rattle.no_std_io2_base.proofs.impls.reading_objects.BoxDynReadDropRead.read_to_end.Goals as goal
@@ -28,15 +27,11 @@ returns-in_err-open_room g c =
 pub returns-in-Ok-eq0 : goal.returns-in-Ok-eq0
 returns-in-Ok-eq0 g c =
     let room = c.open_room.ensures in
-    let opened = c.open_room.new.buf in
-    let w = wrote c.reads.filled opened.len c.deref_mut.result.now opened.items c.read.new.buf room.within opened.ok.0
-    c.deref_mut.ensures.value c.read.auto.buf room.front in
-    let some = some_room c.reads.filled opened.len _ c.read.new.buf c.in_ok-open_room.ensures.room c.deref_mut.ensures.len
-    c.read.auto.buf in
+    let w = wrote room.within c.open_room.new.buf.ok.0 c.deref_mut.ensures.value c.read.auto.buf room.front in
     record {
       law = to_end_done c.reads.invariant (λ x told. absurd told) w c.truncate.ensures.items
-          (omega (arith, room.grows, c.truncate.ensures.capacity)) c.read.ensures.law c.in-Ok-eq0.is c.in-Ok-eq0.field-0-test some
-          c.len-start.ensures;
+          (omega (arith, room.grows, c.truncate.ensures.capacity)) c.read.ensures.law c.in-Ok-eq0.is c.in-Ok-eq0.field-0-test
+          c.in_ok-open_room.ensures.room c.len-start.ensures;
     }
 
 pub reads-smaller-in-Ok : goal.reads-smaller-in-Ok
@@ -48,9 +43,7 @@ reads-smaller g c = c.in-Err.ensures.law.turn
 pub returns-in-Err-2 : goal.returns-in-Err-2
 returns-in-Err-2 g c =
     let room = c.open_room.ensures in
-    let opened = c.open_room.new.buf in
-    let w = wrote c.reads.filled opened.len c.deref_mut.result.now opened.items c.read.new.buf room.within opened.ok.0
-    c.deref_mut.ensures.value c.read.auto.buf room.front in
+    let w = wrote room.within c.open_room.new.buf.ok.0 c.deref_mut.ensures.value c.read.auto.buf room.front in
     record {
       law = to_end_fault c.reads.invariant (λ x told. absurd told) w c.truncate-in-Err-2.ensures.items
           (omega (arith, room.grows, c.truncate-in-Err-2.ensures.capacity)) c.in-Err.ensures.law
@@ -60,16 +53,12 @@ returns-in-Err-2 g c =
 pub reads-preserved-in-Ok : goal.reads-preserved-in-Ok
 reads-preserved-in-Ok g c =
     let room = c.open_room.ensures in
-    let opened = c.open_room.new.buf in
-    let w = wrote c.reads.filled opened.len c.deref_mut.result.now opened.items c.read.new.buf room.within opened.ok.0
-    c.deref_mut.ensures.value c.read.auto.buf room.front in
+    let w = wrote room.within c.open_room.new.buf.ok.0 c.deref_mut.ensures.value c.read.auto.buf room.front in
     to_end_read c.reads.invariant (λ x told. absurd told) c.in-Ok.ensures.law c.in-Ok.n-test.1 w room.grows
 
 pub reads-preserved : goal.reads-preserved
 reads-preserved g c =
     let room = c.open_room.ensures in
-    let opened = c.open_room.new.buf in
-    let w = wrote c.reads.filled opened.len c.deref_mut.result.now opened.items c.read.new.buf room.within opened.ok.0
-    c.deref_mut.ensures.value c.read.auto.buf room.front in
+    let w = wrote room.within c.open_room.new.buf.ok.0 c.deref_mut.ensures.value c.read.auto.buf room.front in
     to_end_interruption c.reads.invariant (λ x told. absurd told) c.in-Err.ensures.law (sym c.is_interrupted.ensures ∙ c.if-is_interrupted.true) w
     room.grows

@@ -1,10 +1,9 @@
-use Rattle.std.proofs.Common.{◌≡◌, ◌+◌, ◌≤◌, length, take, vec_capacity, arith, ap, refl, sym, subst, ◌∙◌, le_refl, le_trans}
+use Rattle.std.proofs.Common.{◌≡◌, ◌+◌, ◌<◌, ◌≤◌, length, take, vec_capacity, arith, ap, refl, sym, subst, ◌∙◌, le_trans}
 use Rattle.std.proofs.lemmas.Result.{err_from_is_err_and}
 use Rattle.no_std_io2_base.proofs.Along.{along_none, along_then}
 use Rattle.no_std_io2_base.proofs.Gathered.{gathered_same, gathered_first_fault, gathered_fits}
-use Rattle.no_std_io2_base.proofs.Parts.{take-written_below}
 use Rattle.no_std_io2_base.proofs.ReadExactExits.{some_bytes}
-use Rattle.no_std_io2_base.proofs.ReadsToEndExits.{filled_bytes, front_cut, count_cut, len_cut, filled_length, some_room}
+use Rattle.no_std_io2_base.proofs.ReadsToEndExits.{filled_bytes, front_cut, count_cut, len_cut, filled_length}
 use Rattle.no_std_io2_base.proofs.TakenToEnd.{Ended, ended_at_limit, nothing_read, given_none, gathered_done}
 use Rattle.no_std_io2_base.proofs.TakenToEnd.{limit_same, limit_cut, no_turn, none_filled}
 use Rattle.no_std_io2_base.proofs.ToEndLoop.{wrote, to_end_none, to_end_no_room, to_end_refused, to_end_read}
@@ -65,9 +64,7 @@ reads-preserved-in-Ok g c =
     let before = c.reads.invariant in
     let read = c.in-Ok.ensures in
     let room = c.open_room.ensures in
-    let opened = c.open_room.new.buf in
-    let w = wrote c.reads.filled opened.len c.deref_mut.result.now opened.items c.read.new.buf room.within opened.ok.0
-    c.deref_mut.ensures.value c.read.auto.buf room.front in
+    let w = wrote room.within c.open_room.new.buf.ok.0 c.deref_mut.ensures.value c.read.auto.buf room.front in
     record {
       law = to_end_read before.law (λ x told. absurd told) read.law c.in-Ok.n-test.1 w room.grows;
       limit = omega (arith, before.limit, read.limit);
@@ -80,13 +77,11 @@ returns-in-Err-2 g c =
     let before = c.reads.invariant in
     let read = c.in-Err.ensures in
     let room = c.open_room.ensures in
-    let opened = c.open_room.new.buf in
-    let w = wrote c.reads.filled opened.len c.deref_mut.result.now opened.items c.read.new.buf room.within opened.ok.0
-    c.deref_mut.ensures.value c.read.auto.buf room.front in
+    let within : c.reads.filled ≤ length c.reads.buf.items = omega (arith, before.law.within, c.reads.buf.ok.0) in
+    let w = wrote room.within c.open_room.new.buf.ok.0 c.deref_mut.ensures.value c.read.auto.buf room.front in
     let fault = sym c.is_interrupted.ensures ∙ c.if-is_interrupted.false in
     let new = c.truncate.new.self in
     let cut = c.truncate.ensures.items in
-    let within : c.reads.filled ≤ length c.reads.buf.items = omega (arith, before.law.within, c.reads.buf.ok.0) in
     let long = filled_length c.reads.filled new.len new.items c.reads.buf.items new.ok.0 (cut ∙ w.kept) within in
     record {
       law = to_end_fault before.law (λ x told. absurd told) w cut (omega (arith, room.grows, c.truncate.ensures.capacity)) read.law
@@ -103,9 +98,7 @@ reads-preserved g c =
     let before = c.reads.invariant in
     let read = c.in-Err.ensures in
     let room = c.open_room.ensures in
-    let opened = c.open_room.new.buf in
-    let w = wrote c.reads.filled opened.len c.deref_mut.result.now opened.items c.read.new.buf room.within opened.ok.0
-    c.deref_mut.ensures.value c.read.auto.buf room.front in
+    let w = wrote room.within c.open_room.new.buf.ok.0 c.deref_mut.ensures.value c.read.auto.buf room.front in
     record {
       law = to_end_interruption before.law (λ x told. absurd told) read.law (sym c.is_interrupted.ensures ∙ c.if-is_interrupted.true) w
           room.grows;
@@ -124,9 +117,9 @@ returns g c =
     let front : take filled c.reads-test.buf.items ≡ take filled mid = elim c.reads-test.branch [
       | else-reads-test w ↦ ap (λ b. take filled b.items) w.buf-is
       | then-reads-test+in_ok-open_room+in-Ok-eq0 w ↦
-          let opened = w.open_room.new.buf in
-          ap (λ b. take filled b.items) w.buf-is ∙ take-written_below filled opened.len filled w.deref_mut.result.now opened.items
-          w.read.new.buf (le_refl _) w.open_room.ensures.within opened.ok.0 w.deref_mut.ensures.value ∙ w.open_room.ensures.front
+          let room = w.open_room.ensures in
+          ap (λ b. take filled b.items) w.buf-is
+          ∙ (wrote room.within w.open_room.new.buf.ok.0 w.deref_mut.ensures.value w.read.auto.buf room.front).kept
     ] in
     let grown : vec_capacity c.reads.buf ≤ vec_capacity c.reads-test.buf = elim c.reads-test.branch [
       | else-reads-test w ↦ omega (arith, ap vec_capacity w.buf-is)
@@ -138,8 +131,9 @@ returns g c =
           let read = w.read.ensures.law in
           let is = w.in-Ok-eq0.is in
           let none = w.in-Ok-eq0.field-0-test in
-          let some = some_room filled w.open_room.new.buf.len _ w.read.new.buf w.in_ok-open_room.ensures.room w.deref_mut.ensures.len
-          w.read.auto.buf in
+          let room = w.open_room.ensures in
+          let part = wrote room.within w.open_room.new.buf.ok.0 w.deref_mut.ensures.value w.read.auto.buf room.front in
+          let some : 0 < length w.read.new.buf = omega (arith, part.fits, w.in_ok-open_room.ensures.room) in
           subst (Ended T.tells T.is_filling T.turns T.events c.reads.self) (sym w.self-is) (record {
             spent = read.turns;
             told = λ t.

@@ -1,52 +1,24 @@
-use Rattle.std.proofs.Common.{length, rules, refl}
-use Rattle.no_std_io2_base.proofs.WriteExits.{not_empty, is_empty, sent_none, sends_zero, sends_fault, sends_done}
-use Rattle.no_std_io2_base.proofs.WriteExits.{sent_interruption, sent_more, fewer_left, fewer_turns, takes_some}
-use Rattle.no_std_io2_base.proofs.WriteExits.{one_call, no_call, no_error_there, same_count}
+use Rattle.std.proofs.Common.{length}
+use Rattle.no_std_io2_base.proofs.WriteExits.{not_empty, is_empty, fewer_left, fewer_turns}
+use Rattle.no_std_io2_base.proofs.WriteExits.{writes_none, writes_more, writes_interruption, writes_fault, writes_zero, writes_done}
 use Rattle.no_std_io2_base.proofs.traits.write.Write.write_rest.Goals as goal
 
 pub writes-init : goal.writes-init
-writes-init g c = record {
-  sent = sent_none _ _;
-  all = λ a. a;
-  cost = λ m a. (m, refl);
-}
+writes-init g c = writes_none
 
 pub returns-in-Ok-eq0 : goal.returns-in-Ok-eq0
 returns-in-Ok-eq0 g c =
-    let before = c.writes.invariant in
-    let is = c.in-Ok-eq0.is in
-    let none = c.in-Ok-eq0.field-0-test in
     let some = not_empty _ c.writes.rest.now c.is_empty.ensures c.writes-test.true in
-    record {
-      law = record {
-        fault = search rules;
-        sends = sends_zero before.sent c.write.ensures.law.moves is none some cc;
-        done = tt;
-        all = λ a. absurd (takes_some _ (c.write.ensures.law.all (before.all a)).1 is none some);
-        counts = λ m a. absurd (takes_some _ (c.write.ensures.law.all (before.all a)).1 is none some);
-      };
-    }
+    record { law = writes_zero c.writes.invariant c.write.ensures.law c.in-Ok-eq0.is c.in-Ok-eq0.field-0-test some cc }
 
 pub writes-smaller-in-Ok : goal.writes-smaller-in-Ok
-writes-smaller-in-Ok g c = fewer_left c.in-Ok.n _ _ c.writes.rest.now c.in-Ok.n-test.1 c.in-Ok.ensures.law.bound c.in-Ok.ensures.law.moves.turns
+writes-smaller-in-Ok g c =
+    let wrote = c.in-Ok.ensures.law in
+    fewer_left c.in-Ok.n _ _ c.writes.rest.now c.in-Ok.n-test.1 wrote.bound wrote.moves.turns
 
 pub writes-preserved-in-Ok : goal.writes-preserved-in-Ok
 writes-preserved-in-Ok g c =
-    let before = c.writes.invariant in
-    let wrote = c.in-Ok.ensures.law in
-    let left = c.writes.rest.now in
-    let n = c.in-Ok.n in
-    record {
-      sent = sent_more left _ n before.sent wrote.moves;
-      all = λ a. (wrote.all (before.all a)).0;
-      cost = λ m a.
-          let so_far = before.cost m a in
-          let now = wrote.counts so_far.0 (before.all a) in (
-            now.0,
-            one_call n left _ _ _ (same_count refl (wrote.all (before.all a)).1)
-                (not_empty _ left c.is_empty.ensures c.writes-test.true) now.1 so_far.1,
-          );
-    }
+    writes_more c.writes.invariant c.in-Ok.ensures.law (not_empty _ c.writes.rest.now c.is_empty.ensures c.writes-test.true)
 
 -- how the test of an interruption is written is not named here
 pub writes-smaller : goal.writes-smaller
@@ -54,39 +26,11 @@ writes-smaller g c = fewer_turns c.in-Err.e _ _ (length c.writes.rest.now) c.in-
     cc
 
 pub writes-preserved : goal.writes-preserved
-writes-preserved g c =
-    let before = c.writes.invariant in
-    let wrote = c.in-Err.ensures.law in
-    record {
-      sent = sent_interruption before.sent wrote.moves;
-      all = λ a. (wrote.all (before.all a)).0;
-      cost = λ m a. absurd (no_error_there _ _ (wrote.all (before.all a)).1);
-    }
+writes-preserved g c = writes_interruption c.writes.invariant c.in-Err.ensures.law
 
 pub returns-in-Err-2 : goal.returns-in-Err-2
-returns-in-Err-2 g c =
-    let before = c.writes.invariant in
-    let wrote = c.in-Err.ensures.law in
-    record {
-      law = record {
-        fault = cc;
-        sends = sends_fault before.sent wrote.moves;
-        done = tt;
-        all = λ a. absurd (no_error_there _ _ (wrote.all (before.all a)).1);
-        counts = λ m a. absurd (no_error_there _ _ (wrote.all (before.all a)).1);
-      };
-    }
+returns-in-Err-2 g c = record { law = writes_fault c.writes.invariant c.in-Err.ensures.law cc }
 
 pub returns : goal.returns
 returns g c =
-    let before = c.writes.invariant in
-    let none = is_empty _ c.writes.rest.now c.is_empty.ensures c.writes-test.false in
-    record {
-      law = record {
-        sends = sends_done before.sent;
-        fault = tt;
-        done = none;
-        all = λ a. (before.all a, refl);
-        counts = λ m a. let so_far = before.cost m a in (so_far.0, no_call none so_far.1);
-      };
-    }
+    record { law = writes_done c.writes.invariant (is_empty _ c.writes.rest.now c.is_empty.ensures c.writes-test.false) }
