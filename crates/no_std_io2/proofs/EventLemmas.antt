@@ -84,7 +84,7 @@ pub Passes-fails : {may_take_none : Type 0} {E after : List Event} {reply : Resu
     → reply ≡ Err e → ReadsExact may_take_none E reply buf after
     → ((taken : List ℕ) × (mid : List Event) × Passes E taken mid × StopsThere mid e after)
         ⊎ (may_take_none × (after ≡ E) × IsUnexpectedEnd e)
-Passes-fails {may_take_none} {E} buf {after} is f = failed (subst (λ r. ReadsExact may_take_none E r buf after) is f)
+Passes-fails {may_take_none} {E} {after} buf is f = failed (subst (λ r. ReadsExact may_take_none E r buf after) is f)
 
 -- one after another
 pub Passes-then : {E mid after : List Event} {x y : List ℕ} → Passes E x mid → Passes mid y after → Passes E (x ++ y) after
