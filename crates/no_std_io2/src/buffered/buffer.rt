@@ -161,7 +161,8 @@ impl<const S: usize> Buffer<S> {
     }
 
     /// Reads once. What was held before is lost, and nothing lies behind.
-    #[inline(always)]
+    #[cold]
+    #[inline(never)]
     pub(crate) fn fill<R: Read>(&mut self, from: &mut R) -> Result<()>
         requires { 0 < S }
         ensures err { OnErr result (buffer_held self.new ≡ []) }

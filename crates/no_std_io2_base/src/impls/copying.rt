@@ -35,6 +35,16 @@ fn copy_few(from: &[u8], to: &mut [u8])
     }
 }
 
+// Copies a slice of any length. It is a call, since between slices that may overlap, for all that LLVM knows, a copy is a test, a
+// call and loops, which each caller would have inline.
+#[inline(never)]
+fn copy_long(to: &mut [u8], from: &[u8])
+    requires { length to.old ≡ length from.now }
+    ensures { to.new ≡ from.now }
+{
+    to.copy_from_slice(from);
+}
+
 /// Copies bytes over as many others. Up to 32 bytes are moved in place, without a call of `memcpy`, since most pieces that go
 /// through a stream are short. Follows `copy_from_slice` of std's slices.
 #[inline(always)]
@@ -43,7 +53,7 @@ pub fn copy_bytes(from: &[u8], to: &mut [u8])
     ensures { to.new ≡ from.now }
 {
     if from.len() > 32 {
-        to.copy_from_slice(from);
+        copy_long(to, from);
     } else if from.len() >= 16 {
         copy_ends::<16>(from, to);
     } else if from.len() >= 8 {

@@ -107,6 +107,7 @@ impl<T: Read, U: Read> Read for Chain<T, U> {
 
     ghost may_take_none = { λ _. ⊥ };
 
+    #[inline]
     fn read(&mut self, buf: &mut [u8]) -> Result<usize>
         ensures law { ReadLaw ⟦<Self as Read>⟧ self.old buf.old result buf.new self.new }
 

@@ -36,9 +36,8 @@ impl<R: Read, const S: usize> BufReader<R, S> {
         self.buffer.give(buf)
     }
 
-    // Reads once into the buffer, in which nothing is held.
-    #[cold]
-    #[inline(never)]
+    // Reads once into the buffer, in which nothing is held. The room for the answer is zeroed where it is inlined.
+    #[inline(always)]
     pub(super) fn read_ahead(&mut self) -> Result<()>
         requires { length (reader_held self.old) ≡ 0 }
         ensures { FillsBuffer R.Read self.old result self.new }
@@ -49,7 +48,7 @@ impl<R: Read, const S: usize> BufReader<R, S> {
     // Goes on with an exact read that wants more than is held, as the trait's body does.
     #[cold]
     #[inline(never)]
-    fn read_on(&mut self, buf: &mut [u8]) -> Result<()>
+    fn read_rest(&mut self, buf: &mut [u8]) -> Result<()>
         requires { length (reader_held self.old) < length buf.old }
         ensures { ReadsOn R.Read self.old (length buf.old) result buf.new self.new }
     {
@@ -63,6 +62,15 @@ impl<R: Read, const S: usize> BufReader<R, S> {
             }
         }
         Ok(())
+    }
+
+    // The same. The room for the answer is zeroed where it is inlined.
+    #[inline(always)]
+    fn read_on(&mut self, buf: &mut [u8]) -> Result<()>
+        requires { length (reader_held self.old) < length buf.old }
+        ensures { ReadsOn R.Read self.old (length buf.old) result buf.new self.new }
+    {
+        self.read_rest(buf)
     }
 }
 

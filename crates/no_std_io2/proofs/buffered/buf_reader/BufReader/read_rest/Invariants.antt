@@ -5,7 +5,7 @@ use Rattle.no_std_io2.specs.BufReader.{reader_held, reader_behind, reader_inner,
 use Rattle.no_std_io2.specs.BufReader.{reader_has_store, reader_is_sound, reader_position}
 use Rattle.no_std_io2.specs.Buffer.{IsEnd}
 use Rattle.no_std_io2.proofs.BufReaderExact.{Exact, behind_so_far}
-use Rattle.no_std_io2.proofs.buffered.buf_reader.BufReader.read_on.Given as goal
+use Rattle.no_std_io2.proofs.buffered.buf_reader.BufReader.read_rest.Given as goal
 
 abbrev pub invariant-reads : goal.invariant-reads
 invariant-reads g l =

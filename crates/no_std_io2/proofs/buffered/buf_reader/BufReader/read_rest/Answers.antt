@@ -10,7 +10,7 @@ use Rattle.no_std_io2.proofs.BufReaderExact.{exact_begins, exact_first, exact_re
 use Rattle.no_std_io2.proofs.BufReaderExact.{exact_left-full, taken_first, taken_end, taken_whole, nothing_read, length-events, no_bytes}
 use Rattle.no_std_io2.proofs.BufReaderExact.{moved_length, no_error_behind, read_ends, read_behind, none_behind, gives_to_come}
 use Rattle.no_std_io2.proofs.BufWriterLemmas.{IsEnd-none}
-use Rattle.no_std_io2.proofs.buffered.buf_reader.BufReader.read_on.Goals as goal
+use Rattle.no_std_io2.proofs.buffered.buf_reader.BufReader.read_rest.Goals as goal
 
 pub reads-init : goal.reads-init
 reads-init g c =
