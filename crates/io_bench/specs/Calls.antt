@@ -1,11 +1,9 @@
 -- What one call does: fails, or is handed on, by the laws of `Write`; and how many calls a loop makes.
-use Rattle.std.specs.Prelude.{◌≡◌, ℕ, ◌+◌, ◌<◌, ◌≤◌, ◌⊎◌, List, [], length, min, None, Result, Ok, Err, IfOk, IfErr}
-use Rattle.std.specs.Prelude.{OnOk, IsOkAnd, IsErrAnd}
+use Rattle.std.specs.Prelude.{◌≡◌, ℕ, ◌+◌, ◌<◌, ◌≤◌, ◌⊎◌, min, None, Result, Ok, Err, IfErr}
+use Rattle.std.specs.Prelude.{OnOk, IsErrAnd}
 use Rattle.no_std_io2_base.specs.declared.error.Error.{Error}
 use Rattle.no_std_io2_base.specs.declared.error.ErrorKind.{ErrorKind}
 use Rattle.no_std_io2_base.specs.Errors.{error_kind, error_text, IsOutOfMemory}
-use Rattle.no_std_io2_base.specs.Write.{Told, Moves, taken, write_mishap, call_mishap}
-use Rattle.no_std_io2_base.specs.Read.{Event, Reads, SpendsTurn}
 
 -- an error of this kind, without a text
 abbrev pub FailsWith : {T : Type 0} → ErrorKind → Result T Error → Type 0
