@@ -2,12 +2,13 @@
 use Rattle.std.proofs.Common.{Bor, Result, Ok, ◌⊎◌, inl, inr, Err, append-nil, nat_eq, ◌≡◌, ℕ, zero, suc, ◌+◌, ◌-◌, ◌<◌}
 use Rattle.std.proofs.Common.{◌≤◌, min, nat_lt, if◌then◌else◌, false, Bool, List, [], ◌∷◌, ◌++◌, length, take, drop}
 use Rattle.std.proofs.Common.{get_or, refl, sym, ap, subst, ◌∙◌, arith, ⊎_elim, drop_of_length-le, length-take-le}
-use Rattle.std.proofs.Common.{length-drop, add_assoc, append_assoc, take_all, length-append}
-use Rattle.std.proofs.lemmas.List.{take_more}
+use Rattle.std.proofs.Common.{length-drop, append_assoc, take_all, length-append}
+use Rattle.std.proofs.lemmas.List.{take_more, take_min}
 use Rattle.std.proofs.lemmas.Bool.Decides.{nat_tests}
 use Rattle.std.proofs.lemmas.Bool.{cases_lt}
 use Rattle.std.proofs.Math.Seq.{drop-append_seam}
 use Rattle.no_std_io2_base.specs.Read.{Event, byte, fails, cut, events_of, bytes, HasNoFault, Reads, ReadsExact, Fills}
+use Rattle.no_std_io2_base.specs.Read.{Reader, StopsAtFault, FallsShort}
 use Rattle.io_bench.specs.declared.asks.Ask.{Ask}
 use Rattle.io_bench.specs.declared.asks.Ask.TheVariants.{Read, Exact, Fill}
 use Rattle.no_std_io2_base.specs.declared.error.Error.{Error}
@@ -17,41 +18,15 @@ use Rattle.no_std_io2_base.specs.BufRead.{Lends, LendsFrom}
 use Rattle.no_std_io2_base.proofs.Events.{bytes-events_of, length-events_of, events_of-append, HasNoFault-events_of, HasNoFault-front}
 use Rattle.no_std_io2.proofs.BufReaderExact.{length-events, no_bytes}
 use Rattle.no_std_io2.proofs.CopyLemmas.{no_fault_at_end}
-use Rattle.no_std_io2.specs.BufReader.{held_or_to_come, filled_length, exact_reads, exact_left}
-use Rattle.io_bench.proofs.ReadsPaid.{ReadsPaid, paid_ask, paid_same, asked-le}
+use Rattle.no_std_io2.specs.declared.buffered.buf_reader.BufReader.{BufReader}
+use Rattle.no_std_io2.specs.BufReader.{reader_held, reader_inner, held_or_to_come, filled_length, exact_reads, exact_left}
+use Rattle.no_std_io2.proofs.BufReaderRoom.{some_room, held-le}
+use Rattle.io_bench.specs.declared.tally.Tally.{Tally}
+use Rattle.io_bench.specs.Tally.{tally_reads}
+use Rattle.io_bench.proofs.ReadsPaid.{ReadsPaid, paid_none, paid_ask, paid_same, paid_bound, asked-le}
 use Rattle.io_bench.specs.Asks.{Drops, Step, Steps, TakesFront, Fits, AllFit, Asked, meets_end, asked_bytes, asked_reads, asked_left}
-
--- the next number of asks at the end
-abbrev pub ends_more : Ask → List Event → ℕ → ℕ
-ends_more ask E ends = ends + (if meets_end ask (length E) then 1 else 0)
-
--- the steps of some asks, and then that of one more, are the steps of them all; the last one is counted
--- where it meets the end
-Steps-more : (asks : List Ask) (ask : Ask) (E mid after : List Event) (ends : ℕ) → Steps asks E mid ends
-    → Step ask mid after → Steps (asks ++ ask ∷ []) E after (ends_more ask mid ends)
-Steps-more [] ask E mid after ends s t =
-    let here = subst (λ l. Step ask l after) s.0 t in
-    (after, 0, here, (refl, refl), grind (arith, s.0, s.1))
-Steps-more (o ∷ asks) ask E mid after ends s t =
-    (s.0, ends_more ask mid s.1, s.2, Steps-more asks ask s.0 mid after s.1 s.3 t, ap (λ n. ends_more ask mid n) s.4 ∙ add_assoc _ _ _)
-
--- before the first ask nothing is gone, and none has met the end
-pub Steps-none : (asks : List Ask) (E : List Event) → Steps (take 0 asks) E E 0
-Steps-none asks E = (refl, refl)
-
--- the steps of the first i asks, and then that of the next one, are the steps of the first i + 1; the last
--- one is counted where it meets the end
-pub Steps-next : (asks : List Ask) (i : ℕ) (d : Ask) (E mid after : List Event) (ends : ℕ) → i < length asks
-    → Steps (take i asks) E mid ends → Step (get_or asks i d) mid after
-    → Steps (take (i + 1) asks) E after (ends_more (get_or asks i d) mid ends)
-Steps-next asks i d E mid after ends h s t =
-    subst (λ made. Steps made E after (ends_more (get_or asks i d) mid ends)) (sym (take_more asks i d h))
-    (Steps-more (take i asks) (get_or asks i d) E mid after ends s t)
-
--- where there are no more than i asks, the steps of the first i are the steps of all
-pub Steps-all : (asks : List Ask) (i : ℕ) (E after : List Event) (ends : ℕ) → length asks ≤ i
-    → Steps (take i asks) E after ends → Steps asks E after ends
-Steps-all asks i E after ends h s = subst (λ made. Steps made E after ends) (take_all i asks h) s
+use Rattle.io_bench.specs.Asks.{Answers, Answered, CameTo, met_end, asked_reader, asked_events}
+use Rattle.std.proofs.Common.{◌/◌, ◌≢◌, true, ◌&&◌, is_err}
 
 -- where a buffer has room for each ask of a list, it has room for the one at i
 pub fits_at : (room : ℕ) (asks : List Ask) (i : ℕ) (d : Ask) → i < length asks → AllFit room asks → Fits room (get_or asks i d)
@@ -59,12 +34,8 @@ fits_at room [] i d h f = absurd (omega arith)
 fits_at room (ask ∷ asks) zero d h f = f.0
 fits_at room (ask ∷ asks) (suc i) d h f = fits_at room asks i d (omega arith) f.1
 
--- where nothing is gone, the empty front is gone
-pub front_none : (E : List Event) → TakesFront E E
-front_none E = ([], refl)
-
 -- where a front is gone, and then a front of what was left, both together are a front that is gone
-pub front_more : {E mid after : List Event} → TakesFront E mid → TakesFront mid after → TakesFront E after
+front_more : {E mid after : List Event} → TakesFront E mid → TakesFront mid after → TakesFront E after
 front_more {E = E} {after = after} s t = (s.0 ++ t.0, s.1 ∙ ap (λ l. s.0 ++ l) t.1 ∙ sym (append_assoc s.0 t.0 after))
 
 -- what is left behind a front, by its length
@@ -97,7 +68,7 @@ pub read_asked : (S : ℕ) {len r r' : ℕ} (n : ℕ) (held held' buf : List ℕ
     → Reads (events_of held ++ inner) (Ok n) buf E' → n ≤ length buf
     → n ≡ min len (held_or_to_come (length held) (length inner)) → (0 < length held → held' ≡ drop n held)
     → (held ≡ [] → S ≤ len → held' ≡ []) → (held ≡ [] → len < S → length held' + n ≡ min S (length inner))
-    → r' ≡ r + (1 - length held) → is_end ≡ (if nat_lt 0 n then false else nat_lt (length held') 1)
+    → r' ≡ r + (1 - length held) → is_end ≡ (nat_eq n 0 && nat_eq (length held') 0)
     → Asked S (Read len) (length held) r (events_of held ++ inner) is_end (length held') r' E'
 read_asked S {len} {r} {r'} n held held' buf inner {E'} {is_end} room read fits is gave straight filled reads end =
     let all = length-events held inner in
@@ -121,13 +92,6 @@ fill_asked S most h e r h' {r'} lent {E} {E'} {is_end} room front long all is le
     asked_by S (Fill most) h r h' r' E E' is_end (min most lent) front long (ap (min most) (sym same))
     (grind (arith, nat_tests)) reads (left ∙ (omega (arith, same)))
 
--- an exact read that is filled, or falls short
-pub exact_asked : (S len : ℕ) {h r h' r' : ℕ} {E E' : List Event} {is_end : Bool} → TakesFront E E'
-    → length E' ≡ length E - len → is_end ≡ nat_lt (length E) len
-    → r' ≡ r + exact_reads len h (length E) → h' ≡ exact_left S len h (length E) → Asked S (Exact len) h r E is_end h' r' E'
-exact_asked S len {h} {r} {h'} {r'} {E} {E'} {is_end} front long end reads left =
-    asked_by S (Exact len) h r h' r' E E' is_end (min len (length E)) front (omega arith) refl end reads left
-
 -- there are no more bytes among some events than there are events
 bytes-le : (E : List Event) → length (bytes E) ≤ length E
 bytes-le [] = omega arith
@@ -144,6 +108,22 @@ filled-le {E} {buf} {E'} f =
       ap length f.split,
       length-append (cut (length buf) E) E',
     )
+
+-- an exact read that was filled
+pub exact_filled : (S len : ℕ) {h r h' r' : ℕ} (buf : List ℕ) {E E' : List Event} → length buf ≡ len → Fills E buf E'
+    → length E' ≡ length E - len → r' ≡ r + exact_reads len h (length E) → h' ≡ exact_left S len h (length E)
+    → Asked S (Exact len) h r E false h' r' E'
+exact_filled S len {h} {r} {h'} {r'} buf {E} {E'} same filled left reads held =
+    let within = filled-le filled in
+    asked_by S (Exact len) h r h' r' E E' false (min len (length E)) (cut _ _, filled.split) (omega (arith, same, within)) refl
+    (grind (arith, nat_tests, same, within)) reads held
+
+-- an exact read that fell short
+pub exact_short : (S len : ℕ) {h r h' r' : ℕ} {E E' : List Event} → length E < len → TakesFront E E'
+    → length E' ≡ length E - len → r' ≡ r + exact_reads len h (length E) → h' ≡ exact_left S len h (length E)
+    → Asked S (Exact len) h r E true h' r' E'
+exact_short S len {h} {r} {h'} {r'} {E} {E'} short front left reads held =
+    asked_by S (Exact len) h r h' r' E E' true (min len (length E)) front (omega arith) refl (grind (arith, nat_tests, short)) reads held
 
 -- where a read fell short that may not take nothing then, a front is gone: all there was
 taken_whole : (E E' : List Event) → (E' ≡ [] ⊎ (⊥ × (E' ≡ E))) → TakesFront E E'
@@ -162,27 +142,53 @@ falls_short bs {E} e buf {E'} is (inr short) =
     let long : length E ≡ length (bytes E) = ap length is ∙ length-events_of bs ∙ sym (ap length (ap bytes is ∙ bytes-events_of bs)) in
     (short.answer.0, omega (arith, short.short, long), taken_whole E E' short.left)
 
+-- where an exact read into so many bytes failed
+pub fell : {E : List Event} {e : Error} (buf : List ℕ) {len : ℕ} {E' : List Event} → length buf ≡ len
+    → ReadsExact {A = Unit {0}} ⊥ E (Err e) buf E' → StopsAtFault E len e E' ⊎ FallsShort ⊥ E len e E'
+fell {E} {e} buf {E' = E'} same t = subst (λ len. StopsAtFault E len e E' ⊎ FallsShort ⊥ E len e E') same t
+
 -- what is held and then bytes alone are bytes alone
 pub bytes_behind : (held bs : List ℕ) (E : List Event) → E ≡ events_of bs → events_of held ++ E ≡ events_of (held ++ bs)
 bytes_behind held bs E is = ap (λ l. events_of held ++ l) is ∙ sym (events_of-append held bs)
-
--- an error that `fill_buf` answered is gone
-pub lent_error : {reply : Result (Bor (List ℕ)) Error} (e : Error) {E E' : List Event} → reply ≡ Err e
-    → LendsFrom E reply E' → TakesFront E E'
-lent_error e {E = E} {E' = E'} is lends = (fails e ∷ [], subst (λ r. LendsFrom E r E') is lends)
 
 -- what it lent is held, and still to come
 pub lent_held : (reply : Result (Bor (List ℕ)) Error) (s : Bor (List ℕ)) (held : List ℕ) → reply ≡ Ok s → Lends reply held → held ≡ s.now
 lent_held reply s held is lends = subst (λ r. Lends r held) is lends
 
--- an exact read takes a front, whatever its fault
-pub failed_front : {E : List Event} (e : Error) (room : List ℕ) {E' : List Event}
-    → ReadsExact {A = Unit {0}} ⊥ E (Err e) room E' → TakesFront E E'
-failed_front {E = E} e buf {E' = E'} (inl stops) = (stops.taken, stops.split)
-failed_front {E = E} e buf {E' = E'} (inr short) = taken_whole E E' short.left
+-- with any other error than an early end it stopped at a fault
+pub stopped : {E : List Event} {e : Error} (buf : List ℕ) {len : ℕ} {E' : List Event} → length buf ≡ len → error_kind e ≢ UnexpectedEof
+    → ReadsExact {A = Unit {0}} ⊥ E (Err e) buf E' → StopsAtFault E len e E'
+stopped {E} {e} buf {len} {E'} same other t = by_case (fell buf same t)
+  where
+    by_case : StopsAtFault E len e E' ⊎ FallsShort ⊥ E len e E' → StopsAtFault E len e E'
+    by_case (inl stops) = stops
+    by_case (inr short) = absurd (other short.answer.0)
+
+-- an error that `fill_buf` answered stood first, and is gone
+pub lent_error : {reply : Result (Bor (List ℕ)) Error} (e : Error) {E after : List Event} → reply ≡ Err e → LendsFrom E reply after
+    → E ≡ fails e ∷ after
+lent_error e {E} {after} is lends = subst (λ r. LendsFrom E r after) is lends
+
+-- of what it lent the first are gone
+pub lent_taken : {E mid : List Event} (after : List Event) (most n : ℕ) {held lent : List ℕ} → mid ≡ E → mid ≡ events_of (take n held) ++ after
+    → held ≡ lent → n ≡ min most (length lent) → E ≡ events_of (take most lent) ++ after
+lent_taken after most n {lent = lent} same rest held is =
+    sym same ∙ rest ∙ ap (λ l. events_of l ++ after) (ap (take n) held ∙ ap (λ k. take k lent) is ∙ take_min most lent)
+
+-- an ask takes a front of what was to come
+front_answered : (ask : Ask) (E : List Event) (answer : Result Bool Error) (held : List ℕ) (after : List Event)
+    → Answers ask E answer held after → TakesFront E after
+front_answered (Read len) E (Ok is_end) held after t = (events_of (take t.0 t.1), t.4.0)
+front_answered (Read len) E (Err e) held after t = (fails e ∷ [], t)
+front_answered (Exact len) E (Ok false) held after t = (cut _ _, t.2.split)
+front_answered (Exact len) E (Ok true) held after (e, kind, inl stops) = (stops.taken, stops.split)
+front_answered (Exact len) E (Ok true) held after (e, kind, inr short) = taken_whole E after short.left
+front_answered (Exact len) E (Err e) held after t = (t.1.taken, t.1.split)
+front_answered (Fill most) E (Ok is_end) held after t = (events_of (take most t.0), t.3)
+front_answered (Fill most) E (Err e) held after t = (fails e ∷ [], t)
 
 -- the step that an ask took
-pub asked_step : (S : ℕ) (ask : Ask) (h r h' r' : ℕ) (E E' : List Event) (is_end : Bool) → 0 < S → h ≤ length E
+asked_step : (S : ℕ) (ask : Ask) (h r h' r' : ℕ) (E E' : List Event) (is_end : Bool) → 0 < S → h ≤ length E
     → Asked S ask h r E is_end h' r' E' → Step ask E E'
 asked_step S (Read len) h r h' r' E E' is_end room fits a =
     drops S len h E E' (if nat_lt 0 h then h else length E) (grind (arith, nat_tests)) a.events
@@ -193,28 +199,106 @@ asked_step S (Exact len) h r h' r' E E' is_end room fits a = ⊎_elim
     (λ long. a.events ∙ ap (λ n. drop n E) (omega arith))
     (cases_lt (length E) len)
 
--- one more ask of a list
-pub Steps-asked : (S : ℕ) (asks : List Ask) (i : ℕ) (d : Ask) {h r h' r' : ℕ} (E : List Event) {mid after : List Event} (ends : ℕ)
-    {is_end : Bool} (more : ℕ)
-    → 0 < S → h ≤ length mid → i < length asks
-    → Steps (take i asks) E mid ends → Asked S (get_or asks i d) h r mid is_end h' r' after
-    → more ≡ (if is_end then 1 else 0) → Steps (take (i + 1) asks) E after (ends + more)
-Steps-asked S asks i d {h} {r} {h'} {r'} E {mid} {after} ends {is_end} more room fits within s a is =
-    let ask = get_or asks i d in
-    let counted : more ≡ (if meets_end ask (length mid) then 1 else 0) = is ∙ ap (λ b. if b then 1 else 0) a.end in
-    subst (Steps (take (i + 1) asks) E after) (ap (λ n. ends + n) (sym counted))
-    (Steps-next asks i d E mid after ends within s (asked_step S ask h r h' r' mid after is_end room fits a))
+-- runs of asks
+module _ {R : Type 0} {S : ℕ} (inner : Reader R) where
+  -- the events to come
+  abbrev to_come : BufReader (Tally R) S → List Event
+  to_come r = asked_events inner.events r
 
--- what it costs is paid for
-pub paid_asked : (S : ℕ) (ask : Ask) (c : ℕ) {h r h' r' : ℕ} {E mid after : List Event} {ends : ℕ} {is_end : Bool} (more : ℕ)
-    → 0 < S → h ≤ length mid → TakesFront E mid
-    → ReadsPaid S c (length E - length mid) ends h (length mid) → Asked S ask h r mid is_end h' r' after → more ≡ (if is_end then 1 else 0)
-    → ReadsPaid S (c + asked_reads ask h (length mid)) (length E - length after) (ends + more) h' (length after)
-paid_asked S ask c {h} {E} {mid} {after} {ends} more room fits front paid a is =
-    let all = length mid in
-    let counted : more ≡ (if meets_end ask all then 1 else 0) = is ∙ ap (λ b. if b then 1 else 0) a.end in
-    let left : length after ≡ all - asked_bytes S ask h all = ap length a.events ∙ length-drop (asked_bytes S ask h all) mid in
-    let within = asked-le S ask h all fits in
-    let long : length E ≡ length front.0 + all = ap length front.1 ∙ length-append front.0 mid in
-    paid_same refl (omega (arith, left, within, long)) (omega (arith, counted)) (sym a.left) (sym left)
-    (paid_ask S c (length E - all) ends ask h all room fits paid)
+  -- asks, and then one more
+  came_then : (asks : List Ask) (ask : Ask) (answer : Result Bool Error) (old mid new : BufReader (Tally R) S) (at_end failed : ℕ)
+      {ends failures : ℕ} → CameTo inner asks old at_end failed mid → Answered inner ask mid answer new
+      → ends ≡ at_end + (if met_end answer then 1 else 0) → failures ≡ failed + (if is_err answer then 1 else 0)
+      → CameTo inner (asks ++ ask ∷ []) old ends failures new
+  came_then [] ask answer old mid new at_end failed t one e f =
+      let now = subst (λ r. Answered inner ask r answer new) t.0 one in
+      (answer, new, 0, 0, now, (refl, refl, refl), omega (arith, t.1, e), omega (arith, t.2, f))
+  came_then (o ∷ asks) ask answer old mid new at_end failed (first, next, ends, failures, now, later, e, f) one e' f' =
+      let more = came_then asks ask answer next mid new ends failures later one refl refl in
+      (first, next, _, _, now, more, omega (arith, e, e'), omega (arith, f, f'))
+
+  -- the first i asks, and then the next one
+  pub came_more : (asks : List Ask) (i : ℕ) (d : Ask) (answer : Result Bool Error) (old mid new : BufReader (Tally R) S) (at_end failed : ℕ)
+      {ends failures : ℕ} → i < length asks → CameTo inner (take i asks) old at_end failed mid
+      → Answered inner (get_or asks i d) mid answer new
+      → ends ≡ at_end + (if met_end answer then 1 else 0) → failures ≡ failed + (if is_err answer then 1 else 0)
+      → CameTo inner (take (i + 1) asks) old ends failures new
+  came_more asks i d answer old mid new at_end failed {ends} {failures} within t one e f =
+      subst (λ made. CameTo inner made old ends failures new) (sym (take_more asks i d within))
+      (came_then (take i asks) (get_or asks i d) answer old mid new at_end failed t one e f)
+
+  -- where there are no more than i asks, the first i are all
+  pub came_all : (asks : List Ask) (i : ℕ) (old new : BufReader (Tally R) S) (at_end failed : ℕ) → length asks ≤ i
+      → CameTo inner (take i asks) old at_end failed new → CameTo inner asks old at_end failed new
+  came_all asks i old new at_end failed all t = subst (λ made. CameTo inner made old at_end failed new) (take_all i asks all) t
+
+  -- asks take a front of what was to come
+  pub came_front : (asks : List Ask) (old new : BufReader (Tally R) S) (at_end failed : ℕ) → CameTo inner asks old at_end failed new
+      → inner.tells (asked_reader old) → inner.tells (asked_reader new) × TakesFront (to_come old) (to_come new)
+  came_front [] old new at_end failed t told = (subst (λ r. inner.tells (asked_reader r)) (sym t.0) told, ([], sym (ap to_come t.0)))
+  came_front (ask ∷ asks) old new at_end failed (answer, next, ends, failures, now, later, e, f) told =
+      let first = now.told told in
+      let rest = came_front asks next new ends failures later first.0 in
+      (rest.0, front_more (front_answered ask _ answer _ _ first.1) rest.1)
+
+  -- there is no more held than is to come
+  held_to_come : (r : BufReader (Tally R) S) → length (reader_held r) ≤ length (to_come r)
+  held_to_come r = omega (arith, length-events (reader_held r) (inner.events (asked_reader r)))
+
+  -- over a reader that gives bytes alone no ask fails, and each takes its step
+  pub came_steps : (asks : List Ask) (old new : BufReader (Tally R) S) (at_end failed : ℕ) → CameTo inner asks old at_end failed new
+      → inner.is_filling (asked_reader old)
+      → inner.is_filling (asked_reader new) × (failed ≡ 0) × Steps asks (to_come old) (to_come new) at_end
+  came_steps [] old new at_end failed t f =
+      (subst (λ r. inner.is_filling (asked_reader r)) (sym t.0) f, t.2, (ap to_come t.0, t.1))
+  came_steps (ask ∷ asks) old new at_end failed (Err e, next, ends, failures, now, later, _, _) f = absurd (now.filling f).1
+  came_steps (ask ∷ asks) old new at_end failed (Ok is_end, next, ends, failures, now, later, counted, none) f =
+      let first = now.filling f in
+      let rest = came_steps asks next new ends failures later first.0 in
+      let step = asked_step S ask _ (tally_reads (reader_inner old)) _ (tally_reads (reader_inner next)) (to_come old) (to_come next) is_end
+      (some_room old) (held_to_come old) first.1 in
+      (rest.0, omega (arith, none, rest.1), (to_come next, ends, step, rest.2, counted ∙ ap (λ b. (if b then 1 else 0) + ends) first.1.end))
+
+  -- and what they cost is paid for, where c reads, n bytes and z asks at the end went before
+  came_paid : (asks : List Ask) (old new : BufReader (Tally R) S) (at_end failed c n z : ℕ) → CameTo inner asks old at_end failed new
+      → inner.is_filling (asked_reader old) → ReadsPaid S c n z (length (reader_held old)) (length (to_come old))
+      → (reads : ℕ) × (tally_reads (reader_inner new) ≡ tally_reads (reader_inner old) + reads)
+      × (length (to_come new) ≤ length (to_come old))
+      × ReadsPaid S (c + reads) (n + (length (to_come old) - length (to_come new))) (z + at_end)
+      (length (reader_held new)) (length (to_come new))
+  came_paid [] old new at_end failed c n z t f paid =
+      let left = ap (λ r. length (to_come r)) t.0 in (
+        0,
+        omega (arith, ap (λ r. tally_reads (reader_inner r)) t.0),
+        omega (arith, left),
+        paid_same (omega arith) (omega (arith, left))
+            (omega (arith, t.1)) (ap (λ r. length (reader_held r)) (sym t.0)) (sym left) paid,
+      )
+  came_paid (ask ∷ asks) old new at_end failed c n z (Err e, next, ends, failures, now, later, _, _) f paid = absurd (now.filling f).1
+  came_paid (ask ∷ asks) old new at_end failed c n z (Ok is_end, next, ends, failures, now, later, counted, none) f paid =
+      let first = now.filling f in
+      let held = length (reader_held old) in
+      let all = length (to_come old) in
+      let taken = asked_bytes S ask held all in
+      let within = asked-le S ask held all (held_to_come old) in
+      let left : length (to_come next) ≡ all - taken = ap length first.1.events ∙ length-drop taken (to_come old) in
+      let met = counted ∙ ap (λ b. (if b then 1 else 0) + ends) first.1.end in
+      let rest = came_paid asks next new ends failures (c + asked_reads ask held all) (n + taken)
+      (z + (if meets_end ask all then 1 else 0)) later first.0
+      (paid_same refl refl refl (sym first.1.left) (sym left) (paid_ask S c n z ask held all (some_room old) (held_to_come old) paid)) in (
+        asked_reads ask held all + rest.0,
+        omega (arith, first.1.reads, rest.1),
+        omega (arith, left, rest.2),
+        paid_same (omega arith) (omega (arith, left, within, rest.2)) (omega (arith, met)) refl refl rest.3,
+      )
+
+  -- so the reads are few
+  pub came_bound : (asks : List Ask) (old new : BufReader (Tally R) S) (at_end failed : ℕ) → CameTo inner asks old at_end failed new
+      → inner.is_filling (asked_reader old) → reader_held old ≡ []
+      → tally_reads (reader_inner new) ≤ tally_reads (reader_inner old) + ((length (to_come old) - length (to_come new)) / S + 1 + at_end)
+  came_bound asks old new at_end failed t f none =
+      let run = came_paid asks old new at_end failed 0 0 0 t f (paid_none S refl (ap length none)) in
+      let paid : ReadsPaid S run.0 (length (to_come old) - length (to_come new)) at_end (length (reader_held new)) (length (to_come new)) =
+      paid_same (omega arith) (omega arith) (omega arith) refl refl run.3 in
+      let bound = paid_bound S run.0 (some_room new) (held-le new) paid in
+      omega (arith, run.1, bound)

@@ -1,9 +1,35 @@
--- What a list of asks does to a reader that gives bytes alone, and what an ask costs.
-use Rattle.std.specs.Prelude.{◌≡◌, ℕ, ◌+◌, ◌-◌, ◌≤◌, min, nat_lt, nat_le, Bool, if◌then◌else◌, List, [], ◌∷◌, ◌++◌, length, drop, ⊤}
-use Rattle.no_std_io2_base.specs.Read.{Event}
-use Rattle.no_std_io2.specs.BufReader.{filled_length, exact_reads, exact_left}
+-- What asks do to a buffered reader, and what they cost where it gives bytes alone.
+use Rattle.std.specs.Prelude.{◌≡◌, ◌≢◌, ℕ, ◌+◌, ◌-◌, ◌≤◌, ◌⊎◌, ◌&&◌, min, nat_eq, nat_lt, nat_le, Bool, true, false, if◌then◌else◌}
+use Rattle.std.specs.Prelude.{List, [], ◌∷◌, ◌++◌, length, take, drop, ⊤, Result, Ok, Err, is_err, IsOkAnd}
+use Rattle.no_std_io2_base.specs.declared.error.Error.{Error}
+use Rattle.no_std_io2_base.specs.declared.error.ErrorKind.TheVariants.{UnexpectedEof}
+use Rattle.no_std_io2_base.specs.Errors.{error_kind}
+use Rattle.no_std_io2_base.specs.Read.{Event, fails, events_of, Reader, Reads, Fills, FallsShort, StopsAtFault}
+use Rattle.no_std_io2_base.specs.BufRead.{BeginsWith}
+use Rattle.no_std_io2.specs.declared.buffered.buf_reader.BufReader.{BufReader}
+use Rattle.no_std_io2.specs.BufReader.{reader_held, reader_inner, reader_events, filled_length, exact_reads, exact_left}
+use Rattle.io_bench.specs.declared.tally.Tally.{Tally}
+use Rattle.io_bench.specs.Tally.{tally_inner, tally_reads}
 use Rattle.io_bench.specs.declared.asks.Ask.{Ask}
 use Rattle.io_bench.specs.declared.asks.Ask.TheVariants.{Read, Exact, Fill}
+
+-- What one ask does to the events E to come; `Ok` says whether it met the end, and `held` is held then.
+abbrev pub Answers : Ask → List Event → Result Bool Error → List ℕ → List Event → Type 0
+-- a read meets the end where it gives no byte and nothing is held,
+Answers (Read len) E (Ok is_end) held after =
+    (n : ℕ) × (buf : List ℕ) × (length buf ≡ len) × (n ≤ len) × Reads E (Ok n) buf after
+    × (is_end ≡ (nat_eq n 0 && nat_eq (length held) 0))
+Answers (Read len) E (Err e) held after = E ≡ fails e ∷ after
+-- an exact read where its error is of this kind,
+Answers (Exact len) E (Ok false) held after = (buf : List ℕ) × (length buf ≡ len) × Fills E buf after
+Answers (Exact len) E (Ok true) held after =
+    (e : Error) × (error_kind e ≡ UnexpectedEof) × (StopsAtFault E len e after ⊎ FallsShort ⊥ E len e after)
+Answers (Exact len) E (Err e) held after = (error_kind e ≢ UnexpectedEof) × StopsAtFault E len e after
+-- and a fill where nothing is lent
+Answers (Fill most) E (Ok is_end) held after =
+    (lent : List ℕ) × BeginsWith E lent × (lent ≡ [] → E ≡ []) × (E ≡ events_of (take most lent) ++ after)
+    × (is_end ≡ nat_eq (length lent) 0)
+Answers (Fill most) E (Err e) held after = E ≡ fails e ∷ after
 
 -- at least one of the leading events is gone, where some are asked for, and at most `most`
 abbrev pub Drops : ℕ → List Event → List Event → Type 0
@@ -70,3 +96,35 @@ pub record Asked (room : ℕ) (ask : Ask) (held made : ℕ) (E : List Event) (is
   pub end : is_end ≡ meets_end ask (length E)
   pub reads : made' ≡ made + asked_reads ask held (length E)
   pub left : held' ≡ asked_left room ask held (length E)
+
+-- the reader that is asked in the end
+abbrev pub asked_reader : {R : Type 0} {S : ℕ} → BufReader (Tally R) S → R
+asked_reader r = tally_inner (reader_inner r)
+
+-- what is held, and then the events of that one
+abbrev pub asked_events : {R : Type 0} {S : ℕ} → (R → List Event) → BufReader (Tally R) S → List Event
+asked_events events r = reader_events (λ t. events (tally_inner t)) r
+
+-- one ask and its answer, from old to new
+pub record Answered {R : Type 0} {S : ℕ} (inner : Reader R) (ask : Ask) (old : BufReader (Tally R) S) (answer : Result Bool Error)
+    (new : BufReader (Tally R) S) : Type 0 where
+  -- the events to come go on by what its call does
+  pub told : inner.tells (asked_reader old) → inner.tells (asked_reader new)
+      × Answers ask (asked_events inner.events old) answer (reader_held new) (asked_events inner.events new)
+  -- over a reader that gives bytes alone it does not fail
+  pub filling : inner.is_filling (asked_reader old) → inner.is_filling (asked_reader new) × IsOkAnd answer (λ is_end. Asked S ask
+      (length (reader_held old)) (tally_reads (reader_inner old)) (asked_events inner.events old)
+      is_end (length (reader_held new)) (tally_reads (reader_inner new)) (asked_events inner.events new))
+
+-- an ask that met the end
+abbrev pub met_end : Result Bool Error → Bool
+met_end (Ok is_end) = is_end
+met_end (Err e) = false
+
+-- asks one after another, each with its answer: so many met the end, and so many failed
+abbrev pub CameTo : {R : Type 0} {S : ℕ} → Reader R → List Ask → BufReader (Tally R) S → ℕ → ℕ → BufReader (Tally R) S → Type 0
+CameTo inner [] old at_end failed new = (new ≡ old) × (at_end ≡ 0) × (failed ≡ 0)
+CameTo {R} {S} inner (ask ∷ asks) old at_end failed new =
+    (answer : Result Bool Error) × (next : BufReader (Tally R) S) × (ends : ℕ) × (failures : ℕ)
+    × Answered inner ask old answer next × CameTo inner asks next ends failures new
+    × (at_end ≡ (if met_end answer then 1 else 0) + ends) × (failed ≡ (if is_err answer then 1 else 0) + failures)

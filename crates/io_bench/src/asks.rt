@@ -1,8 +1,8 @@
 // Calls of a buffered reader in a row, and what they cost below.
-ghost use Rattle.std.specs.Prelude.{◌≡◌, ◌+◌, ◌-◌, ◌/◌, ◌≤◌, [], IsOkAnd, length};
-ghost use Rattle.no_std_io2.specs.BufReader.{reader_held, reader_inner, reader_events};
-ghost use Rattle.io_bench.specs.Asks.{AllFit, Asked, Fits, Steps, TakesFront};
-ghost use Rattle.io_bench.specs.Tally.{tally_inner, tally_reads};
+ghost use Rattle.std.specs.Prelude.{◌≡◌, ◌+◌, ◌-◌, ◌/◌, ◌≤◌, [], length};
+ghost use Rattle.no_std_io2.specs.BufReader.{reader_held, reader_inner};
+ghost use Rattle.io_bench.specs.Asks.{AllFit, Answered, CameTo, Fits, Steps, TakesFront, asked_events, asked_reader};
+ghost use Rattle.io_bench.specs.Tally.{tally_reads};
 
 use crate::tally::Tally;
 use no_std_io2::io::{BufRead, BufReader, ErrorKind, Read, Result};
@@ -30,30 +30,19 @@ pub struct ReadTotals {
 }
 
 // `read`. The answer is whether that met the end.
-fn ask_read<R: Read, const S: usize>(r: &mut BufReader<R, S>, buf: &mut [u8]) -> Result<bool>
-    ensures told { R.tells (reader_inner r.old) → R.tells (reader_inner r.new)
-        × TakesFront (reader_events R.events r.old) (reader_events R.events r.new) }
-    ensures asked { R.is_metered (reader_inner r.old) → R.is_filling (reader_inner r.old)
-        → R.is_metered (reader_inner r.new) × R.is_filling (reader_inner r.new)
-        × IsOkAnd result (λ is_end. Asked S (Ask.Read (length buf.old))
-        (length (reader_held r.old)) (R.cost (reader_inner r.old)) (reader_events R.events r.old)
-        is_end (length (reader_held r.new)) (R.cost (reader_inner r.new)) (reader_events R.events r.new)) }
+fn ask_read<R: Read, const S: usize>(r: &mut BufReader<Tally<R>, S>, buf: &mut [u8]) -> Result<bool>
+    ensures { Answered R.Read (Ask.Read (length buf.old)) r.old result r.new }
 {
-    if r.read(buf)? > 0 {
-        return Ok(false);
-    }
-    Ok(r.buffer().is_empty())
+    let n = r.read(buf)?;
+    Ok(n == 0 && r.buffer().is_empty())
 }
 
 // `read_exact`, likewise.
-fn ask_exact<R: Read, const S: usize>(r: &mut BufReader<R, S>, buf: &mut [u8]) -> Result<bool>
-    ensures told { R.tells (reader_inner r.old) → R.tells (reader_inner r.new)
-        × TakesFront (reader_events R.events r.old) (reader_events R.events r.new) }
-    ensures asked { R.is_metered (reader_inner r.old) → R.is_filling (reader_inner r.old)
-        → R.is_metered (reader_inner r.new) × R.is_filling (reader_inner r.new)
-        × IsOkAnd result (λ is_end. Asked S (Ask.Exact (length buf.old))
-        (length (reader_held r.old)) (R.cost (reader_inner r.old)) (reader_events R.events r.old)
-        is_end (length (reader_held r.new)) (R.cost (reader_inner r.new)) (reader_events R.events r.new)) }
+fn ask_exact<R: Read, const S: usize>(
+    r: &mut BufReader<Tally<R>, S>,
+    buf: &mut [u8],
+) -> Result<bool>
+    ensures { Answered R.Read (Ask.Exact (length buf.old)) r.old result r.new }
 {
     match r.read_exact(buf) {
         Ok(()) => Ok(false),
@@ -65,14 +54,8 @@ fn ask_exact<R: Read, const S: usize>(r: &mut BufReader<R, S>, buf: &mut [u8]) -
 }
 
 // `fill_buf` and `consume`, likewise.
-fn ask_fill<R: Read, const S: usize>(r: &mut BufReader<R, S>, most: usize) -> Result<bool>
-    ensures told { R.tells (reader_inner r.old) → R.tells (reader_inner r.new)
-        × TakesFront (reader_events R.events r.old) (reader_events R.events r.new) }
-    ensures asked { R.is_metered (reader_inner r.old) → R.is_filling (reader_inner r.old)
-        → R.is_metered (reader_inner r.new) × R.is_filling (reader_inner r.new)
-        × IsOkAnd result (λ is_end. Asked S (Ask.Fill most)
-        (length (reader_held r.old)) (R.cost (reader_inner r.old)) (reader_events R.events r.old)
-        is_end (length (reader_held r.new)) (R.cost (reader_inner r.new)) (reader_events R.events r.new)) }
+fn ask_fill<R: Read, const S: usize>(r: &mut BufReader<Tally<R>, S>, most: usize) -> Result<bool>
+    ensures { Answered R.Read (Ask.Fill most) r.old result r.new }
 {
     let lent = r.fill_buf()?.len();
     r.consume(most.min(lent));
@@ -81,19 +64,13 @@ fn ask_fill<R: Read, const S: usize>(r: &mut BufReader<R, S>, most: usize) -> Re
 
 // Makes one ask. The answer is whether that met the end.
 fn make_ask<R: Read, const S: usize>(
-    r: &mut BufReader<R, S>,
+    r: &mut BufReader<Tally<R>, S>,
     ask: Ask,
     buf: &mut [u8],
 ) -> Result<bool>
     requires { Fits (length buf.old) ask }
     ensures len { length buf.new ≡ length buf.old }
-    ensures told { R.tells (reader_inner r.old) → R.tells (reader_inner r.new)
-        × TakesFront (reader_events R.events r.old) (reader_events R.events r.new) }
-    ensures asked { R.is_metered (reader_inner r.old) → R.is_filling (reader_inner r.old)
-        → R.is_metered (reader_inner r.new) × R.is_filling (reader_inner r.new)
-        × IsOkAnd result (λ is_end. Asked S ask
-        (length (reader_held r.old)) (R.cost (reader_inner r.old)) (reader_events R.events r.old)
-        is_end (length (reader_held r.new)) (R.cost (reader_inner r.new)) (reader_events R.events r.new)) }
+    ensures answered { Answered R.Read ask r.old result r.new }
 {
     match ask {
         Ask::Read(len) => ask_read(r, &mut buf[..len]),
@@ -105,26 +82,26 @@ fn make_ask<R: Read, const S: usize>(
 /// Makes these asks of a buffered reader, in order, each into the front of `buf`, which has room
 /// for the longest of them. It goes on after an ask that failed.
 ///
-/// A front of what is to come is then taken. Over a filling reader, as a slice or a cursor is, each
-/// ask takes what its call promises, none fails, and the inner reads are few: where nothing was
-/// held before and N bytes are taken, the tally counted at most `N / S + 1 + at_end` more.
+/// Each ask has one answer, and the totals count these. Over a reader that tells its events an answer
+/// is what its call does to them, so a front of what is to come is taken. Over a filling reader, as a
+/// slice or a cursor is, none fails, and the inner reads are few: where nothing was held before and N
+/// bytes are taken, the tally counted at most `N / S + 1 + at_end` more.
 pub fn run_reads<R: Read, const S: usize>(
     r: &mut BufReader<Tally<R>, S>,
     asks: &[Ask],
     buf: &mut [u8],
 ) -> ReadTotals
     requires { AllFit (length buf.old) asks.now }
-    ensures told { R.tells (tally_inner (reader_inner r.old)) → R.tells (tally_inner (reader_inner r.new))
-        × TakesFront (reader_events (λ t. R.events (tally_inner t)) r.old)
-        (reader_events (λ t. R.events (tally_inner t)) r.new) }
-    ensures steps { R.is_filling (tally_inner (reader_inner r.old))
-        → R.is_filling (tally_inner (reader_inner r.new)) × (result.failed ≡ 0)
-        × Steps asks.now (reader_events (λ t. R.events (tally_inner t)) r.old)
-        (reader_events (λ t. R.events (tally_inner t)) r.new) result.at_end }
-    ensures bound { R.is_filling (tally_inner (reader_inner r.old)) → reader_held r.old ≡ []
+    ensures came_to { CameTo R.Read asks.now r.old result.at_end result.failed r.new }
+    ensures told { R.tells (asked_reader r.old) → R.tells (asked_reader r.new)
+        × TakesFront (asked_events R.events r.old) (asked_events R.events r.new) }
+    ensures steps { R.is_filling (asked_reader r.old)
+        → R.is_filling (asked_reader r.new) × (result.failed ≡ 0)
+        × Steps asks.now (asked_events R.events r.old) (asked_events R.events r.new) result.at_end }
+    ensures bound { R.is_filling (asked_reader r.old) → reader_held r.old ≡ []
         → tally_reads (reader_inner r.new) ≤ tally_reads (reader_inner r.old)
-        + ((length (reader_events (λ t. R.events (tally_inner t)) r.old)
-        - length (reader_events (λ t. R.events (tally_inner t)) r.new)) / S + 1 + result.at_end) }
+        + ((length (asked_events R.events r.old) - length (asked_events R.events r.new)) / S
+        + 1 + result.at_end) }
 {
     let mut totals = ReadTotals {
         at_end: 0,

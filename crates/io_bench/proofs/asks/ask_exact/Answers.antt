@@ -1,49 +1,48 @@
-use Rattle.std.proofs.Common.{length, arith, ◌∙◌}
-use Rattle.std.proofs.lemmas.Bool.Decides.{nat_tests}
-use Rattle.no_std_io2_base.specs.Read.{cut}
+use Rattle.std.proofs.Common.{◌≡◌, ◌<◌, length, subst, sym, ◌∙◌}
+use Rattle.no_std_io2_base.specs.Errors.{error_kind}
+use Rattle.no_std_io2_base.specs.declared.error.ErrorKind.TheVariants.{UnexpectedEof}
 use Rattle.no_std_io2.specs.BufReader.{reader_held}
-use Rattle.io_bench.proofs.AskLemmas.{exact_asked, failed_front, filled-le, falls_short, bytes_behind}
+use Rattle.io_bench.specs.Asks.{asked_events}
+use Rattle.io_bench.proofs.AskLemmas.{exact_filled, exact_short, falls_short, bytes_behind, fell, stopped}
 use Rattle.io_bench.proofs.asks.ask_exact.Goals as goal
 
-pub returns-in-Ok-clause-asked : goal.returns-in-Ok-clause-asked
-returns-in-Ok-clause-asked g c = λ m f.
+pub returns-in-Ok : goal.returns-in-Ok
+returns-in-Ok g c =
     let done = c.in-Ok.ensures in
-    let filled = done.law.told (g.met.R.Read.filling_tells _ f).0 in
-    let counted = done.asks m f in
-    let left = done.left f in
-    let within = filled-le filled.1 in (
-      counted.0,
-      left.0,
-      exact_asked g.row.S (length c.args.buf.now) (cut _ _, filled.1.split) left.2
-          (grind (arith, nat_tests, within)) counted.1 left.1,
-    )
+    let buf = c.read_exact.new.buf in
+    let same = c.read_exact.auto.buf in
+    record {
+      told = λ t. let filled = done.law.told t in (filled.0, (buf, same, filled.1));
+      filling = λ f.
+          let left = done.left f in
+          let filled = done.law.told (g.met.R.Read.filling_tells _ f).0 in
+          (left.0, exact_filled g.row.S _ buf same filled.1 left.2 (done.asks tt f).1 left.1);
+    }
 
-pub returns-in-UnexpectedEof-clause-told : goal.returns-in-UnexpectedEof-clause-told
-returns-in-UnexpectedEof-clause-told g c = λ t. let failed = c.in-Err.ensures.law.told t in (failed.0, failed_front c.in-Err.e _ failed.1)
-
-pub returns-in-UnexpectedEof-clause-asked : goal.returns-in-UnexpectedEof-clause-asked
-returns-in-UnexpectedEof-clause-asked g c = λ m f.
-    let r = c.args.r.now in
-    let done = c.in-Err.ensures in
-    let tells = g.met.R.Read.filling_tells _ f in
-    let fell = done.law.told tells.0 in
-    let short = falls_short _ c.in-Err.e _ (bytes_behind (reader_held r) _ _ tells.1) fell.1 in
-    let counted = done.asks m f in
-    let left = done.left f in (
-      counted.0,
-      left.0,
-      exact_asked g.row.S (length c.args.buf.now) short.2 left.2 (grind (arith, nat_tests, short.1))
-          counted.1 left.1,
-    )
+pub returns-in-UnexpectedEof : goal.returns-in-UnexpectedEof
+returns-in-UnexpectedEof g c =
+    let failed = c.in-Err.ensures in
+    let e = c.in-Err.e in
+    record {
+      told = λ t.
+          let after = failed.law.told t in
+          (after.0, (e, sym c.kind.ensures ∙ c.in-UnexpectedEof.is, fell _ c.read_exact.auto.buf after.1));
+      filling = λ f.
+          let left = failed.left f in
+          let tells = g.met.R.Read.filling_tells _ f in
+          let short = falls_short _ e _ (bytes_behind (reader_held c.args.r.now) _ _ tells.1) (failed.law.told tells.0).1 in
+          let few = subst (λ n. length (asked_events g.R.Read.events c.args.r.now) < n) c.read_exact.auto.buf short.1 in
+          (left.0, exact_short g.row.S _ few short.2 left.2 (failed.asks tt f).1 left.1);
+    }
 
 pub returns-in_default : goal.returns-in_default
 returns-in_default g c =
-    let r = c.args.r.now in
     let failed = c.in-Err.ensures.law.told in
+    let e = c.in-Err.e in
+    let other = λ (is : error_kind e ≡ UnexpectedEof). c.in_default.not-UnexpectedEof (c.kind.ensures ∙ is) in
     record {
-      told = λ t. ((failed t).0, failed_front c.in-Err.e _ (failed t).1);
-      asked = λ m f.
+      told = λ t. let after = failed t in (after.0, (other, stopped _ c.read_exact.auto.buf other after.1));
+      filling = λ f.
           let tells = g.met.R.Read.filling_tells _ f in
-          let short = falls_short _ c.in-Err.e _ (bytes_behind (reader_held r) _ _ tells.1) (failed tells.0).1 in
-          absurd (c.in_default.not-UnexpectedEof (c.kind.ensures ∙ short.0));
+          absurd (other (falls_short _ e _ (bytes_behind (reader_held c.args.r.now) _ _ tells.1) (failed tells.0).1).0);
     }

@@ -1,12 +1,8 @@
-use Rattle.std.proofs.Common.{Bool, true, false, if◌then◌else◌, ◌≡◌, ◌+◌, ◌<◌, ◌≤◌, length, get_or, rules, arith, refl, sym, ap, subst, ◌∙◌}
-use Rattle.no_std_io2.specs.BufReader.{reader_held, reader_inner, reader_events}
-use Rattle.no_std_io2.proofs.BufReaderRoom.{some_room, held-le}
-use Rattle.no_std_io2.proofs.BufReaderExact.{length-events}
+use Rattle.std.proofs.Common.{Bool, true, false, Ok, Err, if◌then◌else◌, ◌≡◌, get_or, rules, arith, refl, sym, subst, ◌∙◌}
 use Rattle.io_bench.specs.declared.asks.Ask.TheVariants.{Read}
-use Rattle.io_bench.specs.Asks.{Fits, asked_reads}
-use Rattle.io_bench.specs.Tally.{tally_inner}
-use Rattle.io_bench.proofs.ReadsPaid.{paid_none, paid_bound}
-use Rattle.io_bench.proofs.AskLemmas.{fits_at, front_none, front_more, Steps-none, Steps-asked, Steps-all, paid_asked}
+use Rattle.no_std_io2_base.proofs.Readers.{reader}
+use Rattle.io_bench.specs.Asks.{Fits}
+use Rattle.io_bench.proofs.AskLemmas.{fits_at, came_more, came_all, came_front, came_steps, came_bound}
 use mir.Val.{bool_byte}
 use Rattle.io_bench.proofs.asks.run_reads.Goals as goal
 
@@ -27,44 +23,20 @@ asks-init g c = record {
   long = refl;
   at_end = omega arith;
   failed = omega arith;
-  told = λ t. (t, front_none _);
-  steps = λ f. (f, refl, Steps-none c.args.asks.now _);
-  paid = λ f none. (0, omega arith, paid_none g.row.S (omega arith) (ap length none));
+  came = (refl, refl, refl);
 }
 
 pub asks-preserved : goal.asks-preserved
 asks-preserved g c =
     let before = c.asks.invariant in
-    let asks = c.args.asks.now in
-    let i = c.asks.ask-index in
-    let within : i < length asks = omega arith in
-    let r = c.asks.r in
-    let room = some_room r in
-    let held = reader_held r in
-    let inner = g.R.Read.events (tally_inner (reader_inner r)) in
-    let fits : length held ≤ length (reader_events (λ t. g.R.Read.events (tally_inner t)) r) = omega (arith, length-events held inner) in
     let call = c.in-Ok.ensures in
     let ends : c.from.result ≡ (if c.in-Ok.is_end then 1 else 0) = c.from.ensures ∙ byte_is c.in-Ok.is_end in
     record {
       long = omega (arith, call.len, before.long);
       at_end = grind (arith, before.at_end, ends);
       failed = omega (arith, before.failed);
-      told = λ t. let so_far = before.told t in let now = call.told so_far.0 in (now.0, front_more so_far.1 now.1);
-      steps = λ f.
-          let so_far = before.steps f in
-          let asked = call.asked tt so_far.0 in
-          (asked.1, so_far.1, Steps-asked g.row.S asks i (Read 0) _ _ c.from.result room fits within so_far.2 asked.2 ends);
-      paid = λ f none.
-          let so_far = before.steps f in
-          let asked = call.asked tt so_far.0 in
-          let front = (before.told (g.met.R.Read.filling_tells _ f).0).1 in
-          let paid = before.paid f none in
-          let reads = asked_reads (get_or asks i (Read 0)) (length held) _ in (
-            paid.0 + reads,
-            omega (arith, paid.1, asked.2.reads),
-            paid_asked g.row.S (get_or asks i (Read 0)) paid.0 c.from.result room fits front paid.2
-                asked.2 ends,
-          );
+      came = came_more (reader g.R.Stored g.R.Read) c.args.asks.now c.asks.ask-index (Read 0) (Ok c.in-Ok.is_end) _ _ _ _ _ (omega arith)
+          before.came call.answered (omega (arith, ends)) (omega arith);
     }
 
 pub asks-preserved-in_default : goal.asks-preserved-in_default
@@ -75,18 +47,21 @@ asks-preserved-in_default g c =
       long = omega (arith, call.len, before.long);
       at_end = omega (arith, before.at_end);
       failed = omega (arith, before.failed);
-      told = λ t. let so_far = before.told t in let now = call.told so_far.0 in (now.0, front_more so_far.1 now.1);
-      steps = λ f. absurd (call.asked tt (before.steps f).0).2;
-      paid = λ f none. absurd (call.asked tt (before.steps f).0).2;
+      came = came_more (reader g.R.Stored g.R.Read) c.args.asks.now c.asks.ask-index (Read 0) (Err c.in_default.field-0) _ _ _ _ _
+          (omega arith) before.came call.answered (omega arith) (omega arith);
     }
 
+pub returns-clause-came_to : goal.returns-clause-came_to
+returns-clause-came_to g c =
+    came_all (reader g.R.Stored g.R.Read) c.args.asks.now c.asks.ask-index _ _ _ _ (omega arith) c.asks.invariant.came
+
+pub returns-clause-told : goal.returns-clause-told
+returns-clause-told g c = came_front (reader g.R.Stored g.R.Read) _ _ _ _ _ c.asks.invariant.came
+
 pub returns-clause-steps : goal.returns-clause-steps
-returns-clause-steps g c = λ f.
-    let taken = c.asks.invariant.steps f in
-    (taken.0, taken.1, Steps-all c.args.asks.now c.asks.ask-index _ _ _ (omega arith) taken.2)
+returns-clause-steps g c =
+    came_steps (reader g.R.Stored g.R.Read) _ _ _ _ _
+    (came_all (reader g.R.Stored g.R.Read) c.args.asks.now c.asks.ask-index _ _ _ _ (omega arith) c.asks.invariant.came)
 
 pub returns-clause-bound : goal.returns-clause-bound
-returns-clause-bound g c = λ f none.
-    let paid = c.asks.invariant.paid f none in
-    let bound = paid_bound g.row.S paid.0 (some_room c.asks.r) (held-le c.asks.r) paid.2 in
-    omega (arith, paid.1, bound)
+returns-clause-bound g c = came_bound (reader g.R.Stored g.R.Read) _ _ _ _ _ c.asks.invariant.came
