@@ -15,7 +15,7 @@ use Rattle.no_std_io2_base.specs.declared.error.Error.{Error}
 use Rattle.no_std_io2_base.specs.declared.error.ErrorKind.TheVariants.{UnexpectedEof}
 use Rattle.no_std_io2_base.specs.Errors.{error_kind}
 use Rattle.no_std_io2_base.specs.BufRead.{Lends, LendsFrom}
-use Rattle.no_std_io2_base.proofs.Events.{bytes-events_of, length-events_of, events_of-append, HasNoFault-events_of, HasNoFault-front}
+use Rattle.no_std_io2_base.proofs.EventLemmas.{bytes-events_of, length-events_of, events_of-append, HasNoFault-events_of, HasNoFault-front}
 use Rattle.no_std_io2.proofs.BufReaderExact.{length-events, no_bytes}
 use Rattle.no_std_io2.proofs.CopyLemmas.{no_fault_at_end}
 use Rattle.no_std_io2.specs.declared.buffered.buf_reader.BufReader.{BufReader}
@@ -170,7 +170,8 @@ pub lent_error : {reply : Result (Bor (List ℕ)) Error} (e : Error) {E after : 
 lent_error e {E} {after} is lends = subst (λ r. LendsFrom E r after) is lends
 
 -- of what it lent the first are gone
-pub lent_taken : {E mid : List Event} (after : List Event) (most n : ℕ) {held lent : List ℕ} → mid ≡ E → mid ≡ events_of (take n held) ++ after
+pub lent_taken : {E mid : List Event} (after : List Event) (most n : ℕ) {held lent : List ℕ} → mid ≡ E
+    → mid ≡ events_of (take n held) ++ after
     → held ≡ lent → n ≡ min most (length lent) → E ≡ events_of (take most lent) ++ after
 lent_taken after most n {lent = lent} same rest held is =
     sym same ∙ rest ∙ ap (λ l. events_of l ++ after) (ap (take n) held ∙ ap (λ k. take k lent) is ∙ take_min most lent)

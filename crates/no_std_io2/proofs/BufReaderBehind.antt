@@ -11,7 +11,7 @@ use Rattle.no_std_io2_base.specs.declared.traits.seek.SeekFrom.{SeekFrom}
 use Rattle.no_std_io2_base.specs.declared.traits.seek.SeekFrom.TheVariants.{Current}
 use Rattle.no_std_io2_base.specs.Read.{Event, events_of}
 use Rattle.no_std_io2_base.specs.Seek.{IsAtOffset, IsTarget, Seeks}
-use Rattle.no_std_io2_base.proofs.Events.{events_of-append}
+use Rattle.no_std_io2_base.proofs.EventLemmas.{events_of-append}
 use Rattle.no_std_io2.proofs.BufReaderSound.{give_events}
 use Rattle.no_std_io2.specs.Buffer.{IsSound, IsInBuffer, IsCutOn, MovesEvents}
 use Rattle.no_std_io2.specs.BufReader.{sound_drop}

@@ -10,12 +10,12 @@ use Rattle.no_std_io2_base.specs.Read.{Event, events_of, bytes, FillsRoom, Reads
 use Rattle.no_std_io2_base.specs.Cursor.{HasMoved}
 use Rattle.no_std_io2_base.specs.Write.{IsFront}
 use Rattle.no_std_io2_base.proofs.ChainReads.{room_of_second}
-use Rattle.no_std_io2_base.proofs.Events.{bytes-events_of, HasNoFault-events_of}
+use Rattle.no_std_io2_base.proofs.EventLemmas.{bytes-events_of, HasNoFault-events_of}
 use Rattle.no_std_io2_base.proofs.GivenPieces.{first_fault-append, bytes_to_fault-append}
-use Rattle.no_std_io2_base.proofs.Gathered.{Gathered, gathered_all, gathered_stop, gathered_then, gathered_then_failed}
-use Rattle.no_std_io2_base.proofs.ReadsToEndExits.{front_then, stopped_first}
+use Rattle.no_std_io2_base.proofs.ReadToEndGathered.{Gathered, gathered_all, gathered_stop, gathered_then, gathered_then_failed}
+use Rattle.no_std_io2_base.proofs.ReadToEndExits.{front_then, stopped_first}
 use Rattle.no_std_io2_base.proofs.SliceReads.{moved_part}
-use Rattle.no_std_io2_base.proofs.TakenToEnd.{gathered_done}
+use Rattle.no_std_io2_base.proofs.TakeToEnd.{gathered_done}
 use Rattle.no_std_io2.specs.Buffer.{IsSound}
 use Rattle.no_std_io2.proofs.BufReaderBehind.{sound_held}
 use Rattle.no_std_io2.proofs.BufReaderExact.{length-events}

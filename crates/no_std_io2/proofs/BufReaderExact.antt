@@ -8,8 +8,8 @@ use Rattle.no_std_io2.proofs.BufferTests.{is_past, is_own}
 use Rattle.no_std_io2_base.specs.declared.error.Error.{Error}
 use Rattle.no_std_io2_base.specs.Errors.{IsUnexpectedEnd}
 use Rattle.no_std_io2_base.specs.Read.{Event, fails, events_of, bytes, HasNoFault, cut, Reads, Fills, FallsShort}
-use Rattle.no_std_io2_base.proofs.Events.{length-events_of, events_of-append, bytes-events_of, HasNoFault-events_of, cut-bytes}
-use Rattle.no_std_io2_base.proofs.Taken.{Taken, taken_fills, no_error}
+use Rattle.no_std_io2_base.proofs.EventLemmas.{length-events_of, events_of-append, bytes-events_of, HasNoFault-events_of, cut-bytes}
+use Rattle.no_std_io2_base.proofs.ReadToEndTaken.{Taken, taken_fills, no_error}
 use Rattle.no_std_io2.specs.Buffer.{IsEnd}
 use Rattle.no_std_io2.specs.BufReader.{held_or_to_come, exact_reads, exact_left, behind_anew}
 

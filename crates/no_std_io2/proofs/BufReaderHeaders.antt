@@ -5,7 +5,7 @@ use Rattle.no_std_io2_base.specs.declared.error.Error.{Error}
 use Rattle.no_std_io2_base.specs.Errors.{IsUnexpectedEnd}
 use Rattle.no_std_io2_base.specs.Read.{Event, fails, events_of, bytes, cut, HasNoFault, Fills, FallsShort, StopsAtFault}
 use Rattle.no_std_io2_base.specs.Read.{bytes-events_of, cut_alone}
-use Rattle.no_std_io2_base.proofs.Events.{length-events_of, bytes-cut, HasNoFault-events_of, HasNoFault-front, HasNoFault-behind}
+use Rattle.no_std_io2_base.proofs.EventLemmas.{length-events_of, bytes-cut, HasNoFault-events_of, HasNoFault-front, HasNoFault-behind}
 
 -- its bytes are the next ones, and as many are gone
 pub header_read : {E after : List Event} (bs buf : List ℕ) (n : ℕ) → E ≡ events_of bs → Fills E buf after → length buf ≡ n
@@ -21,7 +21,8 @@ header_read {E} {after} bs buf n is filled long =
 
 -- where it fails, there are fewer, and these are taken
 pub header_short : {E after : List Event} (bs : List ℕ) (n : ℕ) {e : Error} → E ≡ events_of bs
-    → StopsAtFault E n e after ⊎ FallsShort ⊥ E n e after → (length bs < n) × IsUnexpectedEnd e × (length after ≡ 0) × (length E ≡ length bs)
+    → StopsAtFault E n e after ⊎ FallsShort ⊥ E n e after → (length bs < n) × IsUnexpectedEnd e × (length after ≡ 0)
+    × (length E ≡ length bs)
 header_short {E} {after} bs n {e} is (inl stops) =
     let none : HasNoFault stops.taken =
     HasNoFault-front stops.taken after (subst HasNoFault stops.split (subst HasNoFault (sym is) (HasNoFault-events_of bs))) in

@@ -4,11 +4,11 @@ use Rattle.std.proofs.Common.{slice_index_or, sym, ap, subst, ◌∙◌, arith, 
 use Rattle.std.proofs.Common.{append_assoc}
 use Rattle.std.proofs.lemmas.List.{drop-drop, drop-take}
 use Rattle.std.proofs.Math.Seq.{drop-cons}
-use Rattle.no_std_io2_base.proofs.Events.{events_of-append}
+use Rattle.no_std_io2_base.proofs.EventLemmas.{events_of-append}
 use Rattle.no_std_io2_base.specs.Read.{Event, events_of}
 use Rattle.no_std_io2_base.specs.declared.error.Error.{Error}
 use Rattle.no_std_io2_base.specs.BufRead.{BeginsWith}
-use Rattle.no_std_io2_base.proofs.Taken.{no_error}
+use Rattle.no_std_io2_base.proofs.ReadToEndTaken.{no_error}
 use Rattle.no_std_io2.specs.Buffer.{ReadsAhead, IsSound}
 use Rattle.no_std_io2.specs.BufReader.{sound_fill, sound_drop}
 

@@ -71,7 +71,8 @@ takes_not_all h = no_err h.1
 
 -- the inner writer was interrupted
 pub sending_again : {W : Type 0} {S : ℕ} {I : Writer W} {old mid : Sender W S} {inner : W} {x : List ℕ} {e : Error}
-    → Sending I old mid → 0 < length (sender_buffer mid) → WriteLaw I.told I.takes_all I.cost I.is_metered (sender_inner mid) x (Err e) inner
+    → Sending I old mid → 0 < length (sender_buffer mid) → WriteLaw I.told I.takes_all I.cost I.is_metered (sender_inner mid) x
+    (Err e) inner
     → Sending I old (sender_with_inner mid inner)
 sending_again {mid} before some wrote = record {
   sent = before.sent;

@@ -8,7 +8,7 @@ use Rattle.no_std_io2_base.specs.declared.error.ErrorKind.{ErrorKind}
 use Rattle.no_std_io2_base.specs.Errors.{IsInterruption, IsFault}
 use Rattle.no_std_io2_base.specs.Read.{Event, byte, fails, events_of, bytes, HasNoFault, Reads}
 use Rattle.no_std_io2_base.specs.Write.{Told, Moves, MovesFront, HasSpent}
-use Rattle.no_std_io2_base.proofs.Events.{bytes-append, bytes-events_of, HasNoFault-append, HasNoFault-events_of, HasNoFault-front}
+use Rattle.no_std_io2_base.proofs.EventLemmas.{bytes-append, bytes-events_of, HasNoFault-append, HasNoFault-events_of, HasNoFault-front}
 use Rattle.no_std_io2_base.proofs.MovesLemmas.{Moves-then, Moves-steady}
 use Rattle.no_std_io2.specs.Copy.{counted, Copies, CopyMoves}
 

@@ -6,7 +6,7 @@ use Rattle.std.proofs.Math.Nat.{add-mul, mul-le-mul_right}
 use Rattle.std.proofs.lemmas.Bool.{cases_lt}
 use Rattle.std.proofs.lemmas.Grind.{div_ceil_times}
 use Rattle.no_std_io2_base.specs.Read.{Event, events_of}
-use Rattle.no_std_io2_base.proofs.Events.{length-events_of}
+use Rattle.no_std_io2_base.proofs.EventLemmas.{length-events_of}
 
 -- the greater factor makes a multiple that is one factor further at least
 next_multiple : (a b room : ℕ) → a < b → a * room + room ≤ b * room

@@ -7,7 +7,7 @@ use Rattle.no_std_io2_base.specs.Errors.{IsInterruption, IsFault, IsOutOfMemory,
 use Rattle.no_std_io2_base.specs.Read.{Event, fails, events_of, bytes, HasNoFault, cut, Fills}
 use Rattle.no_std_io2_base.specs.Read.{StopsAtFault, FallsShort, ReadsExact}
 use Rattle.no_std_io2_base.specs.BufRead.{Lends, LendsFrom, LendingTurn}
-use Rattle.no_std_io2_base.proofs.Events as below
+use Rattle.no_std_io2_base.proofs.EventLemmas as below
 use Rattle.no_std_io2_base.proofs.PieceLemmas as pieces
 pub use Rattle.no_std_io2_base.proofs.PieceLemmas.{front_more}
 use Rattle.no_std_io2_base.proofs.WriteExits as exits
@@ -71,19 +71,24 @@ failed : {may_take_none : Type 0} {E : List Event} {room : ℕ} {e : Error} {aft
     → StopsAtFault E room e after ⊎ FallsShort may_take_none E room e after → Failed may_take_none E e after
 failed {e} {after} (inl s) =
     let Q = s.ends.0 in
-    inl (bytes Q, fails e ∷ after, record {
-      front = Q;
-      split = s.split ∙ ap (λ l. l ++ after) s.ends.1 ∙ append_assoc Q (fails e ∷ []) after;
-      no_fault = s.ends.2;
-      gave = refl;
-    }, inl (refl, s.ends.3))
+    inl (
+      bytes Q,
+      fails e ∷ after,
+      record {
+        front = Q;
+        split = s.split ∙ ap (λ l. l ++ after) s.ends.1 ∙ append_assoc Q (fails e ∷ []) after;
+        no_fault = s.ends.2;
+        gave = refl;
+      },
+      inl (refl, s.ends.3),
+    )
 failed (inr f) = fell_short f f.left
 
 -- a `read_exact` failed
 pub Passes-fails : {may_take_none : Type 0} {E after : List Event} {reply : Result (Unit {0}) Error} {e : Error} (buf : List ℕ)
     → reply ≡ Err e → ReadsExact may_take_none E reply buf after
     → ((taken : List ℕ) × (mid : List Event) × Passes E taken mid × StopsThere mid e after)
-        ⊎ (may_take_none × (after ≡ E) × IsUnexpectedEnd e)
+    ⊎ (may_take_none × (after ≡ E) × IsUnexpectedEnd e)
 Passes-fails {may_take_none} {E} {after} buf is f = failed (subst (λ r. ReadsExact may_take_none E r buf after) is f)
 
 -- one after another
@@ -134,7 +139,8 @@ pub Gathered-more : {E mid : List Event} {old part : List ℕ} (more new : List 
 Gathered-more more new after g read is = Gathered-then g (record { more = more; is = is; passes = Passes-bytes more after read })
 
 -- nothing more
-pub Gathered-still : {E mid after : List Event} {old part : List ℕ} → Gathered E old part mid → Passes mid [] after → Gathered E old part after
+pub Gathered-still : {E mid after : List Event} {old part : List ℕ} → Gathered E old part mid → Passes mid [] after
+    → Gathered E old part after
 Gathered-still {part = part} g p = Gathered-then g (record { more = []; is = sym (append-nil part); passes = p })
 
 -- the same, with the same to come

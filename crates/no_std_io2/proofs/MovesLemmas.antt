@@ -1,5 +1,5 @@
--- How calls of a writer follow one another, for a crate that lists this one alone. Those of the base are stated again: `rt lemma` finds none
--- behind a `pub use`.
+-- How calls of a writer follow one another, for a crate that lists this one alone. Those of the base are stated again: `rt lemma` finds
+-- none behind a `pub use`.
 use Rattle.std.proofs.Common.{◌≡◌, Result, Ok, Err, subst, List, [], ◌++◌, ℕ}
 use Rattle.std.specs.List.{concat}
 use Rattle.std.specs.Result.{OnOk}
@@ -30,7 +30,8 @@ pub Moves-each : (a c : Told) (xs : List (List ℕ)) → MovesEach a xs c → Mo
 Moves-each a c xs f = calls.Moves-each a c xs f
 
 -- a buffer that was empty over a device, and whatever stands over that device then: what it did is what the device did
-pub Moves-device : {W : Type 0} {S : ℕ} {a : Told} {b : Told} {x : List ℕ} {k : List ErrorKind} (told : W → Told) (w : BufWriter W S) (device : W)
+pub Moves-device : {W : Type 0} {S : ℕ} {a : Told} {b : Told} {x : List ℕ} {k : List ErrorKind} (told : W → Told) (w : BufWriter W S)
+    (device : W)
     → writer_inner w ≡ device → writer_buffer w ≡ [] → a ≡ writer_told told w → Moves a x k b → Moves (told device) x k b
 Moves-device {b = b} {x = x} {k = k} told w device inner none is m =
     subst (λ d. Moves (told d) x k b) inner (Moves-bare (writer_buffer w) none (subst (λ t. Moves t x k b) is m))

@@ -17,7 +17,7 @@ use Rattle.no_std_io2.specs.Buffer.{buffer_held, buffer_behind, IsEnd, IsSound}
 use Rattle.std.proofs.Common.{ap, sym, ◌∙◌, arith, length-drop, take-append-drop}
 use Rattle.std.proofs.lemmas.List.{drop-drop, drop-take}
 use lib.Seq.{take-append-le}
-use Rattle.no_std_io2_base.proofs.Events.{events_of-append, bytes-append}
+use Rattle.no_std_io2_base.proofs.EventLemmas.{events_of-append, bytes-append}
 
 -- `r.buffer()`
 abbrev pub reader_held : {R : Type 0} {S : ℕ} → BufReader R S → List ℕ
@@ -120,7 +120,8 @@ TakesHeld piece rest old before (Err e) after new = IsOutOfMemory e × (after �
 
 -- a line that was held was appended, and the inner reader left alone; or the text refused it, and it is taken; or there was no
 -- memory to take it by
-abbrev pub TakesHeldLine : {R : Type 0} {S : ℕ} → List ℕ → List ℕ → BufReader R S → List ℕ → Result ℕ Error → List ℕ → BufReader R S → Type 0
+abbrev pub TakesHeldLine : {R : Type 0} {S : ℕ} → List ℕ → List ℕ → BufReader R S → List ℕ → Result ℕ Error → List ℕ → BufReader R S
+    → Type 0
 TakesHeldLine line rest old before (Ok n) after new = TakesHeld line rest old before (Ok n) after new
 TakesHeldLine line rest old before (Err e) after new =
     (after ≡ before) × (reader_inner new ≡ reader_inner old)

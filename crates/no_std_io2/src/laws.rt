@@ -1,5 +1,6 @@
 //! Pins what each type tells: with a member that tells nothing, every promise over it would be empty and still be proved.
-ghost use Rattle.std.specs.Prelude.{◌≡◌, ◌+◌, ◌-◌, ◌<◌, ◌≤◌, min, nat_lt, if◌then◌else◌, [], length, drop, ◌++◌, Some, IsOk, IfOk, OnOk, IsOkAnd};
+ghost use Rattle.std.specs.Prelude.{◌≡◌, ◌+◌, ◌-◌, ◌<◌, ◌≤◌, min, nat_lt, if◌then◌else◌, [], length, drop, ◌++◌, Some, IsOk, IfOk, OnOk};
+ghost use Rattle.std.specs.Prelude.{IsOkAnd};
 ghost use Rattle.no_std_io2_base.specs.Read.{events_of};
 ghost use Rattle.no_std_io2_base.specs.BufRead.{BeginsWith};
 ghost use Rattle.no_std_io2_base.specs.Write.{Told};

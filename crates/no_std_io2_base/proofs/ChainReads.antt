@@ -10,7 +10,7 @@ use Rattle.no_std_io2_base.specs.Errors.{error_kind, is_interruption}
 use Rattle.no_std_io2_base.specs.Read.{Event, byte, fails, events_of, bytes, HasNoFault, FillsRoom, Reads, SpendsTurn}
 use Rattle.no_std_io2_base.specs.Read.{bytes_to_fault, first_fault, HasRoom}
 use Rattle.no_std_io2_base.specs.Chain.{chain_events, chain_tells, InTurn}
-use Rattle.no_std_io2_base.proofs.Events.{length-events_of}
+use Rattle.no_std_io2_base.proofs.EventLemmas.{length-events_of}
 use Rattle.no_std_io2_base.proofs.GivenPieces.{first_fault-append, bytes_to_fault-append}
 
 -- the first reader is at its end: the second is read
@@ -102,7 +102,8 @@ chosen_le false xs ys below = le_refl _
 to_fault-first : (E F : List Event) → length (bytes_to_fault E) ≤ length (bytes_to_fault (E ++ F))
 to_fault-first [] F = omega arith
 to_fault-first (byte b ∷ E) F = let below = to_fault-first E F in omega (arith, below)
-to_fault-first (fails e ∷ E) F = chosen_le (is_interruption (error_kind e)) (bytes_to_fault E) (bytes_to_fault (E ++ F)) (to_fault-first E F)
+to_fault-first (fails e ∷ E) F = chosen_le (is_interruption (error_kind e)) (bytes_to_fault E) (bytes_to_fault (E ++ F))
+    (to_fault-first E F)
 
 -- a choice that gives an error gives it after what is chosen from grew
 chosen_some : (t : Bool) (this that other : Option Error) {e : Error} → (this ≡ Some e → that ≡ Some e)
@@ -114,7 +115,8 @@ chosen_some false this that other goes_on is = is
 pub first_fault-first : (E F : List Event) {e : Error} → first_fault E ≡ Some e → first_fault (E ++ F) ≡ Some e
 first_fault-first [] F is = cc
 first_fault-first (byte b ∷ E) F is = first_fault-first E F is
-first_fault-first (fails e ∷ E) F is = chosen_some (is_interruption (error_kind e)) (first_fault E) (first_fault (E ++ F)) (Some e) (first_fault-first E F) is
+first_fault-first (fails e ∷ E) F is = chosen_some (is_interruption (error_kind e)) (first_fault E) (first_fault (E ++ F)) (Some e)
+    (first_fault-first E F) is
 
 -- where there is room for both, there is room for the first
 pub room_of_first : (E F : List Event) (len capacity : ℕ) → HasRoom 32 (E ++ F) len capacity → HasRoom 32 E len capacity

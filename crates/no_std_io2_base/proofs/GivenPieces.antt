@@ -5,7 +5,7 @@ use Rattle.std.proofs.Common.{eq-eqb, ne_eqb, inl, inr, length-append, drop_of_l
 use Rattle.no_std_io2_base.specs.declared.error.Error.{Error}
 use Rattle.no_std_io2_base.specs.Read.{Event, byte, fails, bytes, HasNoFault, EndsInFault, bytes_to_fault, first_fault}
 use Rattle.no_std_io2_base.specs.Pieces.{Lacks, ends_in, in_front, pieces, GivesPiece, pieces_before, pieces_given}
-use Rattle.no_std_io2_base.proofs.Events.{bytes-append}
+use Rattle.no_std_io2_base.proofs.EventLemmas.{bytes-append}
 use Rattle.no_std_io2_base.proofs.PieceLaws.{pieces-at, pieces-other}
 
 -- before a fault stand what has none, and then the rest

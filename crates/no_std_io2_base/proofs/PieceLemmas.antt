@@ -13,7 +13,7 @@ use Rattle.no_std_io2_base.specs.Write.{IsFront}
 use Rattle.no_std_io2_base.specs.Errors.{is_interruption, IsInterruption, IsFault, IsOutOfMemory}
 use Rattle.no_std_io2_base.specs.Read.{Event, byte, fails, events_of, bytes, HasNoFault}
 use Rattle.no_std_io2_base.specs.Pieces.{Lacks, EndsPiece, FindsPiece, GivesPiece, IsByteNext, StopsInPiece}
-use Rattle.no_std_io2_base.proofs.Events.{bytes-append, bytes-events_of, events_of-append, HasNoFault-append, HasNoFault-events_of}
+use Rattle.no_std_io2_base.proofs.EventLemmas.{bytes-append, bytes-events_of, events_of-append, HasNoFault-append, HasNoFault-events_of}
 
 -- `front`, which has neither a fault nor a d, is gone from E, and its bytes were appended
 pub record PieceSoFar (d : ℕ) (E : List Event) (old new : List ℕ) (after : List Event) : Type 0 where

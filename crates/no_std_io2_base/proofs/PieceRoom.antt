@@ -7,7 +7,7 @@ use Rattle.no_std_io2_base.specs.Errors.{IsFault}
 use Rattle.no_std_io2_base.specs.Read.{Event, fails, events_of, bytes, bytes_to_fault, first_fault}
 use Rattle.no_std_io2_base.specs.BufRead.{BeginsWith}
 use Rattle.no_std_io2_base.specs.Pieces.{Lacks, EndsPiece, FindsPiece, HasPieceRoom, up_to}
-use Rattle.no_std_io2_base.proofs.Events.{bytes-events_of, HasNoFault-events_of}
+use Rattle.no_std_io2_base.proofs.EventLemmas.{bytes-events_of, HasNoFault-events_of}
 use Rattle.no_std_io2_base.proofs.GivenPieces.{first_fault-append, bytes_to_fault-append}
 use Rattle.no_std_io2_base.proofs.PieceLemmas.{PieceSoFar}
 

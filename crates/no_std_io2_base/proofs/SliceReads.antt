@@ -8,7 +8,7 @@ use Rattle.no_std_io2_base.specs.Errors.{IsOutOfMemory}
 use Rattle.no_std_io2_base.specs.Read.{events_of, bytes, HasNoFault, ReadsToEnd, bytes_to_fault, HasRoom}
 use Rattle.no_std_io2_base.specs.Cursor.{HasMoved}
 use Rattle.no_std_io2_base.proofs.CursorLemmas.{left_after}
-use Rattle.no_std_io2_base.proofs.Events.{HasNoFault-events_of, bytes-events_of, events_of-append, length-events_of}
+use Rattle.no_std_io2_base.proofs.EventLemmas.{HasNoFault-events_of, bytes-events_of, events_of-append, length-events_of}
 
 -- all of it was appended
 pub moved_whole : {all rest : List ℕ} (old : List ℕ) {new : List ℕ} → HasMoved all rest old new → rest ≡ []

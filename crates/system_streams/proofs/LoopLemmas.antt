@@ -7,7 +7,7 @@ use Rattle.std.specs.Result.{IsErrAnd}
 use borrow.Rule.Slice.PartMut.{put_mid}
 use Rattle.std.proofs.lemmas.Slice.{take-put_mid_below}
 use Rattle.std.specs.Io.KnownBytes.{Appends, Consumes, Keeps, WriteAppends, ReadConsumes}
-use Rattle.no_std_io2.proofs.Parts.{take-put_mid}
+use Rattle.no_std_io2.proofs.ReadParts.{take-put_mid}
 use Rattle.no_std_io2.specs.declared.io.Error.{Error}
 use Rattle.no_std_io2.specs.Errors.{is_interruption, IsFault, IsUnwritten}
 use Rattle.no_std_io2.specs.Write.{taken}

@@ -98,7 +98,7 @@ impl<T: AsSlice<u8>> BufRead for Cursor<T> {
 
     ghost lent_length = { λ c. length (cursor_left T.slice c) };
 
-    #[tactic(auto, using(crate::proofs::Held::begins_whole))]
+    #[tactic(auto, using(crate::proofs::FillBufHeld::begins_whole))]
     fn fill_buf(&mut self) -> Result<&[u8]> {
         Ok(self.left())
     }

@@ -17,7 +17,8 @@ use std::alloc::Allocator;
 #[inline(never)]
 fn lengthen<A: Allocator>(content: &mut Vec<u8, A>, end: usize) -> bool
     requires { vec_len content.old ≤ end }
-    ensures items { content.new.items ≡ (if result then content.old.items ++ replicate (end - vec_len content.old) 0 else content.old.items) }
+    ensures items { content.new.items
+        ≡ (if result then content.old.items ++ replicate (end - vec_len content.old) 0 else content.old.items) }
     ensures full { OnFalse result (vec_capacity content.old < end) }
 {
     content.resize(end, 0).is_ok()

@@ -99,7 +99,7 @@ impl BufRead for &[u8] {
 
     ghost lent_length = { λ s. length s.now };
 
-    #[tactic(auto, using(crate::proofs::Held::begins_whole))]
+    #[tactic(auto, using(crate::proofs::FillBufHeld::begins_whole))]
     fn fill_buf(&mut self) -> Result<&[u8]> {
         Ok(*self)
     }

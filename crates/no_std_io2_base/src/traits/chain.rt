@@ -176,7 +176,7 @@ impl<T: Read, U: Read> Read for Chain<T, U> {
 impl<T: BufRead, U: BufRead> BufRead for Chain<T, U> {
     ghost held = { chain_held T.held U.held };
 
-    #[tactic(auto, using(crate::proofs::Held::begins_append))]
+    #[tactic(auto, using(crate::proofs::FillBufHeld::begins_append))]
     fn fill_buf(&mut self) -> Result<&[u8]>
         ensures law { FillBufLaw ⟦<Self as BufRead>⟧ self.old result }
 

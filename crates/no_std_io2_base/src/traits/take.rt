@@ -215,7 +215,7 @@ impl<T: Read> Read for Take<T> {
 impl<T: BufRead> BufRead for Take<T> {
     ghost held = { take_held T.held };
 
-    #[tactic(auto, using(crate::proofs::Held::begins_cut))]
+    #[tactic(auto, using(crate::proofs::FillBufHeld::begins_cut))]
     fn fill_buf(&mut self) -> Result<&[u8]>
         ensures law { FillBufLaw ⟦<Self as BufRead>⟧ self.old result }
 

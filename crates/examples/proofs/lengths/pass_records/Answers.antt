@@ -44,8 +44,11 @@ records-preserved-in-Continue-1 g c = record {
       let front = c.in-Ok.ensures.law.front run.0 in
       let passes = subst (λ l. Passes (g.B.Read.events c.args.r.now) run.1.0 l) (sym same) run.1.2 in
       let some = not_empty _ _ c.is_empty.ensures c.if-is_empty.false in
-      let said = c.in_ok-skip-in-Ok.ensures.told loan.0 in
-      (said.0, record_more c.in-Ok.lent.now front.rest run.1.1 passes some (same ∙ front.is) c.from.ensures said.1 c.in_ok-skip-in-Ok.ensures.done);
+      let said = c.in_ok-skip-in-Ok.ensures.told loan.0 in (
+        said.0,
+        record_more c.in-Ok.lent.now front.rest run.1.1 passes some (same ∙ front.is) c.from.ensures said.1
+            c.in_ok-skip-in-Ok.ensures.done,
+      );
 }
 
 pub records-preserved : goal.records-preserved

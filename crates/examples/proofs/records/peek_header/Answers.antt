@@ -25,7 +25,8 @@ returns g c =
           moved.2.0 moved.2.1 in
           (both_items _ long ∙ of_held.1, (same.0, same.1), moved.1 ∙ of_held.4);
       told = λ t.
-          let fills = (read.law.told t).1 in both_items _ long ∙ sym fills.filled ∙ ap (λ n. bytes (cut n (reader_events g.R.Read.events r))) long;
+          let fills = (read.law.told t).1 in both_items _ long ∙ sym fills.filled
+          ∙ ap (λ n. bytes (cut n (reader_events g.R.Read.events r))) long;
       steps_back = rw (both_items c.read_exact.new.buf long) (⊎_elim
           (λ few. inr (c.read_exact.new.self, read.law, c.in_ok-seek_relative.ensures.far (λ near. omega (arith, near, few))))
           (λ enough.

@@ -1,6 +1,6 @@
 use Rattle.std.proofs.Common.{rules, ◌∙◌, le_trans, inl}
 use Rattle.std.proofs.lemmas.Result.{err_from_is_err_and}
-use Rattle.no_std_io2_base.proofs.Taken.{moved_read, no_error}
+use Rattle.no_std_io2_base.proofs.ReadToEndTaken.{moved_read, no_error}
 use Rattle.no_std_io2.proofs.CopyReads.{read_length, one_read, last_read}
 use Rattle.no_std_io2.proofs.CopyLemmas.{written_more, copied_more, copied_interruption, copied_end, copied_fault}
 use Rattle.no_std_io2.proofs.CopyLemmas.{copied_refused, written_refused}

@@ -10,7 +10,8 @@ ghost use Rattle.no_std_io2_base.specs.Pieces.{AnswersLine, EndsPiece};
 ghost use Rattle.no_std_io2_base.specs.BufRead.{Rests, IsNotEmpty, Lends, LendsFrom, LendingTurn, reads_needed};
 ghost use Rattle.no_std_io2.specs.contracts.buffered.buf_reader.BufReader.{the_row as reader-row};
 ghost use Rattle.no_std_io2.specs.BufReader.{reader_held, reader_behind, reader_inner, reader_events, reader_turns};
-ghost use Rattle.no_std_io2.specs.BufReader.{reader_has_store, reader_is_sound, reader_position, reader_lent_length, TakesHeld, TakesHeldLine};
+ghost use Rattle.no_std_io2.specs.BufReader.{reader_has_store, reader_is_sound, reader_position, reader_lent_length, TakesHeld};
+ghost use Rattle.no_std_io2.specs.BufReader.{TakesHeldLine};
 
 use super::BufReader;
 use super::pieces::find_piece;

@@ -1,6 +1,6 @@
 -- `read_exact` ends with its reader's turns, and each of its reads counted.
 use Rattle.std.proofs.Common.{◌≡◌, ◌+◌, ◌-◌, length}
-use Rattle.no_std_io2_base.proofs.ExactLoop.{ExactSoFar}
+use Rattle.no_std_io2_base.proofs.ReadExactLoop.{ExactSoFar}
 use Rattle.no_std_io2_base.proofs.Readers.{reader}
 use Rattle.io_bench.specs.Tally.{tally_inner, tally_writes, tally_reads}
 use Rattle.io_bench.proofs.CountLemmas.{CountedSoFar}

@@ -1,8 +1,8 @@
 use Rattle.std.proofs.Common.{arith, refl, sym, ◌∙◌}
 use Rattle.std.proofs.lemmas.Result.{err_from_is_err_and}
 use Rattle.no_std_io2_base.proofs.ReadExactExits.{some_bytes, some_part}
-use Rattle.no_std_io2_base.proofs.ToEndLoop.{wrote, to_end_none, to_end_no_room, to_end_refused, to_end_read}
-use Rattle.no_std_io2_base.proofs.ToEndLoop.{to_end_interruption, to_end_done, to_end_fault}
+use Rattle.no_std_io2_base.proofs.ReadToEndLoop.{wrote, to_end_none, to_end_no_room, to_end_refused, to_end_read}
+use Rattle.no_std_io2_base.proofs.ReadToEndLoop.{to_end_interruption, to_end_done, to_end_fault}
 use Rattle.io_bench.proofs.CountLemmas.{counted_none, counted_more, counted_end, counted_fault, counted_refused}
 use Rattle.io_bench.proofs.CountLemmas.{handed_once, one_read}
 use Rattle.io_bench.proofs.tally.TallyRead.read_to_end.Goals as goal
@@ -106,7 +106,8 @@ reads-preserved g c =
     let one = one_read _ (some_part c.reads.filled c.deref_mut.result.now _
     (omega (arith, c.in_ok-open_room.ensures.room, c.deref_mut.ensures.len)) refl) read.reads in
     record {
-      law = to_end_interruption before.law (λ t told. g.met.T.Read.store_tells _ told) read.law (sym c.is_interrupted.ensures ∙ c.if-is_interrupted.true) w
+      law = to_end_interruption before.law (λ t told. g.met.T.Read.store_tells _ told) read.law
+          (sym c.is_interrupted.ensures ∙ c.if-is_interrupted.true) w
           room.grows;
       counts = counted_more before.counts one read.law.turn;
       handed = λ m. handed_once _ _ _ _ _ (before.handed m) (read.handed.counts (before.handed m).0) read.reads;

@@ -1,5 +1,5 @@
 use Rattle.std.proofs.Common.{string_bytes, rules}
-use Rattle.no_std_io2_base.proofs.Trimmed.{line_yields}
+use Rattle.no_std_io2_base.proofs.PieceTrims.{line_yields}
 use Rattle.no_std_io2_base.proofs.traits.lines.next_line.Goals as goal
 
 pub returns-in-Ok-clause-told : goal.returns-in-Ok-clause-told

@@ -1,5 +1,5 @@
 use Rattle.std.proofs.Common.{sym, ◌∙◌}
-use Rattle.no_std_io2_base.proofs.Trimmed.{other_last, is_last, kept_last, dropped_last}
+use Rattle.no_std_io2_base.proofs.PieceTrims.{other_last, is_last, kept_last, dropped_last}
 use Rattle.no_std_io2_base.proofs.traits.pieces.drop_last.Goals as goal
 
 pub returns-then-index-last : goal.returns-then-index-last

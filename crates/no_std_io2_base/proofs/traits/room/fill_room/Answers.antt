@@ -1,11 +1,11 @@
 -- As the trait's `read_to_end`, but for the room, which is what there is.
 use Rattle.std.proofs.Common.{◌<◌, ◌≤◌, false, true, true≢false, length, arith, refl, sym, ◌∙◌, le_refl, le_trans}
-use Rattle.no_std_io2_base.proofs.Gathered.{gathered_same, gathered_room, gathered_failed, gathered_over}
+use Rattle.no_std_io2_base.proofs.ReadToEndGathered.{gathered_same, gathered_room, gathered_failed, gathered_over}
 use Rattle.no_std_io2_base.proofs.ReadExactExits.{some_bytes}
-use Rattle.no_std_io2_base.proofs.ReadsToEndExits.{front_cut, filled_length, whole_room, stays_at_end}
-use Rattle.no_std_io2_base.proofs.Taken.{no_error}
-use Rattle.no_std_io2_base.proofs.TakenToEnd.{nothing_read}
-use Rattle.no_std_io2_base.proofs.ToEndLoop.{wrote, to_end_none, to_end_read, to_end_interruption}
+use Rattle.no_std_io2_base.proofs.ReadToEndExits.{front_cut, filled_length, whole_room, stays_at_end}
+use Rattle.no_std_io2_base.proofs.ReadToEndTaken.{no_error}
+use Rattle.no_std_io2_base.proofs.TakeToEnd.{nothing_read}
+use Rattle.no_std_io2_base.proofs.ReadToEndLoop.{wrote, to_end_none, to_end_read, to_end_interruption}
 use Rattle.no_std_io2_base.proofs.traits.room.fill_room.Goals as goal
 
 pub reads-init : goal.reads-init

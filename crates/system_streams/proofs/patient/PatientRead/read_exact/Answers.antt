@@ -4,7 +4,7 @@ use Rattle.system_streams.specs.Patient.{patient_device}
 use Rattle.system_streams.proofs.LoopLemmas.{consumes_nil, consumed_some, consumed_none, consumed_end, ends_reads}
 use Rattle.system_streams.proofs.LoopLemmas.{got_same, got_none, got_more}
 use Rattle.no_std_io2.proofs.ReadExactExits.{length_stays, some_part}
-use Rattle.no_std_io2.proofs.ExactLoop.{exact_none, exact_read, exact_interruption, exact_end, exact_fault, exact_all}
+use Rattle.no_std_io2.proofs.ReadExactLoop.{exact_none, exact_read, exact_interruption, exact_end, exact_fault, exact_all}
 use Rattle.system_streams.proofs.patient.PatientRead.read_exact.Goals as goal
 
 pub reads-init : goal.reads-init

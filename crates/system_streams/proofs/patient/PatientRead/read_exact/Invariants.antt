@@ -2,7 +2,7 @@
 use Rattle.std.proofs.Common.{◌≡◌, take}
 use Rattle.std.specs.Io.KnownBytes.{Consumes}
 use Rattle.system_streams.specs.Patient.{patient_device, patient_turns, patient_taken}
-use Rattle.no_std_io2.proofs.ExactLoop.{ExactSoFar}
+use Rattle.no_std_io2.proofs.ReadExactLoop.{ExactSoFar}
 use Rattle.system_streams.proofs.LoopLemmas.{patient_reader}
 use Rattle.system_streams.proofs.patient.PatientRead.read_exact.Given as goal
 

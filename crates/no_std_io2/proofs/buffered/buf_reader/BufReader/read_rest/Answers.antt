@@ -2,8 +2,8 @@
 use Rattle.std.proofs.Common.{◌≡◌, ◌-◌, ◌≤◌, length, take, arith, sym, ap, subst, ◌∙◌, le_refl, inl, inr, length-take-le, length-drop}
 use Rattle.std.proofs.Common.{take_all}
 use Rattle.std.proofs.lemmas.Slice.{take-put_mid_below}
-use Rattle.no_std_io2_base.proofs.Parts.{take-put_mid}
-use Rattle.no_std_io2_base.proofs.Taken.{taken_read, taken_interruption, taken_fault, moved_read}
+use Rattle.no_std_io2_base.proofs.ReadParts.{take-put_mid}
+use Rattle.no_std_io2_base.proofs.ReadToEndTaken.{taken_read, taken_interruption, taken_fault, moved_read}
 use Rattle.no_std_io2_base.specs.Errors.{is_interruption}
 use Rattle.no_std_io2.specs.BufReader.{reader_held, reader_behind, reader_inner, reader_events}
 use Rattle.no_std_io2.proofs.BufReaderExact.{exact_begins, exact_first, exact_read, exact_end, exact_short, exact_left-end}

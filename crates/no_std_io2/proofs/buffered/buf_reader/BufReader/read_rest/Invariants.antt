@@ -1,6 +1,6 @@
 -- An exact read ends with its reader's turns, and what it filled is what it took.
 use Rattle.std.proofs.Common.{◌≡◌, ◌≤◌, ◌<◌, ◌+◌, ◌-◌, length, take, min}
-use Rattle.no_std_io2_base.proofs.Taken.{Taken}
+use Rattle.no_std_io2_base.proofs.ReadToEndTaken.{Taken}
 use Rattle.no_std_io2.specs.BufReader.{reader_held, reader_behind, reader_inner, reader_events, reader_turns}
 use Rattle.no_std_io2.specs.BufReader.{reader_has_store, reader_is_sound, reader_position}
 use Rattle.no_std_io2.specs.Buffer.{IsEnd}

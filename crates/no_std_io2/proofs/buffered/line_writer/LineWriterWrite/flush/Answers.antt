@@ -8,7 +8,12 @@ pub returns-clause-lasts : goal.returns-clause-lasts
 returns-clause-lasts g c = λ t. c.flush.ensures.all t
 
 pub returns-clause-law : goal.returns-clause-law
-returns-clause-law g c = record { empty = c.flush.ensures.empty; moves = c.flush.ensures.moves; all = λ no. absurd no; counts = λ no. absurd no }
+returns-clause-law g c = record {
+  empty = c.flush.ensures.empty;
+  moves = c.flush.ensures.moves;
+  all = λ no. absurd no;
+  counts = λ no. absurd no;
+}
 
 pub returns-clause-sent : goal.returns-clause-sent
 returns-clause-sent g c = c.flush.ensures.sent

@@ -7,7 +7,12 @@ pub invariant_of-self : goal.invariant_of-self
 invariant_of-self g c = record { line = c.write_plain.ensures.line }
 
 pub returns-then-len-eq0-clause-law : goal.returns-then-len-eq0-clause-law
-returns-then-len-eq0-clause-law g c = record { bound = c.write_plain.ensures.bound; moves = c.write_plain.ensures.moves; all = λ no. absurd no; counts = λ no. absurd no }
+returns-then-len-eq0-clause-law g c = record {
+  bound = c.write_plain.ensures.bound;
+  moves = c.write_plain.ensures.moves;
+  all = λ no. absurd no;
+  counts = λ no. absurd no;
+}
 
 pub returns-then-len-eq0-clause-fits : goal.returns-then-len-eq0-clause-fits
 returns-then-len-eq0-clause-fits g c = λ _ none short room. c.write_plain.ensures.fits none short room
@@ -35,7 +40,12 @@ pub invariant_of-self-2 : goal.invariant_of-self-2
 invariant_of-self-2 g c = record { line = c.write_lines.ensures.line }
 
 pub returns-clause-law : goal.returns-clause-law
-returns-clause-law g c = record { bound = c.write_lines.ensures.bound; moves = c.write_lines.ensures.moves; all = λ no. absurd no; counts = λ no. absurd no }
+returns-clause-law g c = record {
+  bound = c.write_lines.ensures.bound;
+  moves = c.write_lines.ensures.moves;
+  all = λ no. absurd no;
+  counts = λ no. absurd no;
+}
 
 pub returns-clause-fits : goal.returns-clause-fits
 returns-clause-fits g c = λ none.

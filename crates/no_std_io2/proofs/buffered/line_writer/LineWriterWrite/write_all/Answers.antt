@@ -7,7 +7,12 @@ pub invariant_of-self : goal.invariant_of-self
 invariant_of-self g c = record { line = c.write_all_plain.ensures.line }
 
 pub returns-then-len-eq0-clause-law : goal.returns-then-len-eq0-clause-law
-returns-then-len-eq0-clause-law g c = record { fault = c.write_all_plain.ensures.fault; moves = c.write_all_plain.ensures.moves; all = λ no. absurd no; counts = λ no. absurd no }
+returns-then-len-eq0-clause-law g c = record {
+  fault = c.write_all_plain.ensures.fault;
+  moves = c.write_all_plain.ensures.moves;
+  all = λ no. absurd no;
+  counts = λ no. absurd no;
+}
 
 pub returns-then-len-eq0-clause-open : goal.returns-then-len-eq0-clause-open
 returns-then-len-eq0-clause-open g c = c.write_all_plain.ensures.open
@@ -28,7 +33,12 @@ pub invariant_of-self-2 : goal.invariant_of-self-2
 invariant_of-self-2 g c = record { line = c.write_all_lines.ensures.line }
 
 pub returns-clause-law : goal.returns-clause-law
-returns-clause-law g c = record { fault = c.write_all_lines.ensures.fault; moves = c.write_all_lines.ensures.moves; all = λ no. absurd no; counts = λ no. absurd no }
+returns-clause-law g c = record {
+  fault = c.write_all_lines.ensures.fault;
+  moves = c.write_all_lines.ensures.moves;
+  all = λ no. absurd no;
+  counts = λ no. absurd no;
+}
 
 pub returns-clause-open : goal.returns-clause-open
 returns-clause-open g c = c.write_all_lines.ensures.open

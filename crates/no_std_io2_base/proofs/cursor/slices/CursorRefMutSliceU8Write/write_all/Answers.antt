@@ -4,7 +4,17 @@ use Rattle.no_std_io2_base.proofs.cursor.slices.CursorRefMutSliceU8Write.write_a
 
 pub returns-then-write_fitting-buf-clause-law : goal.returns-then-write_fitting-buf-clause-law
 returns-then-write_fitting-buf-clause-law c =
-    record { fault = search rules; moves = fits_moves_part _ _ c.failed_to_write.result c.failed_to_write.ensures.0 c.write_fitting.ensures.puts; all = λ h. h; counts = λ h. absurd h }
+    record {
+      fault = search rules;
+      moves = fits_moves_part _ _ c.failed_to_write.result c.failed_to_write.ensures.0 c.write_fitting.ensures.puts;
+      all = λ h. h;
+      counts = λ h. absurd h;
+    }
 
 pub returns-clause-law : goal.returns-clause-law
-returns-clause-law c = record { fault = tt; moves = fits_moves_all _ _ (omega arith) c.write_fitting.ensures.puts; all = λ h. h; counts = λ h. absurd h }
+returns-clause-law c = record {
+  fault = tt;
+  moves = fits_moves_all _ _ (omega arith) c.write_fitting.ensures.puts;
+  all = λ h. h;
+  counts = λ h. absurd h;
+}

@@ -1,6 +1,6 @@
 -- As the trait's: it ends with its reader's turns.
 use Rattle.no_std_io2_base.proofs.Readers.{box_reader}
-use Rattle.no_std_io2_base.proofs.ToEndLoop.{ToEndSoFar}
+use Rattle.no_std_io2_base.proofs.ReadToEndLoop.{ToEndSoFar}
 use Rattle.no_std_io2_base.proofs.impls.lending_objects.BoxDynBufReadDropRead.read_to_end.Given as goal
 
 abbrev pub invariant-reads : goal.invariant-reads

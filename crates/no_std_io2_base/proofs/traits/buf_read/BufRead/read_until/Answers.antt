@@ -5,7 +5,7 @@ use Rattle.no_std_io2_base.proofs.PieceLemmas.{piece_none, piece_more, piece_int
 use Rattle.no_std_io2_base.proofs.PieceLemmas.{byte_next, piece_memory, part_taken, none_taken, error_taken, error_turn}
 use Rattle.no_std_io2_base.proofs.PieceLemmas.{whole_part, front_more, front_same, spent_more, part_fits, memory_fault}
 use Rattle.no_std_io2_base.proofs.PieceRoom.{part_has_room, fault_is_first}
-use Rattle.no_std_io2_base.proofs.Taken.{moved_read, no_error}
+use Rattle.no_std_io2_base.proofs.ReadToEndTaken.{moved_read, no_error}
 use Rattle.no_std_io2_base.proofs.traits.buf_read.BufRead.read_until.Goals as goal
 
 pub pieces-init : goal.pieces-init

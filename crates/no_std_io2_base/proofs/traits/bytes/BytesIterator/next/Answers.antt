@@ -1,5 +1,5 @@
 use Rattle.std.proofs.Common.{rules}
-use Rattle.no_std_io2_base.proofs.Singles.{passed_interruption}
+use Rattle.no_std_io2_base.proofs.NextByteLemmas.{passed_interruption}
 use Rattle.no_std_io2_base.proofs.traits.bytes.BytesIterator.next.Goals as goal
 
 pub reads-preserved : goal.reads-preserved

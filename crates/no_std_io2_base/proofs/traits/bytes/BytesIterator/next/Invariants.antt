@@ -1,7 +1,7 @@
 -- `next` ends with its reader's turns, and has passed interruptions alone.
 use Rattle.std.proofs.Common.{◌≡◌, ◌≤◌, length}
 use Rattle.no_std_io2_base.specs.Read.{bytes_reader}
-use Rattle.no_std_io2_base.proofs.Singles.{Passed}
+use Rattle.no_std_io2_base.proofs.NextByteLemmas.{Passed}
 use Rattle.no_std_io2_base.proofs.traits.bytes.BytesIterator.next.Given as goal
 
 abbrev pub invariant-reads : goal.invariant-reads

@@ -9,7 +9,7 @@ use Rattle.no_std_io2_base.specs.contracts.traits.chain.ChainBufRead.fill_buf.{c
 use Rattle.no_std_io2_base.specs.contracts.traits.chain.ChainBufRead.TheImpl as BufReads
 use Rattle.no_std_io2_base.specs.contracts.traits.chain.ChainRead.TheImpl as Reads
 use Rattle.no_std_io2_base.specs.contracts.traits.chain.ChainStored.TheImpl as Stores
-use Rattle.no_std_io2_base.proofs.Strengthened.{lends_on}
+use Rattle.no_std_io2_base.proofs.AfterLoan.{lends_on}
 use Rattle.no_std_io2_base.proofs.traits.chain.ChainBufRead.TheImpl.Goals as goal
 
 -- `Chain` promises more of `fill_buf` than the trait asks, in a starred clause: so what it gives is turned into what is asked here.

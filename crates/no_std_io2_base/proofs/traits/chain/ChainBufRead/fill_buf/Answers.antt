@@ -1,5 +1,5 @@
 use Rattle.std.proofs.Common.{rules, refl, sym, ap, ◌∙◌, true≢false}
-use Rattle.no_std_io2_base.proofs.Held.{begins_append, begins_none}
+use Rattle.no_std_io2_base.proofs.FillBufHeld.{begins_append, begins_none}
 use Rattle.no_std_io2_base.proofs.traits.chain.ChainBufRead.fill_buf.Goals as goal
 use Rattle.no_std_io2_base.proofs.traits.chain.ChainBufRead.fill_buf.Goals.{then-not-self+in_ok-fill_buf, else-not-self}
 

@@ -3,7 +3,7 @@ use Rattle.std.proofs.lemmas.Result.{err_from_is_err_and}
 use Rattle.no_std_io2_base.specs.Read.{Reads, SpendsTurn}
 use Rattle.no_std_io2_base.proofs.ChainReads.{PastFirst, past_done, past_read, both_turns, second_turn, first_turn}
 use Rattle.no_std_io2_base.proofs.ChainReads.{turn_of_first, turn_past, gave_none, failed_none, read_before}
-use Rattle.no_std_io2_base.proofs.TakenToEnd.{nothing_read}
+use Rattle.no_std_io2_base.proofs.TakeToEnd.{nothing_read}
 use Rattle.no_std_io2_base.proofs.WriteExits.{not_empty}
 use Rattle.no_std_io2_base.proofs.traits.chain.ChainRead.read.Goals as goal
 use Rattle.no_std_io2_base.proofs.traits.chain.ChainRead.read.Goals.{then-not-self+in_ok-n+in-0, else-not-self}

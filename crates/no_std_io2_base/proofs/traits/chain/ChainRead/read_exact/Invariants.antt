@@ -1,6 +1,6 @@
 -- `read_exact` ends with the turns of both readers.
 use Rattle.no_std_io2_base.specs.Chain.{chain_turns, InTurn}
-use Rattle.no_std_io2_base.proofs.ExactLoop.{ExactSoFar}
+use Rattle.no_std_io2_base.proofs.ReadExactLoop.{ExactSoFar}
 use Rattle.no_std_io2_base.proofs.Readers.{chain_reader}
 use Rattle.no_std_io2_base.proofs.traits.chain.ChainRead.read_exact.Given as goal
 

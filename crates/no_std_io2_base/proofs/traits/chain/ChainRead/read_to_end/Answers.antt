@@ -3,10 +3,10 @@ use Rattle.no_std_io2_base.specs.Read.{first_fault}
 use Rattle.std.proofs.lemmas.Result.{err_from_is_err_and}
 use Rattle.no_std_io2_base.proofs.ChainReads.{room_of_first, room_of_second, room_left, room_when_done, fault_of_room, first_fault-first}
 use Rattle.no_std_io2_base.proofs.ChainReads.{room_while_going, after_ok, turn_of_first, turn_of_second, turn_of_both, spent_then}
-use Rattle.no_std_io2_base.proofs.Gathered.{gathered_first, gathered_all, gathered_stop, gathered_then, gathered_then_failed}
+use Rattle.no_std_io2_base.proofs.ReadToEndGathered.{gathered_first, gathered_all, gathered_stop, gathered_then, gathered_then_failed}
 use Rattle.no_std_io2_base.proofs.GivenPieces.{first_fault-append}
-use Rattle.no_std_io2_base.proofs.TakenToEnd.{gathered_done}
-use Rattle.no_std_io2_base.proofs.ReadsToEndExits.{front_then, stopped_first}
+use Rattle.no_std_io2_base.proofs.TakeToEnd.{gathered_done}
+use Rattle.no_std_io2_base.proofs.ReadToEndExits.{front_then, stopped_first}
 use Rattle.no_std_io2_base.proofs.traits.chain.ChainRead.read_to_end.Goals as goal
 
 pub returns-then-self : goal.returns-then-self

@@ -1,5 +1,5 @@
 -- `read_exact` ends with its reader's turns.
-use Rattle.no_std_io2_base.proofs.ExactLoop.{ExactSoFar}
+use Rattle.no_std_io2_base.proofs.ReadExactLoop.{ExactSoFar}
 use Rattle.no_std_io2_base.proofs.Readers.{reader}
 use Rattle.no_std_io2_base.proofs.traits.read.Read.read_exact.Given as goal
 

@@ -1,8 +1,8 @@
 use Rattle.std.proofs.Common.{sym, arith, ◌∙◌}
 use Rattle.std.proofs.lemmas.Result.{err_from_is_err_and}
 use Rattle.no_std_io2_base.proofs.ReadExactExits.{some_bytes}
-use Rattle.no_std_io2_base.proofs.ToEndLoop.{wrote, to_end_none, to_end_no_room, to_end_refused, to_end_read}
-use Rattle.no_std_io2_base.proofs.ToEndLoop.{to_end_interruption, to_end_done, to_end_fault}
+use Rattle.no_std_io2_base.proofs.ReadToEndLoop.{wrote, to_end_none, to_end_no_room, to_end_refused, to_end_read}
+use Rattle.no_std_io2_base.proofs.ReadToEndLoop.{to_end_interruption, to_end_done, to_end_fault}
 use Rattle.no_std_io2_base.proofs.traits.read.Read.read_to_end.Goals as goal
 
 pub returns-in_err-reserve_room : goal.returns-in_err-reserve_room
@@ -60,5 +60,6 @@ pub reads-preserved : goal.reads-preserved
 reads-preserved g c =
     let room = c.open_room.ensures in
     let w = wrote room.within c.open_room.new.buf.ok.0 c.deref_mut.ensures.value c.read.auto.buf room.front in
-    to_end_interruption c.reads.invariant g.met.Self.Read.store_tells c.in-Err.ensures.law (sym c.is_interrupted.ensures ∙ c.if-is_interrupted.true) w
+    to_end_interruption c.reads.invariant g.met.Self.Read.store_tells c.in-Err.ensures.law
+    (sym c.is_interrupted.ensures ∙ c.if-is_interrupted.true) w
     room.grows

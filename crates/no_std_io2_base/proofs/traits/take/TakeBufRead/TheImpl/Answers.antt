@@ -9,7 +9,7 @@ use Rattle.no_std_io2_base.specs.contracts.traits.take.TakeBufRead.fill_buf.{cla
 use Rattle.no_std_io2_base.specs.contracts.traits.take.TakeBufRead.TheImpl as BufReads
 use Rattle.no_std_io2_base.specs.contracts.traits.take.TakeRead.TheImpl as Reads
 use Rattle.no_std_io2_base.specs.contracts.traits.take.TakeStored.TheImpl as Stores
-use Rattle.no_std_io2_base.proofs.Strengthened.{lends_more}
+use Rattle.no_std_io2_base.proofs.AfterLoan.{lends_more}
 use Rattle.no_std_io2_base.proofs.traits.take.TakeBufRead.TheImpl.Goals as goal
 
 -- `Take` promises more of `fill_buf` than the trait asks, in a starred clause: so what it gives is turned into what is asked here.

@@ -1,8 +1,8 @@
 use Rattle.std.proofs.Common.{◌≡◌, ◌+◌, ◌-◌, arith, take, drop, ap, sym, subst, ◌∙◌, length-take}
 use lib.Seq.{take-take}
 use Rattle.std.proofs.lemmas.List.{drop-take}
-use Rattle.no_std_io2_base.proofs.Along.{along_bytes}
-use Rattle.no_std_io2_base.proofs.Cut.{cut_consumes}
+use Rattle.no_std_io2_base.proofs.TakeAlong.{along_bytes}
+use Rattle.no_std_io2_base.proofs.CutReads.{cut_consumes}
 use Rattle.no_std_io2_base.proofs.traits.take.TakeBufRead.consume.Goals as goal
 
 pub returns-clause-law : goal.returns-clause-law

@@ -1,6 +1,6 @@
 use Rattle.std.proofs.Common.{arith}
 use Rattle.std.proofs.lemmas.Grind.{common_steps}
-use Rattle.no_std_io2_base.proofs.Held.{begins_cut}
+use Rattle.no_std_io2_base.proofs.FillBufHeld.{begins_cut}
 use Rattle.no_std_io2_base.proofs.traits.take.TakeBufRead.fill_buf.Goals as goal
 
 pub returns : goal.returns

@@ -2,7 +2,7 @@ use Rattle.std.proofs.Common.{◌≡◌, ◌∙◌, length, refl, sym, ap, arith
 use Rattle.std.proofs.Common.{length-take-le}
 use Rattle.std.proofs.lemmas.Result.{err_from_is_err_and}
 use Rattle.no_std_io2_base.specs.Take.{take_limit, take_events}
-use Rattle.no_std_io2_base.proofs.Along.{along_none, along_then, along_fault}
+use Rattle.no_std_io2_base.proofs.TakeAlong.{along_none, along_then, along_fault}
 use Rattle.no_std_io2_base.proofs.PieceLemmas.{piece_none, piece_more, piece_interruption, piece_ended, piece_fault}
 use Rattle.no_std_io2_base.proofs.PieceLemmas.{byte_next, piece_memory, part_taken, none_taken, error_taken, error_turn}
 use Rattle.no_std_io2_base.proofs.PieceLemmas.{whole_part, front_more, front_same, spent_more, part_fits, memory_fault}

@@ -2,8 +2,9 @@
 use Rattle.std.proofs.Common.{◌≡◌, length, refl, arith, ap, le_refl, length-take-le}
 use Rattle.std.proofs.lemmas.Result.{err_from_is_err_and}
 use Rattle.no_std_io2_base.specs.Read.{cut}
-use Rattle.no_std_io2_base.proofs.Along.{along_none, along_read, along_error}
-use Rattle.no_std_io2_base.proofs.Cut.{cut_reads, cut_reads_whole, cut-length, cut_error, part_within, part_room, fits_whole, limit_falls}
+use Rattle.no_std_io2_base.proofs.TakeAlong.{along_none, along_read, along_error}
+use Rattle.no_std_io2_base.proofs.CutReads.{cut_reads, cut_reads_whole, cut-length, cut_error, part_within, part_room, fits_whole}
+use Rattle.no_std_io2_base.proofs.CutReads.{limit_falls}
 use Rattle.no_std_io2_base.proofs.ReadExactExits.{some_bytes}
 use Rattle.no_std_io2_base.proofs.traits.take.TakeRead.read.Goals as goal
 

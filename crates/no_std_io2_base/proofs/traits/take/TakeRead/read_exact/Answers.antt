@@ -1,6 +1,6 @@
 use Rattle.std.proofs.Common.{rules, arith, refl, sym, ◌∙◌}
-use Rattle.no_std_io2_base.proofs.Along.{along_none, along_then}
-use Rattle.no_std_io2_base.proofs.ExactLoop.{exact_none, exact_read, exact_interruption, exact_end, exact_fault, exact_all}
+use Rattle.no_std_io2_base.proofs.TakeAlong.{along_none, along_then}
+use Rattle.no_std_io2_base.proofs.ReadExactLoop.{exact_none, exact_read, exact_interruption, exact_end, exact_fault, exact_all}
 use Rattle.no_std_io2_base.proofs.ReadExactExits.{some_bytes}
 use Rattle.no_std_io2_base.proofs.traits.take.TakeRead.read_exact.Goals as goal
 

@@ -1,7 +1,7 @@
 -- `read_exact` ends with its reader's turns.
 use Rattle.std.proofs.Common.{◌≡◌, ◌+◌}
 use Rattle.no_std_io2_base.specs.Take.{take_inner, take_limit, TakesAlong}
-use Rattle.no_std_io2_base.proofs.ExactLoop.{ExactSoFar}
+use Rattle.no_std_io2_base.proofs.ReadExactLoop.{ExactSoFar}
 use Rattle.no_std_io2_base.proofs.Readers.{take_reader}
 use Rattle.no_std_io2_base.proofs.traits.take.TakeRead.read_exact.Given as goal
 

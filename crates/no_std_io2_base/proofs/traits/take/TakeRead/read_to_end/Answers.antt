@@ -1,13 +1,13 @@
 use Rattle.std.proofs.Common.{◌≡◌, ◌+◌, ◌<◌, ◌≤◌, length, take, vec_capacity, arith, ap, refl, sym, subst, ◌∙◌, le_trans}
 use Rattle.std.proofs.lemmas.Result.{err_from_is_err_and}
-use Rattle.no_std_io2_base.proofs.Along.{along_none, along_then}
-use Rattle.no_std_io2_base.proofs.Gathered.{gathered_same, gathered_first_fault, gathered_fits}
+use Rattle.no_std_io2_base.proofs.TakeAlong.{along_none, along_then}
+use Rattle.no_std_io2_base.proofs.ReadToEndGathered.{gathered_same, gathered_first_fault, gathered_fits}
 use Rattle.no_std_io2_base.proofs.ReadExactExits.{some_bytes}
-use Rattle.no_std_io2_base.proofs.ReadsToEndExits.{filled_bytes, front_cut, count_cut, len_cut, filled_length}
-use Rattle.no_std_io2_base.proofs.TakenToEnd.{Ended, ended_at_limit, nothing_read, given_none, gathered_done}
-use Rattle.no_std_io2_base.proofs.TakenToEnd.{limit_same, limit_cut, no_turn, none_filled}
-use Rattle.no_std_io2_base.proofs.ToEndLoop.{wrote, to_end_none, to_end_no_room, to_end_refused, to_end_read}
-use Rattle.no_std_io2_base.proofs.ToEndLoop.{to_end_interruption, to_end_fault}
+use Rattle.no_std_io2_base.proofs.ReadToEndExits.{filled_bytes, front_cut, count_cut, len_cut, filled_length}
+use Rattle.no_std_io2_base.proofs.TakeToEnd.{Ended, ended_at_limit, nothing_read, given_none, gathered_done}
+use Rattle.no_std_io2_base.proofs.TakeToEnd.{limit_same, limit_cut, no_turn, none_filled}
+use Rattle.no_std_io2_base.proofs.ReadToEndLoop.{wrote, to_end_none, to_end_no_room, to_end_refused, to_end_read}
+use Rattle.no_std_io2_base.proofs.ReadToEndLoop.{to_end_interruption, to_end_fault}
 use Rattle.no_std_io2_base.proofs.traits.take.TakeRead.read_to_end.Goals as goal
 use Rattle.no_std_io2_base.proofs.traits.take.TakeRead.read_to_end.Goals.{else-reads-test, then-reads-test+in_ok-open_room+in-Ok-eq0}
 

@@ -2,7 +2,7 @@
 use Rattle.std.proofs.Common.{◌≡◌, ◌+◌, vec_len}
 use Rattle.no_std_io2_base.specs.Take.{take_inner, take_limit, TakesAlong}
 use Rattle.no_std_io2_base.proofs.Readers.{take_reader}
-use Rattle.no_std_io2_base.proofs.ToEndLoop.{ToEndSoFar}
+use Rattle.no_std_io2_base.proofs.ReadToEndLoop.{ToEndSoFar}
 use Rattle.no_std_io2_base.proofs.traits.take.TakeRead.read_to_end.Given as goal
 
 abbrev pub invariant-reads : goal.invariant-reads

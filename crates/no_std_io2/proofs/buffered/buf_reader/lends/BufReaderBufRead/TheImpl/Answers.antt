@@ -9,7 +9,7 @@ use Rattle.no_std_io2.specs.contracts.buffered.buf_reader.lends.BufReaderBufRead
 use Rattle.no_std_io2.specs.contracts.buffered.buf_reader.lends.BufReaderBufRead.TheImpl as BufReads
 use Rattle.no_std_io2.specs.contracts.buffered.buf_reader.reads.BufReaderRead.TheImpl as Reads
 use Rattle.no_std_io2.specs.contracts.buffered.buf_reader.BufReaderStored.TheImpl as Stores
-use Rattle.no_std_io2_base.proofs.Strengthened.{lends_on}
+use Rattle.no_std_io2_base.proofs.AfterLoan.{lends_on}
 use Rattle.no_std_io2.proofs.buffered.buf_reader.lends.BufReaderBufRead.TheImpl.Goals as goal
 
 pub fill_buf-meets : goal.fill_buf-meets

@@ -5,7 +5,7 @@ use Rattle.no_std_io2_base.proofs.PieceLemmas.{piece_none, piece_more, piece_int
 use Rattle.no_std_io2_base.proofs.PieceLemmas.{byte_next, piece_memory, part_taken, none_taken, error_taken, error_turn}
 use Rattle.no_std_io2_base.proofs.PieceLemmas.{whole_part, front_more, front_same, spent_more, part_fits, memory_fault}
 use Rattle.no_std_io2_base.proofs.PieceRoom.{part_has_room, fault_is_first}
-use Rattle.no_std_io2_base.proofs.Taken.{moved_read, no_error}
+use Rattle.no_std_io2_base.proofs.ReadToEndTaken.{moved_read, no_error}
 use Rattle.no_std_io2.proofs.BufReaderTrail.{trail_filled, trail_taken, trail_same, lent_held}
 use Rattle.no_std_io2.proofs.HeldPieces.{piece_some, piece_open, piece_found}
 use Rattle.no_std_io2.specs.BufReader.{reader_held, reader_behind, reader_inner, reader_events, sound_tells}
@@ -242,7 +242,8 @@ returns-in_err-append-in-Ok g c =
             let lent = filled.told so_far.0 in (
               lent.0,
               piece_memory so_far.1 (none_taken c.in-Ok.lent c.in-Ok.is lent.1) refused.err refused.refused
-                  (byte_next (c.in-Ok.ensures.law.front so_far.0) c.find_piece-len.ensures.finds (omega (arith, c.pieces.buf.ok.1)) refused.full),
+                  (byte_next (c.in-Ok.ensures.law.front so_far.0) c.find_piece-len.ensures.finds (omega (arith, c.pieces.buf.ok.1))
+                  refused.full),
             );
         appends = front_same _ before.front refused.err;
         count = tt;

@@ -4,7 +4,7 @@ use Rattle.std.proofs.Common.{ap, ◌∙◌, arith, drop, ◌+◌, length-take, 
 use lib.Seq.{take-append-le}
 use Rattle.no_std_io2_base.specs.declared.error.Error.{Error}
 use Rattle.no_std_io2_base.specs.Read.{Event, fails, events_of, bytes, cut, Reads}
-use Rattle.no_std_io2_base.proofs.Events.{cut-bytes, length-events_of}
+use Rattle.no_std_io2_base.proofs.EventLemmas.{cut-bytes, length-events_of}
 
 cut-none : (k : ℕ) → cut k [] ≡ []
 cut-none zero = refl

@@ -4,7 +4,7 @@ use Rattle.std.proofs.Common.{◌∙◌, refl, subst, arith, append_assoc, lengt
 use Rattle.no_std_io2_base.specs.declared.error.Error.{Error}
 use Rattle.no_std_io2_base.specs.Read.{Event, fails, events_of, bytes, cut, Reads}
 use Rattle.no_std_io2_base.specs.Take.{TakesAlong}
-use Rattle.no_std_io2_base.proofs.Events.{bytes-append, bytes-events_of, cut-bytes}
+use Rattle.no_std_io2_base.proofs.EventLemmas.{bytes-append, bytes-events_of, cut-bytes}
 
 -- where the limit and what is to come of the inner reader are as they were, nothing was removed
 pub along_none : {k k' : ℕ} {E E' : List Event} → k' ≡ k → E' ≡ E → TakesAlong k E k' E'

@@ -2,7 +2,7 @@
 use Rattle.std.proofs.Common.{◌≡◌, ℕ, ◌-◌, ◌<◌, List, ◌++◌, length, take, drop, sym, ap, ◌∙◌, subst, arith, Ok}
 use Rattle.std.proofs.Common.{append-nil, take-append-drop, drop_of_length-le}
 use Rattle.no_std_io2_base.specs.Read.{bytes-events_of, events_of, bytes, HasNoFault, cut, Reads, Fills}
-use Rattle.no_std_io2_base.proofs.Events.{events_of-append, HasNoFault-events_of, cut-bytes}
+use Rattle.no_std_io2_base.proofs.EventLemmas.{events_of-append, HasNoFault-events_of, cut-bytes}
 
 -- all bytes, as events, are the first n of them and then the others
 pub events_of-split : (all : List ℕ) (n : ℕ) → events_of all ≡ events_of (take n all) ++ events_of (drop n all)

@@ -4,8 +4,8 @@ use Rattle.std.proofs.Common.{arith, Ok, length-take-le, append_assoc, append-ni
 use Rattle.no_std_io2_base.specs.declared.error.Error.{Error}
 use Rattle.no_std_io2_base.specs.Errors.{IsInterruption, IsFault, IsUnexpectedEnd}
 use Rattle.no_std_io2_base.specs.Read.{Event, fails, events_of, bytes, HasNoFault, cut, Reads, Fills, FallsShort, StopsAtFault}
-use Rattle.no_std_io2_base.proofs.Events.{bytes-append, bytes-events_of, length-events_of, HasNoFault-append}
-use Rattle.no_std_io2_base.proofs.Events.{HasNoFault-events_of, cut-append, cut-bytes}
+use Rattle.no_std_io2_base.proofs.EventLemmas.{bytes-append, bytes-events_of, length-events_of, HasNoFault-append}
+use Rattle.no_std_io2_base.proofs.EventLemmas.{HasNoFault-events_of, cut-append, cut-bytes}
 
 -- `front`, which has no fault, is gone from E and gave these bytes; at `room` bytes it ends with the last of them
 pub record Taken (E : List Event) (room : ℕ) (got : List ℕ) (after : List Event) : Type 0 where

@@ -4,15 +4,15 @@ use Rattle.std.proofs.Common.{arith, le_refl, le_trans, length-take, length-drop
 use Rattle.no_std_io2_base.specs.declared.error.Error.{Error}
 use Rattle.no_std_io2_base.specs.Errors.{IsInterruption, IsFault, IsOutOfMemory}
 use Rattle.no_std_io2_base.specs.Read.{Reader, GoesOn, ReadLaw, ReadToEndLaw}
-use Rattle.no_std_io2_base.proofs.Gathered.{Gathered, gathered_none, gathered_same, gathered_read, gathered_interruption}
-use Rattle.no_std_io2_base.proofs.Gathered.{gathered_fault, gathered_first_fault, gathered_memory, gathered_fits}
-use Rattle.no_std_io2_base.proofs.Parts.{written, take-written, take-written_below, take-stays}
+use Rattle.no_std_io2_base.proofs.ReadToEndGathered.{Gathered, gathered_none, gathered_same, gathered_read, gathered_interruption}
+use Rattle.no_std_io2_base.proofs.ReadToEndGathered.{gathered_fault, gathered_first_fault, gathered_memory, gathered_fits}
+use Rattle.no_std_io2_base.proofs.ReadParts.{written, take-written, take-written_below, take-stays}
 use Rattle.no_std_io2_base.proofs.PieceLemmas.{memory_fault}
 use Rattle.no_std_io2_base.proofs.ReadExactExits.{some_bytes}
 use Rattle.no_std_io2_base.proofs.Readers.{StoreTells}
-use Rattle.no_std_io2_base.proofs.ReadsToEndExits.{front_whole, filled_bytes, front_cut, none_opened, count_cut}
-use Rattle.no_std_io2_base.proofs.ReadsToEndExits.{len_cut, filled_length, gathered_stops, stays_at_end}
-use Rattle.no_std_io2_base.proofs.Taken.{moved_read, no_error}
+use Rattle.no_std_io2_base.proofs.ReadToEndExits.{front_whole, filled_bytes, front_cut, none_opened, count_cut}
+use Rattle.no_std_io2_base.proofs.ReadToEndExits.{len_cut, filled_length, gathered_stops, stays_at_end}
+use Rattle.no_std_io2_base.proofs.ReadToEndTaken.{moved_read, no_error}
 
 -- the bytes up to `filled` are what was taken
 pub record ToEndSoFar {S A : Type 0} (R : Reader S) (old : S) (buf : Vec ℕ A) (filled : ℕ) (buf' : Vec ℕ A) (now : S) : Type 0 where

@@ -4,8 +4,8 @@ use Rattle.std.proofs.Common.{sym, ap, subst, ◌∙◌, arith, take_all, length
 use lib.Seq.{take-take}
 use Rattle.no_std_io2_base.specs.declared.error.Error.{Error}
 use Rattle.no_std_io2_base.specs.Read.{Event, given, Reads, ReadsToEnd}
-use Rattle.no_std_io2_base.proofs.Gathered.{Gathered, gathered_end}
-use Rattle.no_std_io2_base.proofs.Taken.{moved_read}
+use Rattle.no_std_io2_base.proofs.ReadToEndGathered.{Gathered, gathered_end}
+use Rattle.no_std_io2_base.proofs.ReadToEndTaken.{moved_read}
 
 -- nothing was appended
 pub front_whole : {n : ℕ} {old new : List ℕ} → n ≡ length old → new ≡ old → take n new ≡ old

@@ -4,8 +4,8 @@ use Rattle.no_std_io2_base.specs.declared.error.Error.{Error}
 use Rattle.no_std_io2_base.specs.declared.traits.take.Take.{Take}
 use Rattle.no_std_io2_base.specs.Read.{Event, given, cut, Reads, ReadsToEnd}
 use Rattle.no_std_io2_base.specs.Take.{take_inner, take_limit, take_events, TakesAlong}
-use Rattle.no_std_io2_base.proofs.Along.{along_none}
-use Rattle.no_std_io2_base.proofs.Gathered.{Gathered, gathered_end}
+use Rattle.no_std_io2_base.proofs.TakeAlong.{along_none}
+use Rattle.no_std_io2_base.proofs.ReadToEndGathered.{Gathered, gathered_end}
 
 -- a read that gave nothing into some room: nothing was to come, and nothing is
 pub nothing_read : (E E' : List Event) (reply : Result ℕ Error) (n : ℕ) (buf : List ℕ) → Reads E reply buf E' → reply ≡ Ok n → n ≡ 0

@@ -6,12 +6,12 @@ use borrow.Rule.Slice.PartMut.{put_mid}
 use Rattle.no_std_io2_base.specs.declared.error.Error.{Error}
 use Rattle.no_std_io2_base.specs.Errors.{is_interruption, IsInterruption, IsFault, IsUnexpectedEnd}
 use Rattle.no_std_io2_base.specs.Read.{Reader, GoesOn, ReadLaw, ReadExactLaw}
-use Rattle.no_std_io2_base.proofs.Parts.{take-put_mid}
+use Rattle.no_std_io2_base.proofs.ReadParts.{take-put_mid}
 use Rattle.no_std_io2_base.proofs.ReadExactExits.{length_stays, short_before, some_part, some_bytes, within_part}
 use Rattle.no_std_io2_base.proofs.ReadExactExits.{le_same, exact_short, exact_done}
 use Rattle.no_std_io2_base.proofs.Readers.{StoreTells}
-use Rattle.no_std_io2_base.proofs.ReadsToEndExits.{stays_at_end}
-use Rattle.no_std_io2_base.proofs.Taken.{Taken, taken_none, taken_read, taken_interruption, taken_fault, moved_read, no_error}
+use Rattle.no_std_io2_base.proofs.ReadToEndExits.{stays_at_end}
+use Rattle.no_std_io2_base.proofs.ReadToEndTaken.{Taken, taken_none, taken_read, taken_interruption, taken_fault, moved_read, no_error}
 
 -- `at` bytes of the buffer are filled, and they are what was taken
 pub record ExactSoFar {S : Type 0} (R : Reader S) (old : S) (buf : List ℕ) (at : ℕ) (buf' : List ℕ) (now : S) : Type 0 where

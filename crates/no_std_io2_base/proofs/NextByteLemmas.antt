@@ -3,7 +3,7 @@ use Rattle.std.proofs.Common.{◌≡◌, List, [], ◌∷◌, ◌++◌, sym, ap,
 use Rattle.no_std_io2_base.specs.declared.error.Error.{Error}
 use Rattle.no_std_io2_base.specs.Errors.{IsInterruption}
 use Rattle.no_std_io2_base.specs.Read.{Event, fails, bytes, IsInterruptionsAlone}
-use Rattle.no_std_io2_base.proofs.Events.{bytes-append, HasNoFault-append}
+use Rattle.no_std_io2_base.proofs.EventLemmas.{bytes-append, HasNoFault-append}
 
 -- interruptions alone are gone from E
 pub record Passed (E after : List Event) : Type 0 where
