@@ -111,10 +111,14 @@ impl<A: Source + Drop, B: Source + Drop> Source for Chain<A, B> {
     }
 }
 
-// Of 2 bytes at first. It shows its limit.
+// Of 2 bytes, or of as many as stand before an `of`. It shows its limit.
 impl<R: Source + Drop> Source for Take<R> {
     fn of(alloc: Global, words: &str) -> Made<Take<R>> {
-        Ok(R::of(alloc, words)?.take(2))
+        let (limit, words) = words.split_once(" of ").unwrap_or(("2", words));
+        match limit.parse::<u64>() {
+            Ok(limit) => Ok(R::of(alloc, words)?.take(limit)),
+            Err(_) => Err(Fault::Malformed("no limit in front of `of`")),
+        }
     }
 
     fn show(&self, line: &mut Line) -> Printed {

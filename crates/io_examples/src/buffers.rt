@@ -122,6 +122,10 @@ fn a_device_that_takes_nothing_loses_nothing(rt: HostRuntime) -> Result<(), Fail
         let w = failed.into_inner();
         assert!(rt; w.buffer() == b"abc".as_slice());
     }
+    let taken = Vec::new(rt.alloc());
+    let mut w = BufWriter::<_, 8>::new(Narrow { taken, most: 0 });
+    w.write_all(b"abc")?;
+    assert!(rt; w.into_inner().is_err());
     Ok(())
 }
 

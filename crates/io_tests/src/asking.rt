@@ -62,14 +62,21 @@ fn a_short_piece_asks_for_little(rt: HostRuntime) -> Result<(), Fail> {
 // A run that asks for more room than its replies take, or its bytes.
 #[test]
 fn a_short_run_asks_for_little(rt: HostRuntime) -> Result<(), Fail> {
-    let ops = [Op::Write(b"ab"), Op::Flush];
+    let ops = [Op::Write(b"ab"), Op::WriteAll(b"c"), Op::Flush];
+    let mut vector: Vec<u8> = Vec::new(rt.alloc());
     let mut replies: Vec<Reply> = Vec::new(rt.alloc());
-    run_writes(&mut Sink::new(), &ops, &mut replies)?;
-    assert!(rt; replies.len() == 2 && replies.capacity() < 64);
+    run_writes(&mut vector, &ops, &mut replies)?;
+    assert!(rt; vector.as_slice() == b"abc".as_slice() && replies.capacity() < 64);
+    assert!(rt;
+        matches!(
+            replies.as_slice(),
+            [Reply::Took(2), Reply::Done, Reply::Done]
+        )
+    );
     let bytes = joined(rt.alloc(), &ops, &replies)?;
-    assert!(rt; bytes.is_some_and(|bytes| bytes.len() == 2 && bytes.capacity() < 64));
+    assert!(rt; bytes.is_some_and(|bytes| bytes.len() == 3 && bytes.capacity() < 64));
     let mut replies: Vec<Reply> = Vec::new(rt.alloc());
     run_closed::<Sink, 8>(Tally::new(Sink::new()), &ops, &mut replies)?;
-    assert!(rt; replies.len() == 2 && replies.capacity() < 64);
+    assert!(rt; replies.len() == 3 && replies.capacity() < 64);
     Ok(())
 }

@@ -71,5 +71,12 @@ fn writes_to_a_sink_are_counted(rt: HostRuntime) -> Result<(), Fail> {
     let tally = run_closed::<Sink, 8>(tally, &[Op::Write(b"abc"); 6], &mut replies)?;
     // At most 2 * (18 / 9) + 0 + 1 more.
     assert!(rt; tally.writes() == 6 && replies.len() == 9);
+    let ops = [Op::Write(b"abc"), Op::Flush, Op::Write(b"def")];
+    let tally = run_closed::<Sink, 8>(tally, &ops, &mut replies)?;
+    // At most 2 * (6 / 9) + 1 + 1 more.
+    assert!(rt; tally.writes() == 8);
+    let tally = run_closed::<Sink, 1>(tally, &[Op::Write(b"a"); 3], &mut replies)?;
+    // At most 2 * (3 / 2) + 0 + 1 more.
+    assert!(rt; tally.writes() == 11 && replies.len() == 15);
     Ok(())
 }

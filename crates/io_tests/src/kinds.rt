@@ -60,7 +60,10 @@ fn shown<E: std::error::Error>(alloc: Global, error: &E) -> Result<String, Fail>
 // An error that no function over errors takes.
 #[test]
 fn an_error_is_a_standard_error(rt: HostRuntime) -> Result<(), Fail> {
-    let text = shown(rt.alloc(), &Error::other("no carrier"))?;
-    assert!(rt; text.as_str() == "no carrier");
+    let error = Error::other("error!");
+    let text = shown(rt.alloc(), &error)?;
+    assert!(rt; text.as_str() == "error!");
+    assert!(rt; error.kind() == ErrorKind::Other);
+    assert!(rt; error.into_inner() == Some("error!"));
     Ok(())
 }

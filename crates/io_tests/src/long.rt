@@ -71,6 +71,24 @@ fn a_run_of_asks_goes_on_behind_each_fault(rt: HostRuntime) -> Result<(), Fail> 
     Ok(())
 }
 
+// A run of asks that reads below more often than it has to, or takes its asks one by one.
+#[test]
+fn runs_of_asks_read_seldom(rt: HostRuntime) {
+    let mut buf = [0; 10];
+    let mut r = BufReader::<Tally<&[u8]>, 4>::new(Tally::new(b"0123456789".as_slice()));
+    let totals = run_reads(&mut r, &[Ask::Read(1); 11], &mut buf);
+    // At most 10 / 4 + 1 + 1.
+    assert!(rt; (totals.at_end, totals.failed, r.get_ref().reads()) == (1, 0, 4));
+    let mut r = BufReader::<Tally<&[u8]>, 4>::new(Tally::new(b"abcdefgh".as_slice()));
+    let totals = run_reads(&mut r, &[Ask::Read(8)], &mut buf);
+    assert!(rt; (totals.at_end, totals.failed, r.get_ref().reads()) == (0, 0, 1));
+    let mut r = BufReader::<Tally<&[u8]>, 4>::new(Tally::new(b"abcdefgh".as_slice()));
+    let asks = [Ask::Exact(3), Ask::Exact(3), Ask::Fill(4), Ask::Read(0)];
+    let totals = run_reads(&mut r, &asks, &mut buf);
+    // At most 8 / 4 + 1 + 1.
+    assert!(rt; (totals.at_end, totals.failed, r.get_ref().reads()) == (1, 0, 3));
+}
+
 // An ask that reads behind the front of its buffer.
 #[test]
 fn asks_fill_the_front_of_their_buffer(rt: HostRuntime) -> Result<(), Fail> {

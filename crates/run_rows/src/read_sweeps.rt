@@ -118,16 +118,21 @@ fn pass<R: BufRead>(r: &mut R, given: &mut Vec<u8>) -> Result<bool> {
     Ok(n == 0)
 }
 
-// Makes a call, appends the bytes that it gave, and hands on its answer: whether it met the end.
+// Makes a call, appends the bytes that it gave, as many as it says, and hands on its answer: whether it met the end.
 fn make<R: BufRead>(r: &mut R, ask: Ask, given: &mut Vec<u8>) -> Result<bool> {
     match ask {
         Ask::Read(room) => read(r, room, given),
         Ask::ReadExact(room) => read_exact(r, room, given),
         Ask::ReadToEnd => {
             let n = r.read_to_end(given)?;
-            Ok(n == given.len())
+            given.resize(n, UNWRITTEN)?;
+            Ok(true)
         }
-        Ask::ReadUntil(delim) => Ok(r.read_until(delim, given)? == 0),
+        Ask::ReadUntil(delim) => {
+            let n = r.read_until(delim, given)?;
+            given.resize(n, UNWRITTEN)?;
+            Ok(n == 0)
+        }
         Ask::NextByte => next_byte(r, given),
         Ask::Pass => pass(r, given),
     }
