@@ -1,12 +1,14 @@
 // `play` of a script.
 //
 // A line `new` says the shape of the tower, and behind a colon what the devices answer that are the input and the output of a
-// row `devices`. A row is `play` and a script; then what is written, or the fault. A row `flushes` plays so many lines `f` onto
-// a vector that takes one write and fails at the second flush; then the length of what is written.
-use io_bench::{Act, Faulty};
+// row `devices`. A row is `play` and a script; then what is written, or the fault. A row `feed` plays a feed of one fault of this
+// kind. A row `flushes` plays so many lines `f` onto a vector that takes one write and fails at the second flush; then the length
+// of what is written.
+use io_bench::{Act, Event, Faulty, Feed};
 use io_rows::calls::{new_journal, show_calls};
 use io_rows::fault::{Fault, Made};
 use io_rows::journal::Journal;
+use io_rows::kinds::kind_of_name;
 use io_rows::line::Line;
 use io_rows::recorder::{Name, Recorder};
 use io_rows::rows::{Call, Subject};
@@ -42,12 +44,26 @@ impl Playing {
         Ok(())
     }
 
-    fn play_script(&self, script: &[u8], line: &mut Line) -> Made<()> {
-        match play(self.alloc, script, Vec::<u8>::new(self.alloc), self.shape) {
+    fn show_text(&self, played: Result<Vec<u8>, PlayFault>, line: &mut Line) -> Made<()> {
+        match played {
             Ok(text) => line.bytes(&text)?,
             Err(fault) => self.show_fault(&fault, line)?,
         }
         Ok(())
+    }
+
+    fn play_script(&self, script: &[u8], line: &mut Line) -> Made<()> {
+        let output = Vec::<u8>::new(self.alloc);
+        self.show_text(play(self.alloc, script, output, self.shape), line)
+    }
+
+    fn play_feed(&self, kind: &str, line: &mut Line) -> Made<()> {
+        let Some(kind) = kind_of_name(kind) else {
+            return Err(Fault::Malformed("no such kind of an error"));
+        };
+        let feed = Feed::new(Vec::from_slice(self.alloc, &[Event::Fail(kind)])?, 4);
+        let output = Vec::<u8>::new(self.alloc);
+        self.show_text(play(self.alloc, feed, output, self.shape), line)
     }
 
     fn play_devices(&self, line: &mut Line) -> Made<()> {
@@ -102,6 +118,7 @@ impl Subject for Playing {
         line.column()?;
         match call.word {
             "play" => self.play_script(&call.bytes, line)?,
+            "feed" => self.play_feed(call.rest, line)?,
             "devices" => self.play_devices(line)?,
             "flushes" => self.play_flushes(call.number()?, line)?,
             _ => return Err(Fault::Malformed("no such call")),
