@@ -28,18 +28,19 @@ impl Tables for Readers {
         table: &str,
         count: Count<'a>,
     ) -> io::Result<Count<'a>> {
-        match name.split_once(" ") {
-            Some(("reader", name)) => play_reader(rt, alloc, name, table, count),
-            Some(("answers", name)) => play_answers(rt, alloc, name, table, count),
-            Some(("bytes", name)) => play_bytes(rt, alloc, name, table, count),
-            Some(("seeker", "BufReader 4")) => {
+        let (word, rest) = name.split_once(" ").unwrap_or((name, ""));
+        match word {
+            "reader" => play_reader(rt, alloc, rest, table, count),
+            "answers" => play_answers(rt, alloc, rest, table, count),
+            "bytes" => play_bytes(rt, alloc, rest, table, count),
+            "seeker" if rest == "BufReader 4" => {
                 play::<Seeking<BufReader<Recorder, 4>>, R>(rt, alloc, table, count)
             }
-            Some(("moved", "BufReader 8")) => play::<Moving, R>(rt, alloc, table, count),
-            Some(("split", "Device")) => play::<Pieces, R>(rt, alloc, table, count),
-            Some(("lines", "Device")) => play::<TextLines, R>(rt, alloc, table, count),
-            Some(("noted", name)) => play_noted(rt, alloc, name, table, count),
-            Some(("copy", name)) => play_copy(rt, alloc, name, table, count),
+            "moved" if rest == "BufReader 8" => play::<Moving, R>(rt, alloc, table, count),
+            "split" if rest == "Device" => play::<Pieces, R>(rt, alloc, table, count),
+            "lines" if rest == "Device" => play::<TextLines, R>(rt, alloc, table, count),
+            "noted" => play_noted(rt, alloc, rest, table, count),
+            "copy" => play_copy(rt, alloc, rest, table, count),
             _ => tell_fault(rt, Fault::Malformed("no such stream"), name, count),
         }
     }

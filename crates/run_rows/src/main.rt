@@ -49,13 +49,14 @@ impl Tables for RunTables {
         table: &str,
         count: Count<'a>,
     ) -> io::Result<Count<'a>> {
-        match name.split_once(" ") {
-            Some(("run", name)) => play_runs(rt, alloc, name, table, count),
-            Some(("acts", name)) => play_acts(rt, alloc, name, table, count),
-            Some(("sweep", name)) => play_sweeps(rt, alloc, name, table, count),
-            Some(("reads1", name)) => play_reads_by_one(rt, alloc, name, table, count),
-            Some(("reads2", name)) => play_reads_by_two(rt, alloc, name, table, count),
-            Some(("reads8", name)) => play_reads_by_eight(rt, alloc, name, table, count),
+        let (word, rest) = name.split_once(" ").unwrap_or((name, ""));
+        match word {
+            "run" => play_runs(rt, alloc, rest, table, count),
+            "acts" => play_acts(rt, alloc, rest, table, count),
+            "sweep" => play_sizes(rt, alloc, rest, table, count),
+            "reads1" => play_reads::<R, 1>(rt, alloc, rest, table, count),
+            "reads2" => play_reads::<R, 2>(rt, alloc, rest, table, count),
+            "reads8" => play_reads::<R, 8>(rt, alloc, rest, table, count),
             _ => play_whole(rt, alloc, name, table, count),
         }
     }
@@ -102,25 +103,22 @@ fn play_acts<'a, R: Print>(
 }
 
 // Two levels have buffers of the same length.
-fn play_sweeps<'a, R: Print>(
+fn play_sizes<'a, R: Print>(
     rt: &R,
     alloc: Global,
     name: &str,
     table: &str,
     count: Count<'a>,
 ) -> io::Result<Count<'a>> {
-    match name {
-        "BufWriter 0" => play::<Sweeping<BufWriter<Device, 0>>, R>(rt, alloc, table, count),
-        "BufWriter 1" => play::<Sweeping<BufWriter<Device, 1>>, R>(rt, alloc, table, count),
-        "BufWriter 8" => play::<Sweeping<BufWriter<Device, 8>>, R>(rt, alloc, table, count),
-        "LineWriter 0" => play::<Sweeping<LineWriter<Device, 0>>, R>(rt, alloc, table, count),
-        "LineWriter 1" => play::<Sweeping<LineWriter<Device, 1>>, R>(rt, alloc, table, count),
-        "LineWriter 8" => play::<Sweeping<LineWriter<Device, 8>>, R>(rt, alloc, table, count),
-        _ => play_tower_sweeps(rt, alloc, name, table, count),
+    match name.rsplit_once(" ") {
+        Some((name, "0")) => play_sweeps::<R, 0>(rt, alloc, name, table, count),
+        Some((name, "1")) => play_sweeps::<R, 1>(rt, alloc, name, table, count),
+        Some((name, "8")) => play_sweeps::<R, 8>(rt, alloc, name, table, count),
+        _ => tell_fault(rt, Fault::Malformed("no such size"), name, count),
     }
 }
 
-fn play_tower_sweeps<'a, R: Print>(
+fn play_sweeps<'a, R: Print, const S: usize>(
     rt: &R,
     alloc: Global,
     name: &str,
@@ -128,30 +126,23 @@ fn play_tower_sweeps<'a, R: Print>(
     count: Count<'a>,
 ) -> io::Result<Count<'a>> {
     match name {
-        "BufWriter BufWriter 0" => {
-            play::<Sweeping<BufWriter<BufWriter<Device, 0>, 0>>, R>(rt, alloc, table, count)
+        "BufWriter" if S < 1 << 32 => play::<Sweeping<BufWriter<Device, S>>, R>(
+            rt, alloc, table, count,
+        ),
+        "LineWriter" if S < 1 << 32 => play::<Sweeping<LineWriter<Device, S>>, R>(
+            rt, alloc, table, count,
+        ),
+        "BufWriter BufWriter" if S < 1 << 32 => {
+            play::<Sweeping<BufWriter<BufWriter<Device, S>, S>>, R>(rt, alloc, table, count)
         }
-        "BufWriter BufWriter 1" => {
-            play::<Sweeping<BufWriter<BufWriter<Device, 1>, 1>>, R>(rt, alloc, table, count)
-        }
-        "BufWriter BufWriter 8" => {
-            play::<Sweeping<BufWriter<BufWriter<Device, 8>, 8>>, R>(rt, alloc, table, count)
-        }
-        "LineWriter BufWriter 0" => {
-            play::<Sweeping<LineWriter<BufWriter<Device, 0>, 0>>, R>(rt, alloc, table, count)
-        }
-        "LineWriter BufWriter 1" => {
-            play::<Sweeping<LineWriter<BufWriter<Device, 1>, 1>>, R>(rt, alloc, table, count)
-        }
-        "LineWriter BufWriter 8" => {
-            play::<Sweeping<LineWriter<BufWriter<Device, 8>, 8>>, R>(rt, alloc, table, count)
+        "LineWriter BufWriter" if S < 1 << 32 => {
+            play::<Sweeping<LineWriter<BufWriter<Device, S>, S>>, R>(rt, alloc, table, count)
         }
         _ => tell_fault(rt, Fault::Malformed("no such stream"), name, count),
     }
 }
 
-// With buffers of 1 byte.
-fn play_reads_by_one<'a, R: Print>(
+fn play_reads<'a, R: Print, const S: usize>(
     rt: &R,
     alloc: Global,
     name: &str,
@@ -159,76 +150,22 @@ fn play_reads_by_one<'a, R: Print>(
     count: Count<'a>,
 ) -> io::Result<Count<'a>> {
     match name {
-        "BufReader" => play::<ReadSweeping<BufReader<Feed, 1>>, R>(rt, alloc, table, count),
-        "Chain BufReader" => {
-            play::<ReadSweeping<Chain<BufReader<Feed, 1>, BufReader<Feed, 1>>>, R>(
+        "BufReader" if S < 1 << 32 => play::<ReadSweeping<BufReader<Feed, S>>, R>(
+            rt, alloc, table, count,
+        ),
+        "Chain BufReader" if S < 1 << 32 => {
+            play::<ReadSweeping<Chain<BufReader<Feed, S>, BufReader<Feed, S>>>, R>(
                 rt, alloc, table, count,
             )
         }
-        "BufReader Chain" => {
-            play::<ReadSweeping<BufReader<Chain<Feed, Feed>, 1>>, R>(rt, alloc, table, count)
+        "BufReader Chain" if S < 1 << 32 => {
+            play::<ReadSweeping<BufReader<Chain<Feed, Feed>, S>>, R>(rt, alloc, table, count)
         }
-        "Take BufReader Chain" => {
-            play::<ReadSweeping<Take<BufReader<Chain<Feed, Feed>, 1>>>, R>(rt, alloc, table, count)
+        "Take BufReader Chain" if S < 1 << 32 => {
+            play::<ReadSweeping<Take<BufReader<Chain<Feed, Feed>, S>>>, R>(rt, alloc, table, count)
         }
-        "BufReader Take Chain" => {
-            play::<ReadSweeping<BufReader<Take<Chain<Feed, Feed>>, 1>>, R>(rt, alloc, table, count)
-        }
-        _ => tell_fault(rt, Fault::Malformed("no such stream"), name, count),
-    }
-}
-
-// With buffers of 2 bytes.
-fn play_reads_by_two<'a, R: Print>(
-    rt: &R,
-    alloc: Global,
-    name: &str,
-    table: &str,
-    count: Count<'a>,
-) -> io::Result<Count<'a>> {
-    match name {
-        "BufReader" => play::<ReadSweeping<BufReader<Feed, 2>>, R>(rt, alloc, table, count),
-        "Chain BufReader" => {
-            play::<ReadSweeping<Chain<BufReader<Feed, 2>, BufReader<Feed, 2>>>, R>(
-                rt, alloc, table, count,
-            )
-        }
-        "BufReader Chain" => {
-            play::<ReadSweeping<BufReader<Chain<Feed, Feed>, 2>>, R>(rt, alloc, table, count)
-        }
-        "Take BufReader Chain" => {
-            play::<ReadSweeping<Take<BufReader<Chain<Feed, Feed>, 2>>>, R>(rt, alloc, table, count)
-        }
-        "BufReader Take Chain" => {
-            play::<ReadSweeping<BufReader<Take<Chain<Feed, Feed>>, 2>>, R>(rt, alloc, table, count)
-        }
-        _ => tell_fault(rt, Fault::Malformed("no such stream"), name, count),
-    }
-}
-
-// With buffers of 8 bytes.
-fn play_reads_by_eight<'a, R: Print>(
-    rt: &R,
-    alloc: Global,
-    name: &str,
-    table: &str,
-    count: Count<'a>,
-) -> io::Result<Count<'a>> {
-    match name {
-        "BufReader" => play::<ReadSweeping<BufReader<Feed, 8>>, R>(rt, alloc, table, count),
-        "Chain BufReader" => {
-            play::<ReadSweeping<Chain<BufReader<Feed, 8>, BufReader<Feed, 8>>>, R>(
-                rt, alloc, table, count,
-            )
-        }
-        "BufReader Chain" => {
-            play::<ReadSweeping<BufReader<Chain<Feed, Feed>, 8>>, R>(rt, alloc, table, count)
-        }
-        "Take BufReader Chain" => {
-            play::<ReadSweeping<Take<BufReader<Chain<Feed, Feed>, 8>>>, R>(rt, alloc, table, count)
-        }
-        "BufReader Take Chain" => {
-            play::<ReadSweeping<BufReader<Take<Chain<Feed, Feed>>, 8>>, R>(rt, alloc, table, count)
+        "BufReader Take Chain" if S < 1 << 32 => {
+            play::<ReadSweeping<BufReader<Take<Chain<Feed, Feed>>, S>>, R>(rt, alloc, table, count)
         }
         _ => tell_fault(rt, Fault::Malformed("no such stream"), name, count),
     }
