@@ -28,14 +28,15 @@ impl Tables for Writers {
         table: &str,
         count: Count<'a>,
     ) -> io::Result<Count<'a>> {
-        match name.split_once(" ") {
-            Some(("writer", name)) => play_writer(rt, alloc, name, table, count),
-            Some(("seeker", name)) => play_seeker(rt, alloc, name, table, count),
-            Some(("noted", name)) => play_noted(rt, alloc, name, table, count),
-            Some(("bench", name)) => play_bench(rt, alloc, name, table, count),
-            Some(("cursor", name)) => play_cursor(rt, alloc, name, table, count),
-            Some(("room", "Vec")) => play::<VectorRoom, R>(rt, alloc, table, count),
-            Some(("room", "Cursor")) => play::<CursorRoom, R>(rt, alloc, table, count),
+        let (word, rest) = name.split_once(" ").unwrap_or((name, ""));
+        match word {
+            "writer" => play_writer(rt, alloc, rest, table, count),
+            "seeker" => play_seeker(rt, alloc, rest, table, count),
+            "noted" => play_noted(rt, alloc, rest, table, count),
+            "bench" => play_bench(rt, alloc, rest, table, count),
+            "cursor" => play_cursor(rt, alloc, rest, table, count),
+            "room" if rest == "Vec" => play::<VectorRoom, R>(rt, alloc, table, count),
+            "room" if rest == "Cursor" => play::<CursorRoom, R>(rt, alloc, table, count),
             _ => tell_fault(rt, Fault::Malformed("no such stream"), name, count),
         }
     }
