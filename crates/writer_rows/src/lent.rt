@@ -9,7 +9,7 @@ use io_rows::calls::make_call;
 use io_rows::fault::{Fault, Made};
 use io_rows::line::{Line, Printed, unescape};
 use io_rows::rows::{Call, Subject};
-use no_std_io2::io::{BufWriter, Cursor, Result, Write};
+use no_std_io2::io::{BufWriter, Cursor, Write};
 use std::alloc::Global;
 
 // A writer's call through a cursor, or `place N`, which sets its position.
@@ -108,7 +108,7 @@ impl Subject for LentSlice {
     }
 }
 
-/// A vector that is lent to a buffer of 8 bytes for a row: `drop TEXT` and `into_inner TEXT` write this whole text into it, and then
+/// A vector that is lent to a buffer of 8 bytes for a row: `drop CALL` and `into_inner CALL` make this call of the buffer, and then
 /// drop it, or take the vector back. With acts behind `new` the vector stands behind a writer that fails so.
 #[derive(Drop)]
 pub struct Buffered {
@@ -117,23 +117,28 @@ pub struct Buffered {
     acts: String,
 }
 
-// Writes a whole text through a buffer, and drops or ends it.
-fn buffer<W: Write + Drop>(w: BufWriter<W, 8>, call: &Call<'_>) -> Made<Result<()>>
+// Makes a call of a buffer, and drops or ends it.
+fn buffer<W: Write + Drop>(
+    alloc: Global,
+    w: BufWriter<W, 8>,
+    call: &Call<'_>,
+    line: &mut Line,
+) -> Made<()>
     requires { BufWriterFits W.row 8 }
 {
     let mut w = w;
-    let answer = w.write_all(&call.bytes);
+    make_call(&mut w, &Call::parse(alloc, call.rest)?, line)?;
     match call.word {
-        "drop" => {
-            drop(w);
-            Ok(answer)
+        "drop" => drop(w),
+        "into_inner" => {
+            if let Err(e) = w.into_inner() {
+                line.word(", ")?;
+                line.error(&e.into())?;
+            }
         }
-        "into_inner" => match w.into_inner() {
-            Ok(_inner) => Ok(answer),
-            Err(e) => Ok(Err(e.into())),
-        },
-        _ => Err(Fault::Malformed("no such call")),
+        _ => return Err(Fault::Malformed("no such call")),
     }
+    Ok(())
 }
 
 impl Subject for Buffered {
@@ -152,13 +157,13 @@ impl Subject for Buffered {
             acts,
         } = self;
         line.column()?;
-        let answer = if acts.is_empty() {
-            buffer(BufWriter::new(&mut content), call)?
+        if acts.is_empty() {
+            buffer(alloc, BufWriter::new(&mut content), call, line)?;
         } else {
             let acts = parse_acts(alloc, acts.as_str())?;
-            buffer(BufWriter::new(Faulty::new(&mut content, acts)), call)?
-        };
-        line.done(&answer)?;
+            let device = Faulty::new(&mut content, acts);
+            buffer(alloc, BufWriter::new(device), call, line)?;
+        }
         line.column()?;
         line.bytes(&content)?;
         Ok(Buffered {
