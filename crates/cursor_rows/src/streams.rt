@@ -34,16 +34,17 @@ impl Tables for Cursors {
         table: &str,
         count: Count<'a>,
     ) -> io::Result<Count<'a>> {
-        match name.split_once(" ") {
-            Some(("cursor", name)) => play_cursor(rt, alloc, name, table, count),
-            Some(("reader", name)) => play_reader(rt, alloc, name, table, count),
-            Some(("boxed", name)) => play_boxed(rt, alloc, name, table, count),
-            Some(("room", name)) => play_room(rt, alloc, name, table, count),
-            Some(("lines", name)) => play_lines(rt, alloc, name, table, count),
-            Some(("copy", name)) => play_copy(rt, alloc, name, table, count),
-            Some(("bytes", "Feed")) => play::<Singles<Feed>, R>(rt, alloc, table, count),
-            Some(("split", "Cursor")) => play::<Pieces<Text>, R>(rt, alloc, table, count),
-            Some(("moved", "BufReader 4 Cursor")) => play::<Moving, R>(rt, alloc, table, count),
+        let (word, rest) = name.split_once(" ").unwrap_or((name, ""));
+        match word {
+            "cursor" => play_cursor(rt, alloc, rest, table, count),
+            "reader" => play_reader(rt, alloc, rest, table, count),
+            "boxed" => play_boxed(rt, alloc, rest, table, count),
+            "room" => play_room(rt, alloc, rest, table, count),
+            "lines" => play_lines(rt, alloc, rest, table, count),
+            "copy" => play_copy(rt, alloc, rest, table, count),
+            "bytes" if rest == "Feed" => play::<Singles<Feed>, R>(rt, alloc, table, count),
+            "split" if rest == "Cursor" => play::<Pieces<Text>, R>(rt, alloc, table, count),
+            "moved" if rest == "BufReader 4 Cursor" => play::<Moving, R>(rt, alloc, table, count),
             _ => tell_fault(rt, Fault::Malformed("no such stream"), name, count),
         }
     }
