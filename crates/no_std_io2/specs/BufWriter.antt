@@ -189,25 +189,28 @@ pub record Flushes {W : Type 0} {S : ℕ} (I : Writer W) (old : Sender W S) (rep
   pub calls : I.is_metered (sender_inner old) → I.takes_all (sender_inner old) → I.is_metered (sender_inner new)
       × (I.cost (sender_inner new) ≡ I.cost (sender_inner old) + calls_for (sender_buffer old))
 
--- `into_inner()`: all that was held was sent and the inner writer came back, or a fault came with the writer, which holds the rest.
-pub record Unwraps {W : Type 0} {S : ℕ} (I : Writer W) (old : Sender W S) (reply : Result W (IntoInnerError (Sender W S)))
+-- `into_inner()` of a writer B with a buffer: all that was held was sent and the inner writer came back, or a fault came with the
+-- writer, which holds the rest.
+pub record Unwraps {W B : Type 0} (I : Writer W) (inner : B → W) (buffer : B → List ℕ) (old : B) (reply : Result W (IntoInnerError B))
     : Type 0 where
   -- no byte is lost
-  pub ok : IfOk reply (λ w. Moves (sender_told I.told old) [] [] (I.told w))
-  pub err : IfErr reply (λ e. Moves (sender_told I.told old) [] (error_kind (into_inner_error_cause e) ∷ [])
-      (sender_told I.told (into_inner_error_writer e)))
+  pub ok : IfOk reply (λ w. Moves (with_buffer (I.told (inner old)) (buffer old)) [] [] (I.told w))
+  pub err : IfErr reply (λ e. let left = into_inner_error_writer e in
+      Moves (with_buffer (I.told (inner old)) (buffer old)) [] (error_kind (into_inner_error_cause e) ∷ [])
+      (with_buffer (I.told (inner left)) (buffer left)))
   -- what is still held is an end of what was
-  pub rest : IfErr reply (λ e. IsEnd (sender_buffer old) (sender_buffer (into_inner_error_writer e)))
+  pub rest : IfErr reply (λ e. IsEnd (buffer old) (buffer (into_inner_error_writer e)))
+  -- the error is the fault that stopped the sending
   pub fault : IfErr reply (λ e. IsFault (into_inner_error_cause e))
   -- with nothing held there is no inner call
-  pub empty : sender_buffer old ≡ [] → reply ≡ Ok (sender_inner old)
+  pub empty : buffer old ≡ [] → reply ≡ Ok (inner old)
   -- over an inner writer with no mishap to come there is no error
-  pub steady : (I.told (sender_inner old)).mishaps ≡ Some [] → IsOk reply
+  pub steady : (I.told (inner old)).mishaps ≡ Some [] → IsOk reply
   -- an inner writer that takes all comes back so
-  pub all : I.takes_all (sender_inner old) → IsOkAnd reply I.takes_all
+  pub all : I.takes_all (inner old) → IsOkAnd reply I.takes_all
   -- and one call of it takes what was held
-  pub calls : I.is_metered (sender_inner old) → I.takes_all (sender_inner old) → IfOk reply (λ w. I.is_metered w
-      × (I.cost w ≡ I.cost (sender_inner old) + calls_for (sender_buffer old)))
+  pub calls : I.is_metered (inner old) → I.takes_all (inner old) → IfOk reply (λ w. I.is_metered w
+      × (I.cost w ≡ I.cost (inner old) + calls_for (buffer old)))
 
 -- All was sent, which left the inner writer in some state, and it was sought from there, once.
 pub record SeeksAfterSending {W : Type 0} (I : Writer W) (K : Seeker W) (old : Told) (to : SeekFrom) (new : W)

@@ -7,5 +7,5 @@ pub returns-in-Ok : goal.returns-in-Ok
 returns-in-Ok c =
     let w = c.new-w.result in
     saved (writer_inner w).items _ (writer_buffer w) c.args.text.now c.in_ok-write_all.ensures.law.moves
-    c.in_ok-flush.ensures.law.moves c.in-Ok.ensures.ok c.new-w.ensures.empty
+    c.in_ok-flush.ensures.law.moves c.in-Ok.ensures.law.ok c.new-w.ensures.empty
     ∙ ap (λ v. v.items ++ c.args.text.now) c.new-w.ensures.inner

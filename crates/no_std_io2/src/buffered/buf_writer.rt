@@ -6,7 +6,7 @@ ghost use Rattle.no_std_io2.specs.contracts.buffered.buf_writer.BufWriter.{the_r
 ghost use Rattle.no_std_io2_base.specs.Write.{WriteLaw, FlushLaw, WriteAllLaw};
 ghost use Rattle.no_std_io2_base.specs.Errors.{error_kind, IsFault, IsNoInterruption};
 ghost use Rattle.no_std_io2_base.specs.Write.{Moves, MovesFront, taken, write_mishap, call_mishap, Sends, calls_for};
-ghost use Rattle.no_std_io2.specs.BufWriter.{writer_inner, writer_buffer, writer_told, into_inner_error_writer};
+ghost use Rattle.no_std_io2.specs.BufWriter.{writer_inner, writer_buffer, writer_told, Unwraps};
 ghost use Rattle.no_std_io2.specs.BufWriter.{into_inner_error_cause, writing_calls, buffer_after, writer_with_inner};
 ghost use Rattle.no_std_io2.specs.Buffer.{IsEnd};
 
@@ -112,23 +112,7 @@ impl<W: Write + Drop, const S: usize> BufWriter<W, S> {
     /// In a `match`, bind the error to a name: the borrow check refuses `Err(_)` here, and passes
     /// `Err(_e)`.
     pub fn into_inner(self) -> std::result::Result<W, IntoInnerError<BufWriter<W, S>>>
-        // No byte is lost.
-        ensures ok { IfOk result (λ w. Moves (writer_told W.told self) [] [] (W.told w)) }
-        ensures err { IfErr result (λ e. Moves (writer_told W.told self) []
-            (error_kind (into_inner_error_cause e) ∷ []) (writer_told W.told (into_inner_error_writer e))) }
-        ensures rest { IfErr result (λ e. IsEnd (writer_buffer self)
-            (writer_buffer (into_inner_error_writer e))) }
-
-        // Which errors come, and when none does.
-        ensures fault { IfErr result (λ e. IsFault (into_inner_error_cause e)) }
-        ensures empty { writer_buffer self ≡ [] → result ≡ Ok (writer_inner self) }
-        ensures steady { (W.told (writer_inner self)).mishaps ≡ Some [] → IsOk result }
-
-        // What it costs.
-        ensures all { W.takes_all (writer_inner self) → IsOkAnd result W.takes_all }
-        ensures calls { W.is_metered (writer_inner self) → W.takes_all (writer_inner self)
-            → IfOk result (λ w. W.is_metered w
-            × (W.cost w ≡ W.cost (writer_inner self) + calls_for (writer_buffer self))) }
+        ensures law { Unwraps W.Write writer_inner writer_buffer self result }
     {
         let BufWriter { core } = self;
         match core.into_inner() {

@@ -6,7 +6,7 @@ ghost use Rattle.no_std_io2.specs.contracts.buffered.line_writer.LineWriter.{the
 ghost use Rattle.no_std_io2.specs.Lines.{IsLineState, HasNoNewline, HasNewline, unfinished_line, whole_if_short};
 ghost use Rattle.no_std_io2.specs.LineWriter.{line_inner, line_buffer, line_told, line_with_inner, WritesLines};
 ghost use Rattle.no_std_io2.specs.Buffer.{IsEnd};
-ghost use Rattle.no_std_io2.specs.BufWriter.{HoldsEnd, buffer_after, into_inner_error_writer, into_inner_error_cause};
+ghost use Rattle.no_std_io2.specs.BufWriter.{HoldsEnd, Unwraps, buffer_after, into_inner_error_writer, into_inner_error_cause};
 ghost use Rattle.no_std_io2_base.specs.Write.{WriteLaw, FlushLaw, WriteAllLaw};
 ghost use Rattle.no_std_io2_base.specs.Errors.{error_kind, IsFault, IsNoInterruption};
 ghost use Rattle.no_std_io2_base.specs.Write.{Moves, MovesFront, taken, write_mishap, call_mishap, calls_for};
@@ -97,24 +97,10 @@ impl<W: Write + Drop, const S: usize> LineWriter<W, S> {
     /// `WriteZero` where it took no byte of some. The error holds this writer, with the bytes that
     /// are not yet sent; they have no newline, or end in one.
     pub fn into_inner(self) -> std::result::Result<W, IntoInnerError<LineWriter<W, S>>>
-        // No byte is lost.
-        ensures ok { IfOk result (λ w. Moves (line_told W.told self) [] [] (W.told w)) }
-        ensures err { IfErr result (λ e. Moves (line_told W.told self) []
-            (error_kind (into_inner_error_cause e) ∷ []) (line_told W.told (into_inner_error_writer e))) }
-        ensures rest { IfErr result (λ e. IsEnd (line_buffer self)
-            (line_buffer (into_inner_error_writer e))) }
+        ensures law { Unwraps W.Write line_inner line_buffer self result }
+
+        // What is still held has no newline, or ends in one.
         ensures line { IfErr result (λ e. IsLineState (line_buffer (into_inner_error_writer e))) }
-
-        // Which errors come, and when none does.
-        ensures fault { IfErr result (λ e. IsFault (into_inner_error_cause e)) }
-        ensures empty { line_buffer self ≡ [] → result ≡ Ok (line_inner self) }
-        ensures steady { (W.told (line_inner self)).mishaps ≡ Some [] → IsOk result }
-
-        // What it costs.
-        ensures all { W.takes_all (line_inner self) → IsOkAnd result W.takes_all }
-        ensures calls { W.is_metered (line_inner self) → W.takes_all (line_inner self)
-            → IfOk result (λ w. W.is_metered w
-            × (W.cost w ≡ W.cost (line_inner self) + calls_for (line_buffer self))) }
     {
         let LineWriter { core } = self;
         let LineSender { buffered } = core;

@@ -220,7 +220,7 @@ impl<W: Write + Drop, const S: usize> Sender<W, S> {
     /// # Errors
     /// As `send`, with this writer, which holds what was not sent.
     pub(crate) fn into_inner(mut self) -> std::result::Result<W, IntoInnerError<Sender<W, S>>>
-        ensures { Unwraps W.Write self result }
+        ensures { Unwraps W.Write sender_inner sender_buffer self result }
     {
         match self.send() {
             Ok(()) => Ok(self.inner),

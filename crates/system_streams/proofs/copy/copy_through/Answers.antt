@@ -10,27 +10,27 @@ returns-in_err-count-clause-steady g c = λ t none steady.
 
 pub returns-in_err-into_inner-clause-err : goal.returns-in_err-into_inner-clause-err
 returns-in_err-into_inner-clause-err g c =
-    absurd (comes_apart _ _ c.in_ok-count.ensures.empty c.in_err-into_inner.ensures.empty)
+    absurd (comes_apart _ _ c.in_ok-count.ensures.empty c.in_err-into_inner.ensures.law.empty)
 
 pub returns-in_err-into_inner-clause-steady : goal.returns-in_err-into_inner-clause-steady
 returns-in_err-into_inner-clause-steady g c =
-    absurd (comes_apart _ _ c.in_ok-count.ensures.empty c.in_err-into_inner.ensures.empty)
+    absurd (comes_apart _ _ c.in_ok-count.ensures.empty c.in_err-into_inner.ensures.law.empty)
 
 pub returns-in_ok-into_inner-clause-empty : goal.returns-in_ok-into_inner-clause-empty
-returns-in_ok-into_inner-clause-empty g c = none_held c.in_ok-count.ensures.empty c.in_ok-into_inner.ensures.ok
+returns-in_ok-into_inner-clause-empty g c = none_held c.in_ok-count.ensures.empty c.in_ok-into_inner.ensures.law.ok
 
 pub returns-in_ok-into_inner-clause-some : goal.returns-in_ok-into_inner-clause-some
 returns-in_ok-into_inner-clause-some g c =
     let poured = c.in_ok-count.ensures.some in
     let same = ap g.W.Write.told c.new.ensures.inner in
-    let passes = passes_off _ same c.new.ensures.empty poured.passes c.in_ok-into_inner.ensures.ok in
+    let passes = passes_off _ same c.new.ensures.empty poured.passes c.in_ok-into_inner.ensures.law.ok in
     record { accepted = poured.accepted; passes = passes }
 
 pub returns-in_ok-into_inner-clause-all : goal.returns-in_ok-into_inner-clause-all
 returns-in_ok-into_inner-clause-all g c = λ t.
     let poured = c.in_ok-count.ensures.all (subst g.R.Read.tells (sym c.new-input.ensures.inner) t) in
     let same = ap g.W.Write.told c.new.ensures.inner in
-    rw (sym c.new-input.ensures.events) (poured.0, passes_off _ same c.new.ensures.empty poured.1 c.in_ok-into_inner.ensures.ok)
+    rw (sym c.new-input.ensures.events) (poured.0, passes_off _ same c.new.ensures.empty poured.1 c.in_ok-into_inner.ensures.law.ok)
 
 pub returns-in_err-count-2-clause-steady : goal.returns-in_err-count-2-clause-steady
 returns-in_err-count-2-clause-steady g c = λ t none steady.
@@ -40,24 +40,24 @@ returns-in_err-count-2-clause-steady g c = λ t none steady.
 
 pub returns-in_err-into_inner-2-clause-err : goal.returns-in_err-into_inner-2-clause-err
 returns-in_err-into_inner-2-clause-err g c =
-    absurd (comes_apart _ _ c.in_ok-count-2.ensures.empty c.in_err-into_inner-2.ensures.empty)
+    absurd (comes_apart _ _ c.in_ok-count-2.ensures.empty c.in_err-into_inner-2.ensures.law.empty)
 
 pub returns-in_err-into_inner-2-clause-steady : goal.returns-in_err-into_inner-2-clause-steady
 returns-in_err-into_inner-2-clause-steady g c =
-    absurd (comes_apart _ _ c.in_ok-count-2.ensures.empty c.in_err-into_inner-2.ensures.empty)
+    absurd (comes_apart _ _ c.in_ok-count-2.ensures.empty c.in_err-into_inner-2.ensures.law.empty)
 
 pub returns-in_ok-into_inner-2-clause-empty : goal.returns-in_ok-into_inner-2-clause-empty
-returns-in_ok-into_inner-2-clause-empty g c = none_held c.in_ok-count-2.ensures.empty c.in_ok-into_inner-2.ensures.ok
+returns-in_ok-into_inner-2-clause-empty g c = none_held c.in_ok-count-2.ensures.empty c.in_ok-into_inner-2.ensures.law.ok
 
 pub returns-in_ok-into_inner-2-clause-some : goal.returns-in_ok-into_inner-2-clause-some
 returns-in_ok-into_inner-2-clause-some g c =
     let poured = c.in_ok-count-2.ensures.some in
     let same = ap g.W.Write.told c.new-else-line.ensures.inner in
-    let passes = passes_off _ same c.new-else-line.ensures.empty poured.passes c.in_ok-into_inner-2.ensures.ok in
+    let passes = passes_off _ same c.new-else-line.ensures.empty poured.passes c.in_ok-into_inner-2.ensures.law.ok in
     record { accepted = poured.accepted; passes = passes }
 
 pub returns-in_ok-into_inner-2-clause-all : goal.returns-in_ok-into_inner-2-clause-all
 returns-in_ok-into_inner-2-clause-all g c = λ t.
     let poured = c.in_ok-count-2.ensures.all (subst g.R.Read.tells (sym c.new-input.ensures.inner) t) in
     let same = ap g.W.Write.told c.new-else-line.ensures.inner in
-    rw (sym c.new-input.ensures.events) (poured.0, passes_off _ same c.new-else-line.ensures.empty poured.1 c.in_ok-into_inner-2.ensures.ok)
+    rw (sym c.new-input.ensures.events) (poured.0, passes_off _ same c.new-else-line.ensures.empty poured.1 c.in_ok-into_inner-2.ensures.law.ok)
