@@ -29,7 +29,7 @@ fn are_clear(ops: &[Op<'_>], replies: &[Reply]) -> bool
     if ops.len() != replies.len() {
         return false;
     }
-    for i in 0..ops.len() {
+    'calls: for i in 0..ops.len() {
         let Some(_) = front_of(&ops[i], &replies[i]) else {
             return false;
         };
@@ -68,7 +68,7 @@ pub fn joined(alloc: Global, ops: &[Op<'_>], replies: &[Reply]) -> Result<Option
         return Ok(None);
     }
     let mut bytes = Vec::new(alloc);
-    for i in 0..ops.len() {
+    'calls: for i in 0..ops.len() {
         if let Some(front) = front_of(&ops[i], &replies[i]) {
             bytes.extend_from_slice(front)?;
         }

@@ -124,7 +124,7 @@ all_sent {I} {old} sent same =
 
 -- `write`: sending failed, and nothing was accepted
 pub refused : {W : Type 0} {S : ℕ} {I : Writer W} {old mid : Sender W S} {x : List ℕ} {e : Error}
-    → MakesWay I old (length x) (Err e) mid → Buffers I old x (Err e) mid
+    → MakesWay I old (length x) (Err e) mid → Buffers I S sender_inner sender_buffer old x (Err e) mid
 refused {old} way = record {
   bound = tt;
   moves = way.moves;
@@ -141,7 +141,7 @@ refused {old} way = record {
 -- `write`: one inner write, past the empty buffer
 pub passed : {W : Type 0} {S : ℕ} {I : Writer W} {old mid : Sender W S} {x : List ℕ} {r : Result ℕ Error} {inner : W}
     → MakesWay I old (length x) (Ok tt) mid → S ≤ length x → WriteLaw I.told I.takes_all I.cost I.is_metered (sender_inner mid) x r inner
-    → Buffers I old x r (sender_with_inner mid inner)
+    → Buffers I S sender_inner sender_buffer old x r (sender_with_inner mid inner)
 passed {S} {old} {mid} {x} {r} way long wrote =
     let none = way.empty long in
     record {
@@ -172,7 +172,8 @@ held_after {S} {old} new x way short put = ⊎_elim
 -- `write`: x is held behind what was left
 pub held : {W : Type 0} {S : ℕ} {I : Writer W} {old mid new : Sender W S} {x : List ℕ}
     → MakesWay I old (length x) (Ok tt) mid → length x < S
-    → sender_inner new ≡ sender_inner mid → sender_buffer new ≡ sender_buffer mid ++ x → Buffers I old x (Ok (length x)) new
+    → sender_inner new ≡ sender_inner mid → sender_buffer new ≡ sender_buffer mid ++ x
+    → Buffers I S sender_inner sender_buffer old x (Ok (length x)) new
 held {S} {I} {old} {mid} {new} {x} way short same put =
     let whole = take_all _ x (le_refl (length x)) in
     record {
@@ -194,7 +195,7 @@ held {S} {I} {old} {mid} {new} {x} way short same put =
 
 -- `write_all`: sending failed, and nothing was accepted
 pub refused_all : {W : Type 0} {S : ℕ} {I : Writer W} {old mid : Sender W S} {x : List ℕ} {e : Error}
-    → MakesWay I old (length x) (Err e) mid → BuffersAll I old x (Err e) mid
+    → MakesWay I old (length x) (Err e) mid → BuffersAll I S sender_inner sender_buffer old x (Err e) mid
 refused_all {x} way = record {
   fault = way.fault;
   moves = record { accepted = []; front = (x, refl); whole = tt; moves = way.moves };
@@ -211,7 +212,8 @@ refused_all {x} way = record {
 -- `write_all`: one inner `write_all`, past the empty buffer
 pub passed_all : {W : Type 0} {S : ℕ} {I : Writer W} {old mid : Sender W S} {x : List ℕ} {r : Result (Unit {0}) Error} {inner : W}
     → ((w : W) → I.takes_all w → (I.told w).mishaps ≡ Some []) → MakesWay I old (length x) (Ok tt) mid → S ≤ length x
-    → WriteAllLaw I.told I.takes_all I.cost I.is_metered (sender_inner mid) x r inner → BuffersAll I old x r (sender_with_inner mid inner)
+    → WriteAllLaw I.told I.takes_all I.cost I.is_metered (sender_inner mid) x r inner
+    → BuffersAll I S sender_inner sender_buffer old x r (sender_with_inner mid inner)
 passed_all {S} {old} {mid} {x} {r} steady way long wrote =
     let none = way.empty long in
     record {
@@ -236,7 +238,8 @@ passed_all {S} {old} {mid} {x} {r} steady way long wrote =
 -- `write_all`: x is held behind what was left
 pub held_all : {W : Type 0} {S : ℕ} {I : Writer W} {old mid new : Sender W S} {x : List ℕ}
     → MakesWay I old (length x) (Ok tt) mid → length x < S
-    → sender_inner new ≡ sender_inner mid → sender_buffer new ≡ sender_buffer mid ++ x → BuffersAll I old x (Ok tt) new
+    → sender_inner new ≡ sender_inner mid → sender_buffer new ≡ sender_buffer mid ++ x
+    → BuffersAll I S sender_inner sender_buffer old x (Ok tt) new
 held_all {S} {I} {old} {mid} {new} {x} way short same put = record {
   fault = tt;
   moves = record {
@@ -262,7 +265,8 @@ held_all {S} {I} {old} {mid} {new} {x} way short same put = record {
 -- `flush`: all was sent, and then the inner writer was flushed
 pub flushed : {W : Type 0} {S : ℕ} {I : Writer W} {old mid : Sender W S} {r : Result (Unit {0}) Error} {inner : W}
     → ((w : W) → I.takes_all w → (I.told w).mishaps ≡ Some []) → Sent I old (Ok tt) mid
-    → FlushLaw I.told I.takes_all I.cost I.is_metered (sender_inner mid) r inner → Flushes I old r (sender_with_inner mid inner)
+    → FlushLaw I.told I.takes_all I.cost I.is_metered (sender_inner mid) r inner
+    → Flushes I sender_inner sender_buffer old r (sender_with_inner mid inner)
 flushed {I} {mid} {r} {inner} steady sent done =
     let none = sent.empty in
     record {

@@ -120,84 +120,88 @@ pub record MakesWay {W : Type 0} {S : ℕ} (I : Writer W) (old : Sender W S) (mo
   pub calls : I.is_metered (sender_inner old) → I.takes_all (sender_inner old) → I.is_metered (sender_inner new)
       × (I.cost (sender_inner new) ≡ I.cost (sender_inner old) + way_calls S (sender_buffer old) more)
 
--- `write(x)` through the buffer.
-pub record Buffers {W : Type 0} {S : ℕ} (I : Writer W) (old : Sender W S) (x : List ℕ) (reply : Result ℕ Error) (new : Sender W S)
-    : Type 0 where
+-- What a writer B tells that has a buffer in front of its inner writer.
+abbrev pub buffered_told : {W B : Type 0} → (W → Told) → (B → W) → (B → List ℕ) → B → Told
+buffered_told told inner buffer b = with_buffer (told (inner b)) (buffer b)
+
+-- `write(x)` of a writer B through a buffer of S bytes.
+pub record Buffers {W B : Type 0} (I : Writer W) (S : ℕ) (inner : B → W) (buffer : B → List ℕ) (old : B) (x : List ℕ)
+    (reply : Result ℕ Error) (new : B) : Type 0 where
   -- no more is taken than was given
   pub bound : IfOk reply (λ n. n ≤ length x)
   -- exactly what the answer says was accepted
-  pub moves : Moves (sender_told I.told old) (taken reply x) (write_mishap reply x) (sender_told I.told new)
+  pub moves : Moves (buffered_told I.told inner buffer old) (taken reply x) (write_mishap reply x)
+      (buffered_told I.told inner buffer new)
   -- what is held is an end of what was held and of that
-  pub rest : IsEnd (sender_buffer old ++ taken reply x) (sender_buffer new)
+  pub rest : IsEnd (buffer old ++ taken reply x) (buffer new)
   -- where both fit, x is held and there is no inner call
-  pub fits : length x < S → length (sender_buffer old) + length x ≤ S
-      → IsOk reply × (sender_inner new ≡ sender_inner old) × (sender_buffer new ≡ sender_buffer old ++ x)
+  pub fits : length x < S → length (buffer old) + length x ≤ S
+      → IsOk reply × (inner new ≡ inner old) × (buffer new ≡ buffer old ++ x)
   -- where both don't, all that was held was sent before an `Ok`
-  pub sent : S < length (sender_buffer old) + length x → IfOk reply (λ n. IsEnd (take n x) (sender_buffer new))
+  pub sent : S < length (buffer old) + length x → IfOk reply (λ n. IsEnd (take n x) (buffer new))
   -- what is shorter than the buffer is taken whole, and no interruption is answered
   pub whole : length x < S → IfOk reply (λ n. n ≡ length x)
   pub calm : length x < S → IsNoInterruption reply
   -- an inner writer that takes all still does, and all of x was taken
-  pub all : I.takes_all (sender_inner old) → I.takes_all (sender_inner new) × (reply ≡ Ok (length x))
+  pub all : I.takes_all (inner old) → I.takes_all (inner new) × (reply ≡ Ok (length x))
   -- what is held after an `Ok`
-  pub after : OnOk reply (sender_buffer new ≡ buffer_after S (sender_buffer old) x)
+  pub after : OnOk reply (buffer new ≡ buffer_after S (buffer old) x)
   -- how many calls an inner writer gets that takes all
-  pub calls : I.is_metered (sender_inner old) → I.takes_all (sender_inner old) → I.is_metered (sender_inner new)
-      × (I.cost (sender_inner new) ≡ I.cost (sender_inner old) + writing_calls S (sender_buffer old) x)
+  pub calls : I.is_metered (inner old) → I.takes_all (inner old) → I.is_metered (inner new)
+      × (I.cost (inner new) ≡ I.cost (inner old) + writing_calls S (buffer old) x)
 
--- `write_all(x)` through the buffer.
-pub record BuffersAll {W : Type 0} {S : ℕ} (I : Writer W) (old : Sender W S) (x : List ℕ) (reply : Result (Unit {0}) Error)
-    (new : Sender W S) : Type 0 where
+-- `write_all(x)` of such a writer.
+pub record BuffersAll {W B : Type 0} (I : Writer W) (S : ℕ) (inner : B → W) (buffer : B → List ℕ) (old : B) (x : List ℕ)
+    (reply : Result (Unit {0}) Error) (new : B) : Type 0 where
   -- an error is no interruption
   pub fault : IsNoInterruption reply
   -- some front of x was accepted, all of it at `Ok`
-  pub moves : MovesFront (sender_told I.told old) x reply (sender_told I.told new)
+  pub moves : MovesFront (buffered_told I.told inner buffer old) x reply (buffered_told I.told inner buffer new)
   -- what is held is an end of what was, with x behind it or without
-  pub rest : (IsEnd (sender_buffer old ++ x) (sender_buffer new)) ⊎ (IsEnd (sender_buffer old) (sender_buffer new))
+  pub rest : (IsEnd (buffer old ++ x) (buffer new)) ⊎ (IsEnd (buffer old) (buffer new))
   -- where both fit, x is held and there is no inner call
-  pub fits : length x < S → length (sender_buffer old) + length x ≤ S
-      → IsOk reply × (sender_inner new ≡ sender_inner old) × (sender_buffer new ≡ sender_buffer old ++ x)
+  pub fits : length x < S → length (buffer old) + length x ≤ S
+      → IsOk reply × (inner new ≡ inner old) × (buffer new ≡ buffer old ++ x)
   -- where both don't, all that was held was sent before an `Ok`
-  pub sent : S < length (sender_buffer old) + length x → OnOk reply (IsEnd x (sender_buffer new))
+  pub sent : S < length (buffer old) + length x → OnOk reply (IsEnd x (buffer new))
   -- of what is shorter than the buffer nothing is taken at an `Err`
-  pub none : length x < S → OnErr reply (IsEnd (sender_buffer old) (sender_buffer new)
-      × Moves (sender_told I.told old) [] (call_mishap reply) (sender_told I.told new))
+  pub none : length x < S → OnErr reply (IsEnd (buffer old) (buffer new)
+      × Moves (buffered_told I.told inner buffer old) [] (call_mishap reply) (buffered_told I.told inner buffer new))
   -- an inner writer that takes all still does, and there is no error
-  pub all : I.takes_all (sender_inner old) → I.takes_all (sender_inner new) × IsOk reply
+  pub all : I.takes_all (inner old) → I.takes_all (inner new) × IsOk reply
   -- what is held after an `Ok`
-  pub after : OnOk reply (sender_buffer new ≡ buffer_after S (sender_buffer old) x)
+  pub after : OnOk reply (buffer new ≡ buffer_after S (buffer old) x)
   -- how many calls an inner writer gets that takes all; with S = 0 an empty x makes none
-  pub calls : 0 < S → I.is_metered (sender_inner old) → I.takes_all (sender_inner old) → I.is_metered (sender_inner new)
-      × (I.cost (sender_inner new) ≡ I.cost (sender_inner old) + writing_calls S (sender_buffer old) x)
+  pub calls : 0 < S → I.is_metered (inner old) → I.takes_all (inner old) → I.is_metered (inner new)
+      × (I.cost (inner new) ≡ I.cost (inner old) + writing_calls S (buffer old) x)
   -- one call at most beside the one for what was held, whatever the buffer's length
-  pub few : I.is_metered (sender_inner old) → I.takes_all (sender_inner old) → I.is_metered (sender_inner new)
-      × (I.cost (sender_inner new) ≤ I.cost (sender_inner old) + calls_for (sender_buffer old) + 1)
+  pub few : I.is_metered (inner old) → I.takes_all (inner old) → I.is_metered (inner new)
+      × (I.cost (inner new) ≤ I.cost (inner old) + calls_for (buffer old) + 1)
 
--- `flush` through the buffer.
-pub record Flushes {W : Type 0} {S : ℕ} (I : Writer W) (old : Sender W S) (reply : Result (Unit {0}) Error) (new : Sender W S)
-    : Type 0 where
+-- `flush` of such a writer.
+pub record Flushes {W B : Type 0} (I : Writer W) (inner : B → W) (buffer : B → List ℕ) (old : B) (reply : Result (Unit {0}) Error)
+    (new : B) : Type 0 where
   -- after an `Ok` nothing is held, here or further in
-  pub empty : OnOk reply ((sender_told I.told new).held ≡ [])
+  pub empty : OnOk reply ((buffered_told I.told inner buffer new).held ≡ [])
   -- no byte is lost
-  pub moves : Moves (sender_told I.told old) [] (call_mishap reply) (sender_told I.told new)
-  pub sent : OnOk reply (sender_buffer new ≡ [])
+  pub moves : Moves (buffered_told I.told inner buffer old) [] (call_mishap reply) (buffered_told I.told inner buffer new)
+  pub sent : OnOk reply (buffer new ≡ [])
   -- what is held is an end of what was
-  pub rest : IsEnd (sender_buffer old) (sender_buffer new)
+  pub rest : IsEnd (buffer old) (buffer new)
   -- an inner writer that takes all still does, and there is no error
-  pub all : I.takes_all (sender_inner old) → I.takes_all (sender_inner new) × IsOk reply
+  pub all : I.takes_all (inner old) → I.takes_all (inner new) × IsOk reply
   -- and one call of it takes what was held
-  pub calls : I.is_metered (sender_inner old) → I.takes_all (sender_inner old) → I.is_metered (sender_inner new)
-      × (I.cost (sender_inner new) ≡ I.cost (sender_inner old) + calls_for (sender_buffer old))
+  pub calls : I.is_metered (inner old) → I.takes_all (inner old) → I.is_metered (inner new)
+      × (I.cost (inner new) ≡ I.cost (inner old) + calls_for (buffer old))
 
 -- `into_inner()` of a writer B with a buffer: all that was held was sent and the inner writer came back, or a fault came with the
 -- writer, which holds the rest.
 pub record Unwraps {W B : Type 0} (I : Writer W) (inner : B → W) (buffer : B → List ℕ) (old : B) (reply : Result W (IntoInnerError B))
     : Type 0 where
   -- no byte is lost
-  pub ok : IfOk reply (λ w. Moves (with_buffer (I.told (inner old)) (buffer old)) [] [] (I.told w))
-  pub err : IfErr reply (λ e. let left = into_inner_error_writer e in
-      Moves (with_buffer (I.told (inner old)) (buffer old)) [] (error_kind (into_inner_error_cause e) ∷ [])
-      (with_buffer (I.told (inner left)) (buffer left)))
+  pub ok : IfOk reply (λ w. Moves (buffered_told I.told inner buffer old) [] [] (I.told w))
+  pub err : IfErr reply (λ e. Moves (buffered_told I.told inner buffer old) [] (error_kind (into_inner_error_cause e) ∷ [])
+      (buffered_told I.told inner buffer (into_inner_error_writer e)))
   -- what is still held is an end of what was
   pub rest : IfErr reply (λ e. IsEnd (buffer old) (buffer (into_inner_error_writer e)))
   -- the error is the fault that stopped the sending

@@ -11,7 +11,7 @@ const WIRE: &[u8] = b"\x05\0\0\0hello\x02\0\0\0ab";
 
 fn payloads(alloc: Global) -> std::result::Result<Vec<Vec<u8>>, AllocError> {
     let mut payloads = Vec::with_capacity(alloc, 2)?;
-    for text in ["hello", "ab"] {
+    'texts: for text in ["hello", "ab"] {
         let mut payload = Vec::new(alloc);
         payload.extend_from_slice(text.as_bytes())?;
         payloads.push(payload)?;
@@ -21,7 +21,7 @@ fn payloads(alloc: Global) -> std::result::Result<Vec<Vec<u8>>, AllocError> {
 
 fn lines(alloc: Global) -> std::result::Result<Vec<String>, AllocError> {
     let mut lines = Vec::with_capacity(alloc, 2)?;
-    for text in ["started", "done"] {
+    'texts: for text in ["started", "done"] {
         let mut line = String::new(alloc);
         line.push_str(text)?;
         lines.push(line)?;
@@ -41,7 +41,7 @@ fn joint(outcomes: &[Outcome], is_right: bool) -> Outcome {
     if !is_right {
         return Outcome::Wrong("bytes that came not once each");
     }
-    for outcome in outcomes {
+    'outcomes: for outcome in outcomes {
         if *outcome != Outcome::Whole {
             return *outcome;
         }

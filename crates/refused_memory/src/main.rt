@@ -58,7 +58,7 @@ fn after_refusal<R: Read>(alloc: Global, r: &mut R, text: &str, len: usize) -> O
 
 fn by_read_line<R: BufRead>(alloc: Global, r: &mut R) -> Outcome {
     let mut text = String::new(alloc);
-    for _ in 0..LINES.len() {
+    'lines: for _ in 0..LINES.len() {
         let len = text.len();
         if let Err(e) = r.read_line(alloc, &mut text) {
             return match outcome_of(&e) {
@@ -76,7 +76,7 @@ fn by_read_line<R: BufRead>(alloc: Global, r: &mut R) -> Outcome {
 
 fn by_split(alloc: Global) -> Outcome {
     let mut pieces = reader().split(alloc, b'\n');
-    for want in PIECES {
+    'pieces: for want in PIECES {
         match pieces.next() {
             Some(Ok(piece)) if piece.as_slice() == want.as_bytes() => {}
             Some(Err(e)) if pieces.next().is_none() => return outcome_of(&e),
@@ -91,7 +91,7 @@ fn by_split(alloc: Global) -> Outcome {
 
 fn by_lines(alloc: Global) -> Outcome {
     let mut lines = reader().lines(alloc);
-    for want in LINES {
+    'lines: for want in LINES {
         match lines.next() {
             Some(Ok(line)) if line.as_str() == want => {}
             Some(Err(e)) if lines.next().is_none() => return outcome_of(&e),
@@ -117,7 +117,7 @@ fn main(rt: HostRuntime) -> ExitCode {
         by_log(alloc),
         by_joined(alloc),
     ];
-    for outcome in outcomes {
+    'outcomes: for outcome in outcomes {
         if let Outcome::Wrong(what) = outcome {
             let _ = println!(rt; "{what}");
             return ExitCode::SUCCESS;

@@ -144,7 +144,7 @@ impl Calls {
         let mut ops = Vec::new(alloc);
         reserve(&mut ops, self.steps.len())?;
         let mut rest = self.texts.as_slice();
-        for step in &self.steps {
+        'steps: for step in &self.steps {
             let (op, next) = next_op(*step, rest);
             ops.push_reserved(op);
             rest = next;

@@ -1,14 +1,10 @@
 //! A buffer in front of a writer.
-ghost use Rattle.std.specs.Prelude.{Some, ◌≡◌, ◌+◌, ◌<◌, ◌≤◌, ◌⊎◌, [], ◌∷◌, ◌++◌, length, take, Ok, IsOk, IfOk, IfErr};
-ghost use Rattle.std.specs.Prelude.{IsOkAnd, OnOk, OnErr, false};
+ghost use Rattle.std.specs.Prelude.{◌≡◌, ◌≤◌, [], length};
 ghost use Rattle.std.specs.Borrow.{Lends, sem};
 ghost use Rattle.no_std_io2.specs.contracts.buffered.buf_writer.BufWriter.{the_row as writer-row};
 ghost use Rattle.no_std_io2_base.specs.Write.{WriteLaw, FlushLaw, WriteAllLaw};
-ghost use Rattle.no_std_io2_base.specs.Errors.{error_kind, IsFault, IsNoInterruption};
-ghost use Rattle.no_std_io2_base.specs.Write.{Moves, MovesFront, taken, write_mishap, call_mishap, Sends, calls_for};
-ghost use Rattle.no_std_io2.specs.BufWriter.{writer_inner, writer_buffer, writer_told, Unwraps};
-ghost use Rattle.no_std_io2.specs.BufWriter.{into_inner_error_cause, writing_calls, buffer_after, writer_with_inner};
-ghost use Rattle.no_std_io2.specs.Buffer.{IsEnd};
+ghost use Rattle.no_std_io2.specs.BufWriter.{writer_inner, writer_buffer, writer_told, writer_with_inner};
+ghost use Rattle.no_std_io2.specs.BufWriter.{Unwraps, Buffers, BuffersAll, Flushes};
 
 mod seeking;
 
@@ -162,22 +158,7 @@ impl<W: Write + Drop, const S: usize> Write for BufWriter<W, S> {
         ensures law { let B = ⟦<Self as Write>⟧ in
             WriteLaw B.told B.takes_all B.cost B.is_metered self.old buf.now result self.new }
 
-        // What is held then.
-        ensures rest { IsEnd (writer_buffer self.old ++ taken result buf.now) (writer_buffer self.new) }
-        ensures fits { length buf.now < S → length (writer_buffer self.old) + length buf.now ≤ S
-            → IsOk result × (writer_inner self.new ≡ writer_inner self.old)
-            × (writer_buffer self.new ≡ writer_buffer self.old ++ buf.now) }
-        ensures sent { S < length (writer_buffer self.old) + length buf.now
-            → IfOk result (λ n. IsEnd (take n buf.now) (writer_buffer self.new)) }
-        ensures whole { length buf.now < S → IfOk result (λ n. n ≡ length buf.now) }
-        ensures calm { length buf.now < S → IsNoInterruption result }
-        ensures after { OnOk result (writer_buffer self.new
-            ≡ buffer_after S (writer_buffer self.old) buf.now) }
-
-        // What it costs.
-        ensures calls { W.is_metered (writer_inner self.old) → W.takes_all (writer_inner self.old)
-            → W.is_metered (writer_inner self.new) × (W.cost (writer_inner self.new)
-            ≡ W.cost (writer_inner self.old) + writing_calls S (writer_buffer self.old) buf.now) }
+        ensures buffer { Buffers W.Write S writer_inner writer_buffer self.old buf.now result self.new }
     {
         self.core.write(buf)
     }
@@ -191,13 +172,7 @@ impl<W: Write + Drop, const S: usize> Write for BufWriter<W, S> {
         ensures law { let B = ⟦<Self as Write>⟧ in
             FlushLaw B.told B.takes_all B.cost B.is_metered self.old result self.new }
 
-        // What is held then, and what it costs.
-        ensures ok { W.takes_all (writer_inner self.old) → IsOk result }
-        ensures sent { OnOk result (writer_buffer self.new ≡ []) }
-        ensures rest { IsEnd (writer_buffer self.old) (writer_buffer self.new) }
-        ensures calls { W.is_metered (writer_inner self.old) → W.takes_all (writer_inner self.old)
-            → W.is_metered (writer_inner self.new) × (W.cost (writer_inner self.new)
-            ≡ W.cost (writer_inner self.old) + calls_for (writer_buffer self.old)) }
+        ensures buffer { Flushes W.Write writer_inner writer_buffer self.old result self.new }
     {
         self.core.flush()
     }
@@ -211,25 +186,7 @@ impl<W: Write + Drop, const S: usize> Write for BufWriter<W, S> {
         ensures law { let B = ⟦<Self as Write>⟧ in
             WriteAllLaw B.told B.takes_all B.cost B.is_metered self.old buf.now result self.new }
 
-        // What is held then.
-        ensures ok { W.takes_all (writer_inner self.old) → IsOk result }
-        ensures rest { IsEnd (writer_buffer self.old ++ buf.now) (writer_buffer self.new)
-            ⊎ IsEnd (writer_buffer self.old) (writer_buffer self.new) }
-        ensures fits { length buf.now < S → length (writer_buffer self.old) + length buf.now ≤ S
-            → IsOk result × (writer_inner self.new ≡ writer_inner self.old)
-            × (writer_buffer self.new ≡ writer_buffer self.old ++ buf.now) }
-        ensures sent { S < length (writer_buffer self.old) + length buf.now
-            → OnOk result (IsEnd buf.now (writer_buffer self.new)) }
-        ensures none { length buf.now < S
-            → OnErr result (IsEnd (writer_buffer self.old) (writer_buffer self.new)
-            × Moves (writer_told W.told self.old) [] (call_mishap result) (writer_told W.told self.new)) }
-        ensures after { OnOk result (writer_buffer self.new
-            ≡ buffer_after S (writer_buffer self.old) buf.now) }
-
-        // What it costs.
-        ensures calls { 0 < S → W.is_metered (writer_inner self.old) → W.takes_all (writer_inner self.old)
-            → W.is_metered (writer_inner self.new) × (W.cost (writer_inner self.new)
-            ≡ W.cost (writer_inner self.old) + writing_calls S (writer_buffer self.old) buf.now) }
+        ensures buffer { BuffersAll W.Write S writer_inner writer_buffer self.old buf.now result self.new }
     {
         self.core.write_all(buf)
     }

@@ -1,15 +1,15 @@
 // A buffer that is sent at the end of each line.
-ghost use Rattle.std.specs.Prelude.{◌≡◌, ◌+◌, ◌-◌, ◌<◌, ◌≤◌, [], ◌∷◌, ◌++◌, length, take, Some, Ok, IsOk, IfOk, IfErr};
+ghost use Rattle.std.specs.Prelude.{◌≡◌, ◌+◌, ◌-◌, ◌<◌, ◌≤◌, [], ◌++◌, length, take, Some, Ok, IsOk, IfOk, IfErr};
 ghost use Rattle.std.specs.Prelude.{IsOkAnd, OnOk, OnErr};
 ghost use Rattle.std.specs.Borrow.{Lends, sem};
 ghost use Rattle.no_std_io2.specs.contracts.buffered.line_writer.LineWriter.{the_row as line-row};
 ghost use Rattle.no_std_io2.specs.Lines.{IsLineState, HasNoNewline, HasNewline, unfinished_line, whole_if_short};
 ghost use Rattle.no_std_io2.specs.LineWriter.{line_inner, line_buffer, line_told, line_with_inner, WritesLines};
 ghost use Rattle.no_std_io2.specs.Buffer.{IsEnd};
-ghost use Rattle.no_std_io2.specs.BufWriter.{HoldsEnd, Unwraps, buffer_after, into_inner_error_writer, into_inner_error_cause};
+ghost use Rattle.no_std_io2.specs.BufWriter.{HoldsEnd, Unwraps, Flushes, buffer_after, into_inner_error_writer};
 ghost use Rattle.no_std_io2_base.specs.Write.{WriteLaw, FlushLaw, WriteAllLaw};
-ghost use Rattle.no_std_io2_base.specs.Errors.{error_kind, IsFault, IsNoInterruption};
-ghost use Rattle.no_std_io2_base.specs.Write.{Moves, MovesFront, taken, write_mishap, call_mishap, calls_for};
+ghost use Rattle.no_std_io2_base.specs.Errors.{IsNoInterruption};
+ghost use Rattle.no_std_io2_base.specs.Write.{Moves, taken, call_mishap};
 
 mod state;
 mod steps;
@@ -190,12 +190,7 @@ impl<W: Write + Drop, const S: usize> Write for LineWriter<W, S> {
     fn flush(&mut self) -> Result<()>
         ensures law { let B = ⟦<Self as Write>⟧ in
             FlushLaw B.told B.takes_all B.cost B.is_metered self.old result self.new }
-        ensures sent { OnOk result (line_buffer self.new ≡ []) }
-        ensures lasts { W.takes_all (line_inner self.old)
-            → W.takes_all (line_inner self.new) × IsOk result }
-        ensures calls { W.is_metered (line_inner self.old) → W.takes_all (line_inner self.old)
-            → W.is_metered (line_inner self.new) × (W.cost (line_inner self.new)
-            ≡ W.cost (line_inner self.old) + calls_for (line_buffer self.old)) }
+        ensures buffer { Flushes W.Write line_inner line_buffer self.old result self.new }
     {
         self.core.buffered.flush()
     }

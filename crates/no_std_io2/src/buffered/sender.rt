@@ -130,7 +130,7 @@ impl<W: Write + Drop, const S: usize> Sender<W, S> {
     /// As `send`, or the inner `write`'s. Nothing of `buf` was accepted then.
     #[inline(always)]
     pub(crate) fn write(&mut self, buf: &[u8]) -> Result<usize>
-        ensures { Buffers W.Write self.old buf.now result self.new }
+        ensures { Buffers W.Write S sender_inner sender_buffer self.old buf.now result self.new }
     {
         if self.hold_if_room(buf) {
             return Ok(buf.len());
@@ -145,7 +145,7 @@ impl<W: Write + Drop, const S: usize> Sender<W, S> {
     // that is held costs four instructions less so.
     #[inline(always)]
     fn write_slowly(&mut self, buf: &[u8]) -> Result<usize>
-        ensures { Buffers W.Write self.old buf.now result self.new }
+        ensures { Buffers W.Write S sender_inner sender_buffer self.old buf.now result self.new }
     {
         self.write_cold(buf)
     }
@@ -154,7 +154,7 @@ impl<W: Write + Drop, const S: usize> Sender<W, S> {
     #[cold]
     #[inline(never)]
     fn write_cold(&mut self, buf: &[u8]) -> Result<usize>
-        ensures { Buffers W.Write self.old buf.now result self.new }
+        ensures { Buffers W.Write S sender_inner sender_buffer self.old buf.now result self.new }
     {
         self.make_way(buf.len())?;
         if buf.len() >= S {
@@ -171,7 +171,7 @@ impl<W: Write + Drop, const S: usize> Sender<W, S> {
     /// As `send`, or the inner `write_all`'s.
     #[inline(always)]
     pub(crate) fn write_all(&mut self, buf: &[u8]) -> Result<()>
-        ensures { BuffersAll W.Write self.old buf.now result self.new }
+        ensures { BuffersAll W.Write S sender_inner sender_buffer self.old buf.now result self.new }
     {
         if self.hold_if_room(buf) {
             return Ok(());
@@ -185,7 +185,7 @@ impl<W: Write + Drop, const S: usize> Sender<W, S> {
     // As `write_slowly`.
     #[inline(always)]
     fn write_all_slowly(&mut self, buf: &[u8]) -> Result<()>
-        ensures { BuffersAll W.Write self.old buf.now result self.new }
+        ensures { BuffersAll W.Write S sender_inner sender_buffer self.old buf.now result self.new }
     {
         self.write_all_cold(buf)
     }
@@ -194,7 +194,7 @@ impl<W: Write + Drop, const S: usize> Sender<W, S> {
     #[cold]
     #[inline(never)]
     fn write_all_cold(&mut self, buf: &[u8]) -> Result<()>
-        ensures { BuffersAll W.Write self.old buf.now result self.new }
+        ensures { BuffersAll W.Write S sender_inner sender_buffer self.old buf.now result self.new }
     {
         self.make_way(buf.len())?;
         if buf.len() >= S {
@@ -209,7 +209,7 @@ impl<W: Write + Drop, const S: usize> Sender<W, S> {
     /// # Errors
     /// As `send`, with the inner writer not flushed, or the inner `flush`'s.
     pub(crate) fn flush(&mut self) -> Result<()>
-        ensures { Flushes W.Write self.old result self.new }
+        ensures { Flushes W.Write sender_inner sender_buffer self.old result self.new }
     {
         self.send()?;
         self.inner.flush()

@@ -6,16 +6,16 @@ use Rattle.io_bench.proofs.accepted.are_clear.Goals as goal
 pub returns-then-ops-replies-clause-no : goal.returns-then-ops-replies-clause-no
 returns-then-ops-replies-clause-no c e clear = absurd (c.if-ops-replies.true (clear_length _ _ clear))
 
-pub loop-i-init : goal.loop-i-init
-loop-i-init c = tt
+pub calls-init : goal.calls-init
+calls-init c = tt
 
-pub loop-i-preserved : goal.loop-i-preserved
-loop-i-preserved c =
-    clear_next _ _ _ _ c.loop-i-test.true (omega (arith, c.if-ops-replies.false)) c.loop-i.invariant c.in-Some.ensures.some.0
+pub calls-preserved : goal.calls-preserved
+calls-preserved c =
+    clear_next _ _ _ _ c.calls-test.true (omega (arith, c.if-ops-replies.false)) c.calls.invariant c.in-Some.ensures.some.0
 
 pub returns-in_default-clause-no : goal.returns-in_default-clause-no
-returns-in_default-clause-no c e clear = absurd (c.in_default.ensures.none refl (clear_at _ _ _ _ _ c.loop-i-test.true clear))
+returns-in_default-clause-no c e clear = absurd (c.in_default.ensures.none refl (clear_at _ _ _ _ _ c.calls-test.true clear))
 
 pub returns-clause-yes : goal.returns-clause-yes
 returns-clause-yes c e =
-    all_through AreClear _ _ c.loop-i.i (omega (arith, c.loop-i-test.false)) (omega (arith, c.if-ops-replies.false)) c.loop-i.invariant
+    all_through AreClear _ _ c.calls.i (omega (arith, c.calls-test.false)) (omega (arith, c.if-ops-replies.false)) c.calls.invariant

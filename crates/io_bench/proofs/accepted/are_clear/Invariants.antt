@@ -3,5 +3,5 @@ use Rattle.std.proofs.Common.{take}
 use Rattle.io_bench.specs.Joined.{AreClear}
 use Rattle.io_bench.proofs.accepted.are_clear.Given as goal
 
-abbrev pub invariant-loop-i : goal.invariant-loop-i
-invariant-loop-i l = AreClear (take l.i l.ops) (take l.i l.replies)
+abbrev pub invariant-calls : goal.invariant-calls
+invariant-calls l = AreClear (take l.i l.ops) (take l.i l.replies)

@@ -3,5 +3,5 @@ use Rattle.std.proofs.Common.{take}
 use Rattle.io_bench.specs.Joined.{IsJoined}
 use Rattle.io_bench.proofs.accepted.joined.Given as goal
 
-abbrev pub invariant-loop-i : goal.invariant-loop-i
-invariant-loop-i l = IsJoined (take l.i l.ops) (take l.i l.replies) l.bytes.items
+abbrev pub invariant-calls : goal.invariant-calls
+invariant-calls l = IsJoined (take l.i l.ops) (take l.i l.replies) l.bytes.items

@@ -13,10 +13,10 @@ returns-in-Ok-clause-all g c =
     rw c.in-Write.is (all.0, ok_same all.1)
 
 pub returns-in-Ok-clause-calls : goal.returns-in-Ok-clause-calls
-returns-in-Ok-clause-calls g c = rw c.in-Write.is (c.in-Ok.ensures.calls tt c.requires.all).1
+returns-in-Ok-clause-calls g c = rw c.in-Write.is (c.in-Ok.ensures.buffer.calls tt c.requires.all).1
 
 pub returns-in-Ok-clause-buffer : goal.returns-in-Ok-clause-buffer
-returns-in-Ok-clause-buffer g c = rw c.in-Write.is c.in-Ok.ensures.after
+returns-in-Ok-clause-buffer g c = rw c.in-Write.is c.in-Ok.ensures.buffer.after
 
 pub returns-in-Err-clause-answers : goal.returns-in-Err-clause-answers
 returns-in-Err-clause-answers g c = absurd (Moves-steady (g.met.W.Write.steady _ c.requires.all) c.in-Err.ensures.law.moves)
@@ -39,10 +39,10 @@ returns-in-Ok-write_all-clause-all g c = rw c.in-WriteAll.is (c.in-Ok-write_all.
 
 pub returns-in-Ok-write_all-clause-calls : goal.returns-in-Ok-write_all-clause-calls
 returns-in-Ok-write_all-clause-calls g c =
-    rw c.in-WriteAll.is (c.in-Ok-write_all.ensures.calls c.requires.some tt c.requires.all).1
+    rw c.in-WriteAll.is (c.in-Ok-write_all.ensures.buffer.calls c.requires.some tt c.requires.all).1
 
 pub returns-in-Ok-write_all-clause-buffer : goal.returns-in-Ok-write_all-clause-buffer
-returns-in-Ok-write_all-clause-buffer g c = rw c.in-WriteAll.is c.in-Ok-write_all.ensures.after
+returns-in-Ok-write_all-clause-buffer g c = rw c.in-WriteAll.is c.in-Ok-write_all.ensures.buffer.after
 
 pub returns-in-Err-write_all-clause-answers : goal.returns-in-Err-write_all-clause-answers
 returns-in-Err-write_all-clause-answers g c =
@@ -64,10 +64,10 @@ pub returns-in-Ok-flush-clause-all : goal.returns-in-Ok-flush-clause-all
 returns-in-Ok-flush-clause-all g c = rw c.in-Flush.is (c.in-Ok-flush.ensures.law.all c.requires.all, tt)
 
 pub returns-in-Ok-flush-clause-calls : goal.returns-in-Ok-flush-clause-calls
-returns-in-Ok-flush-clause-calls g c = rw c.in-Flush.is (c.in-Ok-flush.ensures.calls tt c.requires.all).1
+returns-in-Ok-flush-clause-calls g c = rw c.in-Flush.is (c.in-Ok-flush.ensures.buffer.calls tt c.requires.all).1
 
 pub returns-in-Ok-flush-clause-buffer : goal.returns-in-Ok-flush-clause-buffer
-returns-in-Ok-flush-clause-buffer g c = rw c.in-Flush.is c.in-Ok-flush.ensures.sent
+returns-in-Ok-flush-clause-buffer g c = rw c.in-Flush.is c.in-Ok-flush.ensures.buffer.sent
 
 pub returns-in-Err-flush-clause-all : goal.returns-in-Err-flush-clause-all
 returns-in-Err-flush-clause-all g c = absurd (Moves-steady (g.met.W.Write.steady _ c.requires.all) c.in-Err-flush.ensures.law.moves)

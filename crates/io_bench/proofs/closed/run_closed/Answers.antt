@@ -51,20 +51,20 @@ returns-in-Ok-clause-bytes g c =
     let last = g.W.Write.told (tally_inner c.in-Ok.inner) in
     let ran = before.ran.2 in
     let bytes = given_all ops c.calls.op-index before.ran.0 ran.accepted (omega arith) ran.run before.ran.3 in
-    let all = Moves-bare _ c.new-buffered.ensures.empty (Moves-ends ran.moves c.in-Ok.ensures.ok) in
+    let all = Moves-bare _ c.new-buffered.ensures.empty (Moves-ends ran.moves c.in-Ok.ensures.law.ok) in
     subst (λ t. Moves (g.W.Write.told (tally_inner t)) (given_bytes ops) [] last) c.new-buffered.ensures.inner
     (subst (λ l. Moves (g.W.Write.told (tally_inner (writer_inner c.new-buffered.result))) l [] last) bytes all)
 
 pub returns-in-Ok-clause-bound : goal.returns-in-Ok-clause-bound
 returns-in-Ok-clause-bound g c =
     let before = c.calls.invariant in
-    let last = c.in-Ok.ensures.calls tt before.all in
+    let last = c.in-Ok.ensures.law.calls tt before.all in
     let bound = Paid-all g.row.S before.paid.0 c.args.ops.now c.calls.op-index _ (omega arith) before.paid.2 in
     paid_bound _ last.1 before.paid.1 (ap tally_writes c.new-buffered.ensures.inner)
     (calls_for-min (writer_buffer c.calls.buffered)) bound
 
 pub returns-in-Ok-clause-all : goal.returns-in-Ok-clause-all
-returns-in-Ok-clause-all g c = c.in-Ok.ensures.all c.calls.invariant.all
+returns-in-Ok-clause-all g c = c.in-Ok.ensures.law.all c.calls.invariant.all
 
 pub returns-in-Ok-clause-appends : goal.returns-in-Ok-clause-appends
 returns-in-Ok-clause-appends g c = appended_back _ _ c.calls.invariant.ran.0 c.calls.invariant.ran.1
@@ -76,7 +76,7 @@ returns-in-Ok-clause-whole g c =
 
 -- the base takes all, so the sending does not fail
 pub returns-in-Err-clause-kind : goal.returns-in-Err-clause-kind
-returns-in-Err-clause-kind g c = absurd (c.in-Err.ensures.all c.calls.invariant.all)
+returns-in-Err-clause-kind g c = absurd (c.in-Err.ensures.law.all c.calls.invariant.all)
 
 pub returns-in-Err-clause-err : goal.returns-in-Err-clause-err
-returns-in-Err-clause-err g c = absurd (c.in-Err.ensures.all c.calls.invariant.all)
+returns-in-Err-clause-err g c = absurd (c.in-Err.ensures.law.all c.calls.invariant.all)

@@ -2,8 +2,8 @@ use Rattle.std.proofs.Common.{◌≡◌, take, vec_len, vec_capacity}
 use Rattle.tower_play.specs.Calls.{AreOps}
 use Rattle.tower_play.proofs.script.Calls.ops.Given as goal
 
-abbrev pub invariant-loop-step : goal.invariant-loop-step
-invariant-loop-step l =
+abbrev pub invariant-steps : goal.invariant-steps
+invariant-steps l =
     record {
       room : vec_capacity l.ops ≡ vec_capacity l.initial.ops;
       count : vec_len l.ops ≡ l.step-index;

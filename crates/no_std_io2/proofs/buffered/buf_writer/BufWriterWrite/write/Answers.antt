@@ -5,11 +5,16 @@ returns g c =
     let core = c.write.ensures in
     record {
       law = record { bound = core.bound; moves = core.moves; all = core.all; counts = λ no. absurd no };
-      rest = core.rest;
-      fits = core.fits;
-      sent = core.sent;
-      whole = core.whole;
-      calm = core.calm;
-      after = core.after;
-      calls = core.calls;
+      buffer = record {
+        bound = core.bound;
+        moves = core.moves;
+        rest = core.rest;
+        fits = core.fits;
+        sent = core.sent;
+        whole = core.whole;
+        calm = core.calm;
+        all = core.all;
+        after = core.after;
+        calls = core.calls;
+      };
     }

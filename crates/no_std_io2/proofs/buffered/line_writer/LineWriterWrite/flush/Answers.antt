@@ -4,9 +4,6 @@ use Rattle.no_std_io2.proofs.buffered.line_writer.LineWriterWrite.flush.Goals as
 pub invariant_of-self : goal.invariant_of-self
 invariant_of-self g c = record { line = IsLineState-end _ _ c.flush.ensures.rest c.args.self.now.core.line }
 
-pub returns-clause-lasts : goal.returns-clause-lasts
-returns-clause-lasts g c = λ t. c.flush.ensures.all t
-
 pub returns-clause-law : goal.returns-clause-law
 returns-clause-law g c = record {
   empty = c.flush.ensures.empty;
@@ -15,8 +12,7 @@ returns-clause-law g c = record {
   counts = λ no. absurd no;
 }
 
-pub returns-clause-sent : goal.returns-clause-sent
-returns-clause-sent g c = c.flush.ensures.sent
-
-pub returns-clause-calls : goal.returns-clause-calls
-returns-clause-calls g c = c.flush.ensures.calls
+pub returns-clause-buffer : goal.returns-clause-buffer
+returns-clause-buffer g c =
+    let core = c.flush.ensures in
+    record { empty = core.empty; moves = core.moves; sent = core.sent; rest = core.rest; all = core.all; calls = core.calls }
