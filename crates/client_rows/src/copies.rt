@@ -2,14 +2,16 @@
 //
 // A row is a copy with lines, `line`, or without, `buf`, of what stands behind; then its answer and the calls of the output.
 // With `from` it is a copy of a device, whose calls stand there too; with `pieces` of `ab\nc`, `d\ne\n` and `f`, a read each.
+ghost use Rattle.no_std_io2.specs.BufReader.{BufReaderFits};
+
 use io_bench::{Event, Feed};
 use io_rows::calls::{new_journal, show_calls};
-use io_rows::fault::{Fault, Made};
+use io_rows::fault::Made;
 use io_rows::journal::Journal;
 use io_rows::line::Line;
 use io_rows::recorder::{Name, Recorder};
 use io_rows::rows::{Call, Subject};
-use no_std_io2::io;
+use no_std_io2::io::Read;
 use std::alloc::Global;
 use std::cell::RefCell;
 use std::rc::Rc;
@@ -22,36 +24,29 @@ pub struct Copying {
     journal: Rc<RefCell<Journal>>,
 }
 
-fn counted<W: Drop>(copied: io::Result<(u64, W)>) -> io::Result<u64> {
-    match copied {
-        Ok((count, _output)) => Ok(count),
-        Err(e) => Err(e),
-    }
-}
-
 // Four bytes a read.
-fn pieces(alloc: Global) -> Made<Feed> {
+fn pieces(alloc: Global, line: &mut Line) -> Feed {
     let mut events = Vec::new(alloc);
     'bytes: for byte in b"ab\ncd\ne\nf" {
-        events.push(Event::Byte(*byte))?;
+        if events.push(Event::Byte(*byte)).is_err() {
+            line.cut();
+        }
     }
-    Ok(Feed::new(events, 4))
+    Feed::new(events, 4)
+}
+
+fn copy<R: Read + Drop>(input: R, output: Recorder, form: &str, line: &mut Line)
+    requires { BufReaderFits R.row 64 }
+{
+    match copy_through(input, output, form == "line") {
+        Ok((count, _output)) => line.number(count),
+        Err(e) => line.error(&e),
+    }
 }
 
 impl Copying {
     fn device(&self) -> Made<Recorder> {
         Ok(Recorder::new(self.alloc, self.journal.clone()?, Name::Only))
-    }
-
-    fn copy(&self, call: &Call<'_>) -> Made<io::Result<u64>> {
-        let output = self.device()?;
-        Ok(match (call.word, call.rest) {
-            ("pieces", form) => counted(copy_through(pieces(self.alloc)?, output, form == "line")),
-            ("from", form) => counted(copy_through(self.device()?, output, form == "line")),
-            ("buf", _) => counted(copy_through(call.bytes.as_slice(), output, false)),
-            ("line", _) => counted(copy_through(call.bytes.as_slice(), output, true)),
-            _ => return Err(Fault::Malformed("no such copy")),
-        })
     }
 }
 
@@ -62,10 +57,15 @@ impl Subject for Copying {
     }
 
     fn play(self, call: &Call<'_>, line: &mut Line) -> Made<Copying> {
-        let answer = self.copy(call)?;
-        line.column()?;
-        line.position(&answer)?;
-        show_calls(&self.journal, line)?;
+        let output = self.device()?;
+        line.column();
+        match call.word {
+            "pieces" => copy(pieces(self.alloc, line), output, call.rest, line),
+            "from" => copy(self.device()?, output, call.rest, line),
+            "buf" | "line" => copy(call.bytes.as_slice(), output, call.word, line),
+            _ => line.malformed("no such copy"),
+        }
+        show_calls(&self.journal, line);
         Ok(self)
     }
 }

@@ -4,9 +4,9 @@
 // device. A row of a reader is a call; then its answer and the calls.
 use framing::{FrameReader, FrameWriter};
 use io_rows::calls::{new_journal, show_calls, show_out};
-use io_rows::fault::{Fault, Made};
+use io_rows::fault::Made;
 use io_rows::journal::Journal;
-use io_rows::line::{Line, Printed};
+use io_rows::line::Line;
 use io_rows::recorder::{Name, Recorder};
 use io_rows::rows::{Call, Subject};
 use no_std_io2::io::Result as IoResult;
@@ -14,19 +14,19 @@ use std::alloc::Global;
 use std::cell::RefCell;
 use std::rc::Rc;
 
+/// Prints the columns behind the answer of what sends.
+pub fn show_sent(is_under_way: bool, journal: &RefCell<Journal>, line: &mut Line) {
+    line.column();
+    line.word(if is_under_way { "under way" } else { "-" });
+    show_out(journal, line);
+    show_calls(journal, line);
+}
+
 /// A writer of frames, and its device's journal.
 #[derive(Drop)]
 pub struct Sending {
     writer: FrameWriter<Recorder, 4>,
     journal: Rc<RefCell<Journal>>,
-}
-
-fn send(w: &mut FrameWriter<Recorder, 4>, payload: &[u8], line: &mut Line) -> Made<()> {
-    if w.is_under_way() {
-        return Err(Fault::Malformed("a frame is under way"));
-    }
-    line.done(&w.send(payload))?;
-    Ok(())
 }
 
 impl Subject for Sending {
@@ -40,21 +40,15 @@ impl Subject for Sending {
     }
 
     fn play(mut self, call: &Call<'_>, line: &mut Line) -> Made<Sending> {
-        line.column()?;
+        line.column();
         match call.word {
-            "send" => send(&mut self.writer, &call.bytes, line)?,
-            "retry" => line.done(&self.writer.retry())?,
-            "flush" => line.done(&self.writer.flush())?,
-            _ => return Err(Fault::Malformed("no such call")),
+            "send" if self.writer.is_under_way() => line.malformed("a frame is under way"),
+            "send" => line.done(&self.writer.send(&call.bytes)),
+            "retry" => line.done(&self.writer.retry()),
+            "flush" => line.done(&self.writer.flush()),
+            _ => line.malformed("no such call"),
         }
-        line.column()?;
-        line.word(if self.writer.is_under_way() {
-            "under way"
-        } else {
-            "-"
-        })?;
-        show_out(&self.journal, line)?;
-        show_calls(&self.journal, line)?;
+        show_sent(self.writer.is_under_way(), &self.journal, line);
         Ok(self)
     }
 }
@@ -66,11 +60,11 @@ pub struct Receiving {
     journal: Rc<RefCell<Journal>>,
 }
 
-fn show_frame(given: &IoResult<Option<Vec<u8>>>, line: &mut Line) -> Printed {
+fn show_frame(given: &IoResult<Option<Vec<u8>>>, line: &mut Line) {
     match given {
         Ok(Some(payload)) => {
-            line.word("frame ")?;
-            line.bytes(payload)
+            line.word("frame ");
+            line.bytes(payload);
         }
         Ok(None) => line.word("-"),
         Err(e) => line.error(e),
@@ -88,16 +82,16 @@ impl Subject for Receiving {
     }
 
     fn play(mut self, call: &Call<'_>, line: &mut Line) -> Made<Receiving> {
-        line.column()?;
+        line.column();
         match call.word {
-            "next" => show_frame(&self.reader.next(), line)?,
+            "next" => show_frame(&self.reader.next(), line),
             "limit" => {
-                self.reader.set_limit(call.number()?.min(1 << 31) as u32);
-                line.word("-")?;
+                self.reader.set_limit(call.number(line).min(1 << 31) as u32);
+                line.word("-");
             }
-            _ => return Err(Fault::Malformed("no such call")),
+            _ => line.malformed("no such call"),
         }
-        show_calls(&self.journal, line)?;
+        show_calls(&self.journal, line);
         Ok(self)
     }
 }

@@ -1,8 +1,9 @@
 // A log of lines over a device that notes its calls, through a buffer of 4 bytes.
 //
 // A row is a call; then its answer, whether a line is under way, the bytes out and the calls that reached the device.
-use io_rows::calls::{new_journal, show_calls, show_out};
-use io_rows::fault::{Fault, Made};
+use super::frames::show_sent;
+use io_rows::calls::new_journal;
+use io_rows::fault::Made;
 use io_rows::journal::Journal;
 use io_rows::line::Line;
 use io_rows::recorder::{Name, Recorder};
@@ -19,15 +20,15 @@ pub struct Logging {
     journal: Rc<RefCell<Journal>>,
 }
 
-fn log(to: &mut LineLog<Recorder, 4>, bytes: &[u8], line: &mut Line) -> Made<()> {
+fn log(to: &mut LineLog<Recorder, 4>, bytes: &[u8], line: &mut Line) {
     if to.is_under_way() {
-        return Err(Fault::Malformed("a line is under way"));
+        line.malformed("a line is under way");
+        return;
     }
     match std::str::from_utf8(bytes) {
-        Ok(text) => line.done(&to.log(text))?,
-        Err(_) => return Err(Fault::Malformed("no text")),
+        Ok(text) => line.done(&to.log(text)),
+        Err(_) => line.malformed("no text"),
     }
-    Ok(())
 }
 
 impl Subject for Logging {
@@ -41,21 +42,14 @@ impl Subject for Logging {
     }
 
     fn play(mut self, call: &Call<'_>, line: &mut Line) -> Made<Logging> {
-        line.column()?;
+        line.column();
         match call.word {
-            "log" => log(&mut self.log, &call.bytes, line)?,
-            "retry" => line.done(&self.log.retry())?,
-            "flush" => line.done(&self.log.flush())?,
-            _ => return Err(Fault::Malformed("no such call")),
+            "log" => log(&mut self.log, &call.bytes, line),
+            "retry" => line.done(&self.log.retry()),
+            "flush" => line.done(&self.log.flush()),
+            _ => line.malformed("no such call"),
         }
-        line.column()?;
-        line.word(if self.log.is_under_way() {
-            "under way"
-        } else {
-            "-"
-        })?;
-        show_out(&self.journal, line)?;
-        show_calls(&self.journal, line)?;
+        show_sent(self.log.is_under_way(), &self.journal, line);
         Ok(self)
     }
 }

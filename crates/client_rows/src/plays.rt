@@ -4,6 +4,8 @@
 // row `devices`. A row is `play` and a script; then what is written, or the fault. A row `feed` plays a feed of one fault of this
 // kind. A row `flushes` plays so many lines `f` onto a vector that takes one write and fails at the second flush; then the length
 // of what is written.
+ghost use Rattle.no_std_io2.specs.BufReader.{BufReaderFits};
+
 use io_bench::{Act, Event, Faulty, Feed};
 use io_rows::calls::{new_journal, show_calls};
 use io_rows::fault::{Fault, Made};
@@ -12,7 +14,7 @@ use io_rows::kinds::kind_of_name;
 use io_rows::line::Line;
 use io_rows::recorder::{Name, Recorder};
 use io_rows::rows::{Call, Subject};
-use no_std_io2::io::ErrorKind;
+use no_std_io2::io::{ErrorKind, Read};
 use std::alloc::Global;
 use std::cell::RefCell;
 use std::rc::Rc;
@@ -36,62 +38,73 @@ fn parse_shape(word: &str) -> Option<Shape> {
     }
 }
 
-impl Playing {
-    fn show_fault(&self, fault: &PlayFault, line: &mut Line) -> Made<()> {
-        let text = format!(in self.alloc; "{fault}")?;
-        line.word("!")?;
-        line.word(text.as_str())?;
-        Ok(())
+fn show_fault(alloc: Global, fault: &PlayFault, line: &mut Line) {
+    match format!(in alloc; "!{fault}") {
+        Ok(text) => line.word(text.as_str()),
+        Err(_) => line.cut(),
     }
+}
 
-    fn show_text(&self, played: Result<Vec<u8>, PlayFault>, line: &mut Line) -> Made<()> {
-        match played {
-            Ok(text) => line.bytes(&text)?,
-            Err(fault) => self.show_fault(&fault, line)?,
+// Plays onto a vector, and prints what is written.
+fn show_play<R: Read + Drop>(alloc: Global, input: R, shape: Shape, line: &mut Line)
+    requires { BufReaderFits R.row 64 }
+{
+    match play(alloc, input, Vec::<u8>::new(alloc), shape) {
+        Ok(text) => line.bytes(&text),
+        Err(fault) => show_fault(alloc, &fault, line),
+    }
+}
+
+// So many lines `f`.
+fn flushes(alloc: Global, count: usize, line: &mut Line) -> Vec<u8> {
+    let mut script = Vec::new(alloc);
+    'lines: for _ in 0..count {
+        if script.extend_from_slice(b"f\n").is_err() {
+            line.cut();
         }
-        Ok(())
     }
+    script
+}
 
-    fn play_script(&self, script: &[u8], line: &mut Line) -> Made<()> {
-        let output = Vec::<u8>::new(self.alloc);
-        self.show_text(play(self.alloc, script, output, self.shape), line)
-    }
+// The second act is the flush's.
+const ACTS: [Act; 3] = [
+    Act::Take(usize::MAX),
+    Act::Take(1),
+    Act::Fail(ErrorKind::BrokenPipe),
+];
 
+impl Playing {
     fn play_feed(&self, kind: &str, line: &mut Line) -> Made<()> {
         let Some(kind) = kind_of_name(kind) else {
-            return Err(Fault::Malformed("no such kind of an error"));
+            line.malformed("no such kind of an error");
+            return Ok(());
         };
         let feed = Feed::new(Vec::from_slice(self.alloc, &[Event::Fail(kind)])?, 4);
-        let output = Vec::<u8>::new(self.alloc);
-        self.show_text(play(self.alloc, feed, output, self.shape), line)
+        show_play(self.alloc, feed, self.shape, line);
+        Ok(())
+    }
+
+    fn device(&self) -> Made<Recorder> {
+        Ok(Recorder::new(self.alloc, self.journal.clone()?, Name::Only))
     }
 
     fn play_devices(&self, line: &mut Line) -> Made<()> {
-        let input = Recorder::new(self.alloc, self.journal.clone()?, Name::Only);
-        let output = Recorder::new(self.alloc, self.journal.clone()?, Name::Only);
-        match play(self.alloc, input, output, self.shape) {
-            Ok(_output) => line.word("ok")?,
-            Err(fault) => self.show_fault(&fault, line)?,
+        let input = self.device()?;
+        match play(self.alloc, input, self.device()?, self.shape) {
+            Ok(_output) => line.word("ok"),
+            Err(fault) => show_fault(self.alloc, &fault, line),
         }
-        show_calls(&self.journal, line)
+        show_calls(&self.journal, line);
+        Ok(())
     }
 
     fn play_flushes(&self, count: usize, line: &mut Line) -> Made<()> {
-        let mut script = Vec::new(self.alloc);
-        'lines: for _ in 0..count {
-            script.extend_from_slice(b"f\n")?;
-        }
-        // The second act is the flush's.
-        let acts = [
-            Act::Take(usize::MAX),
-            Act::Take(1),
-            Act::Fail(ErrorKind::BrokenPipe),
-        ];
-        let acts = Vec::from_slice(self.alloc, &acts)?;
+        let acts = Vec::from_slice(self.alloc, &ACTS)?;
+        let script = flushes(self.alloc, count, line);
         let output = Faulty::new(Vec::<u8>::new(self.alloc), acts);
         match play(self.alloc, script.as_slice(), output, self.shape) {
-            Ok(output) => line.number(output.get_ref().len() as u64)?,
-            Err(fault) => self.show_fault(&fault, line)?,
+            Ok(output) => line.number(output.get_ref().len() as u64),
+            Err(fault) => show_fault(self.alloc, &fault, line),
         }
         Ok(())
     }
@@ -99,10 +112,7 @@ impl Playing {
 
 impl Subject for Playing {
     fn make(alloc: Global, words: &str) -> Made<Playing> {
-        let (shape, answers) = match words.split_once(": ") {
-            Some(both) => both,
-            None => (words, ""),
-        };
+        let (shape, answers) = words.split_once(": ").unwrap_or((words, ""));
         let Some(shape) = parse_shape(shape) else {
             return Err(Fault::Malformed("no such shape"));
         };
@@ -115,13 +125,13 @@ impl Subject for Playing {
     }
 
     fn play(self, call: &Call<'_>, line: &mut Line) -> Made<Playing> {
-        line.column()?;
+        line.column();
         match call.word {
-            "play" => self.play_script(&call.bytes, line)?,
+            "play" => show_play(self.alloc, call.bytes.as_slice(), self.shape, line),
             "feed" => self.play_feed(call.rest, line)?,
             "devices" => self.play_devices(line)?,
-            "flushes" => self.play_flushes(call.number()?, line)?,
-            _ => return Err(Fault::Malformed("no such call")),
+            "flushes" => self.play_flushes(call.number(line), line)?,
+            _ => line.malformed("no such call"),
         }
         Ok(self)
     }

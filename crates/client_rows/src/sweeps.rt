@@ -3,13 +3,12 @@
 // A row is `sweep`; then how many runs that were, or the first run that goes wrong.
 use framing::{FrameReader, FrameWriter};
 use io_bench::{Act, Event, Faulty, Feed};
-use io_rows::fault::{Fault, Made};
-use io_rows::kinds::name_of_kind;
-use io_rows::line::{Line, Printed};
+use io_rows::fault::Made;
+use io_rows::line::Line;
 use io_rows::rows::{Call, Subject};
 use line_log::LineLog;
 use no_std_io2::io::{self, ErrorKind};
-use std::alloc::{AllocError, Global};
+use std::alloc::Global;
 use std::marker::PhantomData;
 
 // The payloads, and their frames.
@@ -25,20 +24,22 @@ const TEXTS: [&str; 3] = ["one", "", "three"];
 
 const LINES: &[u8] = b"one\n\nthree\n";
 
-// What a device does once.
-const ONCE: [Act; 4] = [
-    Act::Zero,
-    Act::Fail(ErrorKind::Interrupted),
-    Act::Fail(ErrorKind::BrokenPipe),
-    Act::Fail(ErrorKind::WouldBlock),
-];
-
 // A device that takes one byte each of so many times, and then does this once.
-fn faulty(alloc: Global, times: usize, once: Act) -> Result<Faulty<Vec<u8>>, AllocError> {
+fn faulty(alloc: Global, times: usize, once: Act) -> Made<Faulty<Vec<u8>>> {
     let mut acts = Vec::new(alloc);
     acts.resize(times, Act::Take(1))?;
     acts.push(once)?;
     Ok(Faulty::new(Vec::new(alloc), acts))
+}
+
+// What a device does once.
+fn once(way: usize) -> Act {
+    match way % 4 {
+        0 => Act::Zero,
+        1 => Act::Fail(ErrorKind::Interrupted),
+        2 => Act::Fail(ErrorKind::BrokenPipe),
+        _ => Act::Fail(ErrorKind::WouldBlock),
+    }
 }
 
 // The kind of what a run is refused by, whose bytes are all out before the last call, which is a flush.
@@ -52,20 +53,18 @@ fn refused_by(once: Act, is_flush: bool) -> Option<ErrorKind> {
     }
 }
 
-fn payloads(alloc: Global) -> Result<Vec<Vec<u8>>, AllocError> {
+fn payloads(alloc: Global) -> Made<Vec<Vec<u8>>> {
     let mut payloads = Vec::new(alloc);
-    'payloads: for payload in PAYLOADS {
+    'payloads: for payload in &PAYLOADS {
         payloads.push(Vec::from_slice(alloc, payload)?)?;
     }
     Ok(payloads)
 }
 
-fn texts(alloc: Global) -> Result<Vec<String>, AllocError> {
+fn texts(alloc: Global) -> Made<Vec<String>> {
     let mut lines = Vec::new(alloc);
-    'lines: for text in TEXTS {
-        let mut line = String::new(alloc);
-        line.push_str(text)?;
-        lines.push(line)?;
+    'lines: for text in &TEXTS {
+        lines.push(String::from_str(alloc, text)?)?;
     }
     Ok(lines)
 }
@@ -100,31 +99,33 @@ fn wanted(times: usize, sent: usize, len: usize, once: Act) -> Outcome {
     }
 }
 
-fn send(alloc: Global, times: usize, once: Act) -> Made<Outcome> {
-    let payloads = payloads(alloc)?;
-    let device = faulty(alloc, times, once)?;
-    let mut w = FrameWriter::<Faulty<Vec<u8>>, 8>::new(alloc, device);
-    let mut rest = payloads.as_slice();
+type Sender = FrameWriter<Faulty<Vec<u8>>, 8>;
+
+fn send(w: &mut Sender, payloads: &[Vec<u8>]) -> Outcome {
+    let mut rest = payloads;
     let sending = refusal(w.send_all(&mut rest));
     let again = w.send_all(&mut rest).is_ok();
     let flush = refusal(w.flush());
-    let is_whole = again
-        && w.flush().is_ok()
-        && rest.is_empty()
-        && !w.is_under_way()
-        && w.get_ref().get_ref().as_slice() == WIRE;
-    Ok(Outcome {
+    let is_whole = again && w.flush().is_ok() && rest.is_empty() && is_sent(w);
+    Outcome {
         sending,
         flush,
         is_whole,
-    })
+    }
 }
 
-fn log(alloc: Global, times: usize, once: Act) -> Made<Outcome> {
-    let lines = texts(alloc)?;
-    let device = faulty(alloc, times, once)?;
-    let mut log = LineLog::<Faulty<Vec<u8>>, 4>::new(alloc, device);
-    let mut rest = lines.as_slice();
+// Delivers the frames with one try more than there are faults, and none more.
+fn deliver(w: &mut Sender, payloads: &[Vec<u8>], tries: u32) -> bool {
+    let mut rest = payloads;
+    w.deliver(&mut rest, tries).is_ok() && rest.is_empty() && is_sent(w)
+}
+
+fn is_sent(w: &Sender) -> bool {
+    !w.is_under_way() && w.get_ref().get_ref().as_slice() == WIRE
+}
+
+fn log(log: &mut LineLog<Faulty<Vec<u8>>, 4>, lines: &[String]) -> Outcome {
+    let mut rest = lines;
     let sending = refusal(log.log_all(&mut rest));
     let again = log.log_all(&mut rest).is_ok();
     let flush = refusal(log.flush());
@@ -133,65 +134,15 @@ fn log(alloc: Global, times: usize, once: Act) -> Made<Outcome> {
         && rest.is_empty()
         && !log.is_under_way()
         && log.get_ref().get_ref().as_slice() == LINES;
-    Ok(Outcome {
+    Outcome {
         sending,
         flush,
         is_whole,
-    })
-}
-
-// Delivers the frames with one try more than there are faults, and none more.
-fn deliver(alloc: Global, times: usize, once: Act, tries: u32) -> Made<bool> {
-    let payloads = payloads(alloc)?;
-    let device = faulty(alloc, times, once)?;
-    let mut w = FrameWriter::<Faulty<Vec<u8>>, 8>::new(alloc, device);
-    let mut rest = payloads.as_slice();
-    if w.deliver(&mut rest, tries).is_err() {
-        return Ok(false);
     }
-    Ok(rest.is_empty() && !w.is_under_way() && w.get_ref().get_ref().as_slice() == WIRE)
-}
-
-fn show_run(what: &str, times: usize, line: &mut Line) -> Printed {
-    line.word(what)?;
-    line.word(" behind ")?;
-    line.number(times as u64)?;
-    line.word(" calls")
-}
-
-// Sends over each fault at this place; how many runs that were, or none where one goes wrong.
-fn send_around(alloc: Global, times: usize, line: &mut Line) -> Made<Option<u64>> {
-    let mut runs: u64 = 0;
-    'acts: for once in ONCE {
-        let wanted = wanted(times, SENT, WIRE.len(), once);
-        if send(alloc, times, once)? != wanted {
-            show_run("another sending", times, line)?;
-            return Ok(None);
-        }
-        let is_refused = wanted.sending.is_some() || wanted.flush.is_some();
-        if deliver(alloc, times, once, 0)? == is_refused || !deliver(alloc, times, once, 1)? {
-            show_run("another delivery", times, line)?;
-            return Ok(None);
-        }
-        runs = runs.wrapping_add(3);
-    }
-    Ok(Some(runs))
-}
-
-fn log_around(alloc: Global, times: usize, line: &mut Line) -> Made<Option<u64>> {
-    let mut runs: u64 = 0;
-    'acts: for once in ONCE {
-        if log(alloc, times, once)? != wanted(times, LINES.len(), LINES.len(), once) {
-            show_run("another log", times, line)?;
-            return Ok(None);
-        }
-        runs = runs.wrapping_add(1);
-    }
-    Ok(Some(runs))
 }
 
 // These bytes, with a fault before the one at this place, or behind all.
-fn feed(alloc: Global, at: usize, kind: ErrorKind, piece: usize) -> Result<Feed, AllocError> {
+fn feed(alloc: Global, at: usize, kind: ErrorKind, piece: usize) -> Made<Feed> {
     let mut events = Vec::new(alloc);
     'bytes: for (i, byte) in WIRE.iter().enumerate() {
         if i == at {
@@ -216,8 +167,13 @@ fn frames_before(at: usize) -> usize {
 }
 
 // Whether the fault comes out once, behind the frames before it, and every frame once.
-fn receive(alloc: Global, at: usize, kind: ErrorKind, piece: usize) -> Made<bool> {
-    let mut r = FrameReader::<Feed, 8>::new(alloc, feed(alloc, at, kind, piece)?, 5);
+fn receive(
+    alloc: Global,
+    r: &mut FrameReader<Feed, 8>,
+    at: usize,
+    kind: ErrorKind,
+    sent: &[Vec<u8>],
+) -> bool {
     let mut given = Vec::new(alloc);
     let first = refusal(r.read_all(&mut given));
     let before = given.len();
@@ -225,33 +181,22 @@ fn receive(alloc: Global, at: usize, kind: ErrorKind, piece: usize) -> Made<bool
         ErrorKind::Interrupted => first.is_none() && before == PAYLOADS.len(),
         _ => first == Some(kind) && before == frames_before(at),
     };
-    let is_whole = r.read_all(&mut given).is_ok() && given == payloads(alloc)?;
-    Ok(is_right && is_whole && matches!(r.next(), Ok(None)) && r.get_ref().left().is_empty())
+    let is_whole = r.read_all(&mut given).is_ok() && given.as_slice() == sent;
+    is_right && is_whole && matches!(r.next(), Ok(None)) && r.get_ref().left().is_empty()
 }
 
 // The kinds of faults, one of which is that of an end inside a frame, and the lengths of pieces.
-const READS: [(ErrorKind, usize); 8] = [
-    (ErrorKind::BrokenPipe, 1),
-    (ErrorKind::BrokenPipe, 3),
-    (ErrorKind::BrokenPipe, 64),
-    (ErrorKind::Interrupted, 1),
-    (ErrorKind::Interrupted, 64),
-    (ErrorKind::UnexpectedEof, 3),
-    (ErrorKind::UnexpectedEof, 64),
-    (ErrorKind::OutOfMemory, 2),
-];
-
-fn receive_around(alloc: Global, at: usize, line: &mut Line) -> Made<Option<u64>> {
-    let mut runs: u64 = 0;
-    'reads: for (kind, piece) in READS {
-        if !receive(alloc, at, kind, piece)? {
-            line.word(name_of_kind(kind))?;
-            show_run(" told otherwise", at, line)?;
-            return Ok(None);
-        }
-        runs = runs.wrapping_add(1);
+fn piece(way: usize) -> (ErrorKind, usize) {
+    match way {
+        0 => (ErrorKind::BrokenPipe, 1),
+        1 => (ErrorKind::BrokenPipe, 3),
+        2 => (ErrorKind::BrokenPipe, 64),
+        3 => (ErrorKind::Interrupted, 1),
+        4 => (ErrorKind::Interrupted, 64),
+        5 => (ErrorKind::UnexpectedEof, 3),
+        6 => (ErrorKind::UnexpectedEof, 64),
+        _ => (ErrorKind::OutOfMemory, 2),
     }
-    Ok(Some(runs))
 }
 
 /// What is tried at each place.
@@ -259,11 +204,14 @@ pub trait Sweep {
     /// How many bytes go out or come in.
     fn len() -> usize;
 
-    /// Makes the runs at this place: how many, or none where one goes wrong, which is then printed.
-    fn play_around(alloc: Global, at: usize, line: &mut Line) -> Made<Option<u64>>;
+    /// How many runs are made at each place.
+    fn ways() -> usize;
+
+    /// Makes a run at this place: whether it comes to what is wanted.
+    fn is_right(alloc: Global, at: usize, way: usize) -> Made<bool>;
 }
 
-/// A writer of frames.
+/// A writer of frames, which sends, and delivers with no try more and with one.
 #[derive(Drop)]
 pub struct Frames;
 
@@ -272,8 +220,23 @@ impl Sweep for Frames {
         WIRE.len()
     }
 
-    fn play_around(alloc: Global, at: usize, line: &mut Line) -> Made<Option<u64>> {
-        send_around(alloc, at, line)
+    fn ways() -> usize {
+        12
+    }
+
+    fn is_right(alloc: Global, at: usize, way: usize) -> Made<bool> {
+        let once = once(way);
+        let wanted = wanted(at, SENT, WIRE.len(), once);
+        let payloads = payloads(alloc)?;
+        let mut w = FrameWriter::new(alloc, faulty(alloc, at, once)?);
+        Ok(match way {
+            0..=3 => send(&mut w, &payloads) == wanted,
+            4..=7 => {
+                let is_refused = wanted.sending.is_some() || wanted.flush.is_some();
+                deliver(&mut w, &payloads, 0) != is_refused
+            }
+            _ => deliver(&mut w, &payloads, 1),
+        })
     }
 }
 
@@ -286,8 +249,15 @@ impl Sweep for Received {
         WIRE.len()
     }
 
-    fn play_around(alloc: Global, at: usize, line: &mut Line) -> Made<Option<u64>> {
-        receive_around(alloc, at, line)
+    fn ways() -> usize {
+        8
+    }
+
+    fn is_right(alloc: Global, at: usize, way: usize) -> Made<bool> {
+        let (kind, piece) = piece(way);
+        let sent = payloads(alloc)?;
+        let mut r = FrameReader::new(alloc, feed(alloc, at, kind, piece)?, 5);
+        Ok(receive(alloc, &mut r, at, kind, &sent))
     }
 }
 
@@ -300,9 +270,30 @@ impl Sweep for Lines {
         LINES.len()
     }
 
-    fn play_around(alloc: Global, at: usize, line: &mut Line) -> Made<Option<u64>> {
-        log_around(alloc, at, line)
+    fn ways() -> usize {
+        4
     }
+
+    fn is_right(alloc: Global, at: usize, way: usize) -> Made<bool> {
+        let lines = texts(alloc)?;
+        let mut to = LineLog::new(alloc, faulty(alloc, at, once(way))?);
+        Ok(log(&mut to, &lines) == wanted(at, LINES.len(), LINES.len(), once(way)))
+    }
+}
+
+// Makes the runs at a place, up to the first that goes wrong, which is printed; how many were right.
+fn play_around<S: Sweep>(alloc: Global, at: usize, line: &mut Line) -> Made<usize> {
+    'ways: for way in 0..S::ways() {
+        if !S::is_right(alloc, at, way)? {
+            line.word("run ");
+            line.number(way as u64);
+            line.word(" goes wrong behind ");
+            line.number(at as u64);
+            line.word(" calls");
+            return Ok(way);
+        }
+    }
+    Ok(S::ways())
 }
 
 /// A sweep as a table's subject.
@@ -321,16 +312,17 @@ impl<S: Sweep> Subject for Sweeping<S> {
     }
 
     fn play(self, _call: &Call<'_>, line: &mut Line) -> Made<Sweeping<S>> {
-        line.column()?;
-        let mut runs: u64 = 0;
+        line.column();
+        let mut runs: usize = 0;
         'places: for at in 0..=S::len() {
-            match S::play_around(self.alloc, at, line)? {
-                Some(more) => runs = runs.wrapping_add(more),
-                None => return Ok(self),
+            let more = play_around::<S>(self.alloc, at, line)?;
+            runs = runs.wrapping_add(more);
+            if more < S::ways() {
+                return Ok(self);
             }
         }
-        line.number(runs)?;
-        line.word(" runs")?;
+        line.number(runs as u64);
+        line.word(" runs");
         Ok(self)
     }
 }

@@ -1,7 +1,7 @@
 // Calls of rows that several kinds of streams have, and what a device's journal shows after them.
 use super::fault::{Fault, Made};
 use super::journal::Journal;
-use super::line::{Line, Printed};
+use super::line::Line;
 use super::rows::Call;
 use super::script::parse_answers;
 use no_std_io2::io::{Seek, SeekFrom, Write};
@@ -9,24 +9,25 @@ use std::alloc::Global;
 use std::cell::RefCell;
 use std::rc::Rc;
 
-/// Makes a writer's call of a row, through the trait alone, and prints its answer. A fault says that it is no call.
-pub fn make_call<W: Write>(w: &mut W, call: &Call<'_>, line: &mut Line) -> Made<()> {
+const IN_USE: &str = "the journal is in use";
+
+/// Makes a writer's call of a row, through the trait alone, and prints its answer.
+pub fn make_call<W: Write>(w: &mut W, call: &Call<'_>, line: &mut Line) {
     match call.word {
-        "write" => line.length(&w.write(&call.bytes))?,
-        "write_all" => line.done(&w.write_all(&call.bytes))?,
-        "flush" => line.done(&w.flush())?,
-        "write_rest" => call_write_rest(w, &call.bytes, line)?,
-        _ => return Err(Fault::Malformed("no such call")),
+        "write" => line.length(&w.write(&call.bytes)),
+        "write_all" => line.done(&w.write_all(&call.bytes)),
+        "flush" => line.done(&w.flush()),
+        "write_rest" => call_write_rest(w, &call.bytes, line),
+        _ => line.malformed("no such call"),
     }
-    Ok(())
 }
 
 // The answer, and what is left to be written.
-fn call_write_rest<W: Write>(w: &mut W, bytes: &[u8], line: &mut Line) -> Printed {
+fn call_write_rest<W: Write>(w: &mut W, bytes: &[u8], line: &mut Line) {
     let mut rest = bytes;
-    line.done(&w.write_rest(&mut rest))?;
-    line.word(", left ")?;
-    line.bytes(rest)
+    line.done(&w.write_rest(&mut rest));
+    line.word(", left ");
+    line.bytes(rest);
 }
 
 // Where a row's seek goes.
@@ -44,18 +45,18 @@ fn target(words: &str) -> Option<SeekFrom> {
 }
 
 /// Makes a seeker's call of a row, through the trait alone, and prints its answer; `false` where the row makes none.
-pub fn make_seek<S: Seek>(s: &mut S, call: &Call<'_>, line: &mut Line) -> Made<bool> {
+pub fn make_seek<S: Seek>(s: &mut S, call: &Call<'_>, line: &mut Line) -> bool {
     match call.word {
         "seek" => match target(call.rest) {
-            Some(pos) => line.position(&s.seek(pos))?,
-            None => return Err(Fault::Malformed("no such target")),
+            Some(pos) => line.position(&s.seek(pos)),
+            None => line.malformed("no such target"),
         },
-        "stream_position" => line.position(&s.stream_position())?,
-        "rewind" => line.done(&s.rewind())?,
-        "stream_len" => line.position(&s.stream_len())?,
-        _ => return Ok(false),
+        "stream_position" => line.position(&s.stream_position()),
+        "rewind" => line.done(&s.rewind()),
+        "stream_len" => line.position(&s.stream_len()),
+        _ => return false,
     }
-    Ok(true)
+    true
 }
 
 /// A journal whose device answers so. A fault says what is no answer, or that memory is refused.
@@ -68,30 +69,28 @@ pub fn new_journal(alloc: Global, words: &str) -> Made<Rc<RefCell<Journal>>> {
 }
 
 /// Prints a column of the bytes that the device took.
-pub fn show_out(journal: &RefCell<Journal>, line: &mut Line) -> Made<()> {
-    line.column()?;
-    let Ok(journal) = journal.try_borrow() else {
-        return Err(Fault::Malformed("the journal is in use"));
-    };
-    journal.show_out(line)?;
-    Ok(())
+pub fn show_out(journal: &RefCell<Journal>, line: &mut Line) {
+    line.column();
+    match journal.try_borrow() {
+        Ok(journal) => journal.show_out(line),
+        Err(_) => line.malformed(IN_USE),
+    }
 }
 
 /// Prints a column of the calls that reached the device since this was last asked.
-pub fn show_calls(journal: &RefCell<Journal>, line: &mut Line) -> Made<()> {
-    line.column()?;
-    let Ok(mut journal) = journal.try_borrow_mut() else {
-        return Err(Fault::Malformed("the journal is in use"));
-    };
-    journal.show_calls(line)?;
-    Ok(())
+pub fn show_calls(journal: &RefCell<Journal>, line: &mut Line) {
+    line.column();
+    match journal.try_borrow_mut() {
+        Ok(mut journal) => journal.show_calls(line),
+        Err(_) => line.malformed(IN_USE),
+    }
 }
 
 /// From here on the device answers so.
 pub fn expect(alloc: Global, journal: &RefCell<Journal>, words: &str) -> Made<()> {
     let answers = parse_answers(alloc, words)?;
     let Ok(mut journal) = journal.try_borrow_mut() else {
-        return Err(Fault::Malformed("the journal is in use"));
+        return Err(Fault::Malformed(IN_USE));
     };
     journal.expect(answers);
     Ok(())

@@ -1,5 +1,5 @@
 // What a device is told to answer, what it took, and the calls that reached it.
-use super::line::{Line, Printed};
+use super::line::Line;
 use super::script::{Answer, error_of, misfit, no_memory};
 use no_std_io2::io::{Result, SeekFrom};
 use std::alloc::Global;
@@ -34,33 +34,35 @@ impl Journal {
     }
 
     // Prints the bytes that were taken.
-    pub fn show_out(&self, line: &mut Line) -> Printed {
-        line.bytes(&self.out)
+    pub fn show_out(&self, line: &mut Line) {
+        line.bytes(&self.out);
     }
 
     // Prints the calls since this was last asked.
-    pub fn show_calls(&mut self, line: &mut Line) -> Printed {
-        line.text(self.calls.as_str())?;
+    pub fn show_calls(&mut self, line: &mut Line) {
+        line.text(self.calls.as_str());
+        if self.calls.is_cut() {
+            line.cut();
+        }
         self.calls.clear();
-        Ok(())
     }
 
     fn next_answer(&mut self) -> Answer {
         self.answers.pop().unwrap_or(Answer::Plain)
     }
 
-    fn begin_call(&mut self, call: &str) -> Printed {
+    fn begin_call(&mut self, call: &str) {
         if !self.calls.is_empty() {
-            self.calls.word(", ")?;
+            self.calls.word(", ");
         }
-        self.calls.word(call)
+        self.calls.word(call);
     }
 
-    fn note_write(&mut self, buf: &[u8], answer: &Result<usize>) -> Printed {
-        self.begin_call("write ")?;
-        self.calls.bytes(buf)?;
-        self.calls.word(" = ")?;
-        self.calls.length(answer)
+    fn note_write(&mut self, buf: &[u8], answer: &Result<usize>) {
+        self.begin_call("write ");
+        self.calls.bytes(buf);
+        self.calls.word(" = ");
+        self.calls.length(answer);
     }
 
     // Answers a write.
@@ -71,10 +73,8 @@ impl Journal {
             Answer::Fail(kind, text) => Err(error_of(kind, text)),
             _ => Err(misfit()),
         };
-        match self.note_write(buf, &answer) {
-            Ok(()) => answer,
-            Err(_) => Err(no_memory()),
-        }
+        self.note_write(buf, &answer);
+        answer
     }
 
     fn take(&mut self, buf: &[u8], most: usize) -> Result<usize> {
@@ -85,9 +85,9 @@ impl Journal {
         }
     }
 
-    fn note_flush(&mut self, answer: &Result<()>) -> Printed {
-        self.begin_call("flush = ")?;
-        self.calls.done(answer)
+    fn note_flush(&mut self, answer: &Result<()>) {
+        self.begin_call("flush = ");
+        self.calls.done(answer);
     }
 
     // Answers a flush.
@@ -97,10 +97,8 @@ impl Journal {
             Answer::Fail(kind, text) => Err(error_of(kind, text)),
             _ => Err(misfit()),
         };
-        match self.note_flush(&answer) {
-            Ok(()) => answer,
-            Err(_) => Err(no_memory()),
-        }
+        self.note_flush(&answer);
+        answer
     }
 
     // What a read into so much room gives. What has no room comes next.
@@ -111,10 +109,10 @@ impl Journal {
         Ok(given)
     }
 
-    fn note_read(&mut self, call: &str, room: usize, answer: &Result<Vec<u8>>) -> Printed {
-        self.begin_call(call)?;
-        self.calls.number(room as u64)?;
-        self.calls.word(" = ")?;
+    fn note_read(&mut self, call: &str, room: usize, answer: &Result<Vec<u8>>) {
+        self.begin_call(call);
+        self.calls.number(room as u64);
+        self.calls.word(" = ");
         match answer {
             Ok(bytes) => self.calls.bytes(bytes),
             Err(e) => self.calls.error(e),
@@ -141,35 +139,33 @@ impl Journal {
     // Answers a read into so much room, a call of this name. One into no room gives nothing.
     pub fn read(&mut self, call: &str, room: usize) -> Result<Vec<u8>> {
         let answer = self.next_bytes(room);
-        match self.note_read(call, room, &answer) {
-            Ok(()) => answer,
-            Err(_) => Err(no_memory()),
-        }
+        self.note_read(call, room, &answer);
+        answer
     }
 
     // Notes that so many lent bytes were consumed.
-    pub fn consume(&mut self, call: &str, amount: usize) -> Printed {
-        self.begin_call(call)?;
-        self.calls.number(amount as u64)
+    pub fn consume(&mut self, call: &str, amount: usize) {
+        self.begin_call(call);
+        self.calls.number(amount as u64);
     }
 
-    fn note_seek(&mut self, pos: SeekFrom, answer: &Result<u64>) -> Printed {
+    fn note_seek(&mut self, pos: SeekFrom, answer: &Result<u64>) {
         match pos {
             SeekFrom::Start(n) => {
-                self.begin_call("seek start ")?;
-                self.calls.number(n)?;
+                self.begin_call("seek start ");
+                self.calls.number(n);
             }
             SeekFrom::End(n) => {
-                self.begin_call("seek end ")?;
-                self.calls.offset(n)?;
+                self.begin_call("seek end ");
+                self.calls.offset(n);
             }
             SeekFrom::Current(n) => {
-                self.begin_call("seek current ")?;
-                self.calls.offset(n)?;
+                self.begin_call("seek current ");
+                self.calls.offset(n);
             }
         }
-        self.calls.word(" = ")?;
-        self.calls.position(answer)
+        self.calls.word(" = ");
+        self.calls.position(answer);
     }
 
     // Answers a seek.
@@ -179,26 +175,24 @@ impl Journal {
             Answer::Fail(kind, text) => Err(error_of(kind, text)),
             _ => Err(misfit()),
         };
-        match self.note_seek(pos, &answer) {
-            Ok(()) => answer,
-            Err(_) => Err(no_memory()),
-        }
+        self.note_seek(pos, &answer);
+        answer
     }
 
     /// Notes a call that the device makes of others.
-    pub fn note(&mut self, call: &str) -> Printed {
-        self.begin_call(call)
+    pub fn note(&mut self, call: &str) {
+        self.begin_call(call);
     }
 
     /// The same with the bytes that it is of.
-    pub fn note_bytes(&mut self, call: &str, bytes: &[u8]) -> Printed {
-        self.begin_call(call)?;
-        self.calls.bytes(bytes)
+    pub fn note_bytes(&mut self, call: &str, bytes: &[u8]) {
+        self.begin_call(call);
+        self.calls.bytes(bytes);
     }
 
     /// The same with a number.
-    pub fn note_number(&mut self, call: &str, number: usize) -> Printed {
-        self.begin_call(call)?;
-        self.calls.number(number as u64)
+    pub fn note_number(&mut self, call: &str, number: usize) {
+        self.begin_call(call);
+        self.calls.number(number as u64);
     }
 }

@@ -7,13 +7,14 @@ use super::kinds::name_of_kind;
 use no_std_io2::io::{Error, Result};
 use std::alloc::{AllocError, Global};
 
-pub type Printed = std::result::Result<(), AllocError>;
-
-// A text that is printed piece by piece.
+// A text that is printed piece by piece. What it lacks since memory was refused, and that its row can't be played, it keeps in
+// mind, so that who prints goes on.
 #[derive(Drop)]
 pub struct Line {
     alloc: Global,
     text: String,
+    is_cut: bool,
+    is_malformed: bool,
 }
 
 impl Line {
@@ -21,6 +22,8 @@ impl Line {
         Line {
             alloc,
             text: String::new(alloc),
+            is_cut: false,
+            is_malformed: false,
         }
     }
 
@@ -36,101 +39,127 @@ impl Line {
         self.text.clear();
     }
 
+    // Whether memory was refused for a part of it.
+    pub fn is_cut(&self) -> bool {
+        self.is_cut
+    }
+
+    // Keeps in mind that a part is missing.
+    pub fn cut(&mut self) {
+        self.is_cut = true;
+    }
+
+    // Whether its row says nothing that can be played.
+    pub fn is_malformed(&self) -> bool {
+        self.is_malformed
+    }
+
+    // Says why a row can't be played, in place of an answer.
+    pub fn malformed(&mut self, why: &str) {
+        self.word(why);
+        self.is_malformed = true;
+    }
+
     // Ends a column.
-    pub fn column(&mut self) -> Printed {
-        self.word(" | ")
+    pub fn column(&mut self) {
+        self.word(" | ");
     }
 
-    pub fn word(&mut self, word: &str) -> Printed {
-        self.text.push_str(word)
-    }
-
-    pub fn number(&mut self, number: u64) -> Printed {
-        let digits = format!(in self.alloc; "{number}")?;
-        self.word(digits.as_str())
-    }
-
-    pub fn offset(&mut self, offset: i64) -> Printed {
-        if offset < 0 {
-            self.word("-")?;
+    pub fn word(&mut self, word: &str) {
+        if self.text.push_str(word).is_err() {
+            self.cut();
         }
-        self.number(offset.unsigned_abs())
+    }
+
+    fn character(&mut self, character: char) {
+        if self.text.push(character).is_err() {
+            self.cut();
+        }
+    }
+
+    pub fn number(&mut self, number: u64) {
+        match format!(in self.alloc; "{number}") {
+            Ok(digits) => self.word(digits.as_str()),
+            Err(_) => self.cut(),
+        }
+    }
+
+    pub fn offset(&mut self, offset: i64) {
+        if offset < 0 {
+            self.word("-");
+        }
+        self.number(offset.unsigned_abs());
     }
 
     // A text, and none as a dash.
-    pub fn text(&mut self, text: &str) -> Printed {
-        if text.is_empty() {
-            return self.word("-");
-        }
-        self.word(text)
+    pub fn text(&mut self, text: &str) {
+        self.word(if text.is_empty() { "-" } else { text });
     }
 
     // Printable bytes as they are, others escaped, and none as a dash.
-    pub fn bytes(&mut self, bytes: &[u8]) -> Printed {
+    pub fn bytes(&mut self, bytes: &[u8]) {
         let Some((first, rest)) = bytes.split_first() else {
-            return self.word("-");
+            self.word("-");
+            return;
         };
         let mut run = Run::of(*first);
         'bytes: for b in rest {
             if following(run.last) == Some(*b) {
                 run = run.add(*b);
             } else {
-                self.run(run)?;
+                self.run(run);
                 run = Run::of(*b);
             }
         }
-        self.run(run)
+        self.run(run);
     }
 
-    fn run(&mut self, run: Run) -> Printed {
+    fn run(&mut self, run: Run) {
         if run.count >= LONG {
-            self.word("\\*")?;
-            self.number(run.count)?;
-            return self.byte(run.first);
+            self.word("\\*");
+            self.number(run.count);
+            self.byte(run.first);
+            return;
         }
         let mut byte = run.first;
         'bytes: for _ in 0..run.count {
-            self.byte(byte)?;
+            self.byte(byte);
             byte = following(byte).unwrap_or(byte);
         }
-        Ok(())
     }
 
-    fn byte(&mut self, b: u8) -> Printed {
+    fn byte(&mut self, b: u8) {
         match b {
             b'\n' => self.word("\\n"),
             b'\\' => self.word("\\\\"),
-            32..=126 => self.text.push(char::from(b)),
+            32..=126 => self.character(char::from(b)),
             _ => {
-                self.word("\\x")?;
-                self.text.push(hex(b / 16))?;
-                self.text.push(hex(b % 16))
+                self.word("\\x");
+                self.character(hex(b / 16));
+                self.character(hex(b % 16));
             }
         }
     }
 
     // The kind's name after a mark, and the text where there is one.
-    pub fn error(&mut self, error: &Error) -> Printed {
-        self.word("!")?;
-        self.word(name_of_kind(error.kind()))?;
-        match error.get_ref() {
-            None => Ok(()),
-            Some(text) => {
-                self.word(": ")?;
-                self.word(text)
-            }
+    pub fn error(&mut self, error: &Error) {
+        self.word("!");
+        self.word(name_of_kind(error.kind()));
+        if let Some(text) = error.get_ref() {
+            self.word(": ");
+            self.word(text);
         }
     }
 
     // A printed text in parentheses.
-    pub fn aside(&mut self, text: &str) -> Printed {
-        self.word(" (")?;
-        self.word(text)?;
-        self.word(")")
+    pub fn aside(&mut self, text: &str) {
+        self.word(" (");
+        self.word(text);
+        self.word(")");
     }
 
     // What a call answered that answers no number.
-    pub fn done(&mut self, answer: &Result<()>) -> Printed {
+    pub fn done(&mut self, answer: &Result<()>) {
         match answer {
             Ok(()) => self.word("ok"),
             Err(e) => self.error(e),
@@ -138,7 +167,7 @@ impl Line {
     }
 
     // What a call answered that answers a length.
-    pub fn length(&mut self, answer: &Result<usize>) -> Printed {
+    pub fn length(&mut self, answer: &Result<usize>) {
         match answer {
             Ok(n) => self.number(*n as u64),
             Err(e) => self.error(e),
@@ -146,7 +175,7 @@ impl Line {
     }
 
     // What a call answered that answers a position.
-    pub fn position(&mut self, answer: &Result<u64>) -> Printed {
+    pub fn position(&mut self, answer: &Result<u64>) {
         match answer {
             Ok(n) => self.number(*n),
             Err(e) => self.error(e),
@@ -233,7 +262,7 @@ fn step(escape: Escape, b: u8) -> Option<(Escape, Option<Run>)> {
     }
 }
 
-fn push_run(bytes: &mut Vec<u8>, run: Run) -> Printed {
+fn push_run(bytes: &mut Vec<u8>, run: Run) -> std::result::Result<(), AllocError> {
     let mut byte = run.first;
     'bytes: for _ in 0..run.count {
         bytes.push(byte)?;

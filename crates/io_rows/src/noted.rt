@@ -24,19 +24,19 @@ impl<T> Noted<T> {
 
 fn note(journal: &RefCell<Journal>, call: &str) {
     if let Ok(mut journal) = journal.try_borrow_mut() {
-        let _ = journal.note(call);
+        journal.note(call);
     }
 }
 
 fn note_bytes(journal: &RefCell<Journal>, call: &str, bytes: &[u8]) {
     if let Ok(mut journal) = journal.try_borrow_mut() {
-        let _ = journal.note_bytes(call, bytes);
+        journal.note_bytes(call, bytes);
     }
 }
 
 fn note_number(journal: &RefCell<Journal>, call: &str, number: usize) {
     if let Ok(mut journal) = journal.try_borrow_mut() {
-        let _ = journal.note_number(call, number);
+        journal.note_number(call, number);
     }
 }
 

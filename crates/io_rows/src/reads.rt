@@ -1,65 +1,71 @@
 // A reader's calls of rows, through the traits alone. The columns of a call are its answer, and the bytes that it gave, with
 // dots where nothing was written.
-use super::fault::{Fault, Made};
-use super::line::{Line, Printed};
+use super::line::Line;
 use super::rows::Call;
 use no_std_io2::io::{BufRead, Read, Result};
-use std::alloc::{AllocError, Global};
+use std::alloc::Global;
+
+// Prints a call's answer, a length, and the bytes that it gave.
+fn show_given(answer: &Result<usize>, given: &[u8], line: &mut Line) {
+    line.length(answer);
+    line.column();
+    line.bytes(given);
+}
 
 // So many dots, to be read into.
-fn dots(alloc: Global, count: usize) -> std::result::Result<Vec<u8>, AllocError> {
+fn dots(alloc: Global, count: usize, line: &mut Line) -> Vec<u8> {
     let mut room = Vec::new(alloc);
-    room.resize(count, b'.')?;
-    Ok(room)
+    if room.resize(count, b'.').is_err() {
+        line.cut();
+    }
+    room
 }
 
-fn call_read<R: Read>(alloc: Global, r: &mut R, count: usize, line: &mut Line) -> Printed {
-    let mut room = dots(alloc, count)?;
-    line.length(&r.read(&mut room))?;
-    line.column()?;
-    line.bytes(&room)
+// A vector of these bytes.
+fn copied(alloc: Global, bytes: &[u8], line: &mut Line) -> Vec<u8> {
+    let mut copy = Vec::new(alloc);
+    if copy.extend_from_slice(bytes).is_err() {
+        line.cut();
+    }
+    copy
 }
 
-fn call_read_exact<R: Read>(alloc: Global, r: &mut R, count: usize, line: &mut Line) -> Printed {
-    let mut room = dots(alloc, count)?;
-    line.done(&r.read_exact(&mut room))?;
-    line.column()?;
-    line.bytes(&room)
+fn call_read<R: Read>(alloc: Global, r: &mut R, count: usize, line: &mut Line) {
+    let mut room = dots(alloc, count, line);
+    show_given(&r.read(&mut room), &room, line);
 }
 
-fn call_read_to_end<R: Read>(alloc: Global, r: &mut R, old: &[u8], line: &mut Line) -> Printed {
-    let mut all = Vec::from_slice(alloc, old)?;
-    line.length(&r.read_to_end(&mut all))?;
-    line.column()?;
-    line.bytes(&all)
+fn call_read_exact<R: Read>(alloc: Global, r: &mut R, count: usize, line: &mut Line) {
+    let mut room = dots(alloc, count, line);
+    line.done(&r.read_exact(&mut room));
+    line.column();
+    line.bytes(&room);
 }
 
-fn call_read_into<R: Read>(alloc: Global, r: &mut R, capacity: usize, line: &mut Line) -> Printed {
-    let mut all = Vec::with_capacity(alloc, capacity)?;
-    line.length(&r.read_to_end(&mut all))?;
-    line.column()?;
-    line.bytes(&all)
+// Reads all behind what stands in the vector.
+fn call_read_to_end<R: Read>(r: &mut R, all: Vec<u8>, line: &mut Line) {
+    let mut all = all;
+    show_given(&r.read_to_end(&mut all), &all, line);
 }
 
-// Lends the reader to an adaptor that would take it.
-fn call_take<R: Read>(alloc: Global, r: &mut R, limit: usize, line: &mut Line) -> Printed {
-    let mut all = Vec::new(alloc);
-    line.length(&r.by_ref().take(limit as u64).read_to_end(&mut all))?;
-    line.column()?;
-    line.bytes(&all)
+fn call_read_into<R: Read>(alloc: Global, r: &mut R, capacity: usize, line: &mut Line) {
+    match Vec::with_capacity(alloc, capacity) {
+        Ok(all) => call_read_to_end(r, all, line),
+        Err(_) => line.cut(),
+    }
 }
 
-fn call_fill_buf<R: BufRead>(r: &mut R, line: &mut Line) -> Printed {
+fn call_fill_buf<R: BufRead>(r: &mut R, line: &mut Line) {
     match r.fill_buf() {
         Ok(lent) => {
-            line.number(lent.len() as u64)?;
-            line.column()?;
-            line.bytes(lent)
+            line.number(lent.len() as u64);
+            line.column();
+            line.bytes(lent);
         }
         Err(e) => {
-            line.error(&e)?;
-            line.column()?;
-            line.bytes(b"")
+            line.error(&e);
+            line.column();
+            line.bytes(b"");
         }
     }
 }
@@ -71,57 +77,44 @@ fn pass<R: BufRead>(r: &mut R, most: usize) -> Result<usize> {
     Ok(amount)
 }
 
-fn call_pass<R: BufRead>(r: &mut R, most: usize, line: &mut Line) -> Printed {
-    line.length(&pass(r, most))?;
-    line.column()?;
-    line.bytes(b"")
-}
-
-fn call_read_until<R: BufRead>(alloc: Global, r: &mut R, delim: &[u8], line: &mut Line) -> Printed {
+fn call_read_until<R: BufRead>(alloc: Global, r: &mut R, delim: &[u8], line: &mut Line) {
     let mut piece = Vec::new(alloc);
     let delim = delim.first().copied().unwrap_or(b'\n');
-    line.length(&r.read_until(delim, &mut piece))?;
-    line.column()?;
-    line.bytes(&piece)
+    show_given(&r.read_until(delim, &mut piece), &piece, line);
 }
 
-fn call_read_line<R: BufRead>(alloc: Global, r: &mut R, old: &str, line: &mut Line) -> Printed {
+fn call_read_line<R: BufRead>(alloc: Global, r: &mut R, old: &str, line: &mut Line) {
     let mut text = String::new(alloc);
-    text.push_str(old)?;
-    line.length(&r.read_line(alloc, &mut text))?;
-    line.column()?;
-    line.bytes(text.as_bytes())
+    if text.push_str(old).is_err() {
+        line.cut();
+    }
+    show_given(&r.read_line(alloc, &mut text), text.as_bytes(), line);
 }
 
-/// Makes a reader's call of a row: `read N`, `read_exact N`, `read_to_end OLD`, which appends to these bytes, `read_into N`, which
-/// reads all into a vector of this capacity, or `take N`, which reads so many at most through the reader lent. A fault says that it
-/// is none.
-pub fn make_read<R: Read>(alloc: Global, r: &mut R, call: &Call<'_>, line: &mut Line) -> Made<()> {
+/// Makes a reader's call of a row, and prints its answer: `read N`, `read_exact N`, `read_to_end OLD`, which appends to these bytes,
+/// `read_into N`, which reads all into a vector of this capacity, or `take N`, which reads so many at most through the reader lent.
+pub fn make_read<R: Read>(alloc: Global, r: &mut R, call: &Call<'_>, line: &mut Line) {
     match call.word {
-        "read" => call_read(alloc, r, call.number()?, line)?,
-        "read_exact" => call_read_exact(alloc, r, call.number()?, line)?,
-        "read_to_end" => call_read_to_end(alloc, r, &call.bytes, line)?,
-        "read_into" => call_read_into(alloc, r, call.number()?, line)?,
-        "take" => call_take(alloc, r, call.number()?, line)?,
-        _ => return Err(Fault::Malformed("no such call")),
+        "read" => call_read(alloc, r, call.number(line), line),
+        "read_exact" => call_read_exact(alloc, r, call.number(line), line),
+        "read_to_end" => call_read_to_end(r, copied(alloc, &call.bytes, line), line),
+        "read_into" => call_read_into(alloc, r, call.number(line), line),
+        "take" => {
+            let mut limited = r.by_ref().take(call.number(line) as u64);
+            call_read_to_end(&mut limited, Vec::new(alloc), line);
+        }
+        _ => line.malformed("no such call"),
     }
-    Ok(())
 }
 
 /// Makes a call of a reader that lends: beside those of [`make_read`] `fill_buf`, `pass N`, which lends and consumes so many of
 /// the bytes at most, `read_until DELIMITER`, of a newline where none is named, and `read_line OLD`, which appends to this text.
-pub fn make_lend<R: BufRead>(
-    alloc: Global,
-    r: &mut R,
-    call: &Call<'_>,
-    line: &mut Line,
-) -> Made<()> {
+pub fn make_lend<R: BufRead>(alloc: Global, r: &mut R, call: &Call<'_>, line: &mut Line) {
     match call.word {
-        "fill_buf" => call_fill_buf(r, line)?,
-        "pass" => call_pass(r, call.number()?, line)?,
-        "read_until" => call_read_until(alloc, r, &call.bytes, line)?,
-        "read_line" => call_read_line(alloc, r, call.rest, line)?,
-        _ => make_read(alloc, r, call, line)?,
+        "fill_buf" => call_fill_buf(r, line),
+        "pass" => show_given(&pass(r, call.number(line)), b"", line),
+        "read_until" => call_read_until(alloc, r, &call.bytes, line),
+        "read_line" => call_read_line(alloc, r, call.rest, line),
+        _ => make_read(alloc, r, call, line),
     }
-    Ok(())
 }

@@ -206,7 +206,7 @@ impl BufRead for Recorder {
 
     fn consume(&mut self, amount: usize) {
         if let Ok(mut journal) = self.journal.try_borrow_mut() {
-            let _ = journal.consume(self.name.consume(), amount);
+            journal.consume(self.name.consume(), amount);
         }
         self.lent.pass(amount);
     }

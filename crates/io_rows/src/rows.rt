@@ -32,11 +32,14 @@ impl<'a> Call<'a> {
         })
     }
 
-    /// What stands behind the word, as a number; a fault where it is none.
-    pub fn number(&self) -> Made<usize> {
+    /// What stands behind the word, as a number; where it is none the row can't be played.
+    pub fn number(&self, line: &mut Line) -> usize {
         match self.rest.parse::<usize>() {
-            Ok(n) => Ok(n),
-            Err(_) => Err(Fault::Malformed("no number behind a call")),
+            Ok(n) => n,
+            Err(_) => {
+                line.malformed("no number behind a call");
+                0
+            }
         }
     }
 }
@@ -144,7 +147,10 @@ pub fn play_group<'a, S: Subject + Drop, R: Print>(
             Ok(new) => subject = new,
             Err(fault) => return tell_fault(rt, fault, row, count),
         }
-        count = compare(rt, row, line.as_str(), count)?;
+        count = compare(rt, row, &line, count)?;
+        if line.is_malformed() {
+            break;
+        }
     }
     Ok(count)
 }
@@ -155,6 +161,6 @@ fn play_row<S: Subject + Drop>(alloc: Global, subject: S, row: &str, line: &mut 
     let Some((call, _)) = row.split_once(" | ") else {
         return Err(Fault::Malformed("a row without an answer"));
     };
-    line.word(call)?;
+    line.word(call);
     subject.play(&Call::parse(alloc, call)?, line)
 }

@@ -85,34 +85,34 @@ pub fn parse_answers(alloc: Global, words: &str) -> Made<Vec<Answer>> {
 }
 
 fn parse_answer(alloc: Global, words: &str) -> Made<Answer> {
-    if words == "all" || words == "end" {
-        return Ok(Answer::Plain);
-    }
-    match words.split_once(" ") {
-        Some(("take", count)) => match count.parse::<usize>() {
+    let (word, rest) = words.split_once(" ").unwrap_or((words, ""));
+    match word {
+        "all" | "end" => Ok(Answer::Plain),
+        "take" => match rest.parse::<usize>() {
             Ok(n) => Ok(Answer::Take(n)),
             Err(_) => Err(Fault::Malformed("no number behind `take`")),
         },
-        Some(("give", bytes)) => Ok(Answer::Give(unescape(alloc, bytes)?)),
-        Some(("at", place)) => match place.parse::<u64>() {
+        "give" => Ok(Answer::Give(unescape(alloc, rest)?)),
+        "at" => match rest.parse::<u64>() {
             Ok(n) => Ok(Answer::At(n)),
             Err(_) => Err(Fault::Malformed("no number behind `at`")),
         },
-        Some(("fail", words)) => parse_failure(words),
+        "fail" => parse_failure(rest),
         _ => Err(Fault::Malformed("no such answer of a device")),
     }
 }
 
 fn parse_failure(words: &str) -> Made<Answer> {
-    match words.split_once(" ") {
-        Some((name, text)) => match (kind_of_name(name), place_of(text)) {
-            (Some(kind), Some(place)) => Ok(Answer::Fail(kind, Some(place))),
-            _ => Err(Fault::Malformed("no such kind or text of an error")),
-        },
-        None => match kind_of_name(words) {
-            Some(kind) => Ok(Answer::Fail(kind, None)),
-            None => Err(Fault::Malformed("no such kind of an error")),
-        },
+    let (name, text) = words.split_once(" ").unwrap_or((words, ""));
+    let Some(kind) = kind_of_name(name) else {
+        return Err(Fault::Malformed("no such kind of an error"));
+    };
+    if text.is_empty() {
+        return Ok(Answer::Fail(kind, None));
+    }
+    match place_of(text) {
+        Some(place) => Ok(Answer::Fail(kind, Some(place))),
+        None => Err(Fault::Malformed("no such text of an error")),
     }
 }
 

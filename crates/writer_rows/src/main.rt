@@ -4,9 +4,7 @@
 
 mod bench;
 mod boxed;
-mod front;
 mod lent;
-mod room;
 mod streams;
 mod tower;
 mod writing;

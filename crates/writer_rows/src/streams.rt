@@ -1,12 +1,9 @@
 // The streams that a table may name.
-use super::boxed::{
-    BuffersOverRecorder, LinesOverRecorder, NotedSeeks, NotedWrites, OverFaulty, OverRecorder,
-    OverSink, OverVector,
-};
-use super::front::{Device, Handing, Once, Twice};
-use super::lent::{Buffered, LentSlice, LentVector};
-use super::room::{CursorRoom, VectorRoom};
-use super::writing::{Placing, Seeking, Trying, Writing};
+use super::bench::{CursorRoom, Lent, VectorRoom};
+use super::boxed::{NotedSeeks, NotedWrites, OverFaulty, OverRecorder, OverSink, OverVector};
+use super::lent::Buffered;
+use super::tower::Device;
+use super::writing::{ALL, CALLS, STATE, Seeking, Writing};
 use io_bench::{Faulty, Sink, Tally};
 use io_rows::count::{Count, tell_fault};
 use io_rows::fault::Fault;
@@ -20,6 +17,8 @@ use std::io;
 /// The streams of writers.
 pub struct Writers;
 
+const NO_STREAM: Fault = Fault::Malformed("no such stream");
+
 impl Tables for Writers {
     fn play_table<'a, R: Print>(
         rt: &R,
@@ -30,20 +29,118 @@ impl Tables for Writers {
     ) -> io::Result<Count<'a>> {
         let (word, rest) = name.split_once(" ").unwrap_or((name, ""));
         match word {
-            "writer" => play_writer(rt, alloc, rest, table, count),
-            "seeker" => play_seeker(rt, alloc, rest, table, count),
+            "writer" | "seeker" => play_writer(rt, alloc, rest, table, count),
             "noted" => play_noted(rt, alloc, rest, table, count),
             "bench" => play_bench(rt, alloc, rest, table, count),
             "cursor" => play_cursor(rt, alloc, rest, table, count),
-            "room" if rest == "Vec" => play::<VectorRoom, R>(rt, alloc, table, count),
-            "room" if rest == "Cursor" => play::<CursorRoom, R>(rt, alloc, table, count),
-            _ => tell_fault(rt, Fault::Malformed("no such stream"), name, count),
+            "room" => play_room(rt, alloc, rest, table, count),
+            _ => tell_fault(rt, NO_STREAM, name, count),
         }
     }
 
     // The acts of a bench have none.
     fn has_texts(name: &str) -> bool {
         !name.starts_with("bench ")
+    }
+}
+
+// What stands below a buffer.
+const RECORDER: usize = 0;
+
+const NOTED: usize = 1;
+
+const FAULTY: usize = 2;
+
+// Plays on a buffer whose name is its kind and its size.
+fn play_sizes<'a, R: Print, const BASE: usize>(
+    rt: &R,
+    alloc: Global,
+    name: &str,
+    table: &str,
+    count: Count<'a>,
+) -> io::Result<Count<'a>> {
+    let (kind, size) = name.split_once(" ").unwrap_or((name, ""));
+    match size {
+        "0" => play_level::<R, BASE, 0>(rt, alloc, kind, table, count),
+        "1" => play_level::<R, BASE, 1>(rt, alloc, kind, table, count),
+        "2" => play_level::<R, BASE, 2>(rt, alloc, kind, table, count),
+        "4" => play_level::<R, BASE, 4>(rt, alloc, kind, table, count),
+        "8" => play_level::<R, BASE, 8>(rt, alloc, kind, table, count),
+        "64" => play_level::<R, BASE, 64>(rt, alloc, kind, table, count),
+        "300" => play_level::<R, BASE, 300>(rt, alloc, kind, table, count),
+        "1030" => play_level::<R, BASE, 1030>(rt, alloc, kind, table, count),
+        "8192" => play_level::<R, BASE, 8192>(rt, alloc, kind, table, count),
+        "65536" => play_level::<R, BASE, 65536>(rt, alloc, kind, table, count),
+        _ => tell_fault(rt, Fault::Malformed("no such size"), name, count),
+    }
+}
+
+// Plays on a buffer of this size over this base.
+fn play_level<'a, R: Print, const BASE: usize, const S: usize>(
+    rt: &R,
+    alloc: Global,
+    kind: &str,
+    table: &str,
+    count: Count<'a>,
+) -> io::Result<Count<'a>> {
+    match BASE {
+        RECORDER => play_recorder::<R, S>(rt, alloc, kind, table, count),
+        NOTED => play_device::<R, S>(rt, alloc, kind, table, count),
+        _ => play_faulty::<R, S>(rt, alloc, kind, table, count),
+    }
+}
+
+fn play_recorder<'a, R: Print, const S: usize>(
+    rt: &R,
+    alloc: Global,
+    kind: &str,
+    table: &str,
+    count: Count<'a>,
+) -> io::Result<Count<'a>> {
+    match kind {
+        "BufWriter" if S < 1 << 32 => play::<Seeking<BufWriter<Recorder, S>, ALL, 0>, R>(
+            rt, alloc, table, count,
+        ),
+        "LineWriter" if S < 1 << 32 => play::<Writing<LineWriter<Recorder, S>, ALL>, R>(
+            rt, alloc, table, count,
+        ),
+        _ => tell_fault(rt, NO_STREAM, kind, count),
+    }
+}
+
+fn play_device<'a, R: Print, const S: usize>(
+    rt: &R,
+    alloc: Global,
+    kind: &str,
+    table: &str,
+    count: Count<'a>,
+) -> io::Result<Count<'a>> {
+    match kind {
+        "BufWriter" if S < 1 << 32 => play::<Seeking<BufWriter<Device, S>, CALLS, 0>, R>(
+            rt, alloc, table, count,
+        ),
+        "LineWriter" if S < 1 << 32 => play::<Writing<LineWriter<Device, S>, CALLS>, R>(
+            rt, alloc, table, count,
+        ),
+        _ => tell_fault(rt, NO_STREAM, kind, count),
+    }
+}
+
+fn play_faulty<'a, R: Print, const S: usize>(
+    rt: &R,
+    alloc: Global,
+    kind: &str,
+    table: &str,
+    count: Count<'a>,
+) -> io::Result<Count<'a>> {
+    match kind {
+        "BufWriter" if S < 1 << 32 => {
+            play::<Writing<BufWriter<Faulty<Vec<u8>>, S>, STATE>, R>(rt, alloc, table, count)
+        }
+        "LineWriter" if S < 1 << 32 => {
+            play::<Writing<LineWriter<Faulty<Vec<u8>>, S>, STATE>, R>(rt, alloc, table, count)
+        }
+        _ => tell_fault(rt, NO_STREAM, kind, count),
     }
 }
 
@@ -56,44 +153,14 @@ fn play_writer<'a, R: Print>(
     count: Count<'a>,
 ) -> io::Result<Count<'a>> {
     match name {
-        "Device" => play::<Writing<Recorder>, R>(rt, alloc, table, count),
-        "Box Device" => play::<Writing<Box<Recorder>>, R>(rt, alloc, table, count),
-        "Box dyn" => play_by::<OverRecorder, R>(rt, alloc, table, count),
-        "BufWriter 8" => play::<Writing<BufWriter<Recorder, 8>>, R>(rt, alloc, table, count),
-        "BufWriter 4" => play::<Writing<BufWriter<Recorder, 4>>, R>(rt, alloc, table, count),
-        "BufWriter 1" => play::<Writing<BufWriter<Recorder, 1>>, R>(rt, alloc, table, count),
-        "BufWriter 0" => play::<Writing<BufWriter<Recorder, 0>>, R>(rt, alloc, table, count),
-        "LineWriter 64" => play::<Writing<LineWriter<Recorder, 64>>, R>(rt, alloc, table, count),
-        "LineWriter 8" => play::<Writing<LineWriter<Recorder, 8>>, R>(rt, alloc, table, count),
-        "LineWriter 4" => play::<Writing<LineWriter<Recorder, 4>>, R>(rt, alloc, table, count),
-        "LineWriter 1" => play::<Writing<LineWriter<Recorder, 1>>, R>(rt, alloc, table, count),
-        "LineWriter 0" => play::<Writing<LineWriter<Recorder, 0>>, R>(rt, alloc, table, count),
-        _ => play_sized(rt, alloc, name, table, count),
-    }
-}
-
-// Other sizes over a recorder.
-fn play_sized<'a, R: Print>(
-    rt: &R,
-    alloc: Global,
-    name: &str,
-    table: &str,
-    count: Count<'a>,
-) -> io::Result<Count<'a>> {
-    match name {
-        "BufWriter 2" => play::<Writing<BufWriter<Recorder, 2>>, R>(rt, alloc, table, count),
-        "BufWriter 300" => play::<Writing<BufWriter<Recorder, 300>>, R>(rt, alloc, table, count),
-        "BufWriter 1030" => play::<Writing<BufWriter<Recorder, 1030>>, R>(rt, alloc, table, count),
-        "BufWriter 65536" => {
-            play::<Writing<BufWriter<Recorder, 65536>>, R>(rt, alloc, table, count)
+        "Device" => play::<Seeking<Recorder, ALL, 0>, R>(rt, alloc, table, count),
+        "Box Device" => play::<Seeking<Box<Recorder>, ALL, 0>, R>(rt, alloc, table, count),
+        "Box dyn" => play_by::<OverRecorder<0>, R>(rt, alloc, table, count),
+        "BufWriter 8 BufWriter 3 Box dyn" => {
+            play_by::<OverRecorder<1>, R>(rt, alloc, table, count)
         }
-        "LineWriter 2" => play::<Writing<LineWriter<Recorder, 2>>, R>(rt, alloc, table, count),
-        "LineWriter 300" => play::<Writing<LineWriter<Recorder, 300>>, R>(rt, alloc, table, count),
-        "LineWriter 1030" => {
-            play::<Writing<LineWriter<Recorder, 1030>>, R>(rt, alloc, table, count)
-        }
-        "LineWriter 8192" => {
-            play::<Writing<LineWriter<Recorder, 8192>>, R>(rt, alloc, table, count)
+        "LineWriter 8 BufWriter 8 Box dyn" => {
+            play_by::<OverRecorder<2>, R>(rt, alloc, table, count)
         }
         _ => play_tower(rt, alloc, name, table, count),
     }
@@ -109,39 +176,20 @@ fn play_tower<'a, R: Print>(
 ) -> io::Result<Count<'a>> {
     match name {
         "BufWriter 8 BufWriter 3" => {
-            play::<Writing<BufWriter<BufWriter<Recorder, 3>, 8>>, R>(rt, alloc, table, count)
+            play::<Writing<BufWriter<BufWriter<Recorder, 3>, 8>, ALL>, R>(rt, alloc, table, count)
         }
         "BufWriter 4 BufWriter 8" => {
-            play::<Writing<BufWriter<BufWriter<Recorder, 8>, 4>>, R>(rt, alloc, table, count)
+            play::<Writing<BufWriter<BufWriter<Recorder, 8>, 4>, ALL>, R>(rt, alloc, table, count)
         }
         "LineWriter 8 BufWriter 8" => {
-            play::<Writing<LineWriter<BufWriter<Recorder, 8>, 8>>, R>(rt, alloc, table, count)
+            play::<Writing<LineWriter<BufWriter<Recorder, 8>, 8>, ALL>, R>(rt, alloc, table, count)
         }
         "LineWriter 8 Box BufWriter 8" => {
-            play::<Writing<LineWriter<Box<BufWriter<Recorder, 8>>, 8>>, R>(rt, alloc, table, count)
+            play::<Writing<LineWriter<Box<BufWriter<Recorder, 8>>, 8>, ALL>, R>(
+                rt, alloc, table, count,
+            )
         }
-        "BufWriter 8 BufWriter 3 Box dyn" => {
-            play_by::<BuffersOverRecorder, R>(rt, alloc, table, count)
-        }
-        "LineWriter 8 BufWriter 8 Box dyn" => {
-            play_by::<LinesOverRecorder, R>(rt, alloc, table, count)
-        }
-        _ => tell_fault(rt, Fault::Malformed("no such stream"), name, count),
-    }
-}
-
-fn play_seeker<'a, R: Print>(
-    rt: &R,
-    alloc: Global,
-    name: &str,
-    table: &str,
-    count: Count<'a>,
-) -> io::Result<Count<'a>> {
-    match name {
-        "Device" => play::<Seeking<Recorder>, R>(rt, alloc, table, count),
-        "Box Device" => play::<Seeking<Box<Recorder>>, R>(rt, alloc, table, count),
-        "BufWriter 8" => play::<Seeking<BufWriter<Recorder, 8>>, R>(rt, alloc, table, count),
-        _ => tell_fault(rt, Fault::Malformed("no such stream"), name, count),
+        _ => play_sizes::<R, RECORDER>(rt, alloc, name, table, count),
     }
 }
 
@@ -154,17 +202,13 @@ fn play_noted<'a, R: Print>(
     count: Count<'a>,
 ) -> io::Result<Count<'a>> {
     match name {
-        "Device" => play::<Handing<Device>, R>(rt, alloc, table, count),
-        "&mut Device" => play::<Handing<Once>, R>(rt, alloc, table, count),
-        "&mut &mut Device" => play::<Handing<Twice>, R>(rt, alloc, table, count),
-        "Box Device" => play::<Handing<Box<Device>>, R>(rt, alloc, table, count),
+        "Device" => play::<Seeking<Device, CALLS, 0>, R>(rt, alloc, table, count),
+        "&mut Device" => play::<Seeking<Device, CALLS, 1>, R>(rt, alloc, table, count),
+        "&mut &mut Device" => play::<Seeking<Device, CALLS, 2>, R>(rt, alloc, table, count),
+        "Box Device" => play::<Seeking<Box<Device>, CALLS, 0>, R>(rt, alloc, table, count),
         "Box dyn Write" => play_by::<NotedWrites, R>(rt, alloc, table, count),
         "Box dyn Seek" => play_by::<NotedSeeks, R>(rt, alloc, table, count),
-        "BufWriter 4" => play::<Handing<BufWriter<Device, 4>>, R>(rt, alloc, table, count),
-        "BufWriter 0" => play::<Handing<BufWriter<Device, 0>>, R>(rt, alloc, table, count),
-        "LineWriter 4" => play::<Handing<LineWriter<Device, 4>>, R>(rt, alloc, table, count),
-        "LineWriter 0" => play::<Handing<LineWriter<Device, 0>>, R>(rt, alloc, table, count),
-        _ => tell_fault(rt, Fault::Malformed("no such stream"), name, count),
+        _ => play_sizes::<R, NOTED>(rt, alloc, name, table, count),
     }
 }
 
@@ -177,27 +221,20 @@ fn play_bench<'a, R: Print>(
     count: Count<'a>,
 ) -> io::Result<Count<'a>> {
     match name {
-        "BufWriter 8 Faulty" => {
-            play::<Trying<BufWriter<Faulty<Vec<u8>>, 8>>, R>(rt, alloc, table, count)
+        "Vec" => play::<Writing<Vec<u8>, STATE>, R>(rt, alloc, table, count),
+        "Faulty" => play::<Writing<Faulty<Vec<u8>>, STATE>, R>(rt, alloc, table, count),
+        "BufWriter 8 &mut Vec" => play::<Buffered, R>(rt, alloc, table, count),
+        "LineWriter 8 BufWriter 8 Box dyn Faulty" => {
+            play_by::<OverFaulty, R>(rt, alloc, table, count)
         }
-        "LineWriter 8 Faulty" => {
-            play::<Trying<LineWriter<Faulty<Vec<u8>>, 8>>, R>(rt, alloc, table, count)
-        }
-        "LineWriter 4 Faulty" => {
-            play::<Trying<LineWriter<Faulty<Vec<u8>>, 4>>, R>(rt, alloc, table, count)
-        }
-        "LineWriter 1 Faulty" => {
-            play::<Trying<LineWriter<Faulty<Vec<u8>>, 1>>, R>(rt, alloc, table, count)
-        }
-        "LineWriter 0 Faulty" => {
-            play::<Trying<LineWriter<Faulty<Vec<u8>>, 0>>, R>(rt, alloc, table, count)
-        }
-        _ => play_vector(rt, alloc, name, table, count),
+        "LineWriter 8 Box dyn Sink" => play_by::<OverSink, R>(rt, alloc, table, count),
+        "BufWriter 4 Box dyn Vec" => play_by::<OverVector, R>(rt, alloc, table, count),
+        _ => play_buffered(rt, alloc, name, table, count),
     }
 }
 
-// Over a vector or a writer that counts.
-fn play_vector<'a, R: Print>(
+// A buffer over such a device.
+fn play_buffered<'a, R: Print>(
     rt: &R,
     alloc: Global,
     name: &str,
@@ -205,23 +242,22 @@ fn play_vector<'a, R: Print>(
     count: Count<'a>,
 ) -> io::Result<Count<'a>> {
     match name {
-        "Vec" => play::<Trying<Vec<u8>>, R>(rt, alloc, table, count),
-        "Faulty" => play::<Trying<Faulty<Vec<u8>>>, R>(rt, alloc, table, count),
-        "BufWriter 8 Vec" => play::<Trying<BufWriter<Vec<u8>, 8>>, R>(rt, alloc, table, count),
-        "LineWriter 64 Vec" => play::<Trying<LineWriter<Vec<u8>, 64>>, R>(rt, alloc, table, count),
+        "BufWriter 8 Vec" => {
+            play::<Writing<BufWriter<Vec<u8>, 8>, STATE>, R>(rt, alloc, table, count)
+        }
+        "LineWriter 64 Vec" => {
+            play::<Writing<LineWriter<Vec<u8>, 64>, STATE>, R>(rt, alloc, table, count)
+        }
         "BufWriter 0 Tally" => {
-            play::<Trying<BufWriter<Tally<Sink>, 0>>, R>(rt, alloc, table, count)
+            play::<Writing<BufWriter<Tally<Sink>, 0>, STATE>, R>(rt, alloc, table, count)
         }
         "LineWriter 4 Tally" => {
-            play::<Trying<LineWriter<Tally<Sink>, 4>>, R>(rt, alloc, table, count)
+            play::<Writing<LineWriter<Tally<Sink>, 4>, STATE>, R>(rt, alloc, table, count)
         }
-        "BufWriter 8 &mut Vec" => play::<Buffered, R>(rt, alloc, table, count),
-        "LineWriter 8 BufWriter 8 Box dyn Faulty" => {
-            play_by::<OverFaulty, R>(rt, alloc, table, count)
-        }
-        "LineWriter 8 Box dyn Sink" => play_by::<OverSink, R>(rt, alloc, table, count),
-        "BufWriter 4 Box dyn Vec" => play_by::<OverVector, R>(rt, alloc, table, count),
-        _ => tell_fault(rt, Fault::Malformed("no such stream"), name, count),
+        _ => match name.strip_suffix(" Faulty") {
+            Some(level) => play_sizes::<R, FAULTY>(rt, alloc, level, table, count),
+            None => tell_fault(rt, NO_STREAM, name, count),
+        },
     }
 }
 
@@ -234,10 +270,27 @@ fn play_cursor<'a, R: Print>(
     count: Count<'a>,
 ) -> io::Result<Count<'a>> {
     match name {
-        "Vec" => play::<Placing<Cursor<Vec<u8>>>, R>(rt, alloc, table, count),
-        "&mut Vec" => play::<LentVector, R>(rt, alloc, table, count),
-        "&mut [u8]" => play::<LentSlice, R>(rt, alloc, table, count),
-        "BufWriter 8" => play::<Placing<BufWriter<Cursor<Vec<u8>>, 8>>, R>(rt, alloc, table, count),
-        _ => tell_fault(rt, Fault::Malformed("no such stream"), name, count),
+        "Vec" => play::<Seeking<Cursor<Vec<u8>>, STATE, 0>, R>(rt, alloc, table, count),
+        "&mut Vec" => play::<Writing<Lent<true>, STATE>, R>(rt, alloc, table, count),
+        "&mut [u8]" => play::<Writing<Lent<false>, STATE>, R>(rt, alloc, table, count),
+        "BufWriter 8" => {
+            play::<Seeking<BufWriter<Cursor<Vec<u8>>, 8>, STATE, 0>, R>(rt, alloc, table, count)
+        }
+        _ => tell_fault(rt, NO_STREAM, name, count),
+    }
+}
+
+// A vector with room.
+fn play_room<'a, R: Print>(
+    rt: &R,
+    alloc: Global,
+    name: &str,
+    table: &str,
+    count: Count<'a>,
+) -> io::Result<Count<'a>> {
+    match name {
+        "Vec" => play::<Writing<VectorRoom, STATE>, R>(rt, alloc, table, count),
+        "Cursor" => play::<Writing<CursorRoom, STATE>, R>(rt, alloc, table, count),
+        _ => tell_fault(rt, NO_STREAM, name, count),
     }
 }

@@ -1,12 +1,14 @@
-// Towers of writers over a recorder.
+// Towers of writers: what stands on a device, level by level.
 ghost use Rattle.std.specs.Mem.{FitsInMemory};
 
-use io_rows::calls::show_out;
-use io_rows::fault::{Fault, Made};
+use io_rows::calls::{make_call, show_out};
+use io_rows::fault::Made;
 use io_rows::journal::Journal;
-use io_rows::line::{Line, Printed};
+use io_rows::line::Line;
+use io_rows::noted::Noted;
 use io_rows::recorder::{Name, Recorder};
-use no_std_io2::io::{BufWriter, Error, LineWriter, Result, Write};
+use io_rows::rows::Call;
+use no_std_io2::io::{BufWriter, Error, IntoInnerError, LineWriter, Write};
 use std::alloc::Global;
 use std::cell::RefCell;
 use std::rc::Rc;
@@ -20,47 +22,42 @@ pub struct Ground<'a> {
 }
 
 /// A writer that stands on a device.
-pub trait Tower: Write {
+pub trait Tower: Drop {
     fn over(ground: &Ground<'_>) -> Made<Self>
     where
         Self: Sized,
         requires { FitsInMemory Self.row };
 
+    /// Makes a writer's call, and prints its answer.
+    fn call(&mut self, call: &Call<'_>, line: &mut Line);
+
     /// Prints a column of what the device took.
-    fn show_taken(&self, journal: &RefCell<Journal>, line: &mut Line) -> Made<()> {
-        show_out(journal, line)
+    fn show_taken(&self, journal: &RefCell<Journal>, line: &mut Line) {
+        show_out(journal, line);
     }
 
     /// Prints a column of what each level holds, the outer one first.
-    fn show_held(&self, _line: &mut Line) -> Printed {
-        Ok(())
-    }
+    fn show_held(&self, _line: &mut Line) {}
 
     /// Writes to the level below.
-    fn write_below(&mut self, bytes: &[u8]) -> Result<()> {
-        self.write_all(bytes)
+    fn write_below(&mut self, _bytes: &[u8], line: &mut Line) {
+        line.malformed("no level below");
     }
 
     /// Moves the device to a place.
-    fn place(&mut self, _position: u64) -> Made<()> {
-        Err(Fault::Malformed("the device has no place"))
+    fn place(&mut self, _position: u64, line: &mut Line) {
+        line.malformed("the device has no place");
     }
 
-    /// Takes the outer level off by `into_inner`, prints the answer, and puts an empty level on.
-    fn empty(self, alloc: Global, line: &mut Line) -> Made<Self>
+    /// Takes the outer level off by `into_inner`, prints the answer, and puts an empty level on. A refusal gives the tower back
+    /// where it keeps it, and else becomes an error.
+    fn take_off(self, _alloc: Global, _keeps: bool, line: &mut Line) -> Option<Self>
     where
-        Self: Sized;
-
-    /// Takes the outer level off by `into_inner`, and prints the error that a refusal becomes. The tower is dropped.
-    fn refuse(self, line: &mut Line) -> Printed
-    where
-        Self: Sized;
-}
-
-// What a refused `into_inner` says: the error, and what the whole prints.
-fn show_refusal(error: &Error, whole: &str, line: &mut Line) -> Printed {
-    line.error(error)?;
-    line.aside(whole)
+        Self: Sized,
+    {
+        line.malformed("no level above");
+        Some(self)
+    }
 }
 
 impl Tower for Recorder {
@@ -68,12 +65,27 @@ impl Tower for Recorder {
         Ok(Recorder::new(ground.alloc, ground.journal.clone()?, Name::Only))
     }
 
-    fn empty(self, _alloc: Global, _line: &mut Line) -> Made<Recorder> {
-        Err(Fault::Malformed("a device has no level above"))
+    fn call(&mut self, call: &Call<'_>, line: &mut Line) {
+        make_call(self, call, line);
+    }
+}
+
+/// A device that notes the name of each call.
+pub type Device = Noted<Recorder>;
+
+/// One on this journal.
+pub fn device(alloc: Global, journal: &Rc<RefCell<Journal>>) -> Made<Device> {
+    let recorder = Recorder::new(alloc, journal.clone()?, Name::Only);
+    Ok(Noted::new(recorder, journal.clone()?))
+}
+
+impl Tower for Device {
+    fn over(ground: &Ground<'_>) -> Made<Device> {
+        device(ground.alloc, &ground.journal)
     }
 
-    fn refuse(self, line: &mut Line) -> Printed {
-        line.word("a device has no level above")
+    fn call(&mut self, call: &Call<'_>, line: &mut Line) {
+        make_call(self, call, line);
     }
 }
 
@@ -82,12 +94,18 @@ impl Tower for Box<Recorder> {
         Ok(Box::new(ground.alloc, Recorder::over(ground)?)?)
     }
 
-    fn empty(self, _alloc: Global, _line: &mut Line) -> Made<Box<Recorder>> {
-        Err(Fault::Malformed("a device has no level above"))
+    fn call(&mut self, call: &Call<'_>, line: &mut Line) {
+        make_call(self, call, line);
+    }
+}
+
+impl Tower for Box<Device> {
+    fn over(ground: &Ground<'_>) -> Made<Box<Device>> {
+        Ok(Box::new(ground.alloc, Device::over(ground)?)?)
     }
 
-    fn refuse(self, line: &mut Line) -> Printed {
-        line.word("a device has no level above")
+    fn call(&mut self, call: &Call<'_>, line: &mut Line) {
+        make_call(self, call, line);
     }
 }
 
@@ -99,108 +117,108 @@ impl Tower for Box<Small> {
         Ok(Box::new(ground.alloc, Small::over(ground)?)?)
     }
 
-    fn show_held(&self, line: &mut Line) -> Printed {
-        Small::show_held(self, line)
+    fn call(&mut self, call: &Call<'_>, line: &mut Line) {
+        make_call(self, call, line);
     }
 
-    fn empty(self, _alloc: Global, _line: &mut Line) -> Made<Box<Small>> {
-        Err(Fault::Malformed("a box has no level above"))
-    }
-
-    fn refuse(self, line: &mut Line) -> Printed {
-        line.word("a box has no level above")
+    fn show_held(&self, line: &mut Line) {
+        Small::show_held(self, line);
     }
 }
 
-impl<W: Tower + Drop, const S: usize> Tower for BufWriter<W, S> {
+// What a refused `into_inner` says: the error, and what the whole prints.
+fn show_refusal<W>(alloc: Global, refused: &IntoInnerError<W>, line: &mut Line) {
+    line.error(refused.error());
+    match format!(in alloc; "{refused}") {
+        Ok(whole) => line.aside(whole.as_str()),
+        Err(_) => line.cut(),
+    }
+}
+
+impl<W: Tower + Write, const S: usize> Tower for BufWriter<W, S> {
     fn over(ground: &Ground<'_>) -> Made<BufWriter<W, S>> {
         Ok(BufWriter::new(W::over(ground)?))
     }
 
-    fn show_taken(&self, journal: &RefCell<Journal>, line: &mut Line) -> Made<()> {
-        self.get_ref().show_taken(journal, line)
+    fn call(&mut self, call: &Call<'_>, line: &mut Line) {
+        make_call(self, call, line);
     }
 
-    fn show_held(&self, line: &mut Line) -> Printed {
-        line.column()?;
-        line.bytes(self.buffer())?;
-        self.get_ref().show_held(line)
+    fn show_taken(&self, journal: &RefCell<Journal>, line: &mut Line) {
+        self.get_ref().show_taken(journal, line);
     }
 
-    fn write_below(&mut self, bytes: &[u8]) -> Result<()> {
-        self.get_mut().write_all(bytes)
+    fn show_held(&self, line: &mut Line) {
+        line.column();
+        line.bytes(self.buffer());
+        self.get_ref().show_held(line);
     }
 
-    fn place(&mut self, position: u64) -> Made<()> {
-        self.get_mut().place(position)
+    fn write_below(&mut self, bytes: &[u8], line: &mut Line) {
+        line.done(&self.get_mut().write_all(bytes));
     }
 
-    fn empty(self, alloc: Global, line: &mut Line) -> Made<BufWriter<W, S>> {
+    fn place(&mut self, position: u64, line: &mut Line) {
+        self.get_mut().place(position, line);
+    }
+
+    fn take_off(self, alloc: Global, keeps: bool, line: &mut Line) -> Option<BufWriter<W, S>> {
         match self.into_inner() {
             Ok(inner) => {
-                line.word("ok")?;
-                Ok(BufWriter::new(inner))
+                line.word("ok");
+                Some(BufWriter::new(inner))
+            }
+            Err(e) if keeps => {
+                show_refusal(alloc, &e, line);
+                Some(e.into_inner())
             }
             Err(e) => {
-                let whole = format!(in alloc; "{e}")?;
-                show_refusal(e.error(), whole.as_str(), line)?;
-                Ok(e.into_inner())
+                line.error(&Error::from(e));
+                None
             }
-        }
-    }
-
-    fn refuse(self, line: &mut Line) -> Printed {
-        match self.into_inner() {
-            Ok(_inner) => line.word("ok"),
-            Err(e) => line.error(&Error::from(e)),
         }
     }
 }
 
-impl<W: Tower + Drop, const S: usize> Tower for LineWriter<W, S> {
+impl<W: Tower + Write, const S: usize> Tower for LineWriter<W, S> {
     fn over(ground: &Ground<'_>) -> Made<LineWriter<W, S>> {
         Ok(LineWriter::new(W::over(ground)?))
     }
 
-    fn show_taken(&self, journal: &RefCell<Journal>, line: &mut Line) -> Made<()> {
-        self.get_ref().show_taken(journal, line)
+    fn call(&mut self, call: &Call<'_>, line: &mut Line) {
+        make_call(self, call, line);
     }
 
-    fn show_held(&self, line: &mut Line) -> Printed {
-        line.column()?;
-        line.bytes(self.buffer())?;
-        self.get_ref().show_held(line)
+    fn show_taken(&self, journal: &RefCell<Journal>, line: &mut Line) {
+        self.get_ref().show_taken(journal, line);
     }
 
-    fn write_below(&mut self, bytes: &[u8]) -> Result<()> {
-        self.get_mut().write_all(bytes)
+    fn show_held(&self, line: &mut Line) {
+        line.column();
+        line.bytes(self.buffer());
+        self.get_ref().show_held(line);
     }
 
-    fn place(&mut self, position: u64) -> Made<()> {
-        self.get_mut().place(position)
+    fn write_below(&mut self, bytes: &[u8], line: &mut Line) {
+        line.done(&self.get_mut().write_all(bytes));
     }
 
-    fn empty(self, alloc: Global, line: &mut Line) -> Made<LineWriter<W, S>> {
+    fn take_off(self, alloc: Global, keeps: bool, line: &mut Line) -> Option<LineWriter<W, S>> {
         match self.into_inner() {
             Ok(inner) => {
-                line.word("ok")?;
-                Ok(LineWriter::new(inner))
+                line.word("ok");
+                Some(LineWriter::new(inner))
             }
             Err(e) => {
-                let whole = format!(in alloc; "{e}")?;
-                show_refusal(e.error(), whole.as_str(), line)?;
-                let (_error, writer) = e.into_parts();
-                Ok(writer)
-            }
-        }
-    }
-
-    fn refuse(self, line: &mut Line) -> Printed {
-        match self.into_inner() {
-            Ok(_inner) => line.word("ok"),
-            Err(e) => {
-                let (error, _writer) = e.into_parts();
-                line.error(&error)
+                if keeps {
+                    show_refusal(alloc, &e, line);
+                }
+                let (error, writer) = e.into_parts();
+                if keeps {
+                    return Some(writer);
+                }
+                line.error(&error);
+                None
             }
         }
     }

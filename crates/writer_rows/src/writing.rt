@@ -6,48 +6,83 @@ ghost use Rattle.std.specs.Mem.{FitsInMemory};
 
 use super::tower::{Ground, Tower};
 use io_rows::calls::{expect, make_call, make_seek, new_journal, show_calls};
-use io_rows::fault::{Fault, Made};
+use io_rows::fault::Made;
 use io_rows::journal::Journal;
 use io_rows::line::Line;
 use io_rows::rows::{Call, Subject};
-use no_std_io2::io::Seek;
+use no_std_io2::io::{Seek, Write};
 use std::alloc::Global;
 use std::cell::RefCell;
 use std::rc::Rc;
+
+/// The columns of a tower over a recorder.
+pub const ALL: usize = 0;
+
+/// Those over a device that notes no call.
+pub const STATE: usize = 1;
+
+/// The bytes held alone, over such a device.
+pub const HELD: usize = 2;
+
+/// The calls alone.
+pub const CALLS: usize = 3;
 
 /// A tower and its device's journal. Beside the calls of a writer a row has these: `expect ANSWERS` sets the device's next answers,
 /// `below TEXT` writes by `get_mut`, `place N` moves the device, `into_inner` and `drop` put an empty level or tower in the place
 /// of the old one, and `into_error` keeps of a refused `into_inner` the error.
 #[derive(Drop)]
-pub struct Writing<T: Drop> {
-    pub alloc: Global,
-    pub tower: T,
-    pub journal: Rc<RefCell<Journal>>,
+pub struct Writing<T: Drop, const COLUMNS: usize> {
+    alloc: Global,
+    tower: T,
+    journal: Rc<RefCell<Journal>>,
 }
 
-// Where a row puts the device.
-fn place<T: Tower>(tower: &mut T, call: &Call<'_>, line: &mut Line) -> Made<()> {
-    match call.rest.parse::<u64>() {
-        Ok(position) => tower.place(position)?,
-        Err(_) => return Err(Fault::Malformed("no place behind a call")),
-    }
-    line.word("-")?;
-    Ok(())
-}
-
-// Makes a call that leaves the tower's levels in place.
-fn make_tower_call<T: Tower>(tower: &mut T, call: &Call<'_>, line: &mut Line) -> Made<()> {
+// Makes a call, and prints its answer; none where the tower is gone.
+fn make_tower_call<T: Tower>(
+    alloc: Global,
+    mut tower: T,
+    call: &Call<'_>,
+    line: &mut Line,
+) -> Option<T> {
     match call.word {
-        "below" => line.done(&tower.write_below(&call.bytes))?,
-        "place" => place(tower, call, line)?,
-        _ => make_call(tower, call, line)?,
+        "drop" => {
+            line.word("-");
+            return None;
+        }
+        "into_inner" => return tower.take_off(alloc, true, line),
+        "into_error" => return tower.take_off(alloc, false, line),
+        "below" => tower.write_below(&call.bytes, line),
+        "place" => tower.place(call.number(line) as u64, line),
+        _ => tower.call(call, line),
     }
-    Ok(())
+    Some(tower)
 }
 
-impl<T: Tower + Drop> Writing<T> {
+impl<T: Tower, const COLUMNS: usize> Writing<T, COLUMNS> {
+    /// A tower that stands already.
+    pub fn new(alloc: Global, tower: T, journal: Rc<RefCell<Journal>>) -> Writing<T, COLUMNS> {
+        Writing {
+            alloc,
+            tower,
+            journal,
+        }
+    }
+
+    // Prints the columns behind the answer.
+    fn show(&self, line: &mut Line) {
+        if COLUMNS == ALL || COLUMNS == STATE {
+            self.tower.show_taken(&self.journal, line);
+        }
+        if COLUMNS != CALLS {
+            self.tower.show_held(line);
+        }
+        if COLUMNS == ALL || COLUMNS == CALLS {
+            show_calls(&self.journal, line);
+        }
+    }
+
     // A tower over a device that does as the words of its ground say.
-    fn over(ground: Ground<'_>) -> Made<Writing<T>>
+    fn over(ground: Ground<'_>) -> Made<Writing<T, COLUMNS>>
         requires { FitsInMemory T.row }
     {
         let tower = T::over(&ground)?;
@@ -58,55 +93,39 @@ impl<T: Tower + Drop> Writing<T> {
         })
     }
 
-    // Prints the columns of what the device took, and what is held.
-    fn show(&self, line: &mut Line) -> Made<()> {
-        self.tower.show_taken(&self.journal, line)?;
-        self.tower.show_held(line)?;
-        Ok(())
-    }
-
     // Makes a call, and prints its answer.
-    fn call(self, call: &Call<'_>, line: &mut Line) -> Made<Writing<T>>
+    fn call(self, call: &Call<'_>, line: &mut Line) -> Made<Writing<T, COLUMNS>>
         requires { FitsInMemory T.row }
     {
-        let Writing {
-            alloc,
-            mut tower,
-            journal,
-        } = self;
-        line.column()?;
-        match call.word {
-            "drop" | "into_error" => {
-                if call.word == "drop" {
-                    drop(tower);
-                    line.word("-")?;
-                } else {
-                    tower.refuse(line)?;
-                }
-                return Writing::over(Ground {
-                    alloc,
-                    journal,
-                    words: "",
-                });
-            }
-            "into_inner" => tower = tower.empty(alloc, line)?,
-            "expect" => {
-                expect(alloc, &journal, call.rest)?;
-                line.word("-")?;
-            }
-            _ => make_tower_call(&mut tower, call, line)?,
+        if call.word == "expect" {
+            expect(self.alloc, &self.journal, call.rest)?;
+            line.word("-");
+            return Ok(self);
         }
-        Ok(Writing {
+        let Writing {
             alloc,
             tower,
             journal,
-        })
+        } = self;
+        match make_tower_call(alloc, tower, call, line) {
+            Some(tower) => Ok(Writing {
+                alloc,
+                tower,
+                journal,
+            }),
+            None => Writing::over(Ground {
+                alloc,
+                journal,
+                words: "",
+            }),
+        }
     }
 }
 
-impl<T: Tower + Drop> Subject for Writing<T> {
-    fn make(alloc: Global, words: &str) -> Made<Writing<T>> {
-        let journal = new_journal(alloc, words)?;
+impl<T: Tower, const COLUMNS: usize> Subject for Writing<T, COLUMNS> {
+    fn make(alloc: Global, words: &str) -> Made<Writing<T, COLUMNS>> {
+        let is_noted = COLUMNS == ALL || COLUMNS == CALLS;
+        let journal = new_journal(alloc, if is_noted { words } else { "" })?;
         Writing::over(Ground {
             alloc,
             journal,
@@ -114,82 +133,48 @@ impl<T: Tower + Drop> Subject for Writing<T> {
         })
     }
 
-    fn play(self, call: &Call<'_>, line: &mut Line) -> Made<Writing<T>> {
+    fn play(self, call: &Call<'_>, line: &mut Line) -> Made<Writing<T, COLUMNS>> {
+        line.column();
         let writing = self.call(call, line)?;
-        writing.show(line)?;
-        show_calls(&writing.journal, line)?;
+        writing.show(line);
         Ok(writing)
     }
 }
 
-/// The same, with the calls of a seeker.
+/// The same, with the calls of a seeker, for which the tower is lent so many times.
 #[derive(Drop)]
-pub struct Seeking<T: Drop> {
-    writing: Writing<T>,
+pub struct Seeking<T: Drop, const COLUMNS: usize, const LENT: usize> {
+    writing: Writing<T, COLUMNS>,
 }
 
-impl<T: Tower + Seek + Drop> Subject for Seeking<T> {
-    fn make(alloc: Global, words: &str) -> Made<Seeking<T>> {
+// Makes a call of a writer that seeks, which is a reference.
+fn make_lent_call<T: Write + Seek + Drop>(mut stream: T, call: &Call<'_>, line: &mut Line) -> bool {
+    if !make_seek(&mut stream, call, line) {
+        make_call(&mut stream, call, line);
+    }
+    true
+}
+
+impl<T: Tower + Write + Seek, const COLUMNS: usize, const LENT: usize> Subject
+    for Seeking<T, COLUMNS, LENT> {
+    fn make(alloc: Global, words: &str) -> Made<Seeking<T, COLUMNS, LENT>> {
         Ok(Seeking {
             writing: Writing::make(alloc, words)?,
         })
     }
 
-    fn play(self, call: &Call<'_>, line: &mut Line) -> Made<Seeking<T>> {
+    fn play(self, call: &Call<'_>, line: &mut Line) -> Made<Seeking<T, COLUMNS, LENT>> {
         let mut writing = self.writing;
-        line.column()?;
-        if !make_seek(&mut writing.tower, call, line)? {
-            make_tower_call(&mut writing.tower, call, line)?;
+        line.column();
+        let is_made = match LENT {
+            0 => make_seek(&mut writing.tower, call, line),
+            1 => make_lent_call(&mut writing.tower, call, line),
+            _ => make_lent_call(&mut &mut writing.tower, call, line),
+        };
+        if !is_made {
+            writing = writing.call(call, line)?;
         }
-        writing.show(line)?;
-        show_calls(&writing.journal, line)?;
+        writing.show(line);
         Ok(Seeking { writing })
-    }
-}
-
-/// A tower over a device that notes no call.
-#[derive(Drop)]
-pub struct Trying<T: Drop> {
-    pub writing: Writing<T>,
-}
-
-impl<T: Tower + Drop> Subject for Trying<T> {
-    fn make(alloc: Global, words: &str) -> Made<Trying<T>> {
-        let journal = new_journal(alloc, "")?;
-        let writing = Writing::over(Ground {
-            alloc,
-            journal,
-            words,
-        })?;
-        Ok(Trying { writing })
-    }
-
-    fn play(self, call: &Call<'_>, line: &mut Line) -> Made<Trying<T>> {
-        let writing = self.writing.call(call, line)?;
-        writing.show(line)?;
-        Ok(Trying { writing })
-    }
-}
-
-/// The same, with the calls of a seeker.
-#[derive(Drop)]
-pub struct Placing<T: Drop> {
-    writing: Writing<T>,
-}
-
-impl<T: Tower + Seek + Drop> Subject for Placing<T> {
-    fn make(alloc: Global, words: &str) -> Made<Placing<T>> {
-        let Trying { writing } = Trying::make(alloc, words)?;
-        Ok(Placing { writing })
-    }
-
-    fn play(self, call: &Call<'_>, line: &mut Line) -> Made<Placing<T>> {
-        let mut writing = self.writing;
-        line.column()?;
-        if !make_seek(&mut writing.tower, call, line)? {
-            make_tower_call(&mut writing.tower, call, line)?;
-        }
-        writing.show(line)?;
-        Ok(Placing { writing })
     }
 }
