@@ -32,6 +32,7 @@ pub mod journal;
 pub mod kinds;
 pub mod lent;
 pub mod line;
+pub mod named;
 pub mod noted;
 pub mod reads;
 pub mod recorder;

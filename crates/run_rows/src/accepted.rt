@@ -26,11 +26,11 @@ impl Subject for Joining {
         let calls = parse_calls(self.alloc, words.trim())?;
         let ops = ops_of(self.alloc, &calls)?;
         let replies = parse_replies(self.alloc, told.trim())?;
-        line.column()?;
+        line.column();
         match joined(self.alloc, &ops, &replies) {
-            Ok(Some(bytes)) => line.bytes(&bytes)?,
-            Ok(None) => line.word("none")?,
-            Err(_refused) => return Err(Fault::Memory),
+            Ok(Some(bytes)) => line.bytes(&bytes),
+            Ok(None) => line.word("none"),
+            Err(_refused) => line.cut(),
         }
         Ok(self)
     }

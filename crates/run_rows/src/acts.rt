@@ -1,19 +1,23 @@
 // The acts of a device as a row has them, `take 2, zero, fail BrokenPipe`, and the events of a feed, `ab!c`.
-use io_bench::{Act, Event};
+use io_bench::{Act, Event, Feed};
 use io_rows::fault::{Fault, Made};
 use io_rows::kinds::kind_of_name;
-use io_rows::line::{Line, Printed};
+use io_rows::line::Line;
 use no_std_io2::io::ErrorKind;
-use std::alloc::{AllocError, Global};
+use std::alloc::Global;
 
 fn parse_act(words: &str) -> Option<Act> {
-    if words == "zero" {
-        return Some(Act::Zero);
-    }
-    let (word, rest) = words.split_once(" ")?;
+    let (word, rest) = words.split_once(" ").unwrap_or((words, ""));
     match word {
-        "take" => Some(Act::Take(rest.parse::<usize>().ok()?)),
-        "fail" => Some(Act::Fail(kind_of_name(rest)?)),
+        "zero" => Some(Act::Zero),
+        "take" => match rest.parse::<usize>() {
+            Ok(n) => Some(Act::Take(n)),
+            Err(_) => None,
+        },
+        "fail" => match kind_of_name(rest) {
+            Some(kind) => Some(Act::Fail(kind)),
+            None => None,
+        },
         _ => None,
     }
 }
@@ -33,43 +37,62 @@ pub fn parse_acts(alloc: Global, words: &str) -> Made<Vec<Act>> {
     Ok(acts)
 }
 
-// A character stands for a byte, but for these: a broken pipe, an interruption, a device's own end, and its want of memory.
+// A character stands for a byte, but for these: a broken pipe, an interruption, a device's own end, its want of memory, and that
+// it was late.
 fn event_of(byte: u8) -> Event {
     match byte {
         b'!' => Event::Fail(ErrorKind::BrokenPipe),
         b'~' => Event::Fail(ErrorKind::Interrupted),
         b'?' => Event::Fail(ErrorKind::UnexpectedEof),
         b'#' => Event::Fail(ErrorKind::OutOfMemory),
+        b'%' => Event::Fail(ErrorKind::TimedOut),
         _ => Event::Byte(byte),
     }
 }
 
-/// The events that a text stands for.
-pub fn events_of(alloc: Global, script: &[u8]) -> Result<Vec<Event>, AllocError> {
-    let mut events = Vec::new(alloc);
-    'bytes: for byte in script {
-        events.push(event_of(*byte))?;
+/// The character that stands for a failure.
+pub fn mark_of(kind: ErrorKind) -> u8 {
+    match kind {
+        ErrorKind::BrokenPipe => b'!',
+        ErrorKind::Interrupted => b'~',
+        ErrorKind::UnexpectedEof => b'?',
+        ErrorKind::OutOfMemory => b'#',
+        ErrorKind::TimedOut => b'%',
+        _ => b'*',
     }
-    Ok(events)
 }
 
-fn show_event(event: Event, line: &mut Line) -> Printed {
-    match event {
-        Event::Byte(b) => line.bytes(&[b]),
-        Event::Fail(ErrorKind::BrokenPipe) => line.word("!"),
-        Event::Fail(ErrorKind::Interrupted) => line.word("~"),
-        Event::Fail(ErrorKind::UnexpectedEof) => line.word("?"),
-        Event::Fail(_) => line.word("#"),
+/// The events that a text stands for.
+pub fn events_of(alloc: Global, script: &[u8], line: &mut Line) -> Vec<Event> {
+    let mut events = Vec::new(alloc);
+    'bytes: for byte in script {
+        if events.push(event_of(*byte)).is_err() {
+            line.cut();
+        }
+    }
+    events
+}
+
+/// The feed of a line that says its piece and its events.
+pub fn parse_feed(alloc: Global, words: &str) -> Made<Feed> {
+    let (piece, script) = words.split_once(" ").unwrap_or((words, ""));
+    let mut line = Line::new(alloc);
+    let events = events_of(alloc, script.as_bytes(), &mut line);
+    match piece.parse::<usize>() {
+        Ok(n) if n > 0 && !line.is_cut() => Ok(Feed::new(events, n)),
+        _ => Err(Fault::Malformed("no feed of such pieces")),
     }
 }
 
 /// Prints the events that are left, and none as a dash.
-pub fn show_left(events: &[Event], line: &mut Line) -> Printed {
+pub fn show_left(events: &[Event], line: &mut Line) {
     if events.is_empty() {
-        return line.word("-");
+        line.word("-");
     }
     'events: for event in events {
-        show_event(*event, line)?;
+        line.bytes(&[match *event {
+            Event::Byte(byte) => byte,
+            Event::Fail(kind) => mark_of(kind),
+        }]);
     }
-    Ok(())
 }

@@ -2,10 +2,12 @@
 //
 // A row is `ask` and the asks, each a run of its own; then how many met the end and how many failed, what the buffer holds, what
 // is left below, and how many inner reads there were since the row before, of a filling reader also how many at most.
-use super::acts::{events_of, show_left};
+ghost use Rattle.io_bench.specs.Asks.{AllFit};
+
+use super::acts::{parse_feed, show_left};
 use io_bench::{Ask, Feed, ReadTotals, Tally, run_reads};
 use io_rows::fault::{Fault, Made};
-use io_rows::line::{Line, Printed};
+use io_rows::line::Line;
 use io_rows::rows::{Call, Subject};
 use no_std_io2::io::BufReader;
 use std::alloc::Global;
@@ -20,21 +22,18 @@ pub trait Asked {
     where
         Self: Sized;
 
-    /// Makes an ask of this many bytes, `ROOM` at most, by its word.
-    fn ask(&mut self, word: &str, count: usize) -> Made<ReadTotals>;
+    /// Makes asks.
+    fn ask(&mut self, asks: &[Ask]) -> ReadTotals
+        requires { AllFit 16 asks.now };
 
     /// Prints what is held and what is left, a column each.
-    fn show(&self, line: &mut Line) -> Printed;
+    fn show(&self, line: &mut Line);
 
     /// How many inner reads there were.
     fn reads(&self) -> u64;
 
     /// How many bytes are held or left, where each inner read fills its buffer as far as there are some.
     fn filling(&self) -> Option<usize>;
-}
-
-fn no_such_ask() -> Fault {
-    Fault::Malformed("no such ask")
 }
 
 // The bytes of a slice, of which a line says the number.
@@ -48,21 +47,15 @@ impl Asked for BufReader<Tally<&'static [u8]>, 4> {
         }
     }
 
-    fn ask(&mut self, word: &str, count: usize) -> Made<ReadTotals> {
-        let mut buf = [0u8; ROOM];
-        Ok(match word {
-            "read" => run_reads(self, &[Ask::Read(count.min(ROOM))], &mut buf),
-            "exact" => run_reads(self, &[Ask::Exact(count.min(ROOM))], &mut buf),
-            "fill" => run_reads(self, &[Ask::Fill(count)], &mut buf),
-            _ => return Err(no_such_ask()),
-        })
+    fn ask(&mut self, asks: &[Ask]) -> ReadTotals {
+        run_reads(self, asks, &mut [0; ROOM])
     }
 
-    fn show(&self, line: &mut Line) -> Printed {
-        line.column()?;
-        line.bytes(self.buffer())?;
-        line.column()?;
-        line.bytes(self.get_ref().get_ref())
+    fn show(&self, line: &mut Line) {
+        line.column();
+        line.bytes(self.buffer());
+        line.column();
+        line.bytes(self.get_ref().get_ref());
     }
 
     fn reads(&self) -> u64 {
@@ -70,44 +63,28 @@ impl Asked for BufReader<Tally<&'static [u8]>, 4> {
     }
 
     fn filling(&self) -> Option<usize> {
-        Some(
-            self.get_ref()
-                .get_ref()
-                .len()
-                .wrapping_add(self.buffer().len()),
-        )
+        let left = self.get_ref().get_ref().len();
+        Some(left.wrapping_add(self.buffer().len()))
     }
 }
 
 impl Asked for BufReader<Tally<Feed>, 4> {
     fn make(alloc: Global, words: &str) -> Made<BufReader<Tally<Feed>, 4>> {
-        let Some((piece, script)) = words.split_once(" ") else {
-            return Err(Fault::Malformed("no piece and no events"));
-        };
-        match piece.parse::<usize>() {
-            Ok(n) if n > 0 => {
-                let feed = Feed::new(events_of(alloc, script.as_bytes())?, n);
-                Ok(BufReader::new(Tally::new(feed)))
-            }
-            _ => Err(Fault::Malformed("no length of a piece")),
+        match parse_feed(alloc, words) {
+            Ok(feed) => Ok(BufReader::new(Tally::new(feed))),
+            Err(fault) => Err(fault),
         }
     }
 
-    fn ask(&mut self, word: &str, count: usize) -> Made<ReadTotals> {
-        let mut buf = [0u8; ROOM];
-        Ok(match word {
-            "read" => run_reads(self, &[Ask::Read(count.min(ROOM))], &mut buf),
-            "exact" => run_reads(self, &[Ask::Exact(count.min(ROOM))], &mut buf),
-            "fill" => run_reads(self, &[Ask::Fill(count)], &mut buf),
-            _ => return Err(no_such_ask()),
-        })
+    fn ask(&mut self, asks: &[Ask]) -> ReadTotals {
+        run_reads(self, asks, &mut [0; ROOM])
     }
 
-    fn show(&self, line: &mut Line) -> Printed {
-        line.column()?;
-        line.bytes(self.buffer())?;
-        line.column()?;
-        show_left(self.get_ref().get_ref().left(), line)
+    fn show(&self, line: &mut Line) {
+        line.column();
+        line.bytes(self.buffer());
+        line.column();
+        show_left(self.get_ref().get_ref().left(), line);
     }
 
     fn reads(&self) -> u64 {
@@ -119,27 +96,41 @@ impl Asked for BufReader<Tally<Feed>, 4> {
     }
 }
 
-// Makes the asks of a row, and adds up what they come to.
-fn ask_all<R: Asked>(reader: &mut R, words: &str) -> Made<ReadTotals> {
-    let mut totals = ReadTotals {
-        at_end: 0,
-        failed: 0,
-    };
-    if words.is_empty() {
-        return Ok(totals);
+const NOTHING: ReadTotals = ReadTotals {
+    at_end: 0,
+    failed: 0,
+};
+
+// Makes an ask of this many bytes, of a read `ROOM` at most, by its word.
+fn ask<R: Asked>(reader: &mut R, word: &str, count: usize, line: &mut Line) -> ReadTotals {
+    match word {
+        "read" => reader.ask(&[Ask::Read(count.min(ROOM))]),
+        "exact" => reader.ask(&[Ask::Exact(count.min(ROOM))]),
+        "fill" => reader.ask(&[Ask::Fill(count)]),
+        _ => {
+            line.malformed("no such ask");
+            NOTHING
+        }
     }
-    'asks: for ask in words.split(", ") {
-        let Some((word, count)) = ask.split_once(" ") else {
-            return Err(no_such_ask());
-        };
+}
+
+// Makes the asks of a row, and adds up what they come to.
+fn ask_all<R: Asked>(reader: &mut R, words: &str, line: &mut Line) -> ReadTotals {
+    let mut totals = NOTHING;
+    if words.is_empty() {
+        return totals;
+    }
+    'asks: for words in words.split(", ") {
+        let (word, count) = words.split_once(" ").unwrap_or((words, ""));
         let Ok(count) = count.parse::<usize>() else {
-            return Err(no_such_ask());
+            line.malformed("no number of an ask");
+            return totals;
         };
-        let more = reader.ask(word, count)?;
+        let more = ask(reader, word, count, line);
         totals.at_end = totals.at_end.wrapping_add(more.at_end);
         totals.failed = totals.failed.wrapping_add(more.failed);
     }
-    Ok(totals)
+    totals
 }
 
 /// Asks of a reader.
@@ -150,26 +141,28 @@ pub struct Asking<R: Drop> {
 
 impl<R: Asked + Drop> Subject for Asking<R> {
     fn make(alloc: Global, words: &str) -> Made<Asking<R>> {
-        Ok(Asking {
-            reader: R::make(alloc, words)?,
-        })
+        match R::make(alloc, words) {
+            Ok(reader) => Ok(Asking { reader }),
+            Err(fault) => Err(fault),
+        }
     }
 
     fn play(mut self, call: &Call<'_>, line: &mut Line) -> Made<Asking<R>> {
         let reads = self.reader.reads();
         let before = self.reader.filling();
-        let totals = ask_all(&mut self.reader, call.rest)?;
-        line.column()?;
-        line.number(totals.at_end)?;
-        line.word(" ")?;
-        line.number(totals.failed)?;
-        self.reader.show(line)?;
-        line.column()?;
-        line.number(self.reader.reads().wrapping_sub(reads))?;
-        if let (Some(before), Some(after)) = (before, self.reader.filling()) {
+        line.column();
+        let totals = ask_all(&mut self.reader, call.rest, line);
+        line.number(totals.at_end);
+        line.word(" ");
+        line.number(totals.failed);
+        self.reader.show(line);
+        line.column();
+        line.number(self.reader.reads().wrapping_sub(reads));
+        if let Some(before) = before {
+            let after = self.reader.filling().unwrap_or(before);
             let taken = before.wrapping_sub(after) as u64;
-            line.word(" of ")?;
-            line.number((taken / 4).wrapping_add(totals.at_end).wrapping_add(1))?;
+            line.word(" of ");
+            line.number((taken / 4).wrapping_add(totals.at_end).wrapping_add(1));
         }
         Ok(self)
     }

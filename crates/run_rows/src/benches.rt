@@ -37,6 +37,12 @@ impl Bench for Faulty<Noted<Recorder>> {
     }
 }
 
+// A device that notes each call on this journal.
+fn device_of(alloc: Global, journal: &Rc<RefCell<Journal>>) -> Made<Noted<Recorder>> {
+    let recorder = Recorder::new(alloc, journal.clone()?, Name::Only);
+    Ok(Noted::new(recorder, journal.clone()?))
+}
+
 /// A writer, and its device's journal.
 #[derive(Drop)]
 pub struct BenchWrites<W: Drop> {
@@ -48,18 +54,15 @@ impl<W: Bench + Drop> Subject for BenchWrites<W> {
     fn make(alloc: Global, words: &str) -> Made<BenchWrites<W>> {
         let (acts, answers) = words.split_once("; ").unwrap_or(("", words));
         let journal = new_journal(alloc, answers)?;
-        let device = Noted::new(
-            Recorder::new(alloc, journal.clone()?, Name::Only),
-            journal.clone()?,
-        );
-        let writer = W::over(device, parse_acts(alloc, acts)?);
+        let acts = parse_acts(alloc, acts)?;
+        let writer = W::over(device_of(alloc, &journal)?, acts);
         Ok(BenchWrites { writer, journal })
     }
 
     fn play(mut self, call: &Call<'_>, line: &mut Line) -> Made<BenchWrites<W>> {
-        line.column()?;
-        make_call(&mut self.writer, call, line)?;
-        show_calls(&self.journal, line)?;
+        line.column();
+        make_call(&mut self.writer, call, line);
+        show_calls(&self.journal, line);
         Ok(self)
     }
 }
@@ -75,10 +78,7 @@ pub struct BenchReads {
 impl Subject for BenchReads {
     fn make(alloc: Global, words: &str) -> Made<BenchReads> {
         let journal = new_journal(alloc, words)?;
-        let reader = Tally::new(Noted::new(
-            Recorder::new(alloc, journal.clone()?, Name::Only),
-            journal.clone()?,
-        ));
+        let reader = Tally::new(device_of(alloc, &journal)?);
         Ok(BenchReads {
             alloc,
             reader,
@@ -87,9 +87,9 @@ impl Subject for BenchReads {
     }
 
     fn play(mut self, call: &Call<'_>, line: &mut Line) -> Made<BenchReads> {
-        line.column()?;
-        make_read(self.alloc, &mut self.reader, call, line)?;
-        show_calls(&self.journal, line)?;
+        line.column();
+        make_read(self.alloc, &mut self.reader, call, line);
+        show_calls(&self.journal, line);
         Ok(self)
     }
 }

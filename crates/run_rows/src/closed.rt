@@ -5,7 +5,7 @@
 ghost use Rattle.std.specs.Prelude.{⊤, refl, ◌<◌};
 
 use super::ops::{ops_of, parse_calls, show_replies};
-use io_bench::{Op, Sink, Tally, run_closed};
+use io_bench::{Sink, Tally, run_closed};
 use io_rows::fault::{Fault, Made};
 use io_rows::line::Line;
 use io_rows::rows::{Call, Subject};
@@ -22,7 +22,7 @@ pub struct Lengths {
 // Begins what is noted of one more call.
 fn begin_note(lengths: &mut Line) {
     if !lengths.is_empty() {
-        let _ = lengths.word(", ");
+        lengths.word(", ");
     }
 }
 
@@ -39,37 +39,27 @@ impl Write for Lengths {
 
     fn write(&mut self, buf: &[u8]) -> Result<usize> {
         begin_note(&mut self.lengths);
-        let _ = self.lengths.number(buf.len() as u64);
+        self.lengths.number(buf.len() as u64);
         self.sink.write(buf)
     }
 
     fn flush(&mut self) -> Result<()> {
         begin_note(&mut self.lengths);
-        let _ = self.lengths.word("flush");
+        self.lengths.word("flush");
         self.sink.flush()
     }
 
     ghost steady = { λ w h. refl };
 }
 
-// How many bytes the calls give, and how many of them are flushes.
-fn totals_of(ops: &[Op<'_>]) -> (u64, u64) {
+// The most inner writes that a run of `F` flushes and `N` bytes may take: `2 * (N / (S + 1)) + F + 1`.
+fn most_writes(calls: &[Call<'_>], size: u64) -> u64 {
     let mut given: u64 = 0;
     let mut flushes: u64 = 0;
-    'ops: for op in ops {
-        match op {
-            Op::Write(bytes) | Op::WriteAll(bytes) => {
-                given = given.wrapping_add(bytes.len() as u64);
-            }
-            Op::Flush => flushes = flushes.wrapping_add(1),
-        }
+    'calls: for call in calls {
+        given = given.wrapping_add(call.bytes.len() as u64);
+        flushes = flushes.wrapping_add(u64::from(call.word == "flush"));
     }
-    (given, flushes)
-}
-
-// The most inner writes that a run may take: `2 * (N / (S + 1)) + F + 1`.
-fn most_writes(ops: &[Op<'_>], size: u64) -> u64 {
-    let (given, flushes) = totals_of(ops);
     let sent = given / size.saturating_add(1).max(1);
     sent.wrapping_mul(2).wrapping_add(flushes).wrapping_add(1)
 }
@@ -97,14 +87,14 @@ fn run<const S: usize>(
     let Ok(tally) = run_closed::<Lengths, S>(tally, &ops, &mut replies) else {
         return Err(Fault::Memory);
     };
-    line.column()?;
-    show_replies(&replies, line)?;
-    line.column()?;
-    line.number(tally.writes().wrapping_sub(before))?;
-    line.word(" of ")?;
-    line.number(most_writes(&ops, S as u64))?;
-    line.column()?;
-    line.text(tally.get_ref().lengths.as_str())?;
+    line.column();
+    show_replies(&replies, line);
+    line.column();
+    line.number(tally.writes().wrapping_sub(before));
+    line.word(" of ");
+    line.number(most_writes(&calls, S as u64));
+    line.column();
+    line.text(tally.get_ref().lengths.as_str());
     Ok(tally)
 }
 

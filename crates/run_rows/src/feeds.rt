@@ -2,9 +2,9 @@
 //
 // A line `new` says the feed's piece and its events. A row is a call; then its answer, the bytes that it gave, the events
 // that are left and how many reads with room there were since the row before.
-use super::acts::{events_of, show_left};
+use super::acts::{parse_feed, show_left};
 use io_bench::{Feed, Tally};
-use io_rows::fault::{Fault, Made};
+use io_rows::fault::Made;
 use io_rows::line::Line;
 use io_rows::reads::make_read;
 use io_rows::rows::{Call, Subject};
@@ -19,30 +19,20 @@ pub struct Feeding {
 
 impl Subject for Feeding {
     fn make(alloc: Global, words: &str) -> Made<Feeding> {
-        let (piece, script) = match words.split_once(" ") {
-            Some(both) => both,
-            None => (words, ""),
-        };
-        match piece.parse::<usize>() {
-            Ok(n) if n > 0 => {
-                let feed = Feed::new(events_of(alloc, script.as_bytes())?, n);
-                let reader = Tally::new(Tally::new(feed));
-                Ok(Feeding { alloc, reader })
-            }
-            _ => Err(Fault::Malformed("no length of a piece")),
-        }
+        let reader = Tally::new(Tally::new(parse_feed(alloc, words)?));
+        Ok(Feeding { alloc, reader })
     }
 
     fn play(mut self, call: &Call<'_>, line: &mut Line) -> Made<Feeding> {
         let before = self.reader.reads();
-        line.column()?;
-        make_read(self.alloc, &mut self.reader, call, line)?;
-        line.column()?;
-        show_left(self.reader.get_ref().get_ref().left(), line)?;
-        line.column()?;
-        line.number(self.reader.reads().wrapping_sub(before))?;
+        line.column();
+        make_read(self.alloc, &mut self.reader, call, line);
+        line.column();
+        show_left(self.reader.get_ref().get_ref().left(), line);
+        line.column();
+        line.number(self.reader.reads().wrapping_sub(before));
         if self.reader.get_ref().reads() != self.reader.reads() {
-            line.word(", counted otherwise below")?;
+            line.word(", counted otherwise below");
         }
         Ok(self)
     }

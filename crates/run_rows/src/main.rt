@@ -12,9 +12,9 @@ mod ops;
 mod pieces;
 mod read_sweeps;
 mod runs;
-mod sources;
 mod sweeps;
 mod towers;
+mod write_sweeps;
 
 use accepted::Joining;
 use asks::Asking;
@@ -25,17 +25,17 @@ use io_bench::{Faulty, Feed, Tally};
 use io_rows::count::{Count, tell_fault};
 use io_rows::fault::Fault;
 use io_rows::files::{Tables, play_files};
+use io_rows::named::play_named;
 use io_rows::noted::Noted;
 use io_rows::recorder::Recorder;
 use io_rows::rows::play;
-use no_std_io2::io::{BufReader, BufWriter, Chain, LineWriter, Take};
+use no_std_io2::io::{BufReader, BufWriter, LineWriter};
 use pieces::Splitting;
-use read_sweeps::ReadSweeping;
 use runs::{Acting, Running};
 use std::alloc::Global;
 use std::io;
 use std::process::ExitCode;
-use sweeps::Sweeping;
+use sweeps::Sweeps;
 use towers::Device;
 
 // The tables of this program.
@@ -53,10 +53,9 @@ impl Tables for RunTables {
         match word {
             "run" => play_runs(rt, alloc, rest, table, count),
             "acts" => play_acts(rt, alloc, rest, table, count),
-            "sweep" => play_sizes(rt, alloc, rest, table, count),
-            "reads1" => play_reads::<R, 1>(rt, alloc, rest, table, count),
-            "reads2" => play_reads::<R, 2>(rt, alloc, rest, table, count),
-            "reads8" => play_reads::<R, 8>(rt, alloc, rest, table, count),
+            "sweep" | "reads1" | "reads2" | "reads8" => {
+                play_named::<Sweeps, R>(rt, alloc, name, table, count)
+            }
             _ => play_whole(rt, alloc, name, table, count),
         }
     }
@@ -98,75 +97,6 @@ fn play_acts<'a, R: Print>(
     match name {
         "Device" => play::<Acting<Device>, R>(rt, alloc, table, count),
         "BufWriter 8" => play::<Acting<BufWriter<Device, 8>>, R>(rt, alloc, table, count),
-        _ => tell_fault(rt, Fault::Malformed("no such stream"), name, count),
-    }
-}
-
-// Two levels have buffers of the same length.
-fn play_sizes<'a, R: Print>(
-    rt: &R,
-    alloc: Global,
-    name: &str,
-    table: &str,
-    count: Count<'a>,
-) -> io::Result<Count<'a>> {
-    match name.rsplit_once(" ") {
-        Some((name, "0")) => play_sweeps::<R, 0>(rt, alloc, name, table, count),
-        Some((name, "1")) => play_sweeps::<R, 1>(rt, alloc, name, table, count),
-        Some((name, "8")) => play_sweeps::<R, 8>(rt, alloc, name, table, count),
-        _ => tell_fault(rt, Fault::Malformed("no such size"), name, count),
-    }
-}
-
-fn play_sweeps<'a, R: Print, const S: usize>(
-    rt: &R,
-    alloc: Global,
-    name: &str,
-    table: &str,
-    count: Count<'a>,
-) -> io::Result<Count<'a>> {
-    match name {
-        "BufWriter" if S < 1 << 32 => play::<Sweeping<BufWriter<Device, S>>, R>(
-            rt, alloc, table, count,
-        ),
-        "LineWriter" if S < 1 << 32 => play::<Sweeping<LineWriter<Device, S>>, R>(
-            rt, alloc, table, count,
-        ),
-        "BufWriter BufWriter" if S < 1 << 32 => {
-            play::<Sweeping<BufWriter<BufWriter<Device, S>, S>>, R>(rt, alloc, table, count)
-        }
-        "LineWriter BufWriter" if S < 1 << 32 => {
-            play::<Sweeping<LineWriter<BufWriter<Device, S>, S>>, R>(rt, alloc, table, count)
-        }
-        _ => tell_fault(rt, Fault::Malformed("no such stream"), name, count),
-    }
-}
-
-fn play_reads<'a, R: Print, const S: usize>(
-    rt: &R,
-    alloc: Global,
-    name: &str,
-    table: &str,
-    count: Count<'a>,
-) -> io::Result<Count<'a>> {
-    match name {
-        "BufReader" if S < 1 << 32 => play::<ReadSweeping<BufReader<Feed, S>>, R>(
-            rt, alloc, table, count,
-        ),
-        "Chain BufReader" if S < 1 << 32 => {
-            play::<ReadSweeping<Chain<BufReader<Feed, S>, BufReader<Feed, S>>>, R>(
-                rt, alloc, table, count,
-            )
-        }
-        "BufReader Chain" if S < 1 << 32 => {
-            play::<ReadSweeping<BufReader<Chain<Feed, Feed>, S>>, R>(rt, alloc, table, count)
-        }
-        "Take BufReader Chain" if S < 1 << 32 => {
-            play::<ReadSweeping<Take<BufReader<Chain<Feed, Feed>, S>>>, R>(rt, alloc, table, count)
-        }
-        "BufReader Take Chain" if S < 1 << 32 => {
-            play::<ReadSweeping<BufReader<Take<Chain<Feed, Feed>>, S>>, R>(rt, alloc, table, count)
-        }
         _ => tell_fault(rt, Fault::Malformed("no such stream"), name, count),
     }
 }

@@ -2,7 +2,7 @@
 use io_bench::{Op, Reply};
 use io_rows::fault::{Fault, Made};
 use io_rows::kinds::kind_of_name;
-use io_rows::line::{Line, Printed};
+use io_rows::line::Line;
 use io_rows::rows::Call;
 use no_std_io2::io::Error;
 use std::alloc::Global;
@@ -23,17 +23,18 @@ pub fn parse_calls(alloc: Global, words: &str) -> Made<Vec<Call<'_>>> {
 pub fn ops_of<'a>(alloc: Global, calls: &'a [Call<'_>]) -> Made<Vec<Op<'a>>> {
     let mut ops = Vec::new(alloc);
     'calls: for call in calls {
-        ops.push(match call.word {
+        let op = match call.word {
             "write" => Op::Write(&call.bytes),
             "write_all" => Op::WriteAll(&call.bytes),
             "flush" => Op::Flush,
             _ => return Err(Fault::Malformed("no such call of a run")),
-        })?;
+        };
+        ops.push(op)?;
     }
     Ok(ops)
 }
 
-fn show_reply(reply: &Reply, line: &mut Line) -> Printed {
+fn show_reply(reply: &Reply, line: &mut Line) {
     match reply {
         Reply::Took(n) => line.number(*n as u64),
         Reply::Done => line.word("ok"),
@@ -42,26 +43,32 @@ fn show_reply(reply: &Reply, line: &mut Line) -> Printed {
 }
 
 /// Prints replies, a comma between two.
-pub fn show_replies(replies: &[Reply], line: &mut Line) -> Printed {
+pub fn show_replies(replies: &[Reply], line: &mut Line) {
     if replies.is_empty() {
-        return line.word("-");
+        line.word("-");
     }
     'replies: for (i, reply) in replies.iter().enumerate() {
         if i > 0 {
-            line.word(", ")?;
+            line.word(", ");
         }
-        show_reply(reply, line)?;
+        show_reply(reply, line);
     }
-    Ok(())
 }
 
-fn parse_reply(word: &str) -> Option<Reply> {
-    if word == "ok" {
-        return Some(Reply::Done);
+fn parse_failure(word: &str) -> Made<Reply> {
+    match kind_of_name(word.strip_prefix("!").unwrap_or("")) {
+        Some(kind) => Ok(Reply::Failed(Error::from(kind))),
+        None => Err(Fault::Malformed("no such reply")),
     }
-    match word.strip_prefix("!") {
-        Some(name) => Some(Reply::Failed(Error::from(kind_of_name(name)?))),
-        None => Some(Reply::Took(word.parse::<usize>().ok()?)),
+}
+
+fn parse_reply(word: &str) -> Made<Reply> {
+    if word == "ok" {
+        return Ok(Reply::Done);
+    }
+    match word.parse::<usize>() {
+        Ok(n) => Ok(Reply::Took(n)),
+        Err(_) => parse_failure(word),
     }
 }
 
@@ -72,10 +79,7 @@ pub fn parse_replies(alloc: Global, words: &str) -> Made<Vec<Reply>> {
         return Ok(replies);
     }
     'replies: for word in words.split(", ") {
-        match parse_reply(word) {
-            Some(reply) => replies.push(reply)?,
-            None => return Err(Fault::Malformed("no such reply")),
-        }
+        replies.push(parse_reply(word)?)?;
     }
     Ok(replies)
 }

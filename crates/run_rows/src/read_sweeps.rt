@@ -1,298 +1,268 @@
 // Each tower of readers over feeds with an interruption, a fault or an early end at each place of the first, in pieces of one
-// byte and of three: each call gives a front of what the tower is to give, and all calls give all of it.
+// byte and of three: what comes is a front of what the tower is to give, and all of it in the end.
 //
 // A row is a call, which is made until the end was met twice; then how many runs that were, or the first that goes wrong.
-use super::sources::{Feeds, Source};
-use io_bench::Event;
+use super::acts::{events_of, mark_of};
+use io_bench::Feed;
 use io_rows::fault::{Fault, Made};
-use io_rows::line::{Line, Printed};
-use io_rows::rows::{Call, Subject};
-use no_std_io2::io::{BufRead, ErrorKind, Read, Result};
-use std::alloc::{AllocError, Global};
-use std::marker::PhantomData;
+use io_rows::line::Line;
+use io_rows::rows::Call;
+use no_std_io2::io::{BufRead, BufReader, Chain, ErrorKind, Read, Result, Take};
+use std::alloc::Global;
 
-const FIRST: &[u8] = b"abcde";
-
-const SECOND: &[u8] = b"vwxyz";
-
-// What befalls a feed at its place.
-#[derive(Clone, Copy)]
-enum Mishap {
-    Fail(ErrorKind),
-    End,
-}
-
-const MISHAPS: [Mishap; 3] = [
-    Mishap::Fail(ErrorKind::Interrupted),
-    Mishap::Fail(ErrorKind::BrokenPipe),
-    Mishap::End,
+// What the first feed gives, by the marks of `acts`.
+const FIRST: [&str; 18] = [
+    "~abcde", "a~bcde", "ab~cde", "abc~de", "abcd~e", "abcde~", "!abcde", "a!bcde", "ab!cde",
+    "abc!de", "abcd!e", "abcde!", "", "a", "ab", "abc", "abcd", "abcde",
 ];
 
-fn append(events: &mut Vec<Event>, bytes: &[u8]) -> std::result::Result<(), AllocError> {
-    'bytes: for byte in bytes {
-        events.push(Event::Byte(*byte))?;
-    }
-    Ok(())
-}
+// What the second one gives.
+const SECOND: &str = "vw%xyz";
 
-// These bytes, with the mishap before the byte at this place.
-fn events(
-    alloc: Global,
-    bytes: &[u8],
-    place: usize,
-    mishap: Mishap,
-) -> std::result::Result<Vec<Event>, AllocError> {
-    let mut events = Vec::new(alloc);
-    let (before, after) = bytes.split_at(place.min(bytes.len()));
-    append(&mut events, before)?;
-    if let Mishap::Fail(kind) = mishap {
-        events.push(Event::Fail(kind))?;
-        append(&mut events, after)?;
-    }
-    Ok(events)
-}
-
-// A call of a reader.
-#[derive(Clone, Copy)]
-enum Ask {
-    Read(usize),
-    ReadExact(usize),
-    ReadToEnd,
-    ReadUntil(u8),
-    NextByte,
-    Pass,
-}
-
-fn parse_ask(call: &Call<'_>) -> Made<Ask> {
-    Ok(match call.word {
-        "read" => Ask::Read(call.number()?.min(4)),
-        "read_exact" => Ask::ReadExact(call.number()?.min(4)),
-        "read_to_end" => Ask::ReadToEnd,
-        "read_until" => Ask::ReadUntil(call.bytes.first().copied().unwrap_or(b'\n')),
-        "next" => Ask::NextByte,
-        "pass" => Ask::Pass,
-        _ => return Err(Fault::Malformed("no such call")),
-    })
-}
+// Where the limit of a tower with one lies.
+const LIMIT: usize = 7;
 
 // What stands in a byte that no call has written.
 const UNWRITTEN: u8 = b'.';
 
-fn read<R: Read>(r: &mut R, room: usize, given: &mut Vec<u8>) -> Result<bool> {
-    let mut buf = [UNWRITTEN; 4];
-    let n = r.read(&mut buf[..room.min(4)])?;
-    given.extend_from_slice(&buf[..n])?;
-    Ok(n == 0)
+// Appends what a call gave; whether that is nothing.
+fn append(got: &mut Vec<u8>, given: &[u8]) -> Result<bool> {
+    got.extend_from_slice(given)?;
+    Ok(given.is_empty())
 }
 
-fn read_exact<R: Read>(r: &mut R, room: usize, given: &mut Vec<u8>) -> Result<bool> {
+fn read<R: Read>(r: &mut R, room: usize, got: &mut Vec<u8>) -> Result<bool> {
     let mut buf = [UNWRITTEN; 4];
-    let answer = r.read_exact(&mut buf[..room.min(4)]);
-    'written: for byte in buf {
-        if byte != UNWRITTEN {
-            given.extend_from_slice(&[byte])?;
-        }
-    }
-    match answer {
-        Ok(()) => Ok(false),
+    match r.read(&mut buf[..room.min(4)]) {
+        Ok(n) => append(got, &buf[..n]),
         Err(e) => Err(e),
     }
 }
 
-fn next_byte<R: Read>(r: &mut R, given: &mut Vec<u8>) -> Result<bool> {
+// How many bytes of a buffer a call has written.
+fn written(buf: &[u8]) -> usize {
+    let mut written: usize = 0;
+    'bytes: for byte in buf {
+        written = written.wrapping_add(usize::from(*byte != UNWRITTEN));
+    }
+    written
+}
+
+// All of the room where the call says so, and else what was written.
+fn read_exact<R: Read>(r: &mut R, room: usize, got: &mut Vec<u8>) -> Result<bool> {
+    let mut buf = [UNWRITTEN; 4];
+    match r.read_exact(&mut buf[..room.min(4)]) {
+        Ok(()) => append(got, &buf[..room.min(4)]),
+        Err(e) => {
+            let _ = append(got, &buf[..written(&buf).min(4)]);
+            Err(e)
+        }
+    }
+}
+
+fn read_to_end<R: Read>(r: &mut R, got: &mut Vec<u8>) -> Result<bool> {
+    let before = got.len();
+    let n = r.read_to_end(got)?;
+    got.resize(before.saturating_add(n), UNWRITTEN)?;
+    Ok(true)
+}
+
+fn read_until<R: BufRead>(r: &mut R, delim: &[u8], got: &mut Vec<u8>) -> Result<bool> {
+    let before = got.len();
+    let n = r.read_until(delim.first().copied().unwrap_or(b'\n'), got)?;
+    got.resize(before.saturating_add(n), UNWRITTEN)?;
+    Ok(n == 0)
+}
+
+fn next_byte<R: Read>(r: &mut R, got: &mut Vec<u8>) -> Result<bool> {
     match r.by_ref().bytes().next() {
         None => Ok(true),
-        Some(Ok(byte)) => {
-            given.extend_from_slice(&[byte])?;
-            Ok(false)
-        }
+        Some(Ok(byte)) => append(got, &[byte]),
         Some(Err(e)) => Err(e),
     }
 }
 
-fn pass<R: BufRead>(r: &mut R, given: &mut Vec<u8>) -> Result<bool> {
+fn pass<R: BufRead>(r: &mut R, got: &mut Vec<u8>) -> Result<bool> {
     let lent = r.fill_buf()?;
     let n = lent.len().min(2);
-    given.extend_from_slice(&lent[..n])?;
+    let is_end = append(got, &lent[..n])?;
     r.consume(n);
-    Ok(n == 0)
+    Ok(is_end)
 }
 
 // Makes a call, appends the bytes that it gave, as many as it says, and hands on its answer: whether it met the end.
-fn make<R: BufRead>(r: &mut R, ask: Ask, given: &mut Vec<u8>) -> Result<bool> {
-    match ask {
-        Ask::Read(room) => read(r, room, given),
-        Ask::ReadExact(room) => read_exact(r, room, given),
-        Ask::ReadToEnd => {
-            let n = r.read_to_end(given)?;
-            given.resize(n, UNWRITTEN)?;
+fn make<R: BufRead>(
+    r: &mut R,
+    call: &Call<'_>,
+    got: &mut Vec<u8>,
+    line: &mut Line,
+) -> Result<bool> {
+    match call.word {
+        "read" => read(r, call.number(line), got),
+        "read_exact" => read_exact(r, call.number(line), got),
+        "read_to_end" => read_to_end(r, got),
+        "read_until" => read_until(r, &call.bytes, got),
+        "next" => next_byte(r, got),
+        "pass" => pass(r, got),
+        _ => {
+            line.malformed("no such call");
             Ok(true)
         }
-        Ask::ReadUntil(delim) => {
-            let n = r.read_until(delim, given)?;
-            given.resize(n, UNWRITTEN)?;
-            Ok(n == 0)
-        }
-        Ask::NextByte => next_byte(r, given),
-        Ask::Pass => pass(r, given),
     }
 }
 
-// The place behind an interruption that a call passes over, and else the same.
-fn past_interruptions(events: &[Event], place: usize, passes: bool) -> usize {
-    let mut at = place;
-    'events: for event in events.iter().skip(place) {
-        if !passes || *event != Event::Fail(ErrorKind::Interrupted) {
-            break;
-        }
-        at = at.wrapping_add(1);
+// The same, with a mark for a failure.
+fn meets_end<R: BufRead>(r: &mut R, call: &Call<'_>, got: &mut Vec<u8>, line: &mut Line) -> bool {
+    let kind = match make(r, call, got, line) {
+        Ok(is_end) => return is_end,
+        Err(e) => e.kind(),
+    };
+    if kind != ErrorKind::UnexpectedEof && got.push(mark_of(kind)).is_err() {
+        line.cut();
     }
-    at
+    kind == ErrorKind::UnexpectedEof
 }
 
-// The place behind these bytes, where they come next.
-fn behind(events: &[Event], place: usize, bytes: &[u8], passes: bool) -> Option<usize> {
-    let mut at = place;
-    'bytes: for byte in bytes {
-        at = past_interruptions(events, at, passes);
-        if events.get(at) != Some(&Event::Byte(*byte)) {
-            return None;
-        }
-        at = at.wrapping_add(1);
-    }
-    Some(at)
-}
-
-// How many bytes a call that succeeds has given, where that is sure.
-fn whole_length(ask: Ask) -> Option<usize> {
-    match ask {
-        Ask::ReadExact(room) => Some(room),
-        _ => None,
-    }
-}
-
-// The place behind what a call has taken, where its answer and its bytes are what comes next.
-fn after(
-    events: &[Event],
-    place: usize,
-    ask: Ask,
-    bytes: &[u8],
-    answer: &Result<bool>,
-) -> Option<usize> {
-    let passes = !matches!(ask, Ask::Read(_) | Ask::Pass);
-    let at = behind(events, place, bytes, passes)?;
-    match answer {
-        Ok(false) if whole_length(ask).is_some_and(|n| n != bytes.len()) => None,
-        Ok(false) => Some(at),
-        Ok(true) => at_end(events, past_interruptions(events, at, passes)),
-        Err(e) if e.kind() == ErrorKind::UnexpectedEof => {
-            at_end(events, past_interruptions(events, at, passes))
-        }
-        Err(e)
-            if events.get(past_interruptions(events, at, passes)) == Some(&Event::Fail(e.kind())) =>
-            { Some(past_interruptions(events, at, passes).wrapping_add(1)) }
-        Err(_) => None,
-    }
-}
-
-// A place that is the end.
-fn at_end(events: &[Event], at: usize) -> Option<usize> {
-    if at == events.len() { Some(at) } else { None }
-}
-
-// Makes one call again and again until the end was met twice: whether all came, in order.
-fn read_all<R: BufRead>(alloc: Global, r: &mut R, ask: Ask, events: &[Event]) -> bool {
-    let mut place = 0;
+// Makes one call again and again until the end was met twice with nothing before it: whether all came, in order.
+fn gives<R: BufRead>(
+    alloc: Global,
+    r: &mut R,
+    call: &Call<'_>,
+    all: &[u8],
+    line: &mut Line,
+) -> bool {
+    let mut got = Vec::new(alloc);
     let mut ends: u64 = 0;
     'calls: for _ in 0..40 {
-        let mut given = Vec::new(alloc);
-        let answer = make(r, ask, &mut given);
-        match after(events, place, ask, &given, &answer) {
-            None => return false,
-            Some(at) if at == place => ends = ends.wrapping_add(1),
-            Some(at) => place = at,
+        let before = got.len();
+        if meets_end(r, call, &mut got, line) {
+            if got.as_slice() != all {
+                return false;
+            }
+            ends = ends.wrapping_add(u64::from(got.len() == before));
         }
         if ends == 2 {
-            return place == events.len();
+            return true;
         }
     }
     false
 }
 
-fn run<T: Source + Drop>(
+// A run: a kind of tower, what its first feed gives, and the length of the pieces.
+#[derive(Clone, Copy)]
+struct Run<'r> {
     alloc: Global,
-    ask: Ask,
-    place: usize,
-    mishap: Mishap,
+    kind: &'r str,
+    first: &'r str,
     piece: usize,
-) -> Made<bool> {
-    let first = events(alloc, FIRST, place, mishap)?;
-    let second = events(alloc, SECOND, 2, Mishap::Fail(ErrorKind::TimedOut))?;
-    let feeds = Feeds {
-        first,
-        second,
-        piece,
-    };
-    let expected = T::expected(&feeds, alloc)?;
-    let mut tower = T::over(feeds)?;
-    Ok(read_all(alloc, &mut tower, ask, &expected))
 }
 
-fn show_place(place: usize, piece: usize, line: &mut Line) -> Printed {
-    line.word("another reading before byte ")?;
-    line.number(place as u64)?;
-    line.word(" in pieces of ")?;
-    line.number(piece as u64)
+impl<'r> Run<'r> {
+    fn feed(self, script: &str, line: &mut Line) -> Feed {
+        Feed::new(
+            events_of(self.alloc, script.as_bytes(), line),
+            self.piece.max(1),
+        )
+    }
+
+    fn first(self, line: &mut Line) -> Feed {
+        self.feed(self.first, line)
+    }
+
+    fn second(self, line: &mut Line) -> Feed {
+        self.feed(SECOND, line)
+    }
+
+    // What it is to give: the bytes up to its limit, and a mark for each failure that the call does not pass over.
+    fn expected(self, call: &str) -> Made<Vec<u8>> {
+        let mut all = Vec::from_slice(self.alloc, self.first.as_bytes())?;
+        if self.kind != "BufReader" {
+            all.extend_from_slice(SECOND.as_bytes())?;
+        }
+        let is_limited = self.kind.starts_with("Take") || self.kind.starts_with("BufReader Take");
+        let limit = if is_limited { LIMIT } else { all.len() };
+        front(self.alloc, &all, limit, call != "read" && call != "pass")
+    }
 }
 
-// Every mishap at a place, in pieces of this length; how many runs, or none where one goes wrong.
-fn sweep_mishaps<T: Source + Drop>(
+// The front with so many bytes, of which a call may pass over the interruptions.
+fn front(alloc: Global, all: &[u8], limit: usize, passes: bool) -> Made<Vec<u8>> {
+    let mut front = Vec::new(alloc);
+    let mut bytes: usize = 0;
+    'events: for event in all {
+        if bytes < limit && !(passes && *event == b'~') {
+            front.extend_from_slice(&[*event])?;
+        }
+        bytes = bytes.wrapping_add(usize::from(event.is_ascii_alphabetic()));
+    }
+    Ok(front)
+}
+
+fn chain(run: Run<'_>, line: &mut Line) -> Chain<Feed, Feed> {
+    run.first(line).chain(run.second(line))
+}
+
+// Makes the calls of the tower of a run: whether all came, in order.
+fn gives_by<const S: usize>(run: Run<'_>, call: &Call<'_>, all: &[u8], line: &mut Line) -> bool {
+    if S == 0 || S >= 1 << 32 {
+        return false;
+    }
+    match run.kind {
+        "BufReader" => {
+            let mut tower = BufReader::<Feed, S>::new(run.first(line));
+            gives(run.alloc, &mut tower, call, all, line)
+        }
+        "Chain BufReader" => {
+            let first = BufReader::<Feed, S>::new(run.first(line));
+            let second = BufReader::<Feed, S>::new(run.second(line));
+            gives(run.alloc, &mut first.chain(second), call, all, line)
+        }
+        "BufReader Chain" => {
+            let mut tower = BufReader::<Chain<Feed, Feed>, S>::new(chain(run, line));
+            gives(run.alloc, &mut tower, call, all, line)
+        }
+        "Take BufReader Chain" => {
+            let tower = BufReader::<Chain<Feed, Feed>, S>::new(chain(run, line));
+            gives(run.alloc, &mut tower.take(LIMIT as u64), call, all, line)
+        }
+        "BufReader Take Chain" => {
+            let limited = chain(run, line).take(LIMIT as u64);
+            let mut tower = BufReader::<Take<Chain<Feed, Feed>>, S>::new(limited);
+            gives(run.alloc, &mut tower, call, all, line)
+        }
+        _ => {
+            line.malformed("no such tower of readers");
+            false
+        }
+    }
+}
+
+/// Makes the runs of a call of the towers of a kind.
+pub fn sweep_reads<const S: usize>(
     alloc: Global,
-    ask: Ask,
-    place: usize,
-    piece: usize,
+    kind: &str,
+    call: &Call<'_>,
     line: &mut Line,
-) -> Made<Option<u64>> {
-    let mut runs: u64 = 0;
-    'mishaps: for mishap in MISHAPS {
-        if !run::<T>(alloc, ask, place, mishap, piece)? {
-            show_place(place, piece, line)?;
-            return Ok(None);
-        }
-        runs = runs.wrapping_add(1);
-    }
-    Ok(Some(runs))
-}
-
-/// A kind of tower.
-#[derive(Drop)]
-pub struct ReadSweeping<T: Drop> {
-    alloc: Global,
-    kind: PhantomData<T>,
-}
-
-impl<T: Source + Drop> Subject for ReadSweeping<T> {
-    fn make(alloc: Global, _words: &str) -> Made<ReadSweeping<T>> {
-        Ok(ReadSweeping {
+) -> Made<()> {
+    'runs: for number in 0..2 * FIRST.len() {
+        let first = FIRST[number / 2];
+        let piece = number % 2 * 2 + 1;
+        let run = Run {
             alloc,
-            kind: PhantomData,
-        })
-    }
-
-    fn play(self, call: &Call<'_>, line: &mut Line) -> Made<ReadSweeping<T>> {
-        let ask = parse_ask(call)?;
-        line.column()?;
-        let mut runs: u64 = 0;
-        'places: for place in 0..12 {
-            // Each place in two lengths of pieces.
-            let piece = if place % 2 == 0 { 1 } else { 3 };
-            match sweep_mishaps::<T>(self.alloc, ask, place / 2, piece, line)? {
-                Some(more) => runs = runs.wrapping_add(more),
-                None => return Ok(self),
-            }
+            kind,
+            first,
+            piece,
+        };
+        let all = run.expected(call.word)?;
+        if !gives_by::<S>(run, call, &all, line) {
+            line.word("another reading of ");
+            line.word(first);
+            line.word(" in pieces of ");
+            line.number(piece as u64);
+            return Ok(());
         }
-        line.number(runs)?;
-        line.word(" runs")?;
-        Ok(self)
     }
+    line.number(2 * FIRST.len() as u64);
+    line.word(" runs");
+    Ok(())
 }

@@ -30,8 +30,8 @@ fn run<W: Write>(alloc: Global, w: &mut W, call: &Call<'_>, line: &mut Line) -> 
     if run_writes(w, &ops, &mut replies).is_err() {
         return Err(Fault::Memory);
     }
-    line.column()?;
-    show_replies(&replies, line)?;
+    line.column();
+    show_replies(&replies, line);
     Ok(())
 }
 
@@ -56,9 +56,9 @@ impl<T: Tower<Recorder> + Drop> Subject for Running<T> {
 
     fn play(mut self, call: &Call<'_>, line: &mut Line) -> Made<Running<T>> {
         run(self.alloc, &mut self.tower, call, line)?;
-        show_out(&self.journal, line)?;
-        show_held(&self.tower, line)?;
-        show_calls(&self.journal, line)?;
+        show_out(&self.journal, line);
+        show_held(&self.tower, line);
+        show_calls(&self.journal, line);
         Ok(self)
     }
 }
@@ -81,9 +81,9 @@ impl<T: Tower<Device> + Drop> Subject for Acting<T> {
 
     fn play(mut self, call: &Call<'_>, line: &mut Line) -> Made<Acting<T>> {
         run(self.alloc, &mut self.tower, call, line)?;
-        line.column()?;
-        line.bytes(self.tower.device().get_ref())?;
-        show_held(&self.tower, line)?;
+        line.column();
+        line.bytes(self.tower.device().get_ref());
+        show_held(&self.tower, line);
         Ok(self)
     }
 }

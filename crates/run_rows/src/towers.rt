@@ -1,8 +1,9 @@
 // Towers of writers over one device, which can be looked at.
 use io_bench::Faulty;
-use io_rows::line::{Line, Printed};
+use io_rows::line::Line;
 use io_rows::recorder::Recorder;
 use no_std_io2::io::{BufWriter, LineWriter, Write};
+use std::alloc::AllocError;
 
 /// A device of faults, whose bytes out are its vector's.
 pub type Device = Faulty<Vec<u8>>;
@@ -17,28 +18,31 @@ pub trait Tower<D>: Write {
     /// What the device is.
     fn device(&self) -> &D;
 
-    /// What a level holds, the outer one being level 0.
-    fn held(&self, level: usize) -> Option<&[u8]>;
+    /// What a level holds, the outer one being level 0. A device holds nothing.
+    fn held(&self, _level: usize) -> Option<&[u8]> {
+        None
+    }
 
     /// Whether each buffer that sends lines has no newline, or ends in one.
-    fn keeps_lines(&self) -> bool;
+    fn keeps_lines(&self) -> bool {
+        true
+    }
 }
 
 /// Prints a column of what each level holds, the outer one first.
-pub fn show_held<D, T: Tower<D>>(tower: &T, line: &mut Line) -> Printed {
+pub fn show_held<D, T: Tower<D>>(tower: &T, line: &mut Line) {
     'levels: for level in 0..3 {
         if let Some(held) = tower.held(level) {
-            line.column()?;
-            line.bytes(held)?;
+            line.column();
+            line.bytes(held);
         }
     }
-    Ok(())
 }
 
 /// Appends what is held, the inner level's bytes first.
-pub fn push_held<D, T: Tower<D>>(tower: &T, bytes: &mut Vec<u8>) -> Printed {
-    'levels: for level in [2, 1, 0] {
-        if let Some(held) = tower.held(level) {
+pub fn push_held<D, T: Tower<D>>(tower: &T, bytes: &mut Vec<u8>) -> Result<(), AllocError> {
+    'levels: for above in 0..3usize {
+        if let Some(held) = tower.held(2usize.saturating_sub(above)) {
             bytes.extend_from_slice(held)?;
         }
     }
@@ -53,14 +57,6 @@ impl Tower<Device> for Device {
     fn device(&self) -> &Device {
         self
     }
-
-    fn held(&self, _level: usize) -> Option<&[u8]> {
-        None
-    }
-
-    fn keeps_lines(&self) -> bool {
-        true
-    }
 }
 
 impl Tower<Recorder> for Recorder {
@@ -70,14 +66,6 @@ impl Tower<Recorder> for Recorder {
 
     fn device(&self) -> &Recorder {
         self
-    }
-
-    fn held(&self, _level: usize) -> Option<&[u8]> {
-        None
-    }
-
-    fn keeps_lines(&self) -> bool {
-        true
     }
 }
 
