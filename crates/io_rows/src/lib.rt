@@ -33,6 +33,7 @@ pub mod kinds;
 pub mod lent;
 pub mod line;
 pub mod noted;
+pub mod player;
 pub mod reads;
 pub mod recorder;
 pub mod rows;
