@@ -2,19 +2,64 @@
 //! them.
 #![tactic(auto)]
 
+mod boxes;
 mod copying;
 mod cursors;
-mod feeds;
-mod groups;
-mod reading;
+mod items;
+mod levels;
+mod readers;
 mod room;
-mod source;
-mod streams;
+mod scripts;
 
-use io_rows::files::play_files;
+use io_rows::count::Count;
+use io_rows::fault::{Fault, Made};
+use io_rows::files::{Tables, play_files};
+use io_rows::player::{Player, Streams, play_streams};
+use std::alloc::Global;
+use std::io;
 use std::process::ExitCode;
-use streams::Cursors;
+
+// The streams of this program: the first word says which columns a row has.
+struct InMemory;
+
+impl Streams for InMemory {
+    fn lend(name: &str, words: &str, player: &mut Player<'_, '_>) -> Made<()> {
+        let (word, rest) = name.split_once(" ").unwrap_or((name, ""));
+        match word {
+            "cursor" => cursors::lend(rest, words, player),
+            "moved" => cursors::lend_moved(words, player),
+            "reader" => readers::lend(rest, words, player),
+            "boxed" => boxes::lend(rest, words, player),
+            "bytes" => items::lend_bytes(words, player),
+            "split" => items::lend_pieces(words, player),
+            "lines" => items::lend_lines(rest, words, player),
+            "copy" => copying::lend(rest, words, player),
+            "room" => {
+                player.play(&mut room::Room { name: rest });
+                Ok(())
+            }
+            _ => Err(Fault::Malformed("no such stream")),
+        }
+    }
+}
+
+impl Tables for InMemory {
+    // A scripted device has no texts.
+    fn has_texts(_name: &str) -> bool {
+        false
+    }
+
+    fn play_table<'a, R: Print>(
+        rt: &R,
+        alloc: Global,
+        name: &str,
+        table: &str,
+        count: Count<'a>,
+    ) -> io::Result<Count<'a>> {
+        play_streams::<InMemory, R>(rt, alloc, name, table, count)
+    }
+}
 
 fn main(rt: HostRuntime) -> ExitCode {
-    play_files::<Cursors>(&rt)
+    play_files::<InMemory>(&rt)
 }

@@ -34,6 +34,7 @@ pub mod lent;
 pub mod line;
 pub mod named;
 pub mod noted;
+pub mod player;
 pub mod reads;
 pub mod recorder;
 pub mod rows;
