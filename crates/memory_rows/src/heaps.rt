@@ -2,11 +2,12 @@
 // refused. A block that grows stands beside its copy until that is made.
 use super::reads::Reading;
 use super::runs::Running;
-use super::writes::{BufferWrites, CursorWrites, LentWrites, LineWrites, VectorWrites};
-use io_rows::count::{Count, tell_fault};
+use super::writes::Writers;
+use io_rows::count::Count;
 use io_rows::fault::{Fault, Made};
 use io_rows::files::Tables;
-use io_rows::rows::{play, play_by};
+use io_rows::named::play_named;
+use io_rows::rows::play;
 use linked_list_allocator::LocalHeap;
 use std::alloc::Global;
 use std::io;
@@ -25,12 +26,7 @@ impl Tables for HeapTables {
         match name {
             "reads" => play::<Reading, R>(rt, alloc, table, count),
             "runs" => play::<Running, R>(rt, alloc, table, count),
-            "writer Vec" => play_by::<VectorWrites, R>(rt, alloc, table, count),
-            "writer BufWriter 8 Vec" => play_by::<BufferWrites, R>(rt, alloc, table, count),
-            "writer LineWriter 8 Vec" => play_by::<LineWrites, R>(rt, alloc, table, count),
-            "cursor Vec" => play_by::<CursorWrites, R>(rt, alloc, table, count),
-            "cursor &mut Vec" => play_by::<LentWrites, R>(rt, alloc, table, count),
-            _ => tell_fault(rt, Fault::Malformed("no such stream"), name, count),
+            _ => play_named::<Writers, R>(rt, alloc, name, table, count),
         }
     }
 }
@@ -43,23 +39,30 @@ pub fn new_heap(alloc: Global, size: usize) -> Made<LocalHeap> {
     }
 }
 
-/// The numbers of a line, which a blank parts: `count` of them, at most four, and zeros behind them.
-pub fn numbers(words: &str, count: usize) -> Made<[usize; 4]> {
-    let mut numbers = [0; 4];
-    let mut at: usize = 0;
-    'words: for word in words.split(" ") {
-        let Ok(number) = word.parse::<usize>() else {
-            return Err(Fault::Malformed("no number"));
-        };
-        if at >= 4 {
-            return Err(Fault::Malformed("too many numbers"));
-        }
-        numbers[at] = number;
-        at = at.wrapping_add(1);
+/// A vector over a heap.
+pub type HeapVec<'a> = Vec<u8, &'a LocalHeap>;
+
+/// A vector of a capacity, with some bytes.
+pub fn vector_of<'a>(heap: &'a LocalHeap, capacity: usize, bytes: &[u8]) -> Made<HeapVec<'a>> {
+    let Ok(mut vector) = Vec::with_capacity(heap, capacity) else {
+        return Err(Fault::Memory);
+    };
+    match vector.extend_from_slice(bytes) {
+        Ok(()) => Ok(vector),
+        Err(_refused) => Err(Fault::Memory),
     }
-    if at == count {
-        Ok(numbers)
-    } else {
-        Err(Fault::Malformed("not the numbers of this line"))
+}
+
+/// A word that is a number.
+pub fn number(word: &str) -> Made<usize> {
+    match word.parse::<usize>() {
+        Ok(n) => Ok(n),
+        Err(_) => Err(Fault::Malformed("no number")),
     }
+}
+
+/// The number that is a line's first word, and what stands behind it.
+pub fn cut_number(words: &str) -> Made<(usize, &str)> {
+    let (word, rest) = words.split_once(" ").unwrap_or((words, ""));
+    Ok((number(word)?, rest))
 }

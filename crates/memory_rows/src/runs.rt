@@ -4,7 +4,7 @@
 // whether three calls were made, how many replies there are, and what the device has once the buffer is dropped.
 ghost use Rattle.std.specs.Prelude.{⊤, refl};
 
-use super::heaps::{new_heap, numbers};
+use super::heaps::{cut_number, new_heap, number};
 use io_bench::{Op, Reply, Sink, Tally, run_closed, run_writes};
 use io_rows::fault::{Fault, Made};
 use io_rows::line::Line;
@@ -49,56 +49,55 @@ impl Write for Kept {
     ghost steady = { λ w h. refl };
 }
 
-// What came of a run.
-#[derive(Drop)]
-struct Outcome {
-    answer: Result<()>,
-    replies: usize,
+type Replies<'a> = Vec<Reply, &'a LocalHeap>;
+
+// Replies in a heap, of which some are there already.
+fn replies_of<'a>(heap: &'a LocalHeap, capacity: usize, count: usize) -> Made<Replies<'a>> {
+    let Ok(mut replies) = Vec::with_capacity(heap, capacity) else {
+        return Err(Fault::Memory);
+    };
+    'replies: for _ in 0..count {
+        if replies.push(Reply::Done).is_err() {
+            return Err(Fault::Memory);
+        }
+    }
+    Ok(replies)
 }
 
-fn run<W: Write>(alloc: Global, w: &mut W, sizes: [usize; 4]) -> Made<Outcome> {
-    let [size, capacity, held, _] = sizes;
-    let heap = new_heap(alloc, size)?;
-    let mut replies: Vec<Reply, &LocalHeap> = Vec::with_capacity(&heap, capacity)?;
-    'replies: for _ in 0..held {
-        replies.push(Reply::Done)?;
-    }
-    let answer = run_writes(w, &OPS, &mut replies);
-    Ok(Outcome {
-        answer,
-        replies: replies.len(),
-    })
+fn run(w: BufWriter<Kept, 8>, replies: &mut Replies<'_>) -> Result<()> {
+    let mut w = w;
+    run_writes(&mut w, &OPS, replies)
 }
 
-fn close(alloc: Global, w: BufWriter<Kept, 8>, sizes: [usize; 4]) -> Made<Outcome> {
-    let [size, capacity, held, _] = sizes;
-    let heap = new_heap(alloc, size)?;
-    let mut replies: Vec<Reply, &LocalHeap> = Vec::with_capacity(&heap, capacity)?;
-    'replies: for _ in 0..held {
-        replies.push(Reply::Done)?;
-    }
-    let answer = match run_closed::<BufWriter<Kept, 8>, 4>(Tally::new(w), &OPS, &mut replies) {
+fn close(w: BufWriter<Kept, 8>, replies: &mut Replies<'_>) -> Result<()> {
+    match run_closed::<BufWriter<Kept, 8>, 4>(Tally::new(w), &OPS, replies) {
         Ok(_tally) => Ok(()),
         Err(e) => Err(e),
-    };
-    Ok(Outcome {
-        answer,
-        replies: replies.len(),
-    })
+    }
 }
 
 // A run over a buffer that holds `held`, which is then dropped.
-fn play_over(alloc: Global, kept: Kept, call: &Call<'_>) -> Made<Outcome> {
-    let sizes = numbers(call.rest, 3)?;
+fn play_over(alloc: Global, kept: Kept, call: &Call<'_>, line: &mut Line) -> Made<()> {
+    let (size, rest) = cut_number(call.rest)?;
+    let (capacity, rest) = cut_number(rest)?;
+    let count = number(rest)?;
+    let heap = new_heap(alloc, size)?;
+    let mut replies = replies_of(&heap, capacity, count)?;
     let mut w = BufWriter::<Kept, 8>::new(kept);
     if w.write_all(b"held").is_err() {
-        return Err(Fault::Malformed("nothing is held"));
+        line.malformed("nothing is held");
     }
-    match call.word {
-        "run" => run(alloc, &mut w, sizes),
-        "closed" => close(alloc, w, sizes),
-        _ => Err(Fault::Malformed("no such run")),
-    }
+    let answer = match call.word {
+        "run" => run(w, &mut replies),
+        "closed" => close(w, &mut replies),
+        _ => return Err(Fault::Malformed("no such run")),
+    };
+    line.column();
+    line.done(&answer);
+    line.column();
+    line.number(replies.len() as u64);
+    line.column();
+    Ok(())
 }
 
 /// Nothing but what its rows say.
@@ -120,16 +119,11 @@ impl Subject for Running {
             sink: Sink::new(),
             bytes: bytes.clone()?,
         };
-        let outcome = play_over(self.alloc, kept, call)?;
-        line.column()?;
-        line.done(&outcome.answer)?;
-        line.column()?;
-        line.number(outcome.replies as u64)?;
-        line.column()?;
-        let Ok(bytes) = bytes.try_borrow() else {
-            return Err(Fault::Malformed("the bytes are in use"));
-        };
-        line.bytes(&bytes)?;
+        play_over(self.alloc, kept, call, line)?;
+        match bytes.try_borrow() {
+            Ok(bytes) => line.bytes(&bytes),
+            Err(_) => line.malformed("the bytes are in use"),
+        }
         Ok(self)
     }
 }
