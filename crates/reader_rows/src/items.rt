@@ -1,89 +1,128 @@
-// The pieces and lines of a device, played by rows of `next`.
+// The single bytes, pieces and lines of devices, played by rows of `next`.
 //
-// The columns behind a call are the item, with its kind in front, and the calls that reached the device.
-use io_rows::calls::{new_journal, show_calls};
-use io_rows::fault::{Fault, Made};
-use io_rows::journal::Journal;
-use io_rows::line::{Line, Printed};
+// The columns behind a call are the item, a piece or a line with its kind in front, and the calls that reached the devices.
+use crate::devices::{Devices, NO_STREAM};
+use crate::reading::show_byte;
+use io_rows::fault::Made;
+use io_rows::line::Line;
+use io_rows::player::{Player, Stream};
 use io_rows::recorder::{Name, Recorder};
-use io_rows::rows::{Call, Subject};
-use no_std_io2::io::{BufRead, Lines, Result, Split};
+use io_rows::rows::Call;
+use no_std_io2::io::{BufRead, Bytes, Lines, Read, Split};
 use std::alloc::Global;
-use std::cell::RefCell;
-use std::rc::Rc;
 
-fn new_device(alloc: Global, journal: &Rc<RefCell<Journal>>) -> Made<Recorder> {
-    Ok(Recorder::new(alloc, journal.clone()?, Name::Only))
+// The single bytes of a tower.
+#[derive(Drop)]
+struct Singles<'j, T: Drop> {
+    bytes: Bytes<T>,
+    devices: Devices<'j>,
 }
 
-fn show_piece(item: &Option<Result<Vec<u8>>>, line: &mut Line) -> Printed {
-    match item {
-        None => line.word("-"),
-        Some(Ok(piece)) => {
-            line.word("piece ")?;
-            line.bytes(piece)
+impl<'j, T: Read + Drop> Stream for Singles<'j, T> {
+    fn play(&mut self, _alloc: Global, call: &Call<'_>, line: &mut Line) {
+        if call.word == "next" {
+            show_byte(self.bytes.next(), line);
+            self.devices.show(line);
+        } else {
+            line.malformed("no such call");
         }
-        Some(Err(e)) => line.error(e),
     }
 }
 
 // The pieces that commas part.
 #[derive(Drop)]
-pub struct Pieces {
+struct Pieces<'j> {
     pieces: Split<Recorder>,
-    journal: Rc<RefCell<Journal>>,
+    devices: Devices<'j>,
 }
 
-impl Subject for Pieces {
-    fn make(alloc: Global, words: &str) -> Made<Pieces> {
-        let journal = new_journal(alloc, words)?;
-        let pieces = new_device(alloc, &journal)?.split(alloc, b',');
-        Ok(Pieces { pieces, journal })
-    }
-
-    fn play(mut self, call: &Call<'_>, line: &mut Line) -> Made<Pieces> {
-        if call.word != "next" {
-            return Err(Fault::Malformed("no such call"));
+impl<'j> Pieces<'j> {
+    fn next(&mut self, line: &mut Line) {
+        match self.pieces.next() {
+            None => line.word("-"),
+            Some(Ok(piece)) => {
+                line.word("piece ");
+                line.bytes(&piece);
+            }
+            Some(Err(e)) => line.error(&e),
         }
-        line.column()?;
-        show_piece(&self.pieces.next(), line)?;
-        show_calls(&self.journal, line)?;
-        Ok(self)
     }
 }
 
-fn show_text(item: &Option<Result<String>>, line: &mut Line) -> Printed {
-    match item {
-        None => line.word("-"),
-        Some(Ok(text)) => {
-            line.word("line ")?;
-            line.bytes(text.as_bytes())
+impl<'j> Stream for Pieces<'j> {
+    fn play(&mut self, _alloc: Global, call: &Call<'_>, line: &mut Line) {
+        if call.word == "next" {
+            self.next(line);
+            self.devices.show(line);
+        } else {
+            line.malformed("no such call");
         }
-        Some(Err(e)) => line.error(e),
     }
 }
 
 // The lines of a device.
 #[derive(Drop)]
-pub struct TextLines {
+struct TextLines<'j> {
     lines: Lines<Recorder>,
-    journal: Rc<RefCell<Journal>>,
+    devices: Devices<'j>,
 }
 
-impl Subject for TextLines {
-    fn make(alloc: Global, words: &str) -> Made<TextLines> {
-        let journal = new_journal(alloc, words)?;
-        let lines = new_device(alloc, &journal)?.lines(alloc);
-        Ok(TextLines { lines, journal })
-    }
-
-    fn play(mut self, call: &Call<'_>, line: &mut Line) -> Made<TextLines> {
-        if call.word != "next" {
-            return Err(Fault::Malformed("no such call"));
+impl<'j> TextLines<'j> {
+    fn next(&mut self, line: &mut Line) {
+        match self.lines.next() {
+            None => line.word("-"),
+            Some(Ok(text)) => {
+                line.word("line ");
+                line.bytes(text.as_bytes());
+            }
+            Some(Err(e)) => line.error(&e),
         }
-        line.column()?;
-        show_text(&self.lines.next(), line)?;
-        show_calls(&self.journal, line)?;
-        Ok(self)
     }
+}
+
+impl<'j> Stream for TextLines<'j> {
+    fn play(&mut self, _alloc: Global, call: &Call<'_>, line: &mut Line) {
+        if call.word == "next" {
+            self.next(line);
+            self.devices.show(line);
+        } else {
+            line.malformed("no such call");
+        }
+    }
+}
+
+pub fn lend(tower: &str, devices: Devices<'_>, player: &mut Player<'_, '_>) -> Made<()> {
+    let device = devices.first()?;
+    match devices.word {
+        "split" => player.play(&mut Pieces {
+            pieces: device.split(player.alloc, b','),
+            devices,
+        }),
+        "lines" => player.play(&mut TextLines {
+            lines: device.lines(player.alloc),
+            devices,
+        }),
+        _ => lend_bytes(tower, device, devices, player)?,
+    }
+    Ok(())
+}
+
+fn lend_bytes(
+    tower: &str,
+    device: Recorder,
+    devices: Devices<'_>,
+    player: &mut Player<'_, '_>,
+) -> Made<()> {
+    match tower {
+        "Device" => player.play(&mut Singles {
+            bytes: device.bytes(),
+            devices,
+        }),
+        "Chain" => player.play(&mut Singles {
+            bytes: device.chain(devices.recorder(Name::Second)?).bytes(),
+            devices,
+        }),
+        _ => return Err(NO_STREAM),
+    }
+    Ok(())
 }

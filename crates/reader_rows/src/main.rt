@@ -3,16 +3,58 @@
 #![tactic(auto)]
 
 mod copying;
-mod fronts;
+mod devices;
 mod items;
+mod levels;
 mod moving;
+mod noted;
 mod reading;
-mod source;
-mod streams;
 
-use io_rows::files::play_files;
+use devices::{Devices, NO_STREAM};
+use io_rows::calls::new_journal;
+use io_rows::count::Count;
+use io_rows::fault::Made;
+use io_rows::files::{Tables, play_files};
+use io_rows::player::{Player, Streams, play_streams};
+use std::alloc::Global;
+use std::io;
 use std::process::ExitCode;
-use streams::Readers;
+
+// The streams of this program: the first word says which columns a row has.
+struct Readers;
+
+impl Streams for Readers {
+    fn lend(name: &str, words: &str, player: &mut Player<'_, '_>) -> Made<()> {
+        let (word, tower) = name.split_once(" ").unwrap_or((name, ""));
+        let journal = new_journal(player.alloc, words)?;
+        let devices = Devices {
+            alloc: player.alloc,
+            word,
+            journal: &journal,
+        };
+        match word {
+            "reader" | "answers" => reading::lend(tower, devices, player),
+            "noted" => noted::lend(tower, devices, player),
+            "seeker" => reading::lend_seeker(devices, player),
+            "moved" => moving::lend(devices, player),
+            "bytes" | "split" | "lines" => items::lend(tower, devices, player),
+            "copy" => copying::lend(tower, devices, player),
+            _ => Err(NO_STREAM),
+        }
+    }
+}
+
+impl Tables for Readers {
+    fn play_table<'a, R: Print>(
+        rt: &R,
+        alloc: Global,
+        name: &str,
+        table: &str,
+        count: Count<'a>,
+    ) -> io::Result<Count<'a>> {
+        play_streams::<Readers, R>(rt, alloc, name, table, count)
+    }
+}
 
 fn main(rt: HostRuntime) -> ExitCode {
     play_files::<Readers>(&rt)

@@ -1,117 +1,21 @@
 // Readers over recorders, played by rows of calls.
-use crate::source::Source;
-use io_rows::calls::{make_seek, new_journal, show_calls};
-use io_rows::fault::{Fault, Made};
-use io_rows::journal::Journal;
-use io_rows::line::{Line, Printed};
-use io_rows::reads::make_lend;
-use io_rows::recorder::Name;
-use io_rows::rows::{Call, Subject};
-use no_std_io2::io::{Bytes, Read, Result, Seek};
-use std::alloc::Global;
-use std::cell::RefCell;
-use std::rc::Rc;
-
-// A tower and its devices' journal. Beside the calls of a reader `limit N` sets a limit.
 //
-// The columns behind a call are its answer, the bytes that it gave, what each level holds or has left to give, the outer one
-// first, and the calls that reached the devices.
-#[derive(Drop)]
-pub struct Reading<T: Drop> {
-    pub alloc: Global,
-    pub tower: T,
-    pub journal: Rc<RefCell<Journal>>,
-}
-
-impl<T: Source + Drop> Subject for Reading<T> {
-    fn make(alloc: Global, words: &str) -> Made<Reading<T>> {
-        let journal = new_journal(alloc, words)?;
-        let tower = T::over(alloc, &journal, Name::Only)?;
-        Ok(Reading {
-            alloc,
-            tower,
-            journal,
-        })
-    }
-
-    fn play(mut self, call: &Call<'_>, line: &mut Line) -> Made<Reading<T>> {
-        line.column()?;
-        match call.word {
-            "limit" => {
-                self.tower.limit(call.number()?);
-                line.word("-")?;
-            }
-            _ => make_lend(self.alloc, &mut self.tower, call, line)?,
-        }
-        self.tower.show(line)?;
-        show_calls(&self.journal, line)?;
-        Ok(self)
-    }
-}
-
-// The same with the columns of the answer and the bytes alone, which are those of any reader. Beside the calls of a reader it has
-// `next`, which gives a single byte, an error, or a dash at the end.
-#[derive(Drop)]
-pub struct Answering<T: Drop> {
-    pub alloc: Global,
-    pub tower: T,
-}
-
-impl<T: Source + Drop> Subject for Answering<T> {
-    fn make(alloc: Global, words: &str) -> Made<Answering<T>> {
-        let journal = new_journal(alloc, words)?;
-        let tower = T::over(alloc, &journal, Name::Only)?;
-        Ok(Answering { alloc, tower })
-    }
-
-    fn play(mut self, call: &Call<'_>, line: &mut Line) -> Made<Answering<T>> {
-        line.column()?;
-        if call.word == "next" {
-            show_byte(self.tower.by_ref().bytes().next(), line)?;
-        } else {
-            make_lend(self.alloc, &mut self.tower, call, line)?;
-        }
-        Ok(self)
-    }
-}
-
-// A tower that is a seeker too: beside the calls of a reader it has those of one.
-#[derive(Drop)]
-pub struct Seeking<T: Drop> {
-    reading: Reading<T>,
-}
-
-impl<T: Source + Seek + Drop> Subject for Seeking<T> {
-    fn make(alloc: Global, words: &str) -> Made<Seeking<T>> {
-        Ok(Seeking {
-            reading: Reading::make(alloc, words)?,
-        })
-    }
-
-    fn play(self, call: &Call<'_>, line: &mut Line) -> Made<Seeking<T>> {
-        let Reading {
-            alloc,
-            mut tower,
-            journal,
-        } = self.reading;
-        line.column()?;
-        if !make_seek(&mut tower, call, line)? {
-            make_lend(alloc, &mut tower, call, line)?;
-        }
-        tower.show(line)?;
-        show_calls(&journal, line)?;
-        Ok(Seeking {
-            reading: Reading {
-                alloc,
-                tower,
-                journal,
-            },
-        })
-    }
-}
+// The columns behind a call are its answer and the bytes that it gave, and but for `answers` what each level holds or has left to
+// give, and the calls that reached the devices.
+use crate::devices::{Devices, NO_STREAM};
+use crate::levels::{Both, Levels};
+use io_rows::calls::make_seek;
+use io_rows::fault::Made;
+use io_rows::line::{Line, unescape};
+use io_rows::player::{Player, Stream};
+use io_rows::reads::make_lend;
+use io_rows::recorder::{Name, Recorder};
+use io_rows::rows::Call;
+use no_std_io2::io::{BufRead, BufReader, Chain, Cursor, Read, Result};
+use std::alloc::Global;
 
 // A single byte, and a dash at the end.
-fn show_byte(item: Option<Result<u8>>, line: &mut Line) -> Printed {
+pub fn show_byte(item: Option<Result<u8>>, line: &mut Line) {
     match item {
         None => line.word("-"),
         Some(Ok(byte)) => line.bytes(&[byte]),
@@ -119,27 +23,169 @@ fn show_byte(item: Option<Result<u8>>, line: &mut Line) -> Printed {
     }
 }
 
-// The single bytes of a tower: `next` is a byte, an error, or a dash at the end.
+// Beside the calls of a reader `limit N` sets a limit, and `next` gives a single byte.
 #[derive(Drop)]
-pub struct Singles<T: Drop> {
-    bytes: Bytes<T>,
-    journal: Rc<RefCell<Journal>>,
+struct Reading<'j, T: Drop> {
+    tower: T,
+    devices: Devices<'j>,
 }
 
-impl<T: Source + Drop> Subject for Singles<T> {
-    fn make(alloc: Global, words: &str) -> Made<Singles<T>> {
-        let journal = new_journal(alloc, words)?;
-        let bytes = T::over(alloc, &journal, Name::Only)?.bytes();
-        Ok(Singles { bytes, journal })
-    }
-
-    fn play(mut self, call: &Call<'_>, line: &mut Line) -> Made<Singles<T>> {
-        if call.word != "next" {
-            return Err(Fault::Malformed("no such call"));
+impl<'j, T: BufRead + Levels + Drop> Stream for Reading<'j, T> {
+    fn play(&mut self, alloc: Global, call: &Call<'_>, line: &mut Line) {
+        match call.word {
+            "limit" => {
+                self.tower.limit(call.number(line));
+                line.word("-");
+            }
+            "next" => show_byte(self.tower.by_ref().bytes().next(), line),
+            _ => make_lend(alloc, &mut self.tower, call, line),
         }
-        line.column()?;
-        show_byte(self.bytes.next(), line)?;
-        show_calls(&self.journal, line)?;
-        Ok(self)
+        if self.devices.word != "answers" {
+            self.tower.show(line);
+            self.devices.show(line);
+        }
     }
+}
+
+pub fn lend(tower: &str, devices: Devices<'_>, player: &mut Player<'_, '_>) -> Made<()> {
+    let device = devices.first()?;
+    match tower {
+        "Device" => player.play(&mut Reading {
+            tower: device,
+            devices,
+        }),
+        "Box Device" => lend_box(device, devices, player)?,
+        "Box dyn" => lend_object(device, devices, player)?,
+        "BufReader 1" => lend_buffered::<1>(device, devices, player),
+        "BufReader 4" => lend_buffered::<4>(device, devices, player),
+        "BufReader 300" => lend_buffered::<300>(device, devices, player),
+        "Take" => player.play(&mut Reading {
+            tower: device.take(2),
+            devices,
+        }),
+        "Take BufReader 1" => player.play(&mut Reading {
+            tower: BufReader::<Recorder, 1>::new(device).take(2),
+            devices,
+        }),
+        _ => lend_chain(tower, device, devices, player)?,
+    }
+    Ok(())
+}
+
+fn lend_box(device: Recorder, devices: Devices<'_>, player: &mut Player<'_, '_>) -> Made<()> {
+    let tower = Box::new(player.alloc, device)?;
+    player.play(&mut Reading { tower, devices });
+    Ok(())
+}
+
+fn lend_object(device: Recorder, devices: Devices<'_>, player: &mut Player<'_, '_>) -> Made<()> {
+    let tower: Box<dyn BufRead + Drop> = Box::new(player.alloc, device)?;
+    player.play(&mut Reading { tower, devices });
+    Ok(())
+}
+
+// A buffer of so many bytes.
+fn lend_buffered<const S: usize>(
+    device: Recorder,
+    devices: Devices<'_>,
+    player: &mut Player<'_, '_>,
+) {
+    if S > 0 && S < 1 << 32 {
+        let tower = BufReader::<Recorder, S>::new(device);
+        player.play(&mut Reading { tower, devices });
+    }
+}
+
+// What stands in a chain's first place.
+fn lend_chain(
+    tower: &str,
+    device: Recorder,
+    devices: Devices<'_>,
+    player: &mut Player<'_, '_>,
+) -> Made<()> {
+    let second = devices.recorder(Name::Second)?;
+    match tower {
+        "Chain" => player.play(&mut Reading {
+            tower: device.chain(second),
+            devices,
+        }),
+        "Chain Take" => player.play(&mut Reading {
+            tower: device.take(2).chain(second),
+            devices,
+        }),
+        "BufReader 2 Chain" => lend_above::<2>(device.chain(second), devices, player),
+        "BufReader 4 Chain" => lend_above::<4>(device.chain(second), devices, player),
+        "Box Chain" => lend_both(device, second, devices, player)?,
+        "Chain Chain" => lend_three(device, second, devices, player)?,
+        "Chain Text" => lend_text(device, devices, player)?,
+        _ => return Err(NO_STREAM),
+    }
+    Ok(())
+}
+
+// A buffer of so many bytes over a chain.
+fn lend_above<const S: usize>(
+    pair: Chain<Recorder, Recorder>,
+    devices: Devices<'_>,
+    player: &mut Player<'_, '_>,
+) {
+    if S > 0 && S < 1 << 32 {
+        let tower = BufReader::<Chain<Recorder, Recorder>, S>::new(pair);
+        player.play(&mut Reading { tower, devices });
+    }
+}
+
+fn lend_both(
+    first: Recorder,
+    second: Recorder,
+    devices: Devices<'_>,
+    player: &mut Player<'_, '_>,
+) -> Made<()> {
+    let both: Both = Box::new(player.alloc, first)?.chain(second);
+    let tower = Box::new(player.alloc, both)?;
+    player.play(&mut Reading { tower, devices });
+    Ok(())
+}
+
+fn lend_three(
+    first: Recorder,
+    second: Recorder,
+    devices: Devices<'_>,
+    player: &mut Player<'_, '_>,
+) -> Made<()> {
+    let third = devices.recorder(Name::Second)?;
+    let tower = first.chain(second.chain(third));
+    player.play(&mut Reading { tower, devices });
+    Ok(())
+}
+
+// A text stands behind a device: what reaches it is no device's.
+fn lend_text(device: Recorder, devices: Devices<'_>, player: &mut Player<'_, '_>) -> Made<()> {
+    let text = Cursor::new(unescape(player.alloc, "456789")?);
+    let tower = device.chain(text);
+    player.play(&mut Reading { tower, devices });
+    Ok(())
+}
+
+// A buffer of 4 bytes that seeks too.
+#[derive(Drop)]
+struct Seeking<'j> {
+    tower: BufReader<Recorder, 4>,
+    devices: Devices<'j>,
+}
+
+impl<'j> Stream for Seeking<'j> {
+    fn play(&mut self, alloc: Global, call: &Call<'_>, line: &mut Line) {
+        if !make_seek(&mut self.tower, call, line) {
+            make_lend(alloc, &mut self.tower, call, line);
+        }
+        self.tower.show(line);
+        self.devices.show(line);
+    }
+}
+
+pub fn lend_seeker(devices: Devices<'_>, player: &mut Player<'_, '_>) -> Made<()> {
+    let tower = BufReader::<Recorder, 4>::new(devices.first()?);
+    player.play(&mut Seeking { tower, devices });
+    Ok(())
 }
