@@ -5,13 +5,12 @@
 ghost use Rattle.no_std_io2.specs.BufReader.{BufReaderFits};
 
 use io_bench::{Event, Feed};
-use io_rows::calls::{new_journal, show_calls};
+use io_rows::calls::{Call, new_journal, show_calls};
 use io_rows::fault::Made;
 use io_rows::journal::Journal;
 use io_rows::line::Line;
 use io_rows::player::{Player, Stream};
 use io_rows::recorder::{Name, Recorder};
-use io_rows::rows::Call;
 use no_std_io2::io::Read;
 use std::alloc::Global;
 use std::cell::RefCell;

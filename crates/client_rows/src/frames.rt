@@ -3,13 +3,12 @@
 // A row of what sends is a call; then its answer, whether a frame or a line is under way, the bytes out and the calls that
 // reached the device. A row of a reader is a call; then its answer and the calls.
 use framing::{FrameReader, FrameWriter};
-use io_rows::calls::{new_journal, show_calls, show_out};
+use io_rows::calls::{Call, new_journal, show_calls, show_out};
 use io_rows::fault::{Fault, Made};
 use io_rows::journal::Journal;
 use io_rows::line::Line;
 use io_rows::player::{Player, Stream};
 use io_rows::recorder::{Name, Recorder};
-use io_rows::rows::Call;
 use line_log::LineLog;
 use no_std_io2::io::Result as IoResult;
 use std::alloc::Global;

@@ -8,12 +8,9 @@ mod patience;
 mod plays;
 mod sweeps;
 
-use io_rows::count::Count;
 use io_rows::fault::Made;
-use io_rows::files::{Tables, play_files};
-use io_rows::player::{Player, Streams, play_streams};
-use std::alloc::Global;
-use std::io;
+use io_rows::files::play_files;
+use io_rows::player::{Player, Streams};
 use std::process::ExitCode;
 
 // What stands on the streams.
@@ -30,18 +27,6 @@ impl Streams for Clients {
                 _ => frames::lend(name, words, player),
             },
         }
-    }
-}
-
-impl Tables for Clients {
-    fn play_table<'a, R: Print>(
-        rt: &R,
-        alloc: Global,
-        name: &str,
-        table: &str,
-        count: Count<'a>,
-    ) -> io::Result<Count<'a>> {
-        play_streams::<Clients, R>(rt, alloc, name, table, count)
     }
 }
 

@@ -2,14 +2,13 @@
 //
 // A line `new` says the turns, and behind a colon the device's answers. A row is a call; then its answer, for a read the
 // bytes that it gave, and the calls that reached the device.
-use io_rows::calls::{make_call, new_journal, show_calls};
+use io_rows::calls::{Call, make_call, new_journal, show_calls};
 use io_rows::fault::{Fault, Made};
 use io_rows::journal::Journal;
 use io_rows::line::Line;
 use io_rows::player::{Player, Stream};
 use io_rows::reads::make_read;
 use io_rows::recorder::{Name, Recorder};
-use io_rows::rows::Call;
 use std::alloc::Global;
 use std::cell::RefCell;
 use std::rc::Rc;

@@ -8,12 +8,11 @@ ghost use Rattle.no_std_io2.specs.BufReader.{BufReaderFits};
 
 use super::copies::Ends;
 use io_bench::{Act, Event, Faulty, Feed};
-use io_rows::calls::show_calls;
+use io_rows::calls::{Call, show_calls};
 use io_rows::fault::{Fault, Made};
 use io_rows::kinds::kind_of_name;
 use io_rows::line::Line;
 use io_rows::player::{Player, Stream};
-use io_rows::rows::Call;
 use no_std_io2::io::{ErrorKind, Read};
 use std::alloc::Global;
 use tower_play::{Fault as PlayFault, Shape, play};

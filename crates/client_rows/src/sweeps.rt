@@ -4,11 +4,11 @@
 use super::copies::events_of;
 use framing::{FrameReader, FrameWriter};
 use io_bench::{Act, Event, Faulty, Feed};
+use io_rows::calls::Call;
 use io_rows::fault::Made;
 use io_rows::kinds::name_of_kind;
 use io_rows::line::Line;
 use io_rows::player::{Player, Stream};
-use io_rows::rows::Call;
 use line_log::LineLog;
 use no_std_io2::io::{self, ErrorKind};
 use std::alloc::Global;
