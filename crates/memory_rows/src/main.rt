@@ -7,14 +7,11 @@ mod reads;
 mod runs;
 mod writes;
 
-use io_rows::count::Count;
 use io_rows::fault::Made;
-use io_rows::files::{Tables, play_files};
-use io_rows::player::{Player, Streams, play_streams};
+use io_rows::files::play_files;
+use io_rows::player::{Player, Streams};
 use reads::Reading;
 use runs::Running;
-use std::alloc::Global;
-use std::io;
 use std::process::ExitCode;
 
 // The streams of this program.
@@ -28,18 +25,6 @@ impl Streams for OverHeaps {
             _ => writes::lend(name, words, player)?,
         }
         Ok(())
-    }
-}
-
-impl Tables for OverHeaps {
-    fn play_table<'a, R: Print>(
-        rt: &R,
-        alloc: Global,
-        name: &str,
-        table: &str,
-        count: Count<'a>,
-    ) -> io::Result<Count<'a>> {
-        play_streams::<OverHeaps, R>(rt, alloc, name, table, count)
     }
 }
 

@@ -7,10 +7,10 @@
 // has room for all of it. In each smaller heap the call is refused, and the vector and what is left are all that was to come.
 use crate::heaps::{cut_number, number, tell, vector_of};
 use crate::readers::read_form;
+use io_rows::calls::Call;
 use io_rows::fault::{Fault, Made};
 use io_rows::line::Line;
 use io_rows::player::Stream;
-use io_rows::rows::Call;
 use linked_list_allocator::LocalHeap;
 use no_std_io2::io::{BufRead, ErrorKind, Read, Result};
 use std::alloc::Global;

@@ -6,10 +6,10 @@ ghost use Rattle.std.specs.Prelude.{⊤, refl};
 
 use crate::heaps::{cut_number, number, tell};
 use io_bench::{Op, Reply, Sink, Tally, run_closed, run_writes};
+use io_rows::calls::Call;
 use io_rows::fault::{Fault, Made};
 use io_rows::line::Line;
 use io_rows::player::Stream;
-use io_rows::rows::Call;
 use linked_list_allocator::LocalHeap;
 use no_std_io2::io::{BufWriter, Result, Write};
 use std::alloc::Global;

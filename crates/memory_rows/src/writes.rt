@@ -4,11 +4,10 @@
 // bytes, what is held or the position, and how many bytes of the heap are in use. Beside the calls of a writer there are
 // `fill`, which takes all of the heap that is left, and `free`, which gives it back.
 use crate::heaps::{HeapVec, cut_number, vector_of};
-use io_rows::calls::{make_call, make_seek};
+use io_rows::calls::{Call, make_call, make_seek};
 use io_rows::fault::{Fault, Made};
 use io_rows::line::Line;
 use io_rows::player::{Player, Stream};
-use io_rows::rows::Call;
 use linked_list_allocator::LocalHeap;
 use no_std_io2::io::{BufWriter, Cursor, LineWriter, Seek, Write};
 use std::alloc::{Allocator, Global};
