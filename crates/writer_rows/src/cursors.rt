@@ -1,11 +1,10 @@
 // Cursors that are written, on a vector and on what is lent, and the room of vectors.
 use crate::levels::NO_STREAM;
 use crate::writing::make_any_call;
-use io_rows::calls::make_call;
+use io_rows::calls::{Call, make_call};
 use io_rows::fault::{Fault, Made};
 use io_rows::line::{Line, unescape};
 use io_rows::player::{Player, Stream};
-use io_rows::rows::Call;
 use no_std_io2::io::{BufWriter, Cursor};
 use std::alloc::Global;
 

@@ -2,14 +2,13 @@
 use crate::levels::{NO_STREAM, NOTED, RECORDER, lend, play_level};
 use crate::tower::{Device, Object};
 use crate::writing::{Columns, make_any_call, play, play_seeking};
-use io_rows::calls::{make_seek, new_journal, show_calls};
+use io_rows::calls::{Call, make_seek, new_journal, show_calls};
 use io_rows::fault::Made;
 use io_rows::journal::Journal;
 use io_rows::line::Line;
 use io_rows::noted::Noted;
 use io_rows::player::{Player, Stream};
 use io_rows::recorder::{Name, Recorder};
-use io_rows::rows::Call;
 use no_std_io2::io::{BufWriter, Seek};
 use std::alloc::Global;
 use std::cell::RefCell;

@@ -9,12 +9,9 @@ mod levels;
 mod tower;
 mod writing;
 
-use io_rows::count::Count;
 use io_rows::fault::Made;
-use io_rows::files::{Tables, play_files};
-use io_rows::player::{Player, Streams, play_streams};
-use std::alloc::Global;
-use std::io;
+use io_rows::files::play_files;
+use io_rows::player::{Player, Streams};
 use std::process::ExitCode;
 
 // The streams of writers: the first word says which columns a row has.
@@ -31,23 +28,6 @@ impl Streams for Writers {
             "room" => cursors::lend_room(rest, words, player),
             _ => Err(levels::NO_STREAM),
         }
-    }
-}
-
-impl Tables for Writers {
-    fn play_table<'a, R: Print>(
-        rt: &R,
-        alloc: Global,
-        name: &str,
-        table: &str,
-        count: Count<'a>,
-    ) -> io::Result<Count<'a>> {
-        play_streams::<Writers, R>(rt, alloc, name, table, count)
-    }
-
-    // The acts of a bench have none.
-    fn has_texts(name: &str) -> bool {
-        !name.starts_with("bench ")
     }
 }
 

@@ -1,9 +1,9 @@
 // Towers of writers: what stands on a device, level by level.
 use io_bench::{Faulty, Sink, Tally};
+use io_rows::calls::Call;
 use io_rows::line::Line;
 use io_rows::noted::Noted;
 use io_rows::recorder::Recorder;
-use io_rows::rows::Call;
 use no_std_io2::io::{BufWriter, Error, IntoInnerError, LineWriter, Write};
 use std::alloc::Global;
 

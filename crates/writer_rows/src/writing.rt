@@ -3,12 +3,11 @@
 // The columns behind a call are its answer, what the device took, the bytes held at each level, the outer one first, and over a
 // recorder the calls that reached it.
 use crate::tower::{Part, Tower};
-use io_rows::calls::{expect, make_call, make_seek, show_calls, show_out};
+use io_rows::calls::{Call, expect, make_call, make_seek, show_calls, show_out};
 use io_rows::fault::Fault;
 use io_rows::journal::Journal;
 use io_rows::line::Line;
 use io_rows::player::{Player, Stream};
-use io_rows::rows::Call;
 use no_std_io2::io::{Seek, Write};
 use std::alloc::Global;
 use std::cell::RefCell;
