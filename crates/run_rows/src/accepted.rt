@@ -3,10 +3,10 @@
 // A row is `joined`, the calls and behind an arrow their replies; then the bytes, or `none`.
 use crate::ops::{ops_of, parse_calls, parse_replies};
 use io_bench::joined;
+use io_rows::calls::Call;
 use io_rows::fault::Made;
 use io_rows::line::Line;
 use io_rows::player::{Player, Stream};
-use io_rows::rows::Call;
 use std::alloc::Global;
 
 // Nothing but what its rows say.

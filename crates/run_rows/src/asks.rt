@@ -7,10 +7,10 @@ ghost use Rattle.io_bench.specs.Asks.{Fits};
 use crate::NO_STREAM;
 use crate::acts::{parse_feed, show_left};
 use io_bench::{Ask, Feed, ReadTotals, Tally, run_reads};
+use io_rows::calls::Call;
 use io_rows::fault::{Fault, Made};
 use io_rows::line::Line;
 use io_rows::player::{Player, Stream};
-use io_rows::rows::Call;
 use no_std_io2::io::{BufReader, Read};
 use std::alloc::Global;
 

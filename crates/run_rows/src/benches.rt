@@ -5,7 +5,7 @@
 use crate::NO_STREAM;
 use crate::acts::parse_acts;
 use io_bench::{Faulty, Tally};
-use io_rows::calls::{make_call, new_journal, show_calls};
+use io_rows::calls::{Call, make_call, new_journal, show_calls};
 use io_rows::fault::Made;
 use io_rows::journal::Journal;
 use io_rows::line::Line;
@@ -13,7 +13,6 @@ use io_rows::noted::Noted;
 use io_rows::player::{Player, Stream};
 use io_rows::reads::make_read;
 use io_rows::recorder::{Name, Recorder};
-use io_rows::rows::Call;
 use no_std_io2::io::Write;
 use std::alloc::Global;
 use std::cell::RefCell;

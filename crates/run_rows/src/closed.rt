@@ -7,10 +7,10 @@ ghost use Rattle.std.specs.Prelude.{⊤, refl, ◌<◌};
 use crate::NO_STREAM;
 use crate::ops::{ops_of, parse_calls, show_replies};
 use io_bench::{Op, Reply, Sink, Tally, run_closed};
+use io_rows::calls::Call;
 use io_rows::fault::Made;
 use io_rows::line::Line;
 use io_rows::player::{Player, Stream};
-use io_rows::rows::Call;
 use no_std_io2::io::{Result, Write};
 use std::alloc::Global;
 

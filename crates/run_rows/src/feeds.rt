@@ -4,11 +4,11 @@
 // that are left and how many reads with room there were since the row before.
 use crate::acts::{parse_feed, show_left};
 use io_bench::{Feed, Tally};
+use io_rows::calls::Call;
 use io_rows::fault::Made;
 use io_rows::line::Line;
 use io_rows::player::{Player, Stream};
 use io_rows::reads::make_read;
-use io_rows::rows::Call;
 use std::alloc::Global;
 
 // A tally over a tally over a feed: both count alike.

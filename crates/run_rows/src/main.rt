@@ -15,12 +15,9 @@ mod runs;
 mod towers;
 mod write_sweeps;
 
-use io_rows::count::Count;
 use io_rows::fault::{Fault, Made};
-use io_rows::files::{Tables, play_files};
-use io_rows::player::{Player, Streams, play_streams};
-use std::alloc::Global;
-use std::io;
+use io_rows::files::play_files;
+use io_rows::player::{Player, Streams};
 use std::process::ExitCode;
 
 pub const NO_STREAM: Fault = Fault::Malformed("no such stream");
@@ -44,22 +41,10 @@ impl Streams for RunTables {
             _ => read_sweeps::lend(word, rest, player),
         }
     }
-}
 
-impl Tables for RunTables {
     // An act has no text.
     fn has_texts(name: &str) -> bool {
         !name.starts_with("acts ")
-    }
-
-    fn play_table<'a, R: Print>(
-        rt: &R,
-        alloc: Global,
-        name: &str,
-        table: &str,
-        count: Count<'a>,
-    ) -> io::Result<Count<'a>> {
-        play_streams::<RunTables, R>(rt, alloc, name, table, count)
     }
 }
 

@@ -1,9 +1,9 @@
 // Runs of a writer's calls as a row has them, `write ab, write_all c, flush`, and their replies, `2, ok, !BrokenPipe`.
 use io_bench::{Op, Reply};
+use io_rows::calls::Call;
 use io_rows::fault::Fault;
 use io_rows::kinds::kind_of_name;
 use io_rows::line::Line;
-use io_rows::rows::Call;
 use no_std_io2::io::Error;
 use std::alloc::Global;
 

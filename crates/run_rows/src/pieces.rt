@@ -4,10 +4,10 @@
 // the fault that ended them: `!`, `#`, and `?` for a line that is no text. It stands for all lengths, which come to the same.
 use crate::acts::events_of;
 use io_bench::{Feed, run_lines, run_split};
+use io_rows::calls::Call;
 use io_rows::fault::Made;
 use io_rows::line::Line;
 use io_rows::player::{Player, Stream};
-use io_rows::rows::Call;
 use no_std_io2::io::{BufRead, BufReader, ErrorKind, Result};
 use std::alloc::Global;
 

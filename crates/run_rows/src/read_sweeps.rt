@@ -6,10 +6,10 @@ use crate::NO_STREAM;
 use crate::acts::{events_of, mark_of};
 use crate::ops::push;
 use io_bench::Feed;
+use io_rows::calls::Call;
 use io_rows::fault::Made;
 use io_rows::line::Line;
 use io_rows::player::{Player, Stream};
-use io_rows::rows::Call;
 use no_std_io2::io::{BufRead, BufReader, Chain, ErrorKind, Read, Result, Take};
 use std::alloc::Global;
 

@@ -4,10 +4,10 @@
 use crate::ops::{push, show_replies};
 use crate::towers::{Device, Tower, push_bytes};
 use io_bench::{Act, Faulty, Op, Reply, joined, run_writes};
+use io_rows::calls::Call;
 use io_rows::fault::Made;
 use io_rows::line::Line;
 use io_rows::player::{Player, Stream};
-use io_rows::rows::Call;
 use no_std_io2::io::{BufWriter, ErrorKind, LineWriter};
 use std::alloc::Global;
 
