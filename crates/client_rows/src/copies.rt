@@ -5,37 +5,30 @@
 ghost use Rattle.no_std_io2.specs.BufReader.{BufReaderFits};
 
 use io_bench::{Event, Feed};
-use io_rows::calls::{new_journal, show_calls};
+use io_rows::calls::{Call, new_journal, show_calls};
 use io_rows::fault::Made;
 use io_rows::journal::Journal;
 use io_rows::line::Line;
+use io_rows::player::{Player, Stream};
 use io_rows::recorder::{Name, Recorder};
-use io_rows::rows::{Call, Subject};
 use no_std_io2::io::Read;
 use std::alloc::Global;
 use std::cell::RefCell;
 use std::rc::Rc;
 use system_streams::copy_through;
 
-/// A journal of both devices.
-#[derive(Drop)]
-pub struct Copying {
-    alloc: Global,
-    journal: Rc<RefCell<Journal>>,
-}
-
-// Four bytes a read.
-fn pieces(alloc: Global, line: &mut Line) -> Feed {
+/// An event for each byte.
+pub fn events_of(alloc: Global, bytes: &[u8], line: &mut Line) -> Vec<Event> {
     let mut events = Vec::new(alloc);
-    'bytes: for byte in b"ab\ncd\ne\nf" {
+    'bytes: for byte in bytes {
         if events.push(Event::Byte(*byte)).is_err() {
             line.cut();
         }
     }
-    Feed::new(events, 4)
+    events
 }
 
-fn copy<R: Read + Drop>(input: R, output: Recorder, form: &str, line: &mut Line)
+fn copy<R: Read + Drop>(input: R, output: &mut Recorder, form: &str, line: &mut Line)
     requires { BufReaderFits R.row 64 }
 {
     match copy_through(input, output, form == "line") {
@@ -44,28 +37,44 @@ fn copy<R: Read + Drop>(input: R, output: Recorder, form: &str, line: &mut Line)
     }
 }
 
-impl Copying {
-    fn device(&self) -> Made<Recorder> {
-        Ok(Recorder::new(self.alloc, self.journal.clone()?, Name::Only))
+/// A device to be read and one to be written, which note their calls in one journal.
+#[derive(Drop)]
+pub struct Ends {
+    pub input: Recorder,
+    pub output: Recorder,
+    pub journal: Rc<RefCell<Journal>>,
+}
+
+impl Ends {
+    /// Both answer so, in the order of their calls.
+    pub fn new(alloc: Global, words: &str) -> Made<Ends> {
+        let journal = new_journal(alloc, words)?;
+        let input = journal.clone()?;
+        let output = journal.clone()?;
+        Ok(Ends {
+            input: Recorder::new(alloc, input, Name::Only),
+            output: Recorder::new(alloc, output, Name::Only),
+            journal,
+        })
     }
 }
 
-impl Subject for Copying {
-    fn make(alloc: Global, words: &str) -> Made<Copying> {
-        let journal = new_journal(alloc, words)?;
-        Ok(Copying { alloc, journal })
-    }
-
-    fn play(self, call: &Call<'_>, line: &mut Line) -> Made<Copying> {
-        let output = self.device()?;
-        line.column();
+impl Stream for Ends {
+    fn play(&mut self, alloc: Global, call: &Call<'_>, line: &mut Line) {
         match call.word {
-            "pieces" => copy(pieces(self.alloc, line), output, call.rest, line),
-            "from" => copy(self.device()?, output, call.rest, line),
-            "buf" | "line" => copy(call.bytes.as_slice(), output, call.word, line),
+            "pieces" => {
+                let pieces = Feed::new(events_of(alloc, b"ab\ncd\ne\nf", line), 4);
+                copy(pieces, &mut self.output, call.rest, line);
+            }
+            "from" => copy(&mut self.input, &mut self.output, call.rest, line),
+            "buf" | "line" => copy(call.bytes.as_slice(), &mut self.output, call.word, line),
             _ => line.malformed("no such copy"),
         }
         show_calls(&self.journal, line);
-        Ok(self)
     }
+}
+
+pub fn lend(words: &str, player: &mut Player<'_, '_>) -> Made<()> {
+    player.play(&mut Ends::new(player.alloc, words)?);
+    Ok(())
 }

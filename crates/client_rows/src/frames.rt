@@ -1,61 +1,58 @@
-// Frames over devices that note their calls, through a buffer of 4 bytes.
+// Frames, and lines of a log, over devices that note their calls, through a buffer of 4 bytes.
 //
-// A row of a writer is a call; then its answer, whether a frame is under way, the bytes out and the calls that reached the
-// device. A row of a reader is a call; then its answer and the calls.
+// A row of what sends is a call; then its answer, whether a frame or a line is under way, the bytes out and the calls that
+// reached the device. A row of a reader is a call; then its answer and the calls.
 use framing::{FrameReader, FrameWriter};
-use io_rows::calls::{new_journal, show_calls, show_out};
-use io_rows::fault::Made;
+use io_rows::calls::{Call, new_journal, show_calls, show_out};
+use io_rows::fault::{Fault, Made};
 use io_rows::journal::Journal;
 use io_rows::line::Line;
+use io_rows::player::{Player, Stream};
 use io_rows::recorder::{Name, Recorder};
-use io_rows::rows::{Call, Subject};
+use line_log::LineLog;
 use no_std_io2::io::Result as IoResult;
 use std::alloc::Global;
 use std::cell::RefCell;
 use std::rc::Rc;
 
-/// Prints the columns behind the answer of what sends.
-pub fn show_sent(is_under_way: bool, journal: &RefCell<Journal>, line: &mut Line) {
+// Prints the columns behind the answer of what sends.
+fn show_sent(is_under_way: bool, journal: &RefCell<Journal>, line: &mut Line) {
     line.column();
     line.word(if is_under_way { "under way" } else { "-" });
     show_out(journal, line);
     show_calls(journal, line);
 }
 
-/// A writer of frames, and its device's journal.
+// A writer of frames, and its device's journal.
 #[derive(Drop)]
-pub struct Sending {
+struct Sending {
     writer: FrameWriter<Recorder, 4>,
     journal: Rc<RefCell<Journal>>,
 }
 
-impl Subject for Sending {
-    fn make(alloc: Global, words: &str) -> Made<Sending> {
-        let journal = new_journal(alloc, words)?;
-        let device = Recorder::new(alloc, journal.clone()?, Name::Only);
-        Ok(Sending {
-            writer: FrameWriter::new(alloc, device),
-            journal,
-        })
+fn send(to: &mut FrameWriter<Recorder, 4>, payload: &[u8], line: &mut Line) {
+    if to.is_under_way() {
+        line.malformed("a frame is under way");
+    } else {
+        line.done(&to.send(payload));
     }
+}
 
-    fn play(mut self, call: &Call<'_>, line: &mut Line) -> Made<Sending> {
-        line.column();
+impl Stream for Sending {
+    fn play(&mut self, _alloc: Global, call: &Call<'_>, line: &mut Line) {
         match call.word {
-            "send" if self.writer.is_under_way() => line.malformed("a frame is under way"),
-            "send" => line.done(&self.writer.send(&call.bytes)),
+            "send" => send(&mut self.writer, &call.bytes, line),
             "retry" => line.done(&self.writer.retry()),
             "flush" => line.done(&self.writer.flush()),
             _ => line.malformed("no such call"),
         }
         show_sent(self.writer.is_under_way(), &self.journal, line);
-        Ok(self)
     }
 }
 
-/// A reader of frames of at most 5 bytes, and its device's journal.
+// A reader of frames of at most 5 bytes, and its device's journal.
 #[derive(Drop)]
-pub struct Receiving {
+struct Receiving {
     reader: FrameReader<Recorder, 4>,
     journal: Rc<RefCell<Journal>>,
 }
@@ -71,18 +68,8 @@ fn show_frame(given: &IoResult<Option<Vec<u8>>>, line: &mut Line) {
     }
 }
 
-impl Subject for Receiving {
-    fn make(alloc: Global, words: &str) -> Made<Receiving> {
-        let journal = new_journal(alloc, words)?;
-        let device = Recorder::new(alloc, journal.clone()?, Name::Only);
-        Ok(Receiving {
-            reader: FrameReader::new(alloc, device, 5),
-            journal,
-        })
-    }
-
-    fn play(mut self, call: &Call<'_>, line: &mut Line) -> Made<Receiving> {
-        line.column();
+impl Stream for Receiving {
+    fn play(&mut self, _alloc: Global, call: &Call<'_>, line: &mut Line) {
         match call.word {
             "next" => show_frame(&self.reader.next(), line),
             "limit" => {
@@ -92,6 +79,54 @@ impl Subject for Receiving {
             _ => line.malformed("no such call"),
         }
         show_calls(&self.journal, line);
-        Ok(self)
     }
+}
+
+// A log of lines, and its device's journal.
+#[derive(Drop)]
+struct Logging {
+    log: LineLog<Recorder, 4>,
+    journal: Rc<RefCell<Journal>>,
+}
+
+fn log(to: &mut LineLog<Recorder, 4>, bytes: &[u8], line: &mut Line) {
+    match std::str::from_utf8(bytes) {
+        Ok(_) if to.is_under_way() => line.malformed("a line is under way"),
+        Ok(text) => line.done(&to.log(text)),
+        Err(_) => line.malformed("no text"),
+    }
+}
+
+impl Stream for Logging {
+    fn play(&mut self, _alloc: Global, call: &Call<'_>, line: &mut Line) {
+        match call.word {
+            "log" => log(&mut self.log, &call.bytes, line),
+            "retry" => line.done(&self.log.retry()),
+            "flush" => line.done(&self.log.flush()),
+            _ => line.malformed("no such call"),
+        }
+        show_sent(self.log.is_under_way(), &self.journal, line);
+    }
+}
+
+pub fn lend(name: &str, words: &str, player: &mut Player<'_, '_>) -> Made<()> {
+    let alloc = player.alloc;
+    let journal = new_journal(alloc, words)?;
+    let device = Recorder::new(alloc, journal.clone()?, Name::Only);
+    match name {
+        "FrameWriter" => {
+            let writer = FrameWriter::new(alloc, device);
+            player.play(&mut Sending { writer, journal });
+        }
+        "FrameReader" => {
+            let reader = FrameReader::new(alloc, device, 5);
+            player.play(&mut Receiving { reader, journal });
+        }
+        "LineLog" => {
+            let log = LineLog::new(alloc, device);
+            player.play(&mut Logging { log, journal });
+        }
+        _ => return Err(Fault::Malformed("no such stream")),
+    }
+    Ok(())
 }

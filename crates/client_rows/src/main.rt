@@ -4,51 +4,32 @@
 
 mod copies;
 mod frames;
-mod logs;
 mod patience;
 mod plays;
 mod sweeps;
 
-use copies::Copying;
-use frames::{Receiving, Sending};
-use io_rows::count::{Count, tell_fault};
-use io_rows::fault::Fault;
-use io_rows::files::{Tables, play_files};
-use io_rows::rows::play;
-use logs::Logging;
-use patience::Patience;
-use plays::Playing;
-use std::alloc::Global;
-use std::io;
+use io_rows::fault::Made;
+use io_rows::files::play_files;
+use io_rows::player::{Player, Streams};
 use std::process::ExitCode;
-use sweeps::{Frames, Lines, Received, Sweeping};
 
-// The tables of this program.
-struct ClientTables;
+// What stands on the streams.
+struct Clients;
 
-impl Tables for ClientTables {
-    fn play_table<'a, R: Print>(
-        rt: &R,
-        alloc: Global,
-        name: &str,
-        table: &str,
-        count: Count<'a>,
-    ) -> io::Result<Count<'a>> {
+impl Streams for Clients {
+    fn lend(name: &str, words: &str, player: &mut Player<'_, '_>) -> Made<()> {
         match name {
-            "Patient" => play::<Patience, R>(rt, alloc, table, count),
-            "copy_through" => play::<Copying, R>(rt, alloc, table, count),
-            "play" => play::<Playing, R>(rt, alloc, table, count),
-            "FrameWriter" => play::<Sending, R>(rt, alloc, table, count),
-            "FrameReader" => play::<Receiving, R>(rt, alloc, table, count),
-            "LineLog" => play::<Logging, R>(rt, alloc, table, count),
-            "sweep FrameWriter" => play::<Sweeping<Frames>, R>(rt, alloc, table, count),
-            "sweep FrameReader" => play::<Sweeping<Received>, R>(rt, alloc, table, count),
-            "sweep LineLog" => play::<Sweeping<Lines>, R>(rt, alloc, table, count),
-            _ => tell_fault(rt, Fault::Malformed("no such stream"), name, count),
+            "Patient" => patience::lend(words, player),
+            "copy_through" => copies::lend(words, player),
+            "play" => plays::lend(words, player),
+            _ => match name.split_once(" ") {
+                Some(("sweep", name)) => sweeps::lend(name, player),
+                _ => frames::lend(name, words, player),
+            },
         }
     }
 }
 
 fn main(rt: HostRuntime) -> ExitCode {
-    play_files::<ClientTables>(&rt)
+    play_files::<Clients>(&rt)
 }

@@ -6,27 +6,16 @@
 // of what is written.
 ghost use Rattle.no_std_io2.specs.BufReader.{BufReaderFits};
 
+use super::copies::Ends;
 use io_bench::{Act, Event, Faulty, Feed};
-use io_rows::calls::{new_journal, show_calls};
+use io_rows::calls::{Call, show_calls};
 use io_rows::fault::{Fault, Made};
-use io_rows::journal::Journal;
 use io_rows::kinds::kind_of_name;
 use io_rows::line::Line;
-use io_rows::recorder::{Name, Recorder};
-use io_rows::rows::{Call, Subject};
+use io_rows::player::{Player, Stream};
 use no_std_io2::io::{ErrorKind, Read};
 use std::alloc::Global;
-use std::cell::RefCell;
-use std::rc::Rc;
 use tower_play::{Fault as PlayFault, Shape, play};
-
-/// A shape, and a journal of both devices.
-#[derive(Drop)]
-pub struct Playing {
-    alloc: Global,
-    shape: Shape,
-    journal: Rc<RefCell<Journal>>,
-}
 
 fn parse_shape(word: &str) -> Option<Shape> {
     match word {
@@ -55,6 +44,17 @@ fn show_play<R: Read + Drop>(alloc: Global, input: R, shape: Shape, line: &mut L
     }
 }
 
+fn play_feed(alloc: Global, kind: &str, shape: Shape, line: &mut Line) {
+    let Some(kind) = kind_of_name(kind) else {
+        line.malformed("no such kind of an error");
+        return;
+    };
+    match Vec::from_slice(alloc, &[Event::Fail(kind)]) {
+        Ok(events) => show_play(alloc, Feed::new(events, 4), shape, line),
+        Err(_) => line.cut(),
+    }
+}
+
 // So many lines `f`.
 fn flushes(alloc: Global, count: usize, line: &mut Line) -> Vec<u8> {
     let mut script = Vec::new(alloc);
@@ -73,66 +73,60 @@ const ACTS: [Act; 3] = [
     Act::Fail(ErrorKind::BrokenPipe),
 ];
 
-impl Playing {
-    fn play_feed(&self, kind: &str, line: &mut Line) -> Made<()> {
-        let Some(kind) = kind_of_name(kind) else {
-            line.malformed("no such kind of an error");
-            return Ok(());
-        };
-        let feed = Feed::new(Vec::from_slice(self.alloc, &[Event::Fail(kind)])?, 4);
-        show_play(self.alloc, feed, self.shape, line);
-        Ok(())
-    }
-
-    fn device(&self) -> Made<Recorder> {
-        Ok(Recorder::new(self.alloc, self.journal.clone()?, Name::Only))
-    }
-
-    fn play_devices(&self, line: &mut Line) -> Made<()> {
-        let input = self.device()?;
-        match play(self.alloc, input, self.device()?, self.shape) {
-            Ok(_output) => line.word("ok"),
-            Err(fault) => show_fault(self.alloc, &fault, line),
-        }
-        show_calls(&self.journal, line);
-        Ok(())
-    }
-
-    fn play_flushes(&self, count: usize, line: &mut Line) -> Made<()> {
-        let acts = Vec::from_slice(self.alloc, &ACTS)?;
-        let script = flushes(self.alloc, count, line);
-        let output = Faulty::new(Vec::<u8>::new(self.alloc), acts);
-        match play(self.alloc, script.as_slice(), output, self.shape) {
-            Ok(output) => line.number(output.get_ref().len() as u64),
-            Err(fault) => show_fault(self.alloc, &fault, line),
-        }
-        Ok(())
+fn play_flushes(alloc: Global, script: &[u8], shape: Shape, line: &mut Line) {
+    let Ok(acts) = Vec::from_slice(alloc, &ACTS) else {
+        line.cut();
+        return;
+    };
+    match play(
+        alloc,
+        script,
+        Faulty::new(Vec::<u8>::new(alloc), acts),
+        shape,
+    ) {
+        Ok(output) => line.number(output.get_ref().len() as u64),
+        Err(fault) => show_fault(alloc, &fault, line),
     }
 }
 
-impl Subject for Playing {
-    fn make(alloc: Global, words: &str) -> Made<Playing> {
-        let (shape, answers) = words.split_once(": ").unwrap_or((words, ""));
-        let Some(shape) = parse_shape(shape) else {
-            return Err(Fault::Malformed("no such shape"));
-        };
-        let journal = new_journal(alloc, answers)?;
-        Ok(Playing {
-            alloc,
-            shape,
-            journal,
-        })
-    }
+#[derive(Drop)]
+struct Playing {
+    shape: Shape,
+    ends: Ends,
+}
 
-    fn play(self, call: &Call<'_>, line: &mut Line) -> Made<Playing> {
-        line.column();
+impl Playing {
+    fn play_devices(&mut self, alloc: Global, line: &mut Line) {
+        let Ends { input, output, .. } = &mut self.ends;
+        match play(alloc, input, output, self.shape) {
+            Ok(_output) => line.word("ok"),
+            Err(fault) => show_fault(alloc, &fault, line),
+        }
+        show_calls(&self.ends.journal, line);
+    }
+}
+
+impl Stream for Playing {
+    fn play(&mut self, alloc: Global, call: &Call<'_>, line: &mut Line) {
         match call.word {
-            "play" => show_play(self.alloc, call.bytes.as_slice(), self.shape, line),
-            "feed" => self.play_feed(call.rest, line)?,
-            "devices" => self.play_devices(line)?,
-            "flushes" => self.play_flushes(call.number(line), line)?,
+            "play" => show_play(alloc, call.bytes.as_slice(), self.shape, line),
+            "feed" => play_feed(alloc, call.rest, self.shape, line),
+            "devices" => self.play_devices(alloc, line),
+            "flushes" => {
+                let script = flushes(alloc, call.number(line), line);
+                play_flushes(alloc, &script, self.shape, line);
+            }
             _ => line.malformed("no such call"),
         }
-        Ok(self)
     }
+}
+
+pub fn lend(words: &str, player: &mut Player<'_, '_>) -> Made<()> {
+    let (shape, answers) = words.split_once(": ").unwrap_or((words, ""));
+    let Some(shape) = parse_shape(shape) else {
+        return Err(Fault::Malformed("no such shape"));
+    };
+    let ends = Ends::new(player.alloc, answers)?;
+    player.play(&mut Playing { shape, ends });
+    Ok(())
 }

@@ -1,15 +1,17 @@
 // Frames and lines over a device that fails once, at each place and in each of some ways: each goes out and comes back once.
 //
-// A row is `sweep`; then how many runs that were, or the first run that goes wrong.
+// A row is `sweep`; then the runs that go wrong, and how many were tried.
+use super::copies::events_of;
 use framing::{FrameReader, FrameWriter};
 use io_bench::{Act, Event, Faulty, Feed};
+use io_rows::calls::Call;
 use io_rows::fault::Made;
+use io_rows::kinds::name_of_kind;
 use io_rows::line::Line;
-use io_rows::rows::{Call, Subject};
+use io_rows::player::{Player, Stream};
 use line_log::LineLog;
 use no_std_io2::io::{self, ErrorKind};
 use std::alloc::Global;
-use std::marker::PhantomData;
 
 // The payloads, and their frames.
 const PAYLOADS: [&[u8]; 3] = [b"hello", b"", b"ab"];
@@ -24,34 +26,25 @@ const TEXTS: [&str; 3] = ["one", "", "three"];
 
 const LINES: &[u8] = b"one\n\nthree\n";
 
-// A device that takes one byte each of so many times, and then does this once.
-fn faulty(alloc: Global, times: usize, once: Act) -> Made<Faulty<Vec<u8>>> {
-    let mut acts = Vec::new(alloc);
-    acts.resize(times, Act::Take(1))?;
-    acts.push(once)?;
-    Ok(Faulty::new(Vec::new(alloc), acts))
-}
-
 // What a device does once.
-fn once(way: usize) -> Act {
-    match way % 4 {
-        0 => Act::Zero,
-        1 => Act::Fail(ErrorKind::Interrupted),
-        2 => Act::Fail(ErrorKind::BrokenPipe),
-        _ => Act::Fail(ErrorKind::WouldBlock),
-    }
-}
+const ACTS: [Act; 4] = [
+    Act::Zero,
+    Act::Fail(ErrorKind::Interrupted),
+    Act::Fail(ErrorKind::BrokenPipe),
+    Act::Fail(ErrorKind::WouldBlock),
+];
 
-// The kind of what a run is refused by, whose bytes are all out before the last call, which is a flush.
-fn refused_by(once: Act, is_flush: bool) -> Option<ErrorKind> {
-    match once {
-        Act::Fail(kind) if is_flush => Some(kind),
-        _ if is_flush => None,
-        Act::Fail(ErrorKind::Interrupted) | Act::Take(_) => None,
-        Act::Fail(kind) => Some(kind),
-        Act::Zero => Some(ErrorKind::WriteZero),
-    }
-}
+// The kinds of faults, one of which is that of an end inside a frame, and the lengths of pieces.
+const READS: [(ErrorKind, usize); 8] = [
+    (ErrorKind::BrokenPipe, 1),
+    (ErrorKind::BrokenPipe, 3),
+    (ErrorKind::BrokenPipe, 64),
+    (ErrorKind::Interrupted, 1),
+    (ErrorKind::Interrupted, 64),
+    (ErrorKind::UnexpectedEof, 3),
+    (ErrorKind::UnexpectedEof, 64),
+    (ErrorKind::OutOfMemory, 2),
+];
 
 fn payloads(alloc: Global) -> Made<Vec<Vec<u8>>> {
     let mut payloads = Vec::new(alloc);
@@ -67,6 +60,34 @@ fn texts(alloc: Global) -> Made<Vec<String>> {
         lines.push(String::from_str(alloc, text)?)?;
     }
     Ok(lines)
+}
+
+// A device that takes one byte each of so many times, and then does this once.
+fn faulty(alloc: Global, times: usize, once: Act, line: &mut Line) -> Faulty<Vec<u8>> {
+    let mut acts = Vec::new(alloc);
+    if acts.resize(times, Act::Take(1)).is_err() || acts.push(once).is_err() {
+        line.cut();
+    }
+    Faulty::new(Vec::new(alloc), acts)
+}
+
+// The frames, with a fault before the byte at this place, or behind all.
+fn feed(alloc: Global, at: usize, kind: ErrorKind, piece: usize, line: &mut Line) -> Feed {
+    let mut events = events_of(alloc, WIRE, line);
+    let at = at.min(events.len());
+    if events.insert(at, Event::Fail(kind)).is_err() {
+        line.cut();
+    }
+    Feed::new(events, piece.max(1))
+}
+
+// The kind of what a run is refused by, whose bytes are all out before the last call, which is a flush.
+fn refused_by(once: Act, is_flush: bool) -> Option<ErrorKind> {
+    match once {
+        Act::Fail(kind) if is_flush || kind != ErrorKind::Interrupted => Some(kind),
+        Act::Zero if !is_flush => Some(ErrorKind::WriteZero),
+        _ => None,
+    }
 }
 
 // The kind of a refusal.
@@ -101,39 +122,17 @@ fn wanted(times: usize, sent: usize, len: usize, once: Act) -> Outcome {
 
 type Sender = FrameWriter<Faulty<Vec<u8>>, 8>;
 
-fn send(w: &mut Sender, payloads: &[Vec<u8>]) -> Outcome {
-    let mut rest = payloads;
-    let sending = refusal(w.send_all(&mut rest));
-    let again = w.send_all(&mut rest).is_ok();
-    let flush = refusal(w.flush());
-    let is_whole = again && w.flush().is_ok() && rest.is_empty() && is_sent(w);
-    Outcome {
-        sending,
-        flush,
-        is_whole,
-    }
-}
-
-// Delivers the frames with one try more than there are faults, and none more.
-fn deliver(w: &mut Sender, payloads: &[Vec<u8>], tries: u32) -> bool {
-    let mut rest = payloads;
-    w.deliver(&mut rest, tries).is_ok() && rest.is_empty() && is_sent(w)
-}
-
 fn is_sent(w: &Sender) -> bool {
     !w.is_under_way() && w.get_ref().get_ref().as_slice() == WIRE
 }
 
-fn log(log: &mut LineLog<Faulty<Vec<u8>>, 4>, lines: &[String]) -> Outcome {
-    let mut rest = lines;
-    let sending = refusal(log.log_all(&mut rest));
-    let again = log.log_all(&mut rest).is_ok();
-    let flush = refusal(log.flush());
-    let is_whole = again
-        && log.flush().is_ok()
-        && rest.is_empty()
-        && !log.is_under_way()
-        && log.get_ref().get_ref().as_slice() == LINES;
+fn send(alloc: Global, device: Faulty<Vec<u8>>, payloads: &[Vec<u8>]) -> Outcome {
+    let mut w = Sender::new(alloc, device);
+    let mut rest = payloads;
+    let sending = refusal(w.send_all(&mut rest));
+    let again = w.send_all(&mut rest).is_ok();
+    let flush = refusal(w.flush());
+    let is_whole = again && w.flush().is_ok() && rest.is_empty() && is_sent(&w);
     Outcome {
         sending,
         flush,
@@ -141,39 +140,49 @@ fn log(log: &mut LineLog<Faulty<Vec<u8>>, 4>, lines: &[String]) -> Outcome {
     }
 }
 
-// These bytes, with a fault before the one at this place, or behind all.
-fn feed(alloc: Global, at: usize, kind: ErrorKind, piece: usize) -> Made<Feed> {
-    let mut events = Vec::new(alloc);
-    'bytes: for (i, byte) in WIRE.iter().enumerate() {
-        if i == at {
-            events.push(Event::Fail(kind))?;
-        }
-        events.push(Event::Byte(*byte))?;
+// Whether the frames are delivered, once, with so many tries more.
+fn deliver(alloc: Global, device: Faulty<Vec<u8>>, payloads: &[Vec<u8>], tries: u32) -> bool {
+    let mut w = Sender::new(alloc, device);
+    let mut rest = payloads;
+    w.deliver(&mut rest, tries).is_ok() && rest.is_empty() && is_sent(&w)
+}
+
+type Log = LineLog<Faulty<Vec<u8>>, 4>;
+
+fn is_logged(log: &Log) -> bool {
+    !log.is_under_way() && log.get_ref().get_ref().as_slice() == LINES
+}
+
+fn log(alloc: Global, device: Faulty<Vec<u8>>, lines: &[String]) -> Outcome {
+    let mut log = Log::new(alloc, device);
+    let mut rest = lines;
+    let sending = refusal(log.log_all(&mut rest));
+    let again = log.log_all(&mut rest).is_ok();
+    let flush = refusal(log.flush());
+    let is_whole = again && log.flush().is_ok() && rest.is_empty() && is_logged(&log);
+    Outcome {
+        sending,
+        flush,
+        is_whole,
     }
-    if at >= WIRE.len() {
-        events.push(Event::Fail(kind))?;
-    }
-    Ok(Feed::new(events, piece.max(1)))
 }
 
 // How many frames end before this place.
 fn frames_before(at: usize) -> usize {
-    match at {
-        0..=8 => 0,
-        9..=12 => 1,
-        13..=18 => 2,
-        _ => 3,
+    if at < 9 {
+        0
+    } else if at < 13 {
+        1
+    } else if at < 19 {
+        2
+    } else {
+        3
     }
 }
 
-// Whether the fault comes out once, behind the frames before it, and every frame once.
-fn receive(
-    alloc: Global,
-    r: &mut FrameReader<Feed, 8>,
-    at: usize,
-    kind: ErrorKind,
-    sent: &[Vec<u8>],
-) -> bool {
+// Whether the fault at this place comes out once, behind the frames before it, and every frame once.
+fn receive(alloc: Global, feed: Feed, at: usize, kind: ErrorKind, sent: &[Vec<u8>]) -> bool {
+    let mut r = FrameReader::<Feed, 8>::new(alloc, feed, 5);
     let mut given = Vec::new(alloc);
     let first = refusal(r.read_all(&mut given));
     let before = given.len();
@@ -185,144 +194,97 @@ fn receive(
     is_right && is_whole && matches!(r.next(), Ok(None)) && r.get_ref().left().is_empty()
 }
 
-// The kinds of faults, one of which is that of an end inside a frame, and the lengths of pieces.
-fn piece(way: usize) -> (ErrorKind, usize) {
-    match way {
-        0 => (ErrorKind::BrokenPipe, 1),
-        1 => (ErrorKind::BrokenPipe, 3),
-        2 => (ErrorKind::BrokenPipe, 64),
-        3 => (ErrorKind::Interrupted, 1),
-        4 => (ErrorKind::Interrupted, 64),
-        5 => (ErrorKind::UnexpectedEof, 3),
-        6 => (ErrorKind::UnexpectedEof, 64),
-        _ => (ErrorKind::OutOfMemory, 2),
-    }
-}
-
-/// What is tried at each place.
-pub trait Sweep {
-    /// How many bytes go out or come in.
-    fn len() -> usize;
-
-    /// How many runs are made at each place.
-    fn ways() -> usize;
-
-    /// Makes a run at this place: whether it comes to what is wanted.
-    fn is_right(alloc: Global, at: usize, way: usize) -> Made<bool>;
-}
-
-/// A writer of frames, which sends, and delivers with no try more and with one.
+// A sweep of this name.
 #[derive(Drop)]
-pub struct Frames;
-
-impl Sweep for Frames {
-    fn len() -> usize {
-        WIRE.len()
-    }
-
-    fn ways() -> usize {
-        12
-    }
-
-    fn is_right(alloc: Global, at: usize, way: usize) -> Made<bool> {
-        let once = once(way);
-        let wanted = wanted(at, SENT, WIRE.len(), once);
-        let payloads = payloads(alloc)?;
-        let mut w = FrameWriter::new(alloc, faulty(alloc, at, once)?);
-        Ok(match way {
-            0..=3 => send(&mut w, &payloads) == wanted,
-            4..=7 => {
-                let is_refused = wanted.sending.is_some() || wanted.flush.is_some();
-                deliver(&mut w, &payloads, 0) != is_refused
-            }
-            _ => deliver(&mut w, &payloads, 1),
-        })
-    }
+struct Sweep<'a> {
+    name: &'a str,
+    payloads: Vec<Vec<u8>>,
+    lines: Vec<String>,
+    // How many runs were tried.
+    runs: u64,
 }
 
-/// A reader of frames.
-#[derive(Drop)]
-pub struct Received;
-
-impl Sweep for Received {
-    fn len() -> usize {
-        WIRE.len()
+impl<'a> Sweep<'a> {
+    // Counts a run, and prints it where it goes wrong, with its place and its fault.
+    fn count(&mut self, is_right: bool, what: &str, at: usize, once: Act, line: &mut Line) {
+        self.runs = self.runs.wrapping_add(1);
+        if is_right {
+            return;
+        }
+        line.word(what);
+        line.word(" (run ");
+        line.number(self.runs);
+        line.word(") goes wrong behind ");
+        line.number(at as u64);
+        line.word(" calls, at ");
+        line.word(match once {
+            Act::Fail(kind) => name_of_kind(kind),
+            _ => "a write of none",
+        });
+        line.word("; ");
     }
 
-    fn ways() -> usize {
-        8
-    }
-
-    fn is_right(alloc: Global, at: usize, way: usize) -> Made<bool> {
-        let (kind, piece) = piece(way);
-        let sent = payloads(alloc)?;
-        let mut r = FrameReader::new(alloc, feed(alloc, at, kind, piece)?, 5);
-        Ok(receive(alloc, &mut r, at, kind, &sent))
-    }
-}
-
-/// A log.
-#[derive(Drop)]
-pub struct Lines;
-
-impl Sweep for Lines {
-    fn len() -> usize {
-        LINES.len()
-    }
-
-    fn ways() -> usize {
-        4
-    }
-
-    fn is_right(alloc: Global, at: usize, way: usize) -> Made<bool> {
-        let lines = texts(alloc)?;
-        let mut to = LineLog::new(alloc, faulty(alloc, at, once(way))?);
-        Ok(log(&mut to, &lines) == wanted(at, LINES.len(), LINES.len(), once(way)))
-    }
-}
-
-// Makes the runs at a place, up to the first that goes wrong, which is printed; how many were right.
-fn play_around<S: Sweep>(alloc: Global, at: usize, line: &mut Line) -> Made<usize> {
-    'ways: for way in 0..S::ways() {
-        if !S::is_right(alloc, at, way)? {
-            line.word("run ");
-            line.number(way as u64);
-            line.word(" goes wrong behind ");
-            line.number(at as u64);
-            line.word(" calls");
-            return Ok(way);
+    fn send_around(&mut self, alloc: Global, at: usize, line: &mut Line) {
+        'acts: for once in &ACTS {
+            let wanted = wanted(at, SENT, WIRE.len(), *once);
+            let is_refused = wanted.sending.is_some() || wanted.flush.is_some();
+            let sent = send(alloc, faulty(alloc, at, *once, line), &self.payloads);
+            self.count(sent == wanted, "a sending", at, *once, line);
+            let is_delivered = deliver(alloc, faulty(alloc, at, *once, line), &self.payloads, 0);
+            self.count(is_delivered != is_refused, "a delivery", at, *once, line);
+            let is_delivered = deliver(alloc, faulty(alloc, at, *once, line), &self.payloads, 1);
+            self.count(is_delivered, "a retried delivery", at, *once, line);
         }
     }
-    Ok(S::ways())
-}
 
-/// A sweep as a table's subject.
-#[derive(Drop)]
-pub struct Sweeping<S> {
-    alloc: Global,
-    kind: PhantomData<S>,
-}
-
-impl<S: Sweep> Subject for Sweeping<S> {
-    fn make(alloc: Global, _words: &str) -> Made<Sweeping<S>> {
-        Ok(Sweeping {
-            alloc,
-            kind: PhantomData,
-        })
+    fn log_around(&mut self, alloc: Global, at: usize, line: &mut Line) {
+        'acts: for once in &ACTS {
+            let logged = log(alloc, faulty(alloc, at, *once, line), &self.lines);
+            let wanted = wanted(at, LINES.len(), LINES.len(), *once);
+            self.count(logged == wanted, "a log", at, *once, line);
+        }
     }
 
-    fn play(self, _call: &Call<'_>, line: &mut Line) -> Made<Sweeping<S>> {
-        line.column();
-        let mut runs: usize = 0;
-        'places: for at in 0..=S::len() {
-            let more = play_around::<S>(self.alloc, at, line)?;
-            runs = runs.wrapping_add(more);
-            if more < S::ways() {
-                return Ok(self);
+    fn receive_around(&mut self, alloc: Global, at: usize, line: &mut Line) {
+        'reads: for (kind, piece) in &READS {
+            let feed = feed(alloc, at, *kind, *piece, line);
+            let is_right = receive(alloc, feed, at, *kind, &self.payloads);
+            self.count(is_right, "a reading", at, Act::Fail(*kind), line);
+        }
+    }
+}
+
+impl<'a> Stream for Sweep<'a> {
+    fn play(&mut self, alloc: Global, _call: &Call<'_>, line: &mut Line) {
+        self.runs = 0;
+        let len = match self.name {
+            "FrameWriter" | "FrameReader" => WIRE.len(),
+            "LineLog" => LINES.len(),
+            _ => {
+                line.malformed("no such sweep");
+                return;
+            }
+        };
+        'places: for at in 0..=len {
+            match self.name {
+                "FrameWriter" => self.send_around(alloc, at, line),
+                "FrameReader" => self.receive_around(alloc, at, line),
+                _ => self.log_around(alloc, at, line),
             }
         }
-        line.number(runs as u64);
+        line.number(self.runs);
         line.word(" runs");
-        Ok(self)
     }
+}
+
+pub fn lend(name: &str, player: &mut Player<'_, '_>) -> Made<()> {
+    let payloads = payloads(player.alloc)?;
+    let lines = texts(player.alloc)?;
+    player.play(&mut Sweep {
+        name,
+        payloads,
+        lines,
+        runs: 0,
+    });
+    Ok(())
 }

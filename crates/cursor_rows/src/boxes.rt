@@ -1,11 +1,10 @@
 // Boxed objects, played by rows of calls.
 use crate::readers::{Lending, Reading};
 use crate::scripts::{NO_STREAM, cut, new_text};
-use io_rows::calls::make_seek;
+use io_rows::calls::{Call, make_seek};
 use io_rows::fault::Made;
 use io_rows::line::Line;
 use io_rows::player::{Player, Stream};
-use io_rows::rows::Call;
 use no_std_io2::io::{BufRead, BufReader, Chain, Cursor, Read, Seek, Take};
 use std::alloc::Global;
 

@@ -4,10 +4,10 @@
 use crate::levels::Levels;
 use crate::scripts::{NO_STREAM, new_feed, new_text, new_writer};
 use io_bench::{Faulty, Feed};
+use io_rows::calls::Call;
 use io_rows::fault::Made;
 use io_rows::line::{Line, unescape};
 use io_rows::player::{Player, Stream};
-use io_rows::rows::Call;
 use no_std_io2::io::{BufReader, Read, copy};
 use std::alloc::Global;
 

@@ -4,12 +4,11 @@
 // stands at each level.
 use crate::levels::Levels;
 use crate::scripts::new_text;
-use io_rows::calls::{make_call, make_seek};
+use io_rows::calls::{Call, make_call, make_seek};
 use io_rows::fault::Made;
 use io_rows::line::{Line, unescape};
 use io_rows::player::{Player, Stream};
 use io_rows::reads::make_lend;
-use io_rows::rows::Call;
 use no_std_io2::io::{BufRead, BufReader, Cursor, Seek, Write};
 use std::alloc::Global;
 

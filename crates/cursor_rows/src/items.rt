@@ -3,10 +3,10 @@
 // The columns behind a call are the item, with its kind in front, and the capacity that it has; a single byte stands alone.
 use crate::scripts::{NO_STREAM, cut, new_feed, new_text};
 use io_bench::Feed;
+use io_rows::calls::Call;
 use io_rows::fault::Made;
 use io_rows::line::{Line, unescape};
 use io_rows::player::{Player, Stream};
-use io_rows::rows::Call;
 use no_std_io2::io::{BufRead, BufReader, Bytes, Cursor, Error, Lines, Read, Split};
 use std::alloc::Global;
 

@@ -11,12 +11,9 @@ mod readers;
 mod room;
 mod scripts;
 
-use io_rows::count::Count;
 use io_rows::fault::{Fault, Made};
-use io_rows::files::{Tables, play_files};
-use io_rows::player::{Player, Streams, play_streams};
-use std::alloc::Global;
-use std::io;
+use io_rows::files::play_files;
+use io_rows::player::{Player, Streams};
 use std::process::ExitCode;
 
 // The streams of this program: the first word says which columns a row has.
@@ -41,22 +38,10 @@ impl Streams for InMemory {
             _ => Err(Fault::Malformed("no such stream")),
         }
     }
-}
 
-impl Tables for InMemory {
     // A scripted device has no texts.
     fn has_texts(_name: &str) -> bool {
         false
-    }
-
-    fn play_table<'a, R: Print>(
-        rt: &R,
-        alloc: Global,
-        name: &str,
-        table: &str,
-        count: Count<'a>,
-    ) -> io::Result<Count<'a>> {
-        play_streams::<InMemory, R>(rt, alloc, name, table, count)
     }
 }
 

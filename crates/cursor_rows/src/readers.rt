@@ -5,11 +5,11 @@ use crate::boxes::lend_tower;
 use crate::levels::Levels;
 use crate::scripts::{NO_STREAM, cut, new_feed, new_text};
 use io_bench::{Feed, Tally};
+use io_rows::calls::Call;
 use io_rows::fault::{Fault, Made};
 use io_rows::line::{Line, unescape};
 use io_rows::player::{Player, Stream};
 use io_rows::reads::{make_lend, make_read};
-use io_rows::rows::Call;
 use no_std_io2::io::{BufRead, BufReader, Cursor, Read, Take};
 use std::alloc::Global;
 

@@ -4,9 +4,9 @@
 // columns behind it are the answer, the length and the capacity then, and how many bytes are left to come.
 use crate::scripts::push_bytes;
 use io_bench::{Feed, Tally};
+use io_rows::calls::Call;
 use io_rows::line::Line;
 use io_rows::player::Stream;
-use io_rows::rows::Call;
 use no_std_io2::io::{BufRead, BufReader, Cursor, Read};
 use std::alloc::Global;
 

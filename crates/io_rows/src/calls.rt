@@ -1,13 +1,49 @@
-// Calls of rows that several kinds of streams have, and what a device's journal shows after them.
+// The call of a row, calls that several kinds of streams have, and what a device's journal shows after them.
 use super::fault::{Fault, Made};
 use super::journal::Journal;
-use super::line::Line;
-use super::rows::Call;
+use super::line::{Line, unescape};
 use super::script::parse_answers;
 use no_std_io2::io::{Seek, SeekFrom, Write};
 use std::alloc::Global;
 use std::cell::RefCell;
 use std::rc::Rc;
+
+/// A call of a row: a word, and what stands behind it.
+#[derive(Drop)]
+pub struct Call<'a> {
+    /// What is called.
+    pub word: &'a str,
+    /// What stands behind the word.
+    pub rest: &'a str,
+    /// The same as bytes.
+    pub bytes: Vec<u8>,
+}
+
+impl<'a> Call<'a> {
+    /// Reads a call. A fault says that an escape is bad, or that memory is refused.
+    pub fn parse(alloc: Global, call: &'a str) -> Made<Call<'a>> {
+        let (word, rest) = match call.split_once(" ") {
+            Some(both) => both,
+            None => (call, ""),
+        };
+        Ok(Call {
+            word,
+            rest,
+            bytes: unescape(alloc, rest)?,
+        })
+    }
+
+    /// What stands behind the word, as a number; where it is none the row can't be played.
+    pub fn number(&self, line: &mut Line) -> usize {
+        match self.rest.parse::<usize>() {
+            Ok(n) => n,
+            Err(_) => {
+                line.malformed("no number behind a call");
+                0
+            }
+        }
+    }
+}
 
 const IN_USE: &str = "the journal is in use";
 

@@ -1,6 +1,5 @@
 // What came of the rows that were played.
 use super::fault::Fault;
-use super::line::Line;
 use std::io;
 
 /// How many rows were played and how they came out, and where the player stands in its file.
@@ -112,29 +111,4 @@ pub fn tell_fault<'a, R: Print>(
             })
         }
     }
-}
-
-/// Counts a row, and prints it where it came out otherwise or can't be played. Refused memory is `OutOfMemory`, and ends the run.
-pub fn compare<'a, R: Print>(
-    rt: &R,
-    row: &str,
-    line: &Line,
-    count: Count<'a>,
-) -> io::Result<Count<'a>> {
-    if line.is_cut() {
-        return Err(io::Error::from(io::ErrorKind::OutOfMemory));
-    }
-    let rows = count.rows.wrapping_add(1);
-    let got = line.as_str();
-    if got == row && !line.is_malformed() {
-        return Ok(Count { rows, ..count });
-    }
-    count.print_place(rt)?;
-    println!(rt; "  wanted: {row}")?;
-    println!(rt; "     got: {got}")?;
-    Ok(Count {
-        rows,
-        differing: count.differing.wrapping_add(1),
-        ..count
-    })
 }

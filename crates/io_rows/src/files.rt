@@ -3,31 +3,14 @@ use super::count::{Count, lines_of, tell_fault};
 use super::fault::Fault;
 use super::faults::{Texts, Turn, turn_table};
 use super::kinds::{ANY, NAMES};
-use super::rows::cut_line;
+use super::player::{Streams, cut_line, play_streams};
 use no_std_io2::io::ErrorKind;
 use std::alloc::Global;
 use std::process::ExitCode;
 use std::{env, fs, io};
 
-/// The streams that a program has tables for.
-pub trait Tables {
-    /// Plays the rows of a table on the stream of this name. A name that is none is told as a fault.
-    fn play_table<'a, R: Print>(
-        rt: &R,
-        alloc: Global,
-        name: &str,
-        table: &str,
-        count: Count<'a>,
-    ) -> io::Result<Count<'a>>;
-
-    /// Whether the faults of this stream's device may have texts.
-    fn has_texts(_name: &str) -> bool {
-        true
-    }
-}
-
 // Plays a table on each stream that its head names.
-fn play_streams<'a, T: Tables, R: Print>(
+fn play_table<'a, S: Streams, R: Print>(
     rt: &R,
     alloc: Global,
     table: &str,
@@ -38,19 +21,19 @@ fn play_streams<'a, T: Tables, R: Print>(
     let (names, _) = cut_line(table);
     'streams: for name in names.split(", ") {
         let groups = count.groups;
-        count = T::play_table(rt, alloc, name, table, count.at(line).add_table())?;
+        count = play_streams::<S, R>(rt, alloc, name, table, count.at(line).add_table())?;
         if count.groups == groups {
             let fault = Fault::Malformed("a table without a group that can be played");
             count = tell_fault(rt, fault, name, count.at(line))?;
         } else if count.turns_faults {
-            count = play_faults::<T, R>(rt, alloc, name, table, count.at(line))?;
+            count = play_faults::<S, R>(rt, alloc, name, table, count.at(line))?;
         }
     }
     Ok(count)
 }
 
 // Plays a table with other faults in place of those of each kind that it names.
-fn play_faults<'a, T: Tables, R: Print>(
+fn play_faults<'a, S: Streams, R: Print>(
     rt: &R,
     alloc: Global,
     name: &str,
@@ -62,15 +45,15 @@ fn play_faults<'a, T: Tables, R: Print>(
         to: ErrorKind::Interrupted,
         texts: Texts::Same,
     };
-    let mut count = play_texts::<T, R>(rt, alloc, name, table, interruption, count)?;
+    let mut count = play_texts::<S, R>(rt, alloc, name, table, interruption, count)?;
     'kinds: for from in ANY {
-        count = play_kinds::<T, R>(rt, alloc, name, table, from, count)?;
+        count = play_kinds::<S, R>(rt, alloc, name, table, from, count)?;
     }
     Ok(count)
 }
 
 // The same in place of those of one kind.
-fn play_kinds<'a, T: Tables, R: Print>(
+fn play_kinds<'a, S: Streams, R: Print>(
     rt: &R,
     alloc: Global,
     name: &str,
@@ -86,14 +69,14 @@ fn play_kinds<'a, T: Tables, R: Print>(
                 to,
                 texts: Texts::Same,
             };
-            count = play_texts::<T, R>(rt, alloc, name, table, turn, count)?;
+            count = play_texts::<S, R>(rt, alloc, name, table, turn, count)?;
         }
     }
     Ok(count)
 }
 
 // The same by those of another kind, with texts and without.
-fn play_texts<'a, T: Tables, R: Print>(
+fn play_texts<'a, S: Streams, R: Print>(
     rt: &R,
     alloc: Global,
     name: &str,
@@ -104,13 +87,13 @@ fn play_texts<'a, T: Tables, R: Print>(
     let mut count = count;
     'texts: for texts in [Texts::Same, Texts::Added, Texts::Left] {
         let turn = Turn { texts, ..turn };
-        if turn.is_none() || (texts == Texts::Added && !T::has_texts(name)) {
+        if turn.is_none() || (texts == Texts::Added && !S::has_texts(name)) {
             continue;
         }
         match turn_table(alloc, table, turn) {
             Ok(None) => {}
             Ok(Some(turned)) => {
-                let later = T::play_table(rt, alloc, name, turned.as_str(), count)?;
+                let later = play_streams::<S, R>(rt, alloc, name, turned.as_str(), count)?;
                 count = count.add_turned(later);
             }
             Err(fault) => return tell_fault(rt, fault, table, count),
@@ -120,7 +103,7 @@ fn play_texts<'a, T: Tables, R: Print>(
 }
 
 // Plays a file: tables that begin with a line `stream NAME`, or with the names of several.
-fn play_text<'a, T: Tables, R: Print>(
+fn play_text<'a, S: Streams, R: Print>(
     rt: &R,
     alloc: Global,
     text: &str,
@@ -130,7 +113,7 @@ fn play_text<'a, T: Tables, R: Print>(
     'tables: for (i, table) in text.split("\nstream ").enumerate() {
         let next = count.line.wrapping_add(lines_of(table));
         if i > 0 {
-            count = play_streams::<T, R>(rt, alloc, table, count)?;
+            count = play_table::<S, R>(rt, alloc, table, count)?;
         }
         count = count.at(next);
     }
@@ -141,10 +124,10 @@ fn play_text<'a, T: Tables, R: Print>(
 }
 
 // Plays a file, and prints how much it has. Whether each row came out as it says.
-fn play_file<T: Tables>(rt: &HostRuntime, file: &str, turns_faults: bool) -> io::Result<bool> {
+fn play_file<S: Streams>(rt: &HostRuntime, file: &str, turns_faults: bool) -> io::Result<bool> {
     let text = fs::read_to_string(rt, file)?;
     let count = Count::new(file, turns_faults);
-    let count = play_text::<T, HostRuntime>(rt, rt.alloc(), text.as_str(), count)?;
+    let count = play_text::<S, HostRuntime>(rt, rt.alloc(), text.as_str(), count)?;
     let Count {
         tables,
         groups,
@@ -159,13 +142,13 @@ fn play_file<T: Tables>(rt: &HostRuntime, file: &str, turns_faults: bool) -> io:
     Ok(count.is_met())
 }
 
-fn play_arguments<T: Tables>(rt: &HostRuntime) -> io::Result<bool> {
+fn play_arguments<S: Streams>(rt: &HostRuntime) -> io::Result<bool> {
     let mut is_met = true;
     let mut turns_faults = false;
     'words: for word in env::args(rt)?.skip(1) {
         if word.as_str() == "each-kind" {
             turns_faults = true;
-        } else if !play_file::<T>(rt, word.as_str(), turns_faults)? {
+        } else if !play_file::<S>(rt, word.as_str(), turns_faults)? {
             is_met = false;
         }
     }
@@ -176,8 +159,8 @@ fn play_arguments<T: Tables>(rt: &HostRuntime) -> io::Result<bool> {
 /// came out otherwise. Behind a word `each-kind` each table is played with other faults too, with the number of those rows.
 /// The status is 1 where a row came out otherwise, where a line can't be read, where a file has no row, and where the files
 /// can't be read or memory is refused, with the reason on standard error.
-pub fn play_files<T: Tables>(rt: &HostRuntime) -> ExitCode {
-    match play_arguments::<T>(rt) {
+pub fn play_files<S: Streams>(rt: &HostRuntime) -> ExitCode {
+    match play_arguments::<S>(rt) {
         Ok(true) => ExitCode::SUCCESS,
         Ok(false) => ExitCode::FAILURE,
         Err(e) => {

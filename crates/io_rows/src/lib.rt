@@ -20,7 +20,7 @@
 //! Behind an argument `each-kind` each table is played once more for each kind of fault, with a text and without, in place of
 //! the one that it names.
 //!
-//! A program has [`files::Tables`] for its streams, and its `main` calls [`files::play_files`].
+//! A program has [`player::Streams`] for its streams, and its `main` calls [`files::play_files`].
 #![tactic(auto)]
 
 pub mod calls;
@@ -32,10 +32,8 @@ pub mod journal;
 pub mod kinds;
 pub mod lent;
 pub mod line;
-pub mod named;
 pub mod noted;
 pub mod player;
 pub mod reads;
 pub mod recorder;
-pub mod rows;
 pub mod script;

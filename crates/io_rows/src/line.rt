@@ -275,7 +275,7 @@ fn push_run(bytes: &mut Vec<u8>, run: Run) -> std::result::Result<(), AllocError
 pub fn unescape(alloc: Global, text: &str) -> Made<Vec<u8>> {
     let mut bytes = Vec::new(alloc);
     let mut escape = Escape::None;
-    for b in text.as_bytes() {
+    'bytes: for b in text.as_bytes() {
         let Some((now, run)) = step(escape, *b) else {
             return Err(Fault::Malformed("a bad escape"));
         };

@@ -1,9 +1,9 @@
 // Rows that are played on a stream in its place: a program makes the stream that a table names, anew for each group, and lends
 // it to the player.
+use super::calls::Call;
 use super::count::{Count, lines_of, tell_fault};
 use super::fault::{Fault, Made};
 use super::line::Line;
-use super::rows::{Call, cut_line};
 use std::alloc::Global;
 use std::io;
 
@@ -18,6 +18,11 @@ pub trait Streams {
     /// Makes the stream of this name, over a device that answers what stands behind `new`, and lends it to the player. A fault
     /// says that there is none such.
     fn lend(name: &str, words: &str, player: &mut Player<'_, '_>) -> Made<()>;
+
+    /// Whether the faults of this stream's device may have texts.
+    fn has_texts(_name: &str) -> bool {
+        true
+    }
 }
 
 /// A group of rows that waits for its stream.
@@ -101,6 +106,14 @@ pub fn play_streams<'a, S: Streams, R: Print>(
         count = count.at(next);
     }
     Ok(count)
+}
+
+/// The first line of a text, and what stands behind it.
+pub fn cut_line(text: &str) -> (&str, &str) {
+    match text.split_once("\n") {
+        Some(both) => both,
+        None => (text, ""),
+    }
 }
 
 // Plays a group: what is made, and behind it the rows.

@@ -1,7 +1,7 @@
 // A reader's calls of rows, through the traits alone. The columns of a call are its answer, and the bytes that it gave, with
 // dots where nothing was written.
+use super::calls::Call;
 use super::line::Line;
-use super::rows::Call;
 use no_std_io2::io::{BufRead, Read, Result};
 use std::alloc::Global;
 

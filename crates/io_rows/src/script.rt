@@ -55,7 +55,7 @@ const TEXTS: [&str; 30] = [
 ];
 
 fn place_of(words: &str) -> Option<usize> {
-    for (i, text) in TEXTS.iter().enumerate() {
+    'texts: for (i, text) in TEXTS.iter().enumerate() {
         if *text == words {
             return Some(i);
         }
@@ -77,7 +77,7 @@ pub fn parse_answers(alloc: Global, words: &str) -> Made<Vec<Answer>> {
     if words.is_empty() {
         return Ok(answers);
     }
-    for word in words.split(", ") {
+    'words: for word in words.split(", ") {
         answers.push(parse_answer(alloc, word)?)?;
     }
     answers.reverse();

@@ -1,43 +1,8 @@
-// The tables of this program. A heap has room for so many bytes, in blocks that are rounded up to 16; what does not fit is
-// refused. A block that grows stands beside its copy until that is made.
-use super::reads::Reading;
-use super::runs::Running;
-use super::writes::Writers;
-use io_rows::count::Count;
+// What stands in heaps. A heap has room for so many bytes, in blocks that are rounded up to 16; what does not fit is refused. A
+// block that grows stands beside its copy until that is made.
 use io_rows::fault::{Fault, Made};
-use io_rows::files::Tables;
-use io_rows::named::play_named;
-use io_rows::rows::play;
+use io_rows::line::Line;
 use linked_list_allocator::LocalHeap;
-use std::alloc::Global;
-use std::io;
-
-/// The tables.
-pub struct HeapTables;
-
-impl Tables for HeapTables {
-    fn play_table<'a, R: Print>(
-        rt: &R,
-        alloc: Global,
-        name: &str,
-        table: &str,
-        count: Count<'a>,
-    ) -> io::Result<Count<'a>> {
-        match name {
-            "reads" => play::<Reading, R>(rt, alloc, table, count),
-            "runs" => play::<Running, R>(rt, alloc, table, count),
-            _ => play_named::<Writers, R>(rt, alloc, name, table, count),
-        }
-    }
-}
-
-/// A heap with room for so many bytes.
-pub fn new_heap(alloc: Global, size: usize) -> Made<LocalHeap> {
-    match LocalHeap::new(alloc, size) {
-        Ok(heap) => Ok(heap),
-        Err(_refused) => Err(Fault::Memory),
-    }
-}
 
 /// A vector over a heap.
 pub type HeapVec<'a> = Vec<u8, &'a LocalHeap>;
@@ -65,4 +30,12 @@ pub fn number(word: &str) -> Made<usize> {
 pub fn cut_number(words: &str) -> Made<(usize, &str)> {
     let (word, rest) = words.split_once(" ").unwrap_or((words, ""));
     Ok((number(word)?, rest))
+}
+
+/// Says why a row is not played, in place of an answer.
+pub fn tell(fault: Fault, line: &mut Line) {
+    match fault {
+        Fault::Memory => line.cut(),
+        Fault::Malformed(why) => line.malformed(why),
+    }
 }

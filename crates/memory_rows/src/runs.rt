@@ -4,27 +4,27 @@
 // whether three calls were made, how many replies there are, and what the device has once the buffer is dropped.
 ghost use Rattle.std.specs.Prelude.{⊤, refl};
 
-use super::heaps::{cut_number, new_heap, number};
+use crate::heaps::{cut_number, number, tell};
 use io_bench::{Op, Reply, Sink, Tally, run_closed, run_writes};
+use io_rows::calls::Call;
 use io_rows::fault::{Fault, Made};
 use io_rows::line::Line;
-use io_rows::rows::{Call, Subject};
+use io_rows::player::Stream;
 use linked_list_allocator::LocalHeap;
 use no_std_io2::io::{BufWriter, Result, Write};
 use std::alloc::Global;
 use std::cell::RefCell;
-use std::rc::Rc;
 
 const OPS: [Op<'static>; 3] = [Op::Write(b"ab"), Op::WriteAll(b"123456789"), Op::Flush];
 
-// Takes all, and keeps it as far as there is memory, where the row finds it once the device is dropped.
+// Takes all, and keeps it as far as there is memory.
 #[derive(Drop)]
-struct Kept {
+struct Kept<'b> {
     sink: Sink,
-    bytes: Rc<RefCell<Vec<u8>>>,
+    bytes: &'b RefCell<Vec<u8>>,
 }
 
-impl Write for Kept {
+impl<'b> Write for Kept<'b> {
     ghost use Rattle.no_std_io2.specs.Sink.{sink_told};
 
     ghost told = { λ w. sink_told w.sink };
@@ -64,66 +64,50 @@ fn replies_of<'a>(heap: &'a LocalHeap, capacity: usize, count: usize) -> Made<Re
     Ok(replies)
 }
 
-fn run(w: BufWriter<Kept, 8>, replies: &mut Replies<'_>) -> Result<()> {
-    let mut w = w;
-    run_writes(&mut w, &OPS, replies)
-}
-
-fn close(w: BufWriter<Kept, 8>, replies: &mut Replies<'_>) -> Result<()> {
-    match run_closed::<BufWriter<Kept, 8>, 4>(Tally::new(w), &OPS, replies) {
+fn close(w: BufWriter<Kept<'_>, 8>, replies: &mut Replies<'_>) -> Result<()> {
+    match run_closed::<BufWriter<Kept<'_>, 8>, 4>(Tally::new(w), &OPS, replies) {
         Ok(_tally) => Ok(()),
         Err(e) => Err(e),
     }
 }
 
-// A run over a buffer that holds `held`, which is then dropped.
-fn play_over(alloc: Global, kept: Kept, call: &Call<'_>, line: &mut Line) -> Made<()> {
-    let (size, rest) = cut_number(call.rest)?;
-    let (capacity, rest) = cut_number(rest)?;
-    let count = number(rest)?;
-    let heap = new_heap(alloc, size)?;
-    let mut replies = replies_of(&heap, capacity, count)?;
-    let mut w = BufWriter::<Kept, 8>::new(kept);
+// Makes a run over a buffer that holds `held`, and drops it.
+fn run(word: &str, bytes: &RefCell<Vec<u8>>, replies: &mut Replies<'_>, line: &mut Line) {
+    let sink = Sink::new();
+    let mut w = BufWriter::<Kept<'_>, 8>::new(Kept { sink, bytes });
     if w.write_all(b"held").is_err() {
         line.malformed("nothing is held");
     }
-    let answer = match call.word {
-        "run" => run(w, &mut replies),
-        "closed" => close(w, &mut replies),
-        _ => return Err(Fault::Malformed("no such run")),
-    };
-    line.column();
-    line.done(&answer);
+    match word {
+        "run" => line.done(&run_writes(&mut w, &OPS, replies)),
+        "closed" => line.done(&close(w, replies)),
+        _ => line.malformed("no such run"),
+    }
+}
+
+fn play_run(alloc: Global, call: &Call<'_>, line: &mut Line) -> Made<()> {
+    let (size, rest) = cut_number(call.rest)?;
+    let (capacity, rest) = cut_number(rest)?;
+    let count = number(rest)?;
+    let heap = LocalHeap::new(alloc, size)?;
+    let mut replies = replies_of(&heap, capacity, count)?;
+    let bytes = RefCell::new(Vec::new(alloc));
+    run(call.word, &bytes, &mut replies, line);
     line.column();
     line.number(replies.len() as u64);
     line.column();
+    line.bytes(&bytes.into_inner());
     Ok(())
 }
 
 /// Nothing but what its rows say.
 #[derive(Drop)]
-pub struct Running {
-    alloc: Global,
-}
+pub struct Running;
 
-impl Subject for Running {
-    fn make(alloc: Global, _words: &str) -> Made<Running> {
-        Ok(Running { alloc })
-    }
-
-    fn play(self, call: &Call<'_>, line: &mut Line) -> Made<Running> {
-        let Ok(bytes) = Rc::new(self.alloc, RefCell::new(Vec::new(self.alloc))) else {
-            return Err(Fault::Memory);
-        };
-        let kept = Kept {
-            sink: Sink::new(),
-            bytes: bytes.clone()?,
-        };
-        play_over(self.alloc, kept, call, line)?;
-        match bytes.try_borrow() {
-            Ok(bytes) => line.bytes(&bytes),
-            Err(_) => line.malformed("the bytes are in use"),
+impl Stream for Running {
+    fn play(&mut self, alloc: Global, call: &Call<'_>, line: &mut Line) {
+        if let Err(fault) = play_run(alloc, call, line) {
+            tell(fault, line);
         }
-        Ok(self)
     }
 }

@@ -3,17 +3,14 @@
 // A line `new` says the heap's size, the vector's capacity and its first bytes. A row is a call; then its answer, the vector's
 // bytes, what is held or the position, and how many bytes of the heap are in use. Beside the calls of a writer there are
 // `fill`, which takes all of the heap that is left, and `free`, which gives it back.
-use super::heaps::{HeapVec, cut_number, new_heap, vector_of};
-use io_rows::calls::{make_call, make_seek};
-use io_rows::count::{Count, tell_fault};
+use crate::heaps::{HeapVec, cut_number, vector_of};
+use io_rows::calls::{Call, make_call, make_seek};
 use io_rows::fault::{Fault, Made};
 use io_rows::line::Line;
-use io_rows::named::Named;
-use io_rows::rows::{Call, Subject, play_group};
+use io_rows::player::{Player, Stream};
 use linked_list_allocator::LocalHeap;
-use no_std_io2::io::{BufWriter, Cursor, LineWriter, Write};
+use no_std_io2::io::{BufWriter, Cursor, LineWriter, Seek, Write};
 use std::alloc::{Allocator, Global};
-use std::io;
 
 // A writer over a vector in a heap.
 trait HeapWriter: Write {
@@ -25,41 +22,45 @@ trait HeapWriter: Write {
         make_call(self, call, line);
     }
 
-    /// The vector's bytes.
-    fn bytes(&self) -> &[u8];
-
-    /// Prints what is held, or the position.
+    /// Prints the vector's bytes, and in a column behind them what is held, or the position.
     fn show(&self, line: &mut Line);
 }
 
-impl HeapWriter for HeapVec<'_> {
-    fn bytes(&self) -> &[u8] {
-        self.as_slice()
-    }
+fn show_held(bytes: &[u8], held: &[u8], line: &mut Line) {
+    line.bytes(bytes);
+    line.column();
+    line.bytes(held);
+}
 
+impl HeapWriter for HeapVec<'_> {
     fn show(&self, line: &mut Line) {
-        line.word("-");
+        show_held(self, b"", line);
     }
 }
 
 impl HeapWriter for BufWriter<HeapVec<'_>, 8> {
-    fn bytes(&self) -> &[u8] {
-        self.get_ref().as_slice()
-    }
-
     fn show(&self, line: &mut Line) {
-        line.bytes(self.buffer());
+        show_held(self.get_ref(), self.buffer(), line);
     }
 }
 
 impl HeapWriter for LineWriter<HeapVec<'_>, 8> {
-    fn bytes(&self) -> &[u8] {
-        self.get_ref().as_slice()
-    }
-
     fn show(&self, line: &mut Line) {
-        line.bytes(self.buffer());
+        show_held(self.get_ref(), self.buffer(), line);
     }
+}
+
+// A call of a writer that seeks.
+fn make_any_call<W: Write + Seek>(w: &mut W, call: &Call<'_>, line: &mut Line) {
+    if !make_seek(w, call, line) {
+        make_call(w, call, line);
+    }
+}
+
+fn show_place(bytes: &[u8], position: u64, line: &mut Line) {
+    line.bytes(bytes);
+    line.column();
+    line.number(position);
 }
 
 fn show_clone(cursor: &Cursor<HeapVec<'_>>, line: &mut Line) {
@@ -77,144 +78,94 @@ impl HeapWriter for Cursor<HeapVec<'_>> {
     fn call(&mut self, call: &Call<'_>, line: &mut Line) {
         if call.word == "clone" {
             show_clone(self, line);
-        } else if !make_seek(self, call, line) {
-            make_call(self, call, line);
+        } else {
+            make_any_call(self, call, line);
         }
     }
 
-    fn bytes(&self) -> &[u8] {
-        self.get_ref().as_slice()
-    }
-
     fn show(&self, line: &mut Line) {
-        line.number(self.position());
+        show_place(self.get_ref(), self.position(), line);
     }
 }
 
 // Of any allocator, since a call through a bound takes a type of one lifetime.
 impl<A: Allocator> HeapWriter for Cursor<&mut Vec<u8, A>> {
     fn call(&mut self, call: &Call<'_>, line: &mut Line) {
-        if !make_seek(self, call, line) {
-            make_call(self, call, line);
-        }
-    }
-
-    fn bytes(&self) -> &[u8] {
-        self.get_ref().as_slice()
+        make_any_call(self, call, line);
     }
 
     fn show(&self, line: &mut Line) {
-        line.number(self.position());
+        show_place(self.get_ref(), self.position(), line);
     }
 }
 
 // A writer, its heap, and what fills the heap.
 #[derive(Drop)]
-struct Writing<'a, W: Drop> {
+struct Writing<'h, W: Drop> {
     writer: W,
-    heap: &'a LocalHeap,
-    filler: HeapVec<'a>,
+    heap: &'h LocalHeap,
+    filler: HeapVec<'h>,
 }
 
-impl<'a, W: HeapWriter + Drop> Writing<'a, W> {
-    fn new(heap: &'a LocalHeap, writer: W) -> Writing<'a, W> {
-        Writing {
-            writer,
-            heap,
-            filler: Vec::new(heap),
-        }
-    }
-}
-
-// All that is left of a heap, in one block.
-fn fill<'a>(heap: &'a LocalHeap, line: &mut Line) -> HeapVec<'a> {
+// Takes all of the heap that is left, in one block.
+fn fill(filler: &mut HeapVec<'_>, heap: &LocalHeap, line: &mut Line) {
     line.word("-");
-    match Vec::with_capacity(heap, heap.free()) {
-        Ok(block) => block,
-        Err(_refused) => {
-            line.malformed("a heap whose room is not one block");
-            Vec::new(heap)
-        }
+    if filler.reserve(heap.free()).is_err() {
+        line.malformed("a heap whose room is not one block");
     }
 }
 
-impl<'a, W: HeapWriter + Drop> Subject for Writing<'a, W> {
-    fn make(_alloc: Global, _words: &str) -> Made<Writing<'a, W>> {
-        Err(Fault::Malformed("a heap is made once a group"))
-    }
-
-    fn play(mut self, call: &Call<'_>, line: &mut Line) -> Made<Writing<'a, W>> {
-        line.column();
+impl<'h, W: HeapWriter + Drop> Stream for Writing<'h, W> {
+    fn play(&mut self, _alloc: Global, call: &Call<'_>, line: &mut Line) {
         match call.word {
-            "fill" => self.filler = fill(self.heap, line),
+            "fill" => fill(&mut self.filler, self.heap, line),
             "free" => {
-                self.filler = Vec::new(self.heap);
                 line.word("-");
+                self.filler = Vec::new(self.heap);
             }
             _ => self.writer.call(call, line),
         }
         line.column();
-        line.bytes(self.writer.bytes());
-        line.column();
         self.writer.show(line);
         line.column();
         line.number(self.heap.used() as u64);
-        Ok(self)
     }
 }
 
-// Plays the rows of a group on the writer of this name over a vector.
-fn play_writer<'a, 'h, R: Print>(
-    rt: &R,
-    alloc: Global,
+fn play<W: HeapWriter + Drop>(writer: W, heap: &LocalHeap, player: &mut Player<'_, '_>) {
+    let filler = Vec::new(heap);
+    player.play(&mut Writing {
+        writer,
+        heap,
+        filler,
+    });
+}
+
+// Lends the writer of this name over a vector.
+fn lend_writer<'h>(
     name: &str,
     heap: &'h LocalHeap,
     vector: HeapVec<'h>,
-    rows: &str,
-    count: Count<'a>,
-) -> io::Result<Count<'a>> {
+    player: &mut Player<'_, '_>,
+) -> Made<()> {
     match name {
-        "writer Vec" => play_group(rt, alloc, Writing::new(heap, vector), rows, count),
-        "writer BufWriter 8 Vec" => {
-            let writer = BufWriter::<HeapVec<'h>, 8>::new(vector);
-            play_group(rt, alloc, Writing::new(heap, writer), rows, count)
-        }
-        "writer LineWriter 8 Vec" => {
-            let writer = LineWriter::<HeapVec<'h>, 8>::new(vector);
-            play_group(rt, alloc, Writing::new(heap, writer), rows, count)
-        }
-        "cursor Vec" => {
-            let writer = Cursor::new(vector);
-            play_group(rt, alloc, Writing::new(heap, writer), rows, count)
-        }
+        "writer Vec" => play(vector, heap, player),
+        "writer BufWriter 8 Vec" => play(BufWriter::<HeapVec<'h>, 8>::new(vector), heap, player),
+        "writer LineWriter 8 Vec" => play(LineWriter::<HeapVec<'h>, 8>::new(vector), heap, player),
+        "cursor Vec" => play(Cursor::new(vector), heap, player),
         "cursor &mut Vec" => {
             let mut vector = vector;
-            let writer = Cursor::new(&mut vector);
-            play_group(rt, alloc, Writing::new(heap, writer), rows, count)
+            play(Cursor::new(&mut vector), heap, player);
         }
-        _ => {
-            drop(vector);
-            tell_fault(rt, Fault::Malformed("no such stream"), name, count)
-        }
+        _ => return Err(Fault::Malformed("no such stream")),
     }
+    Ok(())
 }
 
-/// Writers by their names.
-pub struct Writers;
-
-impl Named for Writers {
-    fn play<'a, R: Print>(
-        rt: &R,
-        alloc: Global,
-        name: &str,
-        words: &str,
-        rows: &str,
-        count: Count<'a>,
-    ) -> Made<io::Result<Count<'a>>> {
-        let (size, rest) = cut_number(words)?;
-        let (capacity, bytes) = cut_number(rest)?;
-        let heap = new_heap(alloc, size)?;
-        let vector = vector_of(&heap, capacity, bytes.as_bytes())?;
-        Ok(play_writer(rt, alloc, name, &heap, vector, rows, count))
-    }
+pub fn lend(name: &str, words: &str, player: &mut Player<'_, '_>) -> Made<()> {
+    let (size, rest) = cut_number(words)?;
+    let (capacity, bytes) = cut_number(rest)?;
+    let heap = LocalHeap::new(player.alloc, size)?;
+    let vector = vector_of(&heap, capacity, bytes.as_bytes())?;
+    lend_writer(name, &heap, vector, player)
 }

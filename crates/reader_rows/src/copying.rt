@@ -4,12 +4,11 @@
 // the bytes out and what the levels of the reader hold.
 use crate::devices::{Devices, NO_STREAM};
 use crate::levels::Levels;
-use io_rows::calls::show_out;
+use io_rows::calls::{Call, show_out};
 use io_rows::fault::Made;
 use io_rows::line::Line;
 use io_rows::player::{Player, Stream};
 use io_rows::recorder::Recorder;
-use io_rows::rows::Call;
 use no_std_io2::io::{BufReader, Read, Write, copy};
 use std::alloc::Global;
 

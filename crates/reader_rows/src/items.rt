@@ -3,11 +3,11 @@
 // The columns behind a call are the item, a piece or a line with its kind in front, and the calls that reached the devices.
 use crate::devices::{Devices, NO_STREAM};
 use crate::reading::show_byte;
+use io_rows::calls::Call;
 use io_rows::fault::Made;
 use io_rows::line::Line;
 use io_rows::player::{Player, Stream};
 use io_rows::recorder::{Name, Recorder};
-use io_rows::rows::Call;
 use no_std_io2::io::{BufRead, Bytes, Lines, Read, Split};
 use std::alloc::Global;
 

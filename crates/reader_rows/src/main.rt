@@ -12,12 +12,9 @@ mod reading;
 
 use devices::{Devices, NO_STREAM};
 use io_rows::calls::new_journal;
-use io_rows::count::Count;
 use io_rows::fault::Made;
-use io_rows::files::{Tables, play_files};
-use io_rows::player::{Player, Streams, play_streams};
-use std::alloc::Global;
-use std::io;
+use io_rows::files::play_files;
+use io_rows::player::{Player, Streams};
 use std::process::ExitCode;
 
 // The streams of this program: the first word says which columns a row has.
@@ -41,18 +38,6 @@ impl Streams for Readers {
             "copy" => copying::lend(tower, devices, player),
             _ => Err(NO_STREAM),
         }
-    }
-}
-
-impl Tables for Readers {
-    fn play_table<'a, R: Print>(
-        rt: &R,
-        alloc: Global,
-        name: &str,
-        table: &str,
-        count: Count<'a>,
-    ) -> io::Result<Count<'a>> {
-        play_streams::<Readers, R>(rt, alloc, name, table, count)
     }
 }
 

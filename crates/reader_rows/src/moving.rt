@@ -4,13 +4,12 @@
 // reached the device.
 use crate::devices::Devices;
 use examples::records::{peek_header, read_record};
-use io_rows::calls::make_seek;
+use io_rows::calls::{Call, make_seek};
 use io_rows::fault::Made;
 use io_rows::line::Line;
 use io_rows::player::{Player, Stream};
 use io_rows::reads::make_lend;
 use io_rows::recorder::Recorder;
-use io_rows::rows::Call;
 use no_std_io2::io::BufReader;
 use std::alloc::Global;
 

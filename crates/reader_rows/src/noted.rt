@@ -3,14 +3,13 @@
 //
 // The columns behind a call are its answer, for a read the bytes that it gave, and the calls that reached the device.
 use crate::devices::{Devices, NO_STREAM};
-use io_rows::calls::make_seek;
+use io_rows::calls::{Call, make_seek};
 use io_rows::fault::Made;
 use io_rows::line::Line;
 use io_rows::noted::Noted;
 use io_rows::player::{Player, Stream};
 use io_rows::reads::{make_lend, make_read};
 use io_rows::recorder::Recorder;
-use io_rows::rows::Call;
 use no_std_io2::io::{BufRead, BufReader, Read, Seek};
 use std::alloc::Global;
 

@@ -4,13 +4,12 @@
 // give, and the calls that reached the devices.
 use crate::devices::{Devices, NO_STREAM};
 use crate::levels::{Both, Levels};
-use io_rows::calls::make_seek;
+use io_rows::calls::{Call, make_seek};
 use io_rows::fault::Made;
 use io_rows::line::{Line, unescape};
 use io_rows::player::{Player, Stream};
 use io_rows::reads::make_lend;
 use io_rows::recorder::{Name, Recorder};
-use io_rows::rows::Call;
 use no_std_io2::io::{BufRead, BufReader, Chain, Cursor, Read, Result};
 use std::alloc::Global;
 

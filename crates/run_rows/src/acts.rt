@@ -1,4 +1,5 @@
 // The acts of a device as a row has them, `take 2, zero, fail BrokenPipe`, and the events of a feed, `ab!c`.
+use crate::ops::push;
 use io_bench::{Act, Event, Feed};
 use io_rows::fault::{Fault, Made};
 use io_rows::kinds::kind_of_name;
@@ -10,14 +11,8 @@ fn parse_act(words: &str) -> Option<Act> {
     let (word, rest) = words.split_once(" ").unwrap_or((words, ""));
     match word {
         "zero" => Some(Act::Zero),
-        "take" => match rest.parse::<usize>() {
-            Ok(n) => Some(Act::Take(n)),
-            Err(_) => None,
-        },
-        "fail" => match kind_of_name(rest) {
-            Some(kind) => Some(Act::Fail(kind)),
-            None => None,
-        },
+        "take" => Some(Act::Take(rest.parse::<usize>().ok()?)),
+        "fail" => Some(Act::Fail(kind_of_name(rest)?)),
         _ => None,
     }
 }
@@ -66,9 +61,7 @@ pub fn mark_of(kind: ErrorKind) -> u8 {
 pub fn events_of(alloc: Global, script: &[u8], line: &mut Line) -> Vec<Event> {
     let mut events = Vec::new(alloc);
     'bytes: for byte in script {
-        if events.push(event_of(*byte)).is_err() {
-            line.cut();
-        }
+        push(&mut events, event_of(*byte), line);
     }
     events
 }

@@ -2,93 +2,43 @@
 //
 // A row is `ask` and the asks, each a run of its own; then how many met the end and how many failed, what the buffer holds, what
 // is left below, and how many inner reads there were since the row before, of a filling reader also how many at most.
-ghost use Rattle.io_bench.specs.Asks.{AllFit};
+ghost use Rattle.io_bench.specs.Asks.{Fits};
 
-use super::acts::{parse_feed, show_left};
+use crate::NO_STREAM;
+use crate::acts::{parse_feed, show_left};
 use io_bench::{Ask, Feed, ReadTotals, Tally, run_reads};
+use io_rows::calls::Call;
 use io_rows::fault::{Fault, Made};
 use io_rows::line::Line;
-use io_rows::rows::{Call, Subject};
-use no_std_io2::io::BufReader;
+use io_rows::player::{Player, Stream};
+use no_std_io2::io::{BufReader, Read};
 use std::alloc::Global;
 
 // The most bytes that an ask may want.
 const ROOM: usize = 16;
 
-/// A buffered reader over a tally.
-pub trait Asked {
-    /// Over a reader that gives what a line says.
-    fn make(alloc: Global, words: &str) -> Made<Self>
-    where
-        Self: Sized;
-
-    /// Makes asks.
-    fn ask(&mut self, asks: &[Ask]) -> ReadTotals
-        requires { AllFit 16 asks.now };
-
-    /// Prints what is held and what is left, a column each.
+/// What is asked below the buffer.
+trait Source: Read {
+    /// Prints what it has left.
     fn show(&self, line: &mut Line);
 
-    /// How many inner reads there were.
-    fn reads(&self) -> u64;
-
-    /// How many bytes are held or left, where each inner read fills its buffer as far as there are some.
+    /// How many bytes it has left, where each read fills its buffer as far as there are some.
     fn filling(&self) -> Option<usize>;
 }
 
-// The bytes of a slice, of which a line says the number.
-const DIGITS: &[u8] = b"0123456789";
-
-impl Asked for BufReader<Tally<&'static [u8]>, 4> {
-    fn make(_alloc: Global, words: &str) -> Made<BufReader<Tally<&'static [u8]>, 4>> {
-        match words.parse::<usize>() {
-            Ok(n) => Ok(BufReader::new(Tally::new(&DIGITS[..n.min(10)]))),
-            Err(_) => Err(Fault::Malformed("no number of bytes")),
-        }
-    }
-
-    fn ask(&mut self, asks: &[Ask]) -> ReadTotals {
-        run_reads(self, asks, &mut [0; ROOM])
-    }
-
+impl Source for &'static [u8] {
     fn show(&self, line: &mut Line) {
-        line.column();
-        line.bytes(self.buffer());
-        line.column();
-        line.bytes(self.get_ref().get_ref());
-    }
-
-    fn reads(&self) -> u64 {
-        self.get_ref().reads()
+        line.bytes(self);
     }
 
     fn filling(&self) -> Option<usize> {
-        let left = self.get_ref().get_ref().len();
-        Some(left.wrapping_add(self.buffer().len()))
+        Some(self.len())
     }
 }
 
-impl Asked for BufReader<Tally<Feed>, 4> {
-    fn make(alloc: Global, words: &str) -> Made<BufReader<Tally<Feed>, 4>> {
-        match parse_feed(alloc, words) {
-            Ok(feed) => Ok(BufReader::new(Tally::new(feed))),
-            Err(fault) => Err(fault),
-        }
-    }
-
-    fn ask(&mut self, asks: &[Ask]) -> ReadTotals {
-        run_reads(self, asks, &mut [0; ROOM])
-    }
-
+impl Source for Feed {
     fn show(&self, line: &mut Line) {
-        line.column();
-        line.bytes(self.buffer());
-        line.column();
-        show_left(self.get_ref().get_ref().left(), line);
-    }
-
-    fn reads(&self) -> u64 {
-        self.get_ref().reads()
+        show_left(self.left(), line);
     }
 
     fn filling(&self) -> Option<usize> {
@@ -96,27 +46,66 @@ impl Asked for BufReader<Tally<Feed>, 4> {
     }
 }
 
-const NOTHING: ReadTotals = ReadTotals {
-    at_end: 0,
-    failed: 0,
-};
-
-// Makes an ask of this many bytes, of a read `ROOM` at most, by its word.
-fn ask<R: Asked>(reader: &mut R, word: &str, count: usize, line: &mut Line) -> ReadTotals {
+// An ask of this many bytes, of a read `ROOM` at most.
+fn ask_of(word: &str, count: usize, line: &mut Line) -> Ask
+    ensures { Fits 16 result }
+{
     match word {
-        "read" => reader.ask(&[Ask::Read(count.min(ROOM))]),
-        "exact" => reader.ask(&[Ask::Exact(count.min(ROOM))]),
-        "fill" => reader.ask(&[Ask::Fill(count)]),
+        "read" => Ask::Read(count.min(ROOM)),
+        "exact" => Ask::Exact(count.min(ROOM)),
+        "fill" => Ask::Fill(count),
         _ => {
             line.malformed("no such ask");
-            NOTHING
+            Ask::Fill(0)
         }
     }
 }
 
+/// A buffered reader over a tally.
+trait Asked {
+    /// Makes an ask.
+    fn ask(&mut self, ask: Ask) -> ReadTotals
+        requires { Fits 16 ask };
+
+    /// Prints what is held and what is left, a column each.
+    fn show(&self, line: &mut Line);
+
+    /// How many inner reads there were.
+    fn reads(&self) -> u64;
+
+    /// How many bytes are held or left, of a filling reader.
+    fn to_come(&self) -> Option<u64>;
+}
+
+impl<R: Source + Drop, const S: usize> Asked for BufReader<Tally<R>, S> {
+    fn ask(&mut self, ask: Ask) -> ReadTotals {
+        run_reads(self, &[ask], &mut [0; ROOM])
+    }
+
+    fn show(&self, line: &mut Line) {
+        line.column();
+        line.bytes(self.buffer());
+        line.column();
+        self.get_ref().get_ref().show(line);
+        line.column();
+    }
+
+    fn reads(&self) -> u64 {
+        self.get_ref().reads()
+    }
+
+    fn to_come(&self) -> Option<u64> {
+        let left = self.get_ref().get_ref().filling()?;
+        Some(left.wrapping_add(self.buffer().len()) as u64)
+    }
+}
+
 // Makes the asks of a row, and adds up what they come to.
-fn ask_all<R: Asked>(reader: &mut R, words: &str, line: &mut Line) -> ReadTotals {
-    let mut totals = NOTHING;
+fn ask_all<T: Asked>(reader: &mut T, words: &str, line: &mut Line) -> ReadTotals {
+    let mut totals = ReadTotals {
+        at_end: 0,
+        failed: 0,
+    };
     if words.is_empty() {
         return totals;
     }
@@ -126,44 +115,56 @@ fn ask_all<R: Asked>(reader: &mut R, words: &str, line: &mut Line) -> ReadTotals
             line.malformed("no number of an ask");
             return totals;
         };
-        let more = ask(reader, word, count, line);
+        let more = reader.ask(ask_of(word, count, line));
         totals.at_end = totals.at_end.wrapping_add(more.at_end);
         totals.failed = totals.failed.wrapping_add(more.failed);
     }
     totals
 }
 
-/// Asks of a reader.
+// Asks of a reader.
 #[derive(Drop)]
-pub struct Asking<R: Drop> {
-    reader: R,
+struct Asking<T: Drop> {
+    reader: T,
 }
 
-impl<R: Asked + Drop> Subject for Asking<R> {
-    fn make(alloc: Global, words: &str) -> Made<Asking<R>> {
-        match R::make(alloc, words) {
-            Ok(reader) => Ok(Asking { reader }),
-            Err(fault) => Err(fault),
-        }
-    }
-
-    fn play(mut self, call: &Call<'_>, line: &mut Line) -> Made<Asking<R>> {
+impl<T: Asked + Drop> Stream for Asking<T> {
+    fn play(&mut self, _alloc: Global, call: &Call<'_>, line: &mut Line) {
         let reads = self.reader.reads();
-        let before = self.reader.filling();
-        line.column();
+        let before = self.reader.to_come();
         let totals = ask_all(&mut self.reader, call.rest, line);
         line.number(totals.at_end);
         line.word(" ");
         line.number(totals.failed);
         self.reader.show(line);
-        line.column();
         line.number(self.reader.reads().wrapping_sub(reads));
-        if let Some(before) = before {
-            let after = self.reader.filling().unwrap_or(before);
-            let taken = before.wrapping_sub(after) as u64;
+        if let (Some(before), Some(after)) = (before, self.reader.to_come()) {
+            let most = before.wrapping_sub(after) / 4;
             line.word(" of ");
-            line.number((taken / 4).wrapping_add(totals.at_end).wrapping_add(1));
+            line.number(most.wrapping_add(totals.at_end).wrapping_add(1));
         }
-        Ok(self)
     }
+}
+
+// The bytes of a slice, of which a line says the number.
+const DIGITS: &[u8] = b"0123456789";
+
+pub fn lend(name: &str, words: &str, player: &mut Player<'_, '_>) -> Made<()> {
+    match name {
+        "of a slice" => {
+            let Ok(count) = words.parse::<usize>() else {
+                return Err(Fault::Malformed("no number of bytes"));
+            };
+            let slice = &DIGITS[..count.min(10)];
+            let reader = BufReader::<Tally<&'static [u8]>, 4>::new(Tally::new(slice));
+            player.play(&mut Asking { reader });
+        }
+        "of a feed" => {
+            let feed = parse_feed(player.alloc, words)?;
+            let reader = BufReader::<Tally<Feed>, 4>::new(Tally::new(feed));
+            player.play(&mut Asking { reader });
+        }
+        _ => return Err(NO_STREAM),
+    }
+    Ok(())
 }

@@ -4,17 +4,19 @@
 // of the inner writes with `flush` for each inner flush.
 ghost use Rattle.std.specs.Prelude.{⊤, refl, ◌<◌};
 
-use super::ops::{ops_of, parse_calls, show_replies};
-use io_bench::{Sink, Tally, run_closed};
-use io_rows::fault::{Fault, Made};
+use crate::NO_STREAM;
+use crate::ops::{ops_of, parse_calls, show_replies};
+use io_bench::{Op, Reply, Sink, Tally, run_closed};
+use io_rows::calls::Call;
+use io_rows::fault::Made;
 use io_rows::line::Line;
-use io_rows::rows::{Call, Subject};
+use io_rows::player::{Player, Stream};
 use no_std_io2::io::{Result, Write};
 use std::alloc::Global;
 
-/// Takes all, and notes the lengths of its writes, and its flushes.
+// Takes all, and notes the lengths of its writes, and its flushes.
 #[derive(Drop)]
-pub struct Lengths {
+struct Lengths {
     sink: Sink,
     lengths: Line,
 }
@@ -58,61 +60,62 @@ fn most_writes(calls: &[Call<'_>], size: u64) -> u64 {
     let mut flushes: u64 = 0;
     'calls: for call in calls {
         given = given.wrapping_add(call.bytes.len() as u64);
-        flushes = flushes.wrapping_add(u64::from(call.word == "flush"));
+        if call.word == "flush" {
+            flushes = flushes.wrapping_add(1);
+        }
     }
-    let sent = given / size.saturating_add(1).max(1);
+    let sent = given.checked_div(size.wrapping_add(1)).unwrap_or(0);
     sent.wrapping_mul(2).wrapping_add(flushes).wrapping_add(1)
 }
 
-/// A tally that a run takes and gives back.
-#[derive(Drop)]
-pub struct Closing<const S: usize> {
-    alloc: Global,
-    tally: Tally<Lengths>,
-}
-
+// Makes a run, and answers how many inner writes it took.
 fn run<const S: usize>(
-    alloc: Global,
-    tally: Tally<Lengths>,
-    words: &str,
-    line: &mut Line,
-) -> Made<Tally<Lengths>> {
-    let calls = parse_calls(alloc, words)?;
-    let ops = ops_of(alloc, &calls)?;
+    device: &mut Lengths,
+    ops: &[Op<'_>],
+    replies: &mut Vec<Reply>,
+) -> Result<u64> {
     if S == 0 || S >= 1 << 32 {
-        return Err(Fault::Malformed("a buffer without room"));
+        return Ok(0);
     }
-    let before = tally.writes();
-    let mut replies = Vec::new(alloc);
-    let Ok(tally) = run_closed::<Lengths, S>(tally, &ops, &mut replies) else {
-        return Err(Fault::Memory);
-    };
-    line.column();
-    show_replies(&replies, line);
-    line.column();
-    line.number(tally.writes().wrapping_sub(before));
-    line.word(" of ");
-    line.number(most_writes(&calls, S as u64));
-    line.column();
-    line.text(tally.get_ref().lengths.as_str());
-    Ok(tally)
+    let tally = run_closed::<&mut Lengths, S>(Tally::new(device), ops, replies)?;
+    Ok(tally.writes())
 }
 
-impl<const S: usize> Subject for Closing<S> {
-    fn make(alloc: Global, _words: &str) -> Made<Closing<S>> {
-        let lengths = Lengths {
-            sink: Sink::new(),
-            lengths: Line::new(alloc),
-        };
-        Ok(Closing {
-            alloc,
-            tally: Tally::new(lengths),
-        })
-    }
+// A device whose lengths go on from run to run, and the size of the buffer above it.
+#[derive(Drop)]
+struct Closing<const S: usize> {
+    device: Lengths,
+}
 
-    fn play(self, call: &Call<'_>, line: &mut Line) -> Made<Closing<S>> {
-        let Closing { alloc, tally } = self;
-        let tally = run::<S>(alloc, tally, call.rest, line)?;
-        Ok(Closing { alloc, tally })
+impl<const S: usize> Stream for Closing<S> {
+    fn play(&mut self, alloc: Global, call: &Call<'_>, line: &mut Line) {
+        let calls = parse_calls(alloc, call.rest, line);
+        let ops = ops_of(alloc, &calls, line);
+        let mut replies = Vec::new(alloc);
+        match run::<S>(&mut self.device, &ops, &mut replies) {
+            Ok(writes) => {
+                show_replies(&replies, line);
+                line.column();
+                line.number(writes);
+            }
+            Err(_refused) => line.cut(),
+        }
+        line.word(" of ");
+        line.number(most_writes(&calls, S as u64));
+        line.column();
+        line.text(self.device.lengths.as_str());
     }
+}
+
+pub fn lend(name: &str, player: &mut Player<'_, '_>) -> Made<()> {
+    let device = Lengths {
+        sink: Sink::new(),
+        lengths: Line::new(player.alloc),
+    };
+    match name {
+        "8" => player.play(&mut Closing::<8> { device }),
+        "1" => player.play(&mut Closing::<1> { device }),
+        _ => return Err(NO_STREAM),
+    }
+    Ok(())
 }

@@ -2,31 +2,25 @@
 //
 // A line `new` says the feed's piece and its events. A row is a call; then its answer, the bytes that it gave, the events
 // that are left and how many reads with room there were since the row before.
-use super::acts::{parse_feed, show_left};
+use crate::acts::{parse_feed, show_left};
 use io_bench::{Feed, Tally};
+use io_rows::calls::Call;
 use io_rows::fault::Made;
 use io_rows::line::Line;
+use io_rows::player::{Player, Stream};
 use io_rows::reads::make_read;
-use io_rows::rows::{Call, Subject};
 use std::alloc::Global;
 
-/// A tally over a tally over a feed: both count alike.
+// A tally over a tally over a feed: both count alike.
 #[derive(Drop)]
-pub struct Feeding {
-    alloc: Global,
+struct Feeding {
     reader: Tally<Tally<Feed>>,
 }
 
-impl Subject for Feeding {
-    fn make(alloc: Global, words: &str) -> Made<Feeding> {
-        let reader = Tally::new(Tally::new(parse_feed(alloc, words)?));
-        Ok(Feeding { alloc, reader })
-    }
-
-    fn play(mut self, call: &Call<'_>, line: &mut Line) -> Made<Feeding> {
+impl Stream for Feeding {
+    fn play(&mut self, alloc: Global, call: &Call<'_>, line: &mut Line) {
         let before = self.reader.reads();
-        line.column();
-        make_read(self.alloc, &mut self.reader, call, line);
+        make_read(alloc, &mut self.reader, call, line);
         line.column();
         show_left(self.reader.get_ref().get_ref().left(), line);
         line.column();
@@ -34,6 +28,11 @@ impl Subject for Feeding {
         if self.reader.get_ref().reads() != self.reader.reads() {
             line.word(", counted otherwise below");
         }
-        Ok(self)
     }
+}
+
+pub fn lend(words: &str, player: &mut Player<'_, '_>) -> Made<()> {
+    let reader = Tally::new(Tally::new(parse_feed(player.alloc, words)?));
+    player.play(&mut Feeding { reader });
+    Ok(())
 }

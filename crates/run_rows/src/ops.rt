@@ -1,37 +1,47 @@
 // Runs of a writer's calls as a row has them, `write ab, write_all c, flush`, and their replies, `2, ok, !BrokenPipe`.
 use io_bench::{Op, Reply};
-use io_rows::fault::{Fault, Made};
+use io_rows::calls::Call;
+use io_rows::fault::Fault;
 use io_rows::kinds::kind_of_name;
 use io_rows::line::Line;
-use io_rows::rows::Call;
 use no_std_io2::io::Error;
 use std::alloc::Global;
 
+/// Appends an item.
+pub fn push<T: Drop>(items: &mut Vec<T>, item: T, line: &mut Line) {
+    if items.push(item).is_err() {
+        line.cut();
+    }
+}
+
 /// The calls of a run.
-pub fn parse_calls(alloc: Global, words: &str) -> Made<Vec<Call<'_>>> {
+pub fn parse_calls<'a>(alloc: Global, words: &'a str, line: &mut Line) -> Vec<Call<'a>> {
     let mut calls = Vec::new(alloc);
     if words.is_empty() {
-        return Ok(calls);
+        return calls;
     }
     'calls: for call in words.split(", ") {
-        calls.push(Call::parse(alloc, call)?)?;
+        match Call::parse(alloc, call) {
+            Ok(call) => push(&mut calls, call, line),
+            Err(Fault::Memory) => line.cut(),
+            Err(Fault::Malformed(why)) => line.malformed(why),
+        }
     }
-    Ok(calls)
+    calls
 }
 
 /// The same as `io_bench` has them.
-pub fn ops_of<'a>(alloc: Global, calls: &'a [Call<'_>]) -> Made<Vec<Op<'a>>> {
+pub fn ops_of<'a>(alloc: Global, calls: &'a [Call<'_>], line: &mut Line) -> Vec<Op<'a>> {
     let mut ops = Vec::new(alloc);
     'calls: for call in calls {
-        let op = match call.word {
-            "write" => Op::Write(&call.bytes),
-            "write_all" => Op::WriteAll(&call.bytes),
-            "flush" => Op::Flush,
-            _ => return Err(Fault::Malformed("no such call of a run")),
-        };
-        ops.push(op)?;
+        match call.word {
+            "write" => push(&mut ops, Op::Write(&call.bytes), line),
+            "write_all" => push(&mut ops, Op::WriteAll(&call.bytes), line),
+            "flush" => push(&mut ops, Op::Flush, line),
+            _ => line.malformed("no such call of a run"),
+        }
     }
-    Ok(ops)
+    ops
 }
 
 fn show_reply(reply: &Reply, line: &mut Line) {
@@ -55,31 +65,27 @@ pub fn show_replies(replies: &[Reply], line: &mut Line) {
     }
 }
 
-fn parse_failure(word: &str) -> Made<Reply> {
-    match kind_of_name(word.strip_prefix("!").unwrap_or("")) {
-        Some(kind) => Ok(Reply::Failed(Error::from(kind))),
-        None => Err(Fault::Malformed("no such reply")),
-    }
-}
-
-fn parse_reply(word: &str) -> Made<Reply> {
+fn parse_reply(word: &str) -> Option<Reply> {
     if word == "ok" {
-        return Ok(Reply::Done);
+        return Some(Reply::Done);
     }
-    match word.parse::<usize>() {
-        Ok(n) => Ok(Reply::Took(n)),
-        Err(_) => parse_failure(word),
+    match word.strip_prefix("!") {
+        Some(name) => Some(Reply::Failed(Error::from(kind_of_name(name)?))),
+        None => Some(Reply::Took(word.parse::<usize>().ok()?)),
     }
 }
 
 /// The replies that are printed so.
-pub fn parse_replies(alloc: Global, words: &str) -> Made<Vec<Reply>> {
+pub fn parse_replies(alloc: Global, words: &str, line: &mut Line) -> Vec<Reply> {
     let mut replies = Vec::new(alloc);
     if words.is_empty() {
-        return Ok(replies);
+        return replies;
     }
     'replies: for word in words.split(", ") {
-        replies.push(parse_reply(word)?)?;
+        match parse_reply(word) {
+            Some(reply) => push(&mut replies, reply, line),
+            None => line.malformed("no such reply"),
+        }
     }
-    Ok(replies)
+    replies
 }

@@ -2,11 +2,12 @@
 //
 // A row is `lines` or `split`, a delimiter and what is to come; then the items, a bar behind each, and behind the last one
 // the fault that ended them: `!`, `#`, and `?` for a line that is no text. It stands for all lengths, which come to the same.
-use super::acts::events_of;
+use crate::acts::events_of;
 use io_bench::{Feed, run_lines, run_split};
-use io_rows::fault::{Fault, Made};
+use io_rows::calls::Call;
+use io_rows::fault::Made;
 use io_rows::line::Line;
-use io_rows::rows::{Call, Subject};
+use io_rows::player::{Player, Stream};
 use no_std_io2::io::{BufRead, BufReader, ErrorKind, Result};
 use std::alloc::Global;
 
@@ -76,33 +77,31 @@ fn show_items(alloc: Global, script: &[u8], run: usize, delim: Option<u8>, line:
     }
 }
 
-/// Nothing but what its rows say.
+// Nothing but what its rows say.
 #[derive(Drop)]
-pub struct Splitting {
-    alloc: Global,
-}
+struct Splitting;
 
-impl Subject for Splitting {
-    fn make(alloc: Global, _words: &str) -> Made<Splitting> {
-        Ok(Splitting { alloc })
-    }
-
-    fn play(self, call: &Call<'_>, line: &mut Line) -> Made<Splitting> {
+impl Stream for Splitting {
+    fn play(&mut self, alloc: Global, call: &Call<'_>, line: &mut Line) {
         let Some((delim, script)) = script_of(call) else {
-            return Err(Fault::Malformed("no such call"));
+            line.malformed("no such call");
+            return;
         };
-        let mut first = Line::new(self.alloc);
-        show_items(self.alloc, script, 0, delim, &mut first);
-        line.column();
+        let mut first = Line::new(alloc);
+        show_items(alloc, script, 0, delim, &mut first);
         line.text(first.as_str());
         'runs: for run in 1..12 {
-            let mut other = Line::new(self.alloc);
-            show_items(self.alloc, script, run, delim, &mut other);
+            let mut other = Line::new(alloc);
+            show_items(alloc, script, run, delim, &mut other);
             if other.as_str() != first.as_str() {
                 line.word(" otherwise in pieces of ");
                 line.number((run / 2 + 1) as u64);
             }
         }
-        Ok(self)
     }
+}
+
+pub fn lend(player: &mut Player<'_, '_>) -> Made<()> {
+    player.play(&mut Splitting);
+    Ok(())
 }

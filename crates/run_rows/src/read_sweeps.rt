@@ -2,11 +2,14 @@
 // byte and of three: what comes is a front of what the tower is to give, and all of it in the end.
 //
 // A row is a call, which is made until the end was met twice; then how many runs that were, or the first that goes wrong.
-use super::acts::{events_of, mark_of};
+use crate::NO_STREAM;
+use crate::acts::{events_of, mark_of};
+use crate::ops::push;
 use io_bench::Feed;
-use io_rows::fault::{Fault, Made};
+use io_rows::calls::Call;
+use io_rows::fault::Made;
 use io_rows::line::Line;
-use io_rows::rows::Call;
+use io_rows::player::{Player, Stream};
 use no_std_io2::io::{BufRead, BufReader, Chain, ErrorKind, Read, Result, Take};
 use std::alloc::Global;
 
@@ -148,73 +151,76 @@ fn gives<R: BufRead>(
     false
 }
 
-// A run: a kind of tower, what its first feed gives, and the length of the pieces.
+// A run: a kind of tower, what its first feed gives, and whether its pieces are single bytes, or three.
 #[derive(Clone, Copy)]
 struct Run<'r> {
     alloc: Global,
     kind: &'r str,
     first: &'r str,
-    piece: usize,
+    is_single: bool,
 }
 
 impl<'r> Run<'r> {
     fn feed(self, script: &str, line: &mut Line) -> Feed {
-        Feed::new(
-            events_of(self.alloc, script.as_bytes(), line),
-            self.piece.max(1),
-        )
-    }
-
-    fn first(self, line: &mut Line) -> Feed {
-        self.feed(self.first, line)
-    }
-
-    fn second(self, line: &mut Line) -> Feed {
-        self.feed(SECOND, line)
+        let events = events_of(self.alloc, script.as_bytes(), line);
+        Feed::new(events, if self.is_single { 1 } else { 3 })
     }
 
     // What it is to give: the bytes up to its limit, and a mark for each failure that the call does not pass over.
-    fn expected(self, call: &str) -> Made<Vec<u8>> {
-        let mut all = Vec::from_slice(self.alloc, self.first.as_bytes())?;
+    fn expected(self, call: &str, line: &mut Line) -> Vec<u8> {
+        let passes = call != "read" && call != "pass";
+        let limit = if self.kind.contains("Take") {
+            LIMIT
+        } else {
+            usize::MAX
+        };
+        let mut all = Vec::new(self.alloc);
+        let left = push_front(&mut all, self.first.as_bytes(), limit, passes, line);
         if self.kind != "BufReader" {
-            all.extend_from_slice(SECOND.as_bytes())?;
+            let _ = push_front(&mut all, SECOND.as_bytes(), left, passes, line);
         }
-        let is_limited = self.kind.starts_with("Take") || self.kind.starts_with("BufReader Take");
-        let limit = if is_limited { LIMIT } else { all.len() };
-        front(self.alloc, &all, limit, call != "read" && call != "pass")
+        all
     }
 }
 
-// The front with so many bytes, of which a call may pass over the interruptions.
-fn front(alloc: Global, all: &[u8], limit: usize, passes: bool) -> Made<Vec<u8>> {
-    let mut front = Vec::new(alloc);
-    let mut bytes: usize = 0;
-    'events: for event in all {
-        if bytes < limit && !(passes && *event == b'~') {
-            front.extend_from_slice(&[*event])?;
+// Appends events as long as there are not so many bytes, of which a call may pass over the interruptions; how many more there
+// may be.
+fn push_front(
+    all: &mut Vec<u8>,
+    events: &[u8],
+    limit: usize,
+    passes: bool,
+    line: &mut Line,
+) -> usize {
+    let mut left = limit;
+    'events: for event in events {
+        if left > 0 && !(passes && *event == b'~') {
+            push(all, *event, line);
         }
-        bytes = bytes.wrapping_add(usize::from(event.is_ascii_alphabetic()));
+        if event.is_ascii_alphabetic() {
+            left = left.saturating_sub(1);
+        }
     }
-    Ok(front)
+    left
 }
 
 fn chain(run: Run<'_>, line: &mut Line) -> Chain<Feed, Feed> {
-    run.first(line).chain(run.second(line))
+    run.feed(run.first, line).chain(run.feed(SECOND, line))
 }
 
-// Makes the calls of the tower of a run: whether all came, in order.
+// Makes the calls of the tower of a run, whose buffers are so long: whether all came, in order.
 fn gives_by<const S: usize>(run: Run<'_>, call: &Call<'_>, all: &[u8], line: &mut Line) -> bool {
     if S == 0 || S >= 1 << 32 {
         return false;
     }
     match run.kind {
         "BufReader" => {
-            let mut tower = BufReader::<Feed, S>::new(run.first(line));
+            let mut tower = BufReader::<Feed, S>::new(run.feed(run.first, line));
             gives(run.alloc, &mut tower, call, all, line)
         }
         "Chain BufReader" => {
-            let first = BufReader::<Feed, S>::new(run.first(line));
-            let second = BufReader::<Feed, S>::new(run.second(line));
+            let first = BufReader::<Feed, S>::new(run.feed(run.first, line));
+            let second = BufReader::<Feed, S>::new(run.feed(SECOND, line));
             gives(run.alloc, &mut first.chain(second), call, all, line)
         }
         "BufReader Chain" => {
@@ -237,32 +243,57 @@ fn gives_by<const S: usize>(run: Run<'_>, call: &Call<'_>, all: &[u8], line: &mu
     }
 }
 
-/// Makes the runs of a call of the towers of a kind.
-pub fn sweep_reads<const S: usize>(
-    alloc: Global,
-    kind: &str,
-    call: &Call<'_>,
-    line: &mut Line,
-) -> Made<()> {
-    'runs: for number in 0..2 * FIRST.len() {
-        let first = FIRST[number / 2];
-        let piece = number % 2 * 2 + 1;
-        let run = Run {
-            alloc,
-            kind,
-            first,
-            piece,
+// The towers of a kind, whose buffers are so long.
+#[derive(Drop)]
+struct Sweeping<'n> {
+    size: &'n str,
+    kind: &'n str,
+}
+
+impl<'n> Sweeping<'n> {
+    // Makes a run, and prints it where it goes wrong; whether it doesn't.
+    fn is_lawful(&self, run: Run<'_>, call: &Call<'_>, line: &mut Line) -> bool {
+        let all = run.expected(call.word, line);
+        let is_lawful = match self.size {
+            "reads1" => gives_by::<1>(run, call, &all, line),
+            "reads2" => gives_by::<2>(run, call, &all, line),
+            _ => gives_by::<8>(run, call, &all, line),
         };
-        let all = run.expected(call.word)?;
-        if !gives_by::<S>(run, call, &all, line) {
+        if !is_lawful {
             line.word("another reading of ");
-            line.word(first);
-            line.word(" in pieces of ");
-            line.number(piece as u64);
-            return Ok(());
+            line.word(run.first);
+            line.word(if run.is_single {
+                " in single bytes"
+            } else {
+                " in pieces"
+            });
         }
+        is_lawful
     }
-    line.number(2 * FIRST.len() as u64);
-    line.word(" runs");
+}
+
+impl<'n> Stream for Sweeping<'n> {
+    fn play(&mut self, alloc: Global, call: &Call<'_>, line: &mut Line) {
+        'runs: for number in 0..2 * FIRST.len() {
+            let run = Run {
+                alloc,
+                kind: self.kind,
+                first: FIRST[number / 2],
+                is_single: number % 2 == 0,
+            };
+            if !self.is_lawful(run, call, line) {
+                return;
+            }
+        }
+        line.number(2 * FIRST.len() as u64);
+        line.word(" runs");
+    }
+}
+
+pub fn lend(size: &str, kind: &str, player: &mut Player<'_, '_>) -> Made<()> {
+    match size {
+        "reads1" | "reads2" | "reads8" => player.play(&mut Sweeping { size, kind }),
+        _ => return Err(NO_STREAM),
+    }
     Ok(())
 }

@@ -3,25 +3,22 @@ use io_bench::Faulty;
 use io_rows::line::Line;
 use io_rows::recorder::Recorder;
 use no_std_io2::io::{BufWriter, LineWriter, Write};
-use std::alloc::AllocError;
 
 /// A device of faults, whose bytes out are its vector's.
 pub type Device = Faulty<Vec<u8>>;
 
-/// A tower of writers on a device of this kind.
-pub trait Tower<D>: Write {
-    /// The tower on a device, with nothing held.
-    fn over(device: D) -> Self
-    where
-        Self: Sized;
-
-    /// What the device is.
-    fn device(&self) -> &D;
-
-    /// What a level holds, the outer one being level 0. A device holds nothing.
-    fn held(&self, _level: usize) -> Option<&[u8]> {
-        None
+/// A tower of writers on a device. A device holds nothing.
+pub trait Tower: Write {
+    /// The bytes that the device keeps: a recorder's stand in its journal.
+    fn out(&self) -> &[u8] {
+        &[]
     }
+
+    /// Prints a column of what each level holds, the outer one first.
+    fn show_held(&self, _line: &mut Line) {}
+
+    /// Appends what is held, the inner level's bytes first.
+    fn push_held(&self, _bytes: &mut Vec<u8>, _line: &mut Line) {}
 
     /// Whether each buffer that sends lines has no newline, or ends in one.
     fn keeps_lines(&self) -> bool {
@@ -29,60 +26,35 @@ pub trait Tower<D>: Write {
     }
 }
 
-/// Prints a column of what each level holds, the outer one first.
-pub fn show_held<D, T: Tower<D>>(tower: &T, line: &mut Line) {
-    'levels: for level in 0..3 {
-        if let Some(held) = tower.held(level) {
-            line.column();
-            line.bytes(held);
-        }
+/// Appends bytes.
+pub fn push_bytes(bytes: &mut Vec<u8>, more: &[u8], line: &mut Line) {
+    if bytes.extend_from_slice(more).is_err() {
+        line.cut();
     }
 }
 
-/// Appends what is held, the inner level's bytes first.
-pub fn push_held<D, T: Tower<D>>(tower: &T, bytes: &mut Vec<u8>) -> Result<(), AllocError> {
-    'levels: for above in 0..3usize {
-        if let Some(held) = tower.held(2usize.saturating_sub(above)) {
-            bytes.extend_from_slice(held)?;
-        }
-    }
-    Ok(())
-}
-
-impl Tower<Device> for Device {
-    fn over(device: Device) -> Device {
-        device
-    }
-
-    fn device(&self) -> &Device {
-        self
+impl Tower for Device {
+    fn out(&self) -> &[u8] {
+        self.get_ref()
     }
 }
 
-impl Tower<Recorder> for Recorder {
-    fn over(device: Recorder) -> Recorder {
-        device
+impl Tower for Recorder {}
+
+impl<W: Tower + Drop, const S: usize> Tower for BufWriter<W, S> {
+    fn out(&self) -> &[u8] {
+        self.get_ref().out()
     }
 
-    fn device(&self) -> &Recorder {
-        self
-    }
-}
-
-impl<D, W: Tower<D> + Drop, const S: usize> Tower<D> for BufWriter<W, S> {
-    fn over(device: D) -> BufWriter<W, S> {
-        BufWriter::new(W::over(device))
+    fn show_held(&self, line: &mut Line) {
+        line.column();
+        line.bytes(self.buffer());
+        self.get_ref().show_held(line);
     }
 
-    fn device(&self) -> &D {
-        self.get_ref().device()
-    }
-
-    fn held(&self, level: usize) -> Option<&[u8]> {
-        match level {
-            0 => Some(self.buffer()),
-            _ => self.get_ref().held(level - 1),
-        }
+    fn push_held(&self, bytes: &mut Vec<u8>, line: &mut Line) {
+        self.get_ref().push_held(bytes, line);
+        push_bytes(bytes, self.buffer(), line);
     }
 
     fn keeps_lines(&self) -> bool {
@@ -90,20 +62,20 @@ impl<D, W: Tower<D> + Drop, const S: usize> Tower<D> for BufWriter<W, S> {
     }
 }
 
-impl<D, W: Tower<D> + Drop, const S: usize> Tower<D> for LineWriter<W, S> {
-    fn over(device: D) -> LineWriter<W, S> {
-        LineWriter::new(W::over(device))
+impl<W: Tower + Drop, const S: usize> Tower for LineWriter<W, S> {
+    fn out(&self) -> &[u8] {
+        self.get_ref().out()
     }
 
-    fn device(&self) -> &D {
-        self.get_ref().device()
+    fn show_held(&self, line: &mut Line) {
+        line.column();
+        line.bytes(self.buffer());
+        self.get_ref().show_held(line);
     }
 
-    fn held(&self, level: usize) -> Option<&[u8]> {
-        match level {
-            0 => Some(self.buffer()),
-            _ => self.get_ref().held(level - 1),
-        }
+    fn push_held(&self, bytes: &mut Vec<u8>, line: &mut Line) {
+        self.get_ref().push_held(bytes, line);
+        push_bytes(bytes, self.buffer(), line);
     }
 
     fn keeps_lines(&self) -> bool {

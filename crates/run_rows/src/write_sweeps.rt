@@ -1,13 +1,15 @@
 // Each tower of writers over a device that takes one byte a call and then fails once, at each place.
 //
 // A row is `sweep`; then how many runs that were, or the first run that breaks a law.
-use super::ops::show_replies;
-use super::towers::{Device, Tower, push_held};
+use crate::ops::{push, show_replies};
+use crate::towers::{Device, Tower, push_bytes};
 use io_bench::{Act, Faulty, Op, Reply, joined, run_writes};
-use io_rows::fault::{Fault, Made};
+use io_rows::calls::Call;
+use io_rows::fault::Made;
 use io_rows::line::Line;
+use io_rows::player::{Player, Stream};
 use no_std_io2::io::{BufWriter, ErrorKind, LineWriter};
-use std::alloc::{AllocError, Global};
+use std::alloc::Global;
 
 const OPS: [Op<'static>; 6] = [
     Op::Write(b"ab\ncd"),
@@ -18,22 +20,22 @@ const OPS: [Op<'static>; 6] = [
     Op::Flush,
 ];
 
-const ACTS: [Act; 3] = [
-    Act::Zero,
-    Act::Fail(ErrorKind::Interrupted),
-    Act::Fail(ErrorKind::BrokenPipe),
-];
-
-// Each act behind 0 to 12 calls that take a byte.
+// Each of three acts behind 0 to 12 calls that take a byte.
 const RUNS: usize = 39;
 
 // The device of a run: so many calls take one byte, and then comes the act.
-fn device_of(alloc: Global, run: usize) -> Result<Device, AllocError> {
-    let calls = (run / 3).min(12);
-    let mut acts = [Act::Take(1); 13];
-    acts[calls] = ACTS[run % 3];
-    let acts = Vec::from_slice(alloc, &acts[..=calls])?;
-    Ok(Faulty::new(Vec::new(alloc), acts))
+fn device_of(alloc: Global, run: usize, line: &mut Line) -> Device {
+    let mut acts = Vec::new(alloc);
+    'calls: for _ in 0..run / 3 {
+        push(&mut acts, Act::Take(1), line);
+    }
+    let act = match run % 3 {
+        0 => Act::Zero,
+        1 => Act::Fail(ErrorKind::Interrupted),
+        _ => Act::Fail(ErrorKind::BrokenPipe),
+    };
+    push(&mut acts, act, line);
+    Faulty::new(Vec::new(alloc), acts)
 }
 
 // How many calls failed, or took none of some bytes.
@@ -61,81 +63,130 @@ fn broken_law(all: &[u8], is_held: bool, accepted: &[u8], replies: &[Reply]) -> 
 }
 
 // The same of a tower.
-fn broken_by<T: Tower<Device>>(alloc: Global, tower: &T, replies: &[Reply]) -> Made<&'static str> {
+fn broken_by<T: Tower>(
+    alloc: Global,
+    tower: &T,
+    replies: &[Reply],
+    line: &mut Line,
+) -> &'static str {
     if !tower.keeps_lines() {
-        return Ok("a line is held");
+        return "a line is held";
     }
-    let out = tower.device().get_ref();
-    let mut all = Vec::from_slice(alloc, out)?;
-    push_held(tower, &mut all)?;
+    let out = tower.out();
+    let mut all = Vec::new(alloc);
+    push_bytes(&mut all, out, line);
+    tower.push_held(&mut all, line);
     match joined(alloc, &OPS, replies) {
-        Ok(Some(accepted)) => Ok(broken_law(&all, all.len() > out.len(), &accepted, replies)),
-        Ok(None) => Ok("no list is joined"),
-        Err(_refused) => Err(Fault::Memory),
+        Ok(Some(accepted)) => broken_law(&all, all.len() > out.len(), &accepted, replies),
+        Ok(None) => "no list is joined",
+        Err(_refused) => {
+            line.cut();
+            "no memory"
+        }
     }
 }
 
 // Makes a run, and prints what is wrong with it; whether nothing is.
-fn is_lawful<T: Tower<Device> + Drop>(alloc: Global, run: usize, line: &mut Line) -> Made<bool> {
-    let mut tower = T::over(device_of(alloc, run)?);
+fn is_lawful<T: Tower>(alloc: Global, tower: &mut T, line: &mut Line) -> bool {
     let mut replies = Vec::new(alloc);
-    if run_writes(&mut tower, &OPS, &mut replies).is_err() {
-        return Err(Fault::Memory);
+    if run_writes(tower, &OPS, &mut replies).is_err() {
+        line.cut();
     }
-    let what = broken_by(alloc, &tower, &replies)?;
-    if !what.is_empty() {
-        line.word(what);
-        line.word(": ");
-        show_replies(&replies, line);
+    let what = broken_by(alloc, tower, &replies, line);
+    if what.is_empty() {
+        return true;
     }
-    Ok(what.is_empty())
+    line.word(what);
+    line.word(": ");
+    show_replies(&replies, line);
+    false
 }
 
-// The same of the tower of a kind.
+// The same of the tower of a kind, whose buffers are so long.
 fn is_lawful_kind<const S: usize>(
     alloc: Global,
     kind: &str,
-    run: usize,
+    device: Device,
     line: &mut Line,
-) -> Made<bool> {
+) -> bool {
     if S >= 1 << 32 {
-        return Err(NO_KIND);
+        return false;
     }
     match kind {
-        "BufWriter" => is_lawful::<BufWriter<Device, S>>(alloc, run, line),
-        "LineWriter" => is_lawful::<LineWriter<Device, S>>(alloc, run, line),
+        "BufWriter" => is_lawful(alloc, &mut BufWriter::<Device, S>::new(device), line),
+        "LineWriter" => is_lawful(alloc, &mut LineWriter::<Device, S>::new(device), line),
+        _ => is_lawful_above::<S>(alloc, kind, BufWriter::<Device, S>::new(device), line),
+    }
+}
+
+// The same of two levels.
+fn is_lawful_above<const S: usize>(
+    alloc: Global,
+    kind: &str,
+    inner: BufWriter<Device, S>,
+    line: &mut Line,
+) -> bool {
+    if S >= 1 << 32 {
+        return false;
+    }
+    match kind {
         "BufWriter BufWriter" => {
-            is_lawful::<BufWriter<BufWriter<Device, S>, S>>(alloc, run, line)
+            let mut tower = BufWriter::<BufWriter<Device, S>, S>::new(inner);
+            is_lawful(alloc, &mut tower, line)
         }
         "LineWriter BufWriter" => {
-            is_lawful::<LineWriter<BufWriter<Device, S>, S>>(alloc, run, line)
+            let mut tower = LineWriter::<BufWriter<Device, S>, S>::new(inner);
+            is_lawful(alloc, &mut tower, line)
         }
-        _ => Err(NO_KIND),
+        _ => {
+            line.malformed("no such tower of writers");
+            false
+        }
     }
 }
 
-const NO_KIND: Fault = Fault::Malformed("no such tower of writers");
-
-fn sweep<const S: usize>(alloc: Global, kind: &str, line: &mut Line) -> Made<()> {
-    'runs: for run in 0..RUNS {
-        if !is_lawful_kind::<S>(alloc, kind, run, line)? {
-            line.word(" with a fault behind calls: ");
-            line.number((run / 3) as u64);
-            return Ok(());
-        }
-    }
-    line.number(RUNS as u64);
-    line.word(" runs");
-    Ok(())
+// The towers of a kind, whose name says at its end how long their buffers are.
+#[derive(Drop)]
+struct Sweeping<'n> {
+    kind: &'n str,
+    size: &'n str,
 }
 
-/// Makes the runs of the towers of a kind, whose name says at its end how long their buffers are.
-pub fn sweep_writes(alloc: Global, name: &str, line: &mut Line) -> Made<()> {
+impl<'n> Sweeping<'n> {
+    fn is_lawful(&self, alloc: Global, run: usize, line: &mut Line) -> bool {
+        let device = device_of(alloc, run, line);
+        match self.size {
+            "0" => is_lawful_kind::<0>(alloc, self.kind, device, line),
+            "1" => is_lawful_kind::<1>(alloc, self.kind, device, line),
+            "8" => is_lawful_kind::<8>(alloc, self.kind, device, line),
+            _ => {
+                line.malformed("no such size");
+                false
+            }
+        }
+    }
+}
+
+impl<'n> Stream for Sweeping<'n> {
+    fn play(&mut self, alloc: Global, call: &Call<'_>, line: &mut Line) {
+        if call.word != "sweep" {
+            line.malformed("no sweep");
+            return;
+        }
+        'runs: for run in 0..RUNS {
+            if !self.is_lawful(alloc, run, line) {
+                line.word(" with a fault behind calls: ");
+                line.number((run / 3) as u64);
+                return;
+            }
+        }
+        line.number(RUNS as u64);
+        line.word(" runs");
+    }
+}
+
+pub fn lend(name: &str, player: &mut Player<'_, '_>) -> Made<()> {
     let (kind, size) = name.rsplit_once(" ").unwrap_or((name, ""));
-    match size {
-        "0" => sweep::<0>(alloc, kind, line),
-        "1" => sweep::<1>(alloc, kind, line),
-        "8" => sweep::<8>(alloc, kind, line),
-        _ => Err(Fault::Malformed("no such size")),
-    }
+    player.play(&mut Sweeping { kind, size });
+    Ok(())
 }

@@ -2,16 +2,34 @@
 //! reads them.
 #![tactic(auto)]
 
-mod bench;
-mod boxed;
-mod lent;
-mod streams;
+mod benches;
+mod cursors;
+mod devices;
+mod levels;
 mod tower;
 mod writing;
 
+use io_rows::fault::Made;
 use io_rows::files::play_files;
+use io_rows::player::{Player, Streams};
 use std::process::ExitCode;
-use streams::Writers;
+
+// The streams of writers: the first word says which columns a row has.
+struct Writers;
+
+impl Streams for Writers {
+    fn lend(name: &str, words: &str, player: &mut Player<'_, '_>) -> Made<()> {
+        let (word, rest) = name.split_once(" ").unwrap_or((name, ""));
+        match word {
+            "writer" | "seeker" => devices::lend_recorder(rest, words, player),
+            "noted" => devices::lend_device(rest, words, player),
+            "bench" => benches::lend(rest, words, player),
+            "cursor" => cursors::lend(rest, words, player),
+            "room" => cursors::lend_room(rest, words, player),
+            _ => Err(levels::NO_STREAM),
+        }
+    }
+}
 
 fn main(rt: HostRuntime) -> ExitCode {
     play_files::<Writers>(&rt)
