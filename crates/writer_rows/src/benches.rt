@@ -37,8 +37,7 @@ pub fn new_faulty(alloc: Global, words: &str) -> Made<Faulty<Vec<u8>>> {
 /// A stream's name ends with its device's.
 pub fn lend(name: &str, words: &str, player: &mut Player<'_, '_>) -> Made<()> {
     if let Some((levels, device)) = name.split_once(" Box dyn ") {
-        let object = new_object(player.alloc, device, words)?;
-        return lend_object(levels, object, Columns::State, player);
+        return lend_boxed(levels, device, words, player);
     }
     let (level, device) = name.rsplit_once(" ").unwrap_or(("", name));
     match device {
@@ -53,11 +52,21 @@ pub fn lend(name: &str, words: &str, player: &mut Player<'_, '_>) -> Made<()> {
     }
 }
 
-fn new_object(alloc: Global, device: &str, words: &str) -> Made<Object> {
+fn lend_boxed(levels: &str, device: &str, words: &str, player: &mut Player<'_, '_>) -> Made<()> {
+    let alloc = player.alloc;
     match device {
-        "Vec" => Ok(Box::new(alloc, Vec::<u8>::new(alloc))?),
-        "Faulty" => Ok(Box::new(alloc, new_faulty(alloc, words)?)?),
-        "Sink" => Ok(Box::new(alloc, Sink::new())?),
+        "Vec" => {
+            let object: Object = Box::new(alloc, Vec::<u8>::new(alloc))?;
+            lend_object(levels, object, Columns::State, player)
+        }
+        "Faulty" => {
+            let object: Object = Box::new(alloc, new_faulty(alloc, words)?)?;
+            lend_object(levels, object, Columns::State, player)
+        }
+        "Sink" => {
+            let object: Object = Box::new(alloc, Sink::new())?;
+            lend_object(levels, object, Columns::State, player)
+        }
         _ => Err(NO_STREAM),
     }
 }

@@ -19,16 +19,14 @@ fn copy_ends<const N: usize>(from: &[u8], to: &mut [u8])
     last.copy_to_slice(&mut to[back..]);
 }
 
-// Copies a slice of fewer than 16 bytes.
+// Copies a slice of fewer than eight bytes.
 #[inline(always)]
-fn copy_short(from: &[u8], to: &mut [u8])
+fn copy_few(from: &[u8], to: &mut [u8])
     requires same { length from.now ≡ length to.old }
-    requires short { length from.now ≤ 15 }
+    requires few { length from.now ≤ 7 }
     ensures { to.new ≡ from.now }
 {
-    if from.len() >= 8 {
-        copy_ends::<8>(from, to);
-    } else if from.len() >= 4 {
+    if from.len() >= 4 {
         copy_ends::<4>(from, to);
     } else if from.len() >= 2 {
         copy_ends::<2>(from, to);
@@ -54,12 +52,14 @@ pub fn copy_bytes(from: &[u8], to: &mut [u8])
     requires { length from.now ≡ length to.old }
     ensures { to.new ≡ from.now }
 {
-    if from.len() < 16 {
-        copy_short(from, to);
-    } else if from.len() <= 32 {
-        copy_ends::<16>(from, to);
-    } else {
+    if from.len() > 32 {
         copy_long(to, from);
+    } else if from.len() >= 16 {
+        copy_ends::<16>(from, to);
+    } else if from.len() >= 8 {
+        copy_ends::<8>(from, to);
+    } else {
+        copy_few(from, to);
     }
 }
 
