@@ -29,6 +29,11 @@ impl Streams for Writers {
             _ => Err(levels::NO_STREAM),
         }
     }
+
+    // The acts of a bench have none.
+    fn has_texts(name: &str) -> bool {
+        !name.starts_with("bench ")
+    }
 }
 
 fn main(rt: HostRuntime) -> ExitCode {
