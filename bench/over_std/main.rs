@@ -332,6 +332,8 @@ fn source(names: &[&str], device: &Device, words: &str) -> Option<Any> {
         ["Box" | "&mut", rest @ ..] => source(rest, device, words)?,
         ["BufReader", n, rest @ ..] => Box::new(BufReader::with_capacity(n.parse().ok()?, source(rest, device, words)?)),
         ["Take", rest @ ..] => Box::new(source(rest, device, words)?.take(2)),
+        ["Chain", "of", _, "&[u8]"] =>
+            words.split(" + ").map(|it| Box::new(&*unescape(it).leak()) as Any).reduce(|a, b| Box::new(a.chain(b)))?,
         ["Chain"] => Box::new(source(&[], device, "")?.chain(source(&[], &second, "")?)),
         ["Chain", "Text"] => Box::new(source(&[], device, "")?.chain(source(&["Text"], device, "")?)),
         ["Chain", "Take"] => Box::new(source(&["Take"], device, "")?.chain(source(&[], &second, "")?)),
@@ -364,7 +366,7 @@ fn make<'a>(name: &'a str, device: Device, words: &str) -> Option<Box<dyn Stream
     Some(match (names[0], &names[1..]) {
         ("bench", [.., "&mut", _] | [.., "dyn", _]) => return None,
         ("cursor", rest) => { let top = level(rest, device.clone(), Some(unescape(words))); Box::new(Tower { names, device, top }) }
-        ("room", [kind]) => Box::new(Room(Cursor::new(Vec::with_capacity(words.parse().ok()?)), *kind == "Vec")),
+        ("grown", [kind]) => Box::new(Room(Cursor::new(Vec::with_capacity(words.parse().ok()?)), *kind == "Vec")),
         ("bytes", rest) => Box::new(Items(Box::new(source(rest, &device, words)?.bytes().map(|it| it.map(|b| vec![b]))), "", false)),
         ("split", rest) => Box::new(Items(
             Box::new(source(rest, &device, words)?.split(if *rest == ["Cursor"] { b'3' } else { b',' })), "piece ", *rest != ["Device"])),
@@ -408,7 +410,7 @@ fn main() {
                 let journal = device.journal.clone();
                 journal.borrow_mut().answers = told(words);
                 let mut stream = make(name, device, words.trim());
-                let notes_calls = !["bench", "cursor", "room", "answers"].iter().any(|it| name.starts_with(it))
+                let notes_calls = !["bench", "cursor", "grown", "answers"].iter().any(|it| name.starts_with(it))
                     && !["Cursor", "&[u8]"].iter().any(|it| name.contains(it));
                 for row in rows.lines().filter(|row| row.contains(" | ") && !row.starts_with('#')) {
                     let call = row.split(" | ").next().unwrap();

@@ -60,6 +60,14 @@ impl Line {
         self.is_malformed = true;
     }
 
+    // Says why a row is not played, in place of an answer.
+    pub fn tell(&mut self, fault: Fault) {
+        match fault {
+            Fault::Memory => self.cut(),
+            Fault::Malformed(why) => self.malformed(why),
+        }
+    }
+
     // Ends a column.
     pub fn column(&mut self) {
         self.word(" | ");

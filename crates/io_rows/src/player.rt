@@ -84,8 +84,7 @@ fn play_row<S: Stream>(alloc: Global, stream: &mut S, row: &str, line: &mut Line
     line.column();
     match Call::parse(alloc, call) {
         Ok(call) => stream.play(alloc, &call, line),
-        Err(Fault::Memory) => line.cut(),
-        Err(Fault::Malformed(why)) => line.malformed(why),
+        Err(fault) => line.tell(fault),
     }
 }
 

@@ -2,7 +2,7 @@
 // dots where nothing was written.
 use super::calls::Call;
 use super::line::Line;
-use no_std_io2::io::{BufRead, Read, Result};
+use no_std_io2::io::{BufRead, Read, Result, skip};
 use std::alloc::Global;
 
 // Prints a call's answer, a length, and the bytes that it gave.
@@ -77,6 +77,16 @@ fn pass<R: BufRead>(r: &mut R, most: usize) -> Result<usize> {
     Ok(amount)
 }
 
+// Passes over so many bytes, and tells how many are left to pass over.
+fn call_skip<R: BufRead>(r: &mut R, count: usize, line: &mut Line) {
+    let mut left = count as u64;
+    line.done(&skip(r, &mut left));
+    line.word(", left ");
+    line.number(left);
+    line.column();
+    line.bytes(b"");
+}
+
 fn call_read_until<R: BufRead>(alloc: Global, r: &mut R, delim: &[u8], line: &mut Line) {
     let mut piece = Vec::new(alloc);
     let delim = delim.first().copied().unwrap_or(b'\n');
@@ -108,11 +118,13 @@ pub fn make_read<R: Read>(alloc: Global, r: &mut R, call: &Call<'_>, line: &mut 
 }
 
 /// Makes a call of a reader that lends: beside those of [`make_read`] `fill_buf`, `pass N`, which lends and consumes so many of
-/// the bytes at most, `read_until DELIMITER`, of a newline where none is named, and `read_line OLD`, which appends to this text.
+/// the bytes at most, `skip N`, `read_until DELIMITER`, of a newline where none is named, and `read_line OLD`, which appends to
+/// this text.
 pub fn make_lend<R: BufRead>(alloc: Global, r: &mut R, call: &Call<'_>, line: &mut Line) {
     match call.word {
         "fill_buf" => call_fill_buf(r, line),
         "pass" => show_given(&pass(r, call.number(line)), b"", line),
+        "skip" => call_skip(r, call.number(line), line),
         "read_until" => call_read_until(alloc, r, &call.bytes, line),
         "read_line" => call_read_line(alloc, r, call.rest, line),
         _ => make_read(alloc, r, call, line),

@@ -1,7 +1,7 @@
 // `run_closed` over a tally of a sink that notes the length of each write, and each flush.
 //
 // A row is `run` and the calls; then their replies, how many inner writes they took and how many at most, and the lengths
-// of the inner writes with `flush` for each inner flush.
+// of the inner writes with `flush` for each inner flush. A run over a sink alone has to come to as many.
 ghost use Rattle.std.specs.Prelude.{⊤, refl, ◌<◌};
 
 use crate::NO_STREAM;
@@ -81,6 +81,28 @@ fn run<const S: usize>(
     Ok(tally.writes())
 }
 
+// The same over a sink.
+fn run_sink<const S: usize>(ops: &[Op<'_>], replies: &mut Vec<Reply>) -> Result<u64> {
+    if S == 0 || S >= 1 << 32 {
+        return Ok(0);
+    }
+    let tally = run_closed::<Sink, S>(Tally::new(Sink::new()), ops, replies)?;
+    Ok(tally.writes())
+}
+
+// Tells a run over a sink that comes to something else.
+fn judge_sink<const S: usize>(alloc: Global, ops: &[Op<'_>], wanted: u64, line: &mut Line) {
+    let mut replies = Vec::new(alloc);
+    match run_sink::<S>(ops, &mut replies) {
+        Ok(writes) if writes == wanted && replies.len() == ops.len() => {}
+        Ok(writes) => {
+            line.word(", of a sink ");
+            line.number(writes);
+        }
+        Err(_refused) => line.cut(),
+    }
+}
+
 // A device whose lengths go on from run to run, and the size of the buffer above it.
 #[derive(Drop)]
 struct Closing<const S: usize> {
@@ -97,6 +119,7 @@ impl<const S: usize> Stream for Closing<S> {
                 show_replies(&replies, line);
                 line.column();
                 line.number(writes);
+                judge_sink::<S>(alloc, &ops, writes, line);
             }
             Err(_refused) => line.cut(),
         }

@@ -1,11 +1,12 @@
-//! Plays the rows of whole runs: `run_writes`, `run_closed`, `run_reads` and `joined` of `io_bench`, its devices, and sweeps
-//! that try each tower over a device that fails at each place.
+//! Plays the rows of whole runs: `run_writes`, `run_closed`, `run_reads` and `joined` of `io_bench`, its devices, sweeps that try
+//! each tower over a device that fails at each place, and the clients.
 #![tactic(auto)]
 
 mod accepted;
 mod acts;
 mod asks;
 mod benches;
+mod clients;
 mod closed;
 mod feeds;
 mod ops;
@@ -36,9 +37,13 @@ impl Streams for RunTables {
             "noted" => benches::lend(rest, words, player),
             "feed" => feeds::lend(words, player),
             "joined" => accepted::lend(player),
-            "pieces" => pieces::lend(player),
+            "pieces" => pieces::lend(rest, words, player),
             "sweep" => write_sweeps::lend(rest, player),
-            _ => read_sweeps::lend(word, rest, player),
+            "reads1" | "reads2" | "reads8" => {
+                read_sweeps::lend(word, rest, player);
+                Ok(())
+            }
+            _ => clients::lend(word, rest, words, player),
         }
     }
 

@@ -1,15 +1,24 @@
 // `run_split` and `run_lines` over a feed that gives pieces of each length from 1 to 6 through a buffer of 2 and of 4 bytes.
 //
 // A row is `lines` or `split`, a delimiter and what is to come; then the items, a bar behind each, and behind the last one
-// the fault that ended them: `!`, `#`, and `?` for a line that is no text. It stands for all lengths, which come to the same.
+// the fault that ended them: `!`, `#`, and `?` for a line that is no text. It stands for all lengths, which come to the same. Over
+// a device that answers as `new` says nothing stands behind the delimiter, and behind the items the calls of the device.
+use crate::NO_STREAM;
 use crate::acts::events_of;
 use io_bench::{Feed, run_lines, run_split};
-use io_rows::calls::Call;
+use io_rows::calls::{Call, new_journal, show_calls};
 use io_rows::fault::Made;
+use io_rows::journal::Journal;
 use io_rows::line::Line;
 use io_rows::player::{Player, Stream};
-use no_std_io2::io::{BufRead, BufReader, ErrorKind, Result};
+use io_rows::recorder::{Name, Recorder};
+use no_std_io2::io::{BufRead, BufReader, ErrorKind, Read, Result};
 use std::alloc::Global;
+use std::cell::RefCell;
+use std::rc::Rc;
+
+// More room for items than a few need.
+const MUCH: usize = 64;
 
 fn show_end(end: &Result<()>, line: &mut Line) {
     if let Err(e) = end {
@@ -19,6 +28,13 @@ fn show_end(end: &Result<()>, line: &mut Line) {
             ErrorKind::InvalidData => line.word("?"),
             _ => line.error(e),
         }
+    }
+}
+
+// Tells room for many more items than there are.
+fn judge_room(capacity: usize, len: usize, line: &mut Line) {
+    if capacity.saturating_sub(len) >= MUCH {
+        line.word(" in much room");
     }
 }
 
@@ -36,6 +52,7 @@ fn split<R: BufRead + Drop>(alloc: Global, r: R, delim: u8, line: &mut Line) {
         show_item(item, line);
     }
     show_end(&end, line);
+    judge_room(items.capacity(), items.len(), line);
 }
 
 fn lines<R: BufRead + Drop>(alloc: Global, r: R, line: &mut Line) {
@@ -45,6 +62,7 @@ fn lines<R: BufRead + Drop>(alloc: Global, r: R, line: &mut Line) {
         show_item(item.as_bytes(), line);
     }
     show_end(&end, line);
+    judge_room(items.capacity(), items.len(), line);
 }
 
 // The items between delimiters, or lines where there is none.
@@ -101,7 +119,32 @@ impl Stream for Splitting {
     }
 }
 
-pub fn lend(player: &mut Player<'_, '_>) -> Made<()> {
-    player.play(&mut Splitting);
+// A device, whose calls are written down.
+#[derive(Drop)]
+struct Noting {
+    device: Recorder,
+    journal: Rc<RefCell<Journal>>,
+}
+
+impl Stream for Noting {
+    fn play(&mut self, alloc: Global, call: &Call<'_>, line: &mut Line) {
+        match script_of(call) {
+            Some((delim, [])) => items(alloc, self.device.by_ref(), delim, line),
+            _ => line.malformed("no such call"),
+        }
+        show_calls(&self.journal, line);
+    }
+}
+
+pub fn lend(name: &str, words: &str, player: &mut Player<'_, '_>) -> Made<()> {
+    match name {
+        "" => player.play(&mut Splitting),
+        "Device" => {
+            let journal = new_journal(player.alloc, words)?;
+            let device = Recorder::new(player.alloc, journal.clone()?, Name::Only);
+            player.play(&mut Noting { device, journal });
+        }
+        _ => return Err(NO_STREAM),
+    }
     Ok(())
 }

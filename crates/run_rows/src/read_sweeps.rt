@@ -2,12 +2,10 @@
 // byte and of three: what comes is a front of what the tower is to give, and all of it in the end.
 //
 // A row is a call, which is made until the end was met twice; then how many runs that were, or the first that goes wrong.
-use crate::NO_STREAM;
 use crate::acts::{events_of, mark_of};
 use crate::ops::push;
 use io_bench::Feed;
 use io_rows::calls::Call;
-use io_rows::fault::Made;
 use io_rows::line::Line;
 use io_rows::player::{Player, Stream};
 use no_std_io2::io::{BufRead, BufReader, Chain, ErrorKind, Read, Result, Take};
@@ -290,10 +288,6 @@ impl<'n> Stream for Sweeping<'n> {
     }
 }
 
-pub fn lend(size: &str, kind: &str, player: &mut Player<'_, '_>) -> Made<()> {
-    match size {
-        "reads1" | "reads2" | "reads8" => player.play(&mut Sweeping { size, kind }),
-        _ => return Err(NO_STREAM),
-    }
-    Ok(())
+pub fn lend(size: &str, kind: &str, player: &mut Player<'_, '_>) {
+    player.play(&mut Sweeping { size, kind });
 }

@@ -6,7 +6,7 @@ use crate::NO_STREAM;
 use crate::acts::parse_acts;
 use crate::ops::{ops_of, parse_calls, show_replies};
 use crate::towers::{Device, Tower};
-use io_bench::{Faulty, run_writes};
+use io_bench::{Faulty, Sink, run_writes};
 use io_rows::calls::{Call, new_journal, show_calls, show_out};
 use io_rows::fault::Made;
 use io_rows::journal::Journal;
@@ -116,10 +116,25 @@ fn lend_levels(
     Ok(())
 }
 
+type Object = Box<dyn Write + Drop>;
+
 pub fn lend_acts(name: &str, words: &str, player: &mut Player<'_, '_>) -> Made<()> {
     let acts = parse_acts(player.alloc, words)?;
     let device = Faulty::new(Vec::new(player.alloc), acts);
     match name {
+        "LineWriter 8 Box dyn Sink" => {
+            let object: Object = Box::new(player.alloc, Sink::new())?;
+            player.play(&mut Acting {
+                tower: LineWriter::<Object, 8>::new(object),
+            });
+        }
+        "LineWriter 8 BufWriter 8 Box dyn Device" => {
+            let object: Object = Box::new(player.alloc, device)?;
+            let inner = BufWriter::<Object, 8>::new(object);
+            player.play(&mut Acting {
+                tower: LineWriter::<BufWriter<Object, 8>, 8>::new(inner),
+            });
+        }
         "Device" => player.play(&mut Acting { tower: device }),
         "BufWriter 8" => player.play(&mut Acting {
             tower: BufWriter::<Device, 8>::new(device),

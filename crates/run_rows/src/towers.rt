@@ -41,6 +41,9 @@ impl Tower for Device {
 
 impl Tower for Recorder {}
 
+// What a box takes is not seen.
+impl Tower for Box<dyn Write + Drop> {}
+
 impl<W: Tower + Drop, const S: usize> Tower for BufWriter<W, S> {
     fn out(&self) -> &[u8] {
         self.get_ref().out()

@@ -4,7 +4,7 @@ ghost use Rattle.no_std_io2.specs.BufWriter.{BufWriterFits};
 use crate::devices::lend_object;
 use crate::levels::{self, FAULTY, NO_STREAM, play_level};
 use crate::tower::Object;
-use crate::writing::{Columns, play, tell};
+use crate::writing::{Columns, play};
 use io_bench::{Act, Faulty, Sink, Tally};
 use io_rows::calls::{Call, make_call};
 use io_rows::fault::{Fault, Made};
@@ -143,7 +143,7 @@ impl<'a> Buffered<'a> {
 impl<'a> Stream for Buffered<'a> {
     fn play(&mut self, alloc: Global, call: &Call<'_>, line: &mut Line) {
         if let Err(fault) = self.buffer(alloc, call, line) {
-            tell(fault, line);
+            line.tell(fault);
         }
         line.column();
         line.bytes(&self.content);

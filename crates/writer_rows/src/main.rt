@@ -1,11 +1,11 @@
-//! Plays the files of rows of writers, over devices that write down each call: those that its arguments name, as [`io_rows`]
-//! reads them.
+//! Plays the files of rows of writers, over devices that write down each call and over refused memory: those that its arguments
+//! name, as [`io_rows`] reads them.
 #![tactic(auto)]
 
 mod benches;
-mod cursors;
 mod devices;
 mod levels;
+mod refused;
 mod tower;
 mod writing;
 
@@ -24,8 +24,7 @@ impl Streams for Writers {
             "writer" | "seeker" => devices::lend_recorder(rest, words, player),
             "noted" => devices::lend_device(rest, words, player),
             "bench" => benches::lend(rest, words, player),
-            "cursor" => cursors::lend(rest, words, player),
-            "room" => cursors::lend_room(rest, words, player),
+            "heap" => refused::lend(rest, words, player),
             _ => Err(levels::NO_STREAM),
         }
     }

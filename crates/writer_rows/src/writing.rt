@@ -4,7 +4,6 @@
 // recorder the calls that reached it.
 use crate::tower::{Part, Tower};
 use io_rows::calls::{Call, expect, make_call, make_seek, show_calls, show_out};
-use io_rows::fault::Fault;
 use io_rows::journal::Journal;
 use io_rows::line::Line;
 use io_rows::player::{Player, Stream};
@@ -32,14 +31,6 @@ struct Writing<T: Drop> {
     columns: Columns,
 }
 
-/// Says in a row why it can't be played.
-pub fn tell(fault: Fault, line: &mut Line) {
-    match fault {
-        Fault::Memory => line.cut(),
-        Fault::Malformed(why) => line.malformed(why),
-    }
-}
-
 /// Makes a call of a writer that seeks.
 pub fn make_any_call<T: Write + Seek>(stream: &mut T, call: &Call<'_>, line: &mut Line) {
     if !make_seek(stream, call, line) {
@@ -63,7 +54,7 @@ impl<T: Tower> Writing<T> {
         };
         match expect(alloc, journal, words) {
             Ok(()) => line.word("-"),
-            Err(fault) => tell(fault, line),
+            Err(fault) => line.tell(fault),
         }
     }
 

@@ -3,13 +3,14 @@
 // A line `new` says the heap's size, the vector's capacity and its first bytes. A row is a call; then its answer, the vector's
 // bytes, what is held or the position, and how many bytes of the heap are in use. Beside the calls of a writer there are
 // `fill`, which takes all of the heap that is left, and `free`, which gives it back.
-use crate::heaps::{HeapVec, cut_number, vector_of};
-use io_rows::calls::{Call, make_call, make_seek};
+use super::heaps::{HeapVec, cut_number, vector_of};
+use crate::writing::make_any_call;
+use io_rows::calls::{Call, make_call};
 use io_rows::fault::{Fault, Made};
 use io_rows::line::Line;
 use io_rows::player::{Player, Stream};
 use linked_list_allocator::LocalHeap;
-use no_std_io2::io::{BufWriter, Cursor, LineWriter, Seek, Write};
+use no_std_io2::io::{BufWriter, Cursor, LineWriter, Write};
 use std::alloc::{Allocator, Global};
 
 // A writer over a vector in a heap.
@@ -47,13 +48,6 @@ impl HeapWriter for BufWriter<HeapVec<'_>, 8> {
 impl HeapWriter for LineWriter<HeapVec<'_>, 8> {
     fn show(&self, line: &mut Line) {
         show_held(self.get_ref(), self.buffer(), line);
-    }
-}
-
-// A call of a writer that seeks.
-fn make_any_call<W: Write + Seek>(w: &mut W, call: &Call<'_>, line: &mut Line) {
-    if !make_seek(w, call, line) {
-        make_call(w, call, line);
     }
 }
 
@@ -149,11 +143,11 @@ fn lend_writer<'h>(
     player: &mut Player<'_, '_>,
 ) -> Made<()> {
     match name {
-        "writer Vec" => play(vector, heap, player),
-        "writer BufWriter 8 Vec" => play(BufWriter::<HeapVec<'h>, 8>::new(vector), heap, player),
-        "writer LineWriter 8 Vec" => play(LineWriter::<HeapVec<'h>, 8>::new(vector), heap, player),
-        "cursor Vec" => play(Cursor::new(vector), heap, player),
-        "cursor &mut Vec" => {
+        "Vec" => play(vector, heap, player),
+        "BufWriter 8 Vec" => play(BufWriter::<HeapVec<'h>, 8>::new(vector), heap, player),
+        "LineWriter 8 Vec" => play(LineWriter::<HeapVec<'h>, 8>::new(vector), heap, player),
+        "Cursor Vec" => play(Cursor::new(vector), heap, player),
+        "Cursor &mut Vec" => {
             let mut vector = vector;
             play(Cursor::new(&mut vector), heap, player);
         }

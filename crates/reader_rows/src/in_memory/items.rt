@@ -1,7 +1,7 @@
 // Single bytes, pieces and lines of readers, played by rows of `next`.
 //
 // The columns behind a call are the item, with its kind in front, and the capacity that it has; a single byte stands alone.
-use crate::scripts::{NO_STREAM, cut, new_feed, new_text};
+use super::scripts::{NO_STREAM, cut, new_feed, new_text};
 use io_bench::Feed;
 use io_rows::calls::Call;
 use io_rows::fault::Made;

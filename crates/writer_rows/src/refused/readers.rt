@@ -1,5 +1,5 @@
 // The readers of a trial, by their forms.
-use crate::reads::{Outcome, Trial, read, read_all};
+use super::reads::{Outcome, Trial, read, read_all};
 use io_bench::{Event, Feed, Tally};
 use io_rows::fault::{Fault, Made};
 use io_rows::line::Line;

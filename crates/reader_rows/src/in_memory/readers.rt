@@ -1,9 +1,8 @@
 // Readers, played by rows of calls.
 //
 // The columns behind a call are its answer, for a read the bytes that it gave, and what stands at each level.
-use crate::boxes::lend_tower;
-use crate::levels::Levels;
-use crate::scripts::{NO_STREAM, cut, new_feed, new_text};
+use super::levels::Levels;
+use super::scripts::{NO_STREAM, cut, new_feed, new_text};
 use io_bench::{Feed, Tally};
 use io_rows::calls::Call;
 use io_rows::fault::{Fault, Made};
@@ -63,8 +62,8 @@ pub fn lend(name: &str, words: &str, player: &mut Player<'_, '_>) -> Made<()> {
     match device {
         "Feed" => lend_feed(tower, words, player),
         "Cursor" => lend_text(tower, words, player),
+        "&[u8]" if tower.starts_with("Chain of") => lend_slices(tower, words, player),
         "&[u8]" => lend_slice(tower, words, player),
-        "Take" => lend_tower(words, player),
         _ => Err(NO_STREAM),
     }
 }
@@ -125,6 +124,24 @@ fn lend_slice(tower: &str, words: &str, player: &mut Player<'_, '_>) -> Made<()>
         }),
         "Chain &[u8]" => player.play(&mut Lending {
             tower: unescape(player.alloc, first)?.as_slice().chain(slice),
+        }),
+        _ => return Err(NO_STREAM),
+    }
+    Ok(())
+}
+
+// Three slices in a row, or four.
+fn lend_slices(tower: &str, words: &str, player: &mut Player<'_, '_>) -> Made<()> {
+    let mut words = words.split(" + ");
+    let (Some(first), Some(second), Some(third)) = (words.next(), words.next(), words.next()) else {
+        return Err(Fault::Malformed("no three slices"));
+    };
+    let two = first.as_bytes().chain(second.as_bytes());
+    let three = two.chain(third.as_bytes());
+    match (tower, words.next()) {
+        ("Chain of 3", None) => player.play(&mut Lending { tower: three }),
+        ("Chain of 4", Some(fourth)) => player.play(&mut Lending {
+            tower: three.chain(fourth.as_bytes()),
         }),
         _ => return Err(NO_STREAM),
     }

@@ -1,6 +1,6 @@
 // Boxed objects, played by rows of calls.
-use crate::readers::{Lending, Reading};
-use crate::scripts::{NO_STREAM, cut, new_text};
+use super::readers::{Lending, Reading};
+use super::scripts::{NO_STREAM, cut, new_text};
 use io_rows::calls::{Call, make_seek};
 use io_rows::fault::Made;
 use io_rows::line::Line;
@@ -28,6 +28,7 @@ pub fn lend(name: &str, words: &str, player: &mut Player<'_, '_>) -> Made<()> {
         "BufRead" => lend_buf_read(words, player),
         "Seek" => lend_seek(words, player),
         "Chain Read Read" => lend_both(words, player),
+        "BufReader 4 Chain Box &mut Take" => lend_tower(words, player),
         _ => Err(NO_STREAM),
     }
 }
@@ -66,7 +67,7 @@ fn lend_both(words: &str, player: &mut Player<'_, '_>) -> Made<()> {
 }
 
 // A buffer of 4 bytes over a boxed object and three bytes of a text that is lent.
-pub fn lend_tower(words: &str, player: &mut Player<'_, '_>) -> Made<()> {
+fn lend_tower(words: &str, player: &mut Player<'_, '_>) -> Made<()> {
     let (first, second) = cut(words);
     let mut second = new_text(player.alloc, second)?.take(3);
     let first: Box<dyn Read + Drop> = new_box(player.alloc, first)?;

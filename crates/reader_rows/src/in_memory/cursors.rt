@@ -1,20 +1,21 @@
-// Cursors, and a buffer over one that is moved, played by rows of calls.
+// Cursors, and buffers over one, played by rows of calls.
 //
 // The columns behind a call are its answer, for a read the bytes that it gave, the content and the position; of a buffer what
 // stands at each level.
-use crate::levels::Levels;
-use crate::scripts::new_text;
+use super::levels::Levels;
+use super::scripts::new_text;
+use super::vectors::Buffered;
 use io_rows::calls::{Call, make_call, make_seek};
 use io_rows::fault::Made;
 use io_rows::line::{Line, unescape};
 use io_rows::player::{Player, Stream};
 use io_rows::reads::make_lend;
-use no_std_io2::io::{BufRead, BufReader, Cursor, Seek, Write};
+use no_std_io2::io::{BufRead, BufReader, BufWriter, Cursor, Seek, Write};
 use std::alloc::Global;
 
 type Text = Cursor<Vec<u8>>;
 
-fn show(content: &[u8], position: u64, line: &mut Line) {
+pub fn show(content: &[u8], position: u64, line: &mut Line) {
     line.column();
     line.bytes(content);
     line.column();
@@ -22,7 +23,7 @@ fn show(content: &[u8], position: u64, line: &mut Line) {
 }
 
 // The position that a row `place N` sets.
-fn place_of(call: &Call<'_>, line: &mut Line) -> u64 {
+pub fn place_of(call: &Call<'_>, line: &mut Line) -> u64 {
     line.word("-");
     call.number(line) as u64
 }
@@ -158,16 +159,18 @@ impl Stream for Moving {
 
 pub fn lend(name: &str, words: &str, player: &mut Player<'_, '_>) -> Made<()> {
     let content = unescape(player.alloc, words)?;
-    if name == "Vec" {
-        let cursor = Cursor::new(content);
-        player.play(&mut OnVector { cursor });
-    } else {
-        let position = 0;
-        player.play(&mut OnLent {
+    match name {
+        "Vec" => player.play(&mut OnVector {
+            cursor: Cursor::new(content),
+        }),
+        "BufWriter 8" => player.play(&mut Buffered {
+            writer: BufWriter::new(Cursor::new(content)),
+        }),
+        _ => player.play(&mut OnLent {
             name,
             content,
-            position,
-        });
+            position: 0,
+        }),
     }
     Ok(())
 }

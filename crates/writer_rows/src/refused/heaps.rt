@@ -1,7 +1,6 @@
 // What stands in heaps. A heap has room for so many bytes, in blocks that are rounded up to 16; what does not fit is refused. A
 // block that grows stands beside its copy until that is made.
 use io_rows::fault::{Fault, Made};
-use io_rows::line::Line;
 use linked_list_allocator::LocalHeap;
 
 /// A vector over a heap.
@@ -30,12 +29,4 @@ pub fn number(word: &str) -> Made<usize> {
 pub fn cut_number(words: &str) -> Made<(usize, &str)> {
     let (word, rest) = words.split_once(" ").unwrap_or((words, ""));
     Ok((number(word)?, rest))
-}
-
-/// Says why a row is not played, in place of an answer.
-pub fn tell(fault: Fault, line: &mut Line) {
-    match fault {
-        Fault::Memory => line.cut(),
-        Fault::Malformed(why) => line.malformed(why),
-    }
 }

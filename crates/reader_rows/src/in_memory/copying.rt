@@ -1,8 +1,8 @@
 // `copy` from a reader to a vector through a writer that fails as it is told, played by rows of `copy`.
 //
 // The columns behind a call are its answer, the bytes out, and what stands at each level of the reader.
-use crate::levels::Levels;
-use crate::scripts::{NO_STREAM, new_feed, new_text, new_writer};
+use super::levels::Levels;
+use super::scripts::{NO_STREAM, new_feed, new_text, new_writer};
 use io_bench::{Faulty, Feed};
 use io_rows::calls::Call;
 use io_rows::fault::Made;

@@ -4,7 +4,7 @@
 // whether three calls were made, how many replies there are, and what the device has once the buffer is dropped.
 ghost use Rattle.std.specs.Prelude.{⊤, refl};
 
-use crate::heaps::{cut_number, number, tell};
+use super::heaps::{cut_number, number};
 use io_bench::{Op, Reply, Sink, Tally, run_closed, run_writes};
 use io_rows::calls::Call;
 use io_rows::fault::{Fault, Made};
@@ -107,7 +107,7 @@ pub struct Running;
 impl Stream for Running {
     fn play(&mut self, alloc: Global, call: &Call<'_>, line: &mut Line) {
         if let Err(fault) = play_run(alloc, call, line) {
-            tell(fault, line);
+            line.tell(fault);
         }
     }
 }

@@ -2,7 +2,7 @@
 //
 // A row says the capacity, how many bytes stand there, and how many are to come; behind a piece or a line come 40 others. The
 // columns behind it are the answer, the length and the capacity then, and how many bytes are left to come.
-use crate::scripts::push_bytes;
+use super::scripts::push_bytes;
 use io_bench::{Feed, Tally};
 use io_rows::calls::Call;
 use io_rows::line::Line;

@@ -1,5 +1,5 @@
 // What stands at each level of a reader: the outer one first, a column for each.
-use crate::scripts::show_events;
+use super::scripts::show_events;
 use io_bench::{Feed, Tally};
 use io_rows::line::Line;
 use no_std_io2::io::{BufRead, BufReader, Chain, Cursor, Read, Take};

@@ -5,8 +5,8 @@
 // and how many bytes are left.
 // A row `within` is a heap's size, a call and how many bytes are to come; then that a heap of this size, or which smaller one,
 // has room for all of it. In each smaller heap the call is refused, and the vector and what is left are all that was to come.
-use crate::heaps::{cut_number, number, tell, vector_of};
-use crate::readers::read_form;
+use super::heaps::{cut_number, number, vector_of};
+use super::readers::read_form;
 use io_rows::calls::Call;
 use io_rows::fault::{Fault, Made};
 use io_rows::line::Line;
@@ -203,7 +203,7 @@ fn try_form(trial: Trial, form: &str, line: &mut Line) -> Made<()> {
 fn play_form(trial: Trial, form: &str) -> Line {
     let mut line = Line::new(trial.alloc);
     if let Err(fault) = try_form(trial, form, &mut line) {
-        tell(fault, &mut line);
+        line.tell(fault);
     }
     line
 }
@@ -245,7 +245,7 @@ impl<'a> Stream for Reading<'a> {
     fn play(&mut self, alloc: Global, call: &Call<'_>, line: &mut Line) {
         match Trial::parse(alloc, call) {
             Ok(trial) => play_forms(trial, self.forms, line),
-            Err(fault) => tell(fault, line),
+            Err(fault) => line.tell(fault),
         }
     }
 }
