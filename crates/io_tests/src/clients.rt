@@ -3,7 +3,7 @@ use examples::save;
 use framing::{FrameReader, FrameWriter, Shown, round_trip};
 use io_bench::{Op, Reply, joined};
 use line_log::LineLog;
-use no_std_io2::io::{BufWriter, Cursor, LineWriter, Read, Result, Write};
+use no_std_io2::io::{BufWriter, Cursor, Read, Result, Write};
 use std::alloc::Global;
 use std::test::Fail;
 use system_streams::{Patient, copy_through};
@@ -195,18 +195,6 @@ fn what_a_run_accepted(rt: HostRuntime) -> std::result::Result<(), Fail> {
     let replies = [Reply::Took(2), Reply::Done];
     let accepted = joined(rt.alloc(), &ops, &replies)?;
     assert!(rt; accepted.is_some_and(|bytes| bytes.as_slice() == b"ab".as_slice()));
-    Ok(())
-}
-
-// A round trip through a tower of buffers that loses or repeats a frame.
-#[test]
-fn frames_come_back_through_a_tower(rt: HostRuntime) -> std::result::Result<(), Fail> {
-    let payloads = payloads(rt.alloc())?;
-    let tower = BufWriter::<_, 8>::new(LineWriter::<Vec<u8>, 4>::new(Vec::new(rt.alloc())));
-    let mut w = FrameWriter::<BufWriter<LineWriter<Vec<u8>, 4>, 8>, 4>::new(rt.alloc(), tower);
-    w.flush()?; // nothing is held
-    let given = round_trip(rt.alloc(), &mut w, &payloads, 0)?;
-    assert!(rt; given.as_slice() == payloads.as_slice());
     Ok(())
 }
 

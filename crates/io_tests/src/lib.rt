@@ -1,24 +1,26 @@
-//! Tests of what neither a clause nor a row of a table says: how often a device is asked, printed texts, kinds as keys, long
-//! streams, and clients.
+//! Tests of what neither a clause nor a row of a table says: printed texts, kinds as keys, a long stream; and the examples of
+//! comments, those of the library in `buffers`, `memory` and `streams`, those of its clients in `clients`.
 //!
-//! The line above each test says which mistake it is to find.
+//! The line above a test says which mistake it is to find.
 #![tactic(auto)]
 
 #[cfg(test)]
-mod asking;
+mod buffers;
 #[cfg(test)]
 mod clients;
-#[cfg(test)]
-mod copies;
 #[cfg(test)]
 mod devices;
 #[cfg(test)]
 mod kinds;
 #[cfg(test)]
-mod long;
+mod memory;
 #[cfg(test)]
 mod printing;
 #[cfg(test)]
 mod shapes;
 #[cfg(test)]
+mod streams;
+#[cfg(test)]
 mod tables;
+#[cfg(test)]
+mod whole;

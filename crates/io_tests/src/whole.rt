@@ -1,0 +1,53 @@
+// A stream that is longer than any room that is opened at once, a list of asks, and copies to a vector.
+use io_bench::{Ask, Tally, run_reads};
+use no_std_io2::io::{BufReader, ErrorKind, Read};
+use std::test::Fail;
+use system_streams::{Patient, copy_through};
+
+// A growth that loses or repeats bytes.
+#[test]
+fn two_halves_of_a_mebibyte_are_the_whole(rt: HostRuntime) -> Result<(), Fail> {
+    let mut all = Vec::new(rt.alloc());
+    'bytes: for i in 0..1_048_576_usize {
+        all.push((i / 3 % 256) as u8)?;
+    }
+    let mut v = Vec::new(rt.alloc());
+    let (mut first, mut second) = all.as_slice().split_at(all.len() / 2);
+    assert!(rt; first.read_to_end(&mut v)? == 524_288);
+    assert!(rt; second.read_to_end(&mut v)? == 524_288);
+    assert!(rt; v.as_slice() == all.as_slice());
+    Ok(())
+}
+
+// An ask that reads behind the front of its buffer, or a run that takes its asks one by one.
+#[test]
+fn asks_fill_the_front_of_their_buffer(rt: HostRuntime) {
+    let mut buf = *b"xyz";
+    let mut r = BufReader::<Tally<&[u8]>, 4>::new(Tally::new(b"0123456789".as_slice()));
+    let totals = run_reads(&mut r, &[Ask::Exact(2), Ask::Read(1)], &mut buf);
+    assert!(rt; (totals.at_end, totals.failed, r.get_ref().reads()) == (0, 0, 1));
+    assert!(rt; buf == *b"21z");
+    let totals = run_reads(&mut r, &[Ask::Read(1); 8], &mut buf);
+    assert!(rt; (totals.at_end, totals.failed, r.get_ref().reads()) == (1, 0, 4));
+    assert!(rt; buf == *b"91z");
+}
+
+// A turn too few or too many, bytes that are lost with the turns, and a vector that is not as it was at the end of nothing.
+#[test]
+fn a_patient_reader_is_copied_while_it_has_turns(rt: HostRuntime) -> Result<(), Fail> {
+    let (count, v) = copy_through(&b""[..], Vec::<u8>::new(rt.alloc()), false)?;
+    assert!(rt; count == 0 && v.is_empty());
+    let patient = Patient::new(&b"abcdef"[..], 3);
+    let (count, v) = copy_through(patient, Vec::<u8>::new(rt.alloc()), false)?;
+    assert!(rt; count == 6 && v.as_slice() == b"abcdef".as_slice());
+    let mut lent = Vec::<u8>::new(rt.alloc());
+    match copy_through(Patient::new(&b"abcdef"[..], 2), &mut lent, false) {
+        Ok((_count, _lent)) => return Err(Fail::new("copied")),
+        Err(e) => {
+            assert!(rt; e.kind() == ErrorKind::TimedOut);
+            assert!(rt; e.into_inner() == Some("no turns left"));
+        }
+    }
+    assert!(rt; lent.as_slice() == b"abcdef".as_slice());
+    Ok(())
+}
