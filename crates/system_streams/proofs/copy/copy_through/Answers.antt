@@ -60,4 +60,5 @@ pub returns-in_ok-into_inner-2-clause-all : goal.returns-in_ok-into_inner-2-clau
 returns-in_ok-into_inner-2-clause-all g c = λ t.
     let poured = c.in_ok-count-2.ensures.all (subst g.R.Read.tells (sym c.new-input.ensures.inner) t) in
     let same = ap g.W.Write.told c.new-else-line.ensures.inner in
-    rw (sym c.new-input.ensures.events) (poured.0, passes_off _ same c.new-else-line.ensures.empty poured.1 c.in_ok-into_inner-2.ensures.law.ok)
+    rw (sym c.new-input.ensures.events)
+    (poured.0, passes_off _ same c.new-else-line.ensures.empty poured.1 c.in_ok-into_inner-2.ensures.law.ok)
