@@ -2,6 +2,7 @@
 use Rattle.std.specs.Prelude.{ℕ, List, [], ◌∷◌, drop, length, min, Option, Some, None}
 use Rattle.no_std_io2_base.specs.declared.error.Error.{Error}
 use Rattle.no_std_io2_base.specs.declared.error.ErrorKind.{ErrorKind}
+use Rattle.no_std_io2_base.specs.declared.error.Repr.TheVariants.{Kind}
 use Rattle.no_std_io2_base.specs.Read.{Event as ToCome, byte, fails}
 use Rattle.io_bench.specs.declared.feed.Event.{Event}
 use Rattle.io_bench.specs.declared.feed.Event.TheVariants.{Byte, Fail}
@@ -9,7 +10,7 @@ use Rattle.io_bench.specs.declared.feed.Feed.{Feed}
 
 -- an error of this kind, without a text
 abbrev pub error_of : ErrorKind → Error
-error_of kind = record { kind = kind; text = None }
+error_of kind = record { repr = Kind kind }
 
 -- what an event of the script is to a reader
 abbrev pub to_come : Event → ToCome

@@ -1,7 +1,8 @@
 -- What a clause reads of an error.
 use Rattle.std.specs.Prelude.{◌≡◌, ℕ, Bool, true, false, List, codes, Option, None, Some, Result, IfErr}
-use Rattle.std.specs.Option.{option_map}
 use Rattle.no_std_io2_base.specs.declared.error.Error.{Error}
+use Rattle.no_std_io2_base.specs.declared.error.Repr.{Repr}
+use Rattle.no_std_io2_base.specs.declared.error.Repr.TheVariants.{Kind, Custom}
 use Rattle.no_std_io2_base.specs.declared.error.ErrorKind.{ErrorKind}
 use Rattle.no_std_io2_base.specs.declared.error.ErrorKind.TheVariants.{NotFound, PermissionDenied, ConnectionRefused}
 use Rattle.no_std_io2_base.specs.declared.error.ErrorKind.TheVariants.{ConnectionReset, ConnectionAborted, NotConnected}
@@ -11,13 +12,23 @@ use Rattle.no_std_io2_base.specs.declared.error.ErrorKind.TheVariants.{InvalidDa
 use Rattle.no_std_io2_base.specs.declared.error.ErrorKind.TheVariants.{Other, UnexpectedEof, Unsupported, OutOfMemory}
 use Rattle.no_std_io2_base.specs.declared.error.ErrorKind.TheVariants.{Uncategorized}
 
+-- the kind of either form
+abbrev pub repr_kind : Repr → ErrorKind
+repr_kind (Kind kind) = kind
+repr_kind (Custom kind _) = kind
+
+-- the text of either form, if it has one
+abbrev pub repr_text : Repr → Option (List ℕ)
+repr_text (Kind _) = None
+repr_text (Custom _ text) = Some text.now
+
 -- `e.kind()`
 abbrev pub error_kind : Error → ErrorKind
-error_kind e = e.kind
+error_kind e = repr_kind e.repr
 
 -- the text, if there is one
 abbrev pub error_text : Error → Option (List ℕ)
-error_text e = option_map (λ s. s.now) e.text
+error_text e = repr_text e.repr
 
 -- what a kind prints
 abbrev pub kind_text : ErrorKind → List ℕ

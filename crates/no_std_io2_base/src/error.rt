@@ -104,10 +104,19 @@ impl ErrorKind {
 /// let e = Error::from(ErrorKind::WouldBlock); // no text: it prints its kind's
 /// assert!(rt; e.get_ref().is_none());
 /// ```
-#[derive(Debug, Drop)]
+#[derive(Drop)]
 pub struct Error {
-    kind: ErrorKind,
-    text: Option<&'static str>,
+    repr: Repr,
+}
+
+// The two forms, named as they are printed. Together they are eight bytes shorter than a kind beside an option.
+#[derive(Debug, Drop)]
+enum Repr {
+    Kind(ErrorKind),
+    Custom {
+        kind: ErrorKind,
+        error: &'static str,
+    },
 }
 
 /// The result of a stream's call. Follows `std::io::Result`.
@@ -129,8 +138,7 @@ impl Error {
         ensures text { error_text result ≡ Some text.entry.now }
     {
         Error {
-            kind,
-            text: Some(text),
+            repr: Repr::Custom { kind, error: text },
         }
     }
 
@@ -151,7 +159,9 @@ impl Error {
     pub fn kind(&self) -> ErrorKind
         ensures { result ≡ error_kind self.now }
     {
-        self.kind
+        match self.repr {
+            Repr::Kind(kind) | Repr::Custom { kind, .. } => kind,
+        }
     }
 
     /// Gets a reference to the text, where there is one. Follows `std::io::Error::get_ref`.
@@ -163,14 +173,20 @@ impl Error {
     pub fn get_ref(&self) -> Option<&&'static str>
         ensures { option_map (λ s. s.now.now) result ≡ error_text self.now }
     {
-        self.text.as_ref()
+        match &self.repr {
+            Repr::Kind(_) => None,
+            Repr::Custom { error, .. } => Some(error),
+        }
     }
 
     /// Returns the text, where there is one. Follows `std::io::Error::into_inner`.
     pub fn into_inner(self) -> Option<&'static str>
         ensures { option_map (λ s. s.now) result ≡ error_text self }
     {
-        self.text
+        match self.repr {
+            Repr::Kind(_) => None,
+            Repr::Custom { error, .. } => Some(error),
+        }
     }
 
     /// Whether this is an interruption: the call did nothing, and may be made again. Follows the
@@ -183,7 +199,7 @@ impl Error {
     pub fn is_interrupted(&self) -> bool
         ensures { result ≡ is_interruption (error_kind self.now) }
     {
-        matches!(self.kind, ErrorKind::Interrupted)
+        matches!(self.kind(), ErrorKind::Interrupted)
     }
 }
 
@@ -192,7 +208,9 @@ impl From<ErrorKind> for Error {
     ghost from_gives = { λ kind e. IsPlain kind e };
 
     fn from(kind: ErrorKind) -> Error {
-        Error { kind, text: None }
+        Error {
+            repr: Repr::Kind(kind),
+        }
     }
 }
 
@@ -205,18 +223,24 @@ impl From<AllocError> for Error {
     }
 }
 
+/// Prints what a `std::io::Error` of the same kind and text prints: `Kind(NotFound)`, or
+/// `Custom { kind: TimedOut, error: "late" }`.
+impl fmt::Debug for Error {
+    fn fmt<W: fmt::Write>(&self, f: &mut fmt::Formatter<W>) -> fmt::Result {
+        fmt::Debug::fmt(&self.repr, f)
+    }
+}
+
 /// Prints the text, or else the kind's text.
 impl fmt::Display for Error {
     ghost output = { λ e. Some (error_display e) };
 
     fn fmt<W: fmt::Write>(&self, f: &mut fmt::Formatter<W>) -> fmt::Result {
-        match self.text {
-            Some(text) => write!(f, "{text}"),
-            None => {
-                let text = self.kind.text();
-                write!(f, "{text}")
-            }
-        }
+        let text = match self.repr {
+            Repr::Kind(kind) => kind.text(),
+            Repr::Custom { error, .. } => error,
+        };
+        write!(f, "{text}")
     }
 }
 
