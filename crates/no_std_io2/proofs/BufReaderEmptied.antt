@@ -1,21 +1,20 @@
 -- A buffer that is emptied into a vector, before the inner reader appends the rest.
-use Rattle.std.proofs.Common.{◌≡◌, ℕ, ◌+◌, ◌-◌, ◌*◌, ◌<◌, ◌≤◌, Bool, true, Some, List, [], ◌++◌, length, take, drop, Ok, Err}
+use Rattle.std.proofs.Common.{◌≡◌, ℕ, ◌+◌, ◌-◌, ◌*◌, ◌<◌, ◌≤◌, Some, List, [], ◌++◌, length, take, drop, Ok, Err}
 use Rattle.std.proofs.Common.{refl, sym, ap, subst, ◌∙◌, arith, take_all, take-append-drop, append-nil, append_assoc}
 use Rattle.std.proofs.Common.{length-append}
 use lib.Seq.{take-append-le}
 use Rattle.std.proofs.Math.Seq.{drop-append_seam}
 use Rattle.no_std_io2_base.specs.declared.error.Error.{Error}
 use Rattle.no_std_io2_base.specs.Errors.{IsOutOfMemory}
-use Rattle.no_std_io2_base.specs.Read.{Event, events_of, bytes, FillsRoom, ReadsToEnd, bytes_to_fault, first_fault, HasRoom}
+use Rattle.no_std_io2_base.specs.Read.{Event, events_of, bytes, ReadsToEnd, bytes_to_fault, first_fault, HasRoom}
 use Rattle.no_std_io2_base.specs.Cursor.{HasMoved}
 use Rattle.no_std_io2_base.specs.Write.{IsFront}
 use Rattle.no_std_io2_base.proofs.ChainReads.{room_of_second}
 use Rattle.no_std_io2_base.proofs.EventLemmas.{bytes-events_of, HasNoFault-events_of}
 use Rattle.no_std_io2_base.proofs.GivenPieces.{first_fault-append, bytes_to_fault-append}
-use Rattle.no_std_io2_base.proofs.ReadToEndGathered.{Gathered, gathered_all, gathered_stop, gathered_then, gathered_then_failed}
+use Rattle.no_std_io2_base.proofs.ReadToEndGathered.{Gathered, gathered_all, gathered_stop}
 use Rattle.no_std_io2_base.proofs.ReadToEndExits.{front_then, stopped_first}
 use Rattle.no_std_io2_base.proofs.SliceReads.{moved_part}
-use Rattle.no_std_io2_base.proofs.TakeToEnd.{gathered_done}
 use Rattle.no_std_io2.specs.Buffer.{IsSound}
 use Rattle.no_std_io2.proofs.BufReaderBehind.{sound_held}
 use Rattle.no_std_io2.proofs.BufReaderExact.{length-events}
@@ -51,39 +50,20 @@ emptied held old mid E is = record {
   gave = is ∙ ap (λ l. old ++ l) (sym (bytes-events_of held));
 }
 
--- and then the rest, in two parts
-pub emptied_all : (held held' old : List ℕ) {mid then new : List ℕ} {E E' after : List Event} {at_end : Bool} {n k : ℕ}
-    → mid ≡ old ++ held → held' ≡ []
-    → FillsRoom E (Ok at_end) mid then after → ReadsToEnd after (Ok n) then new E' → k ≡ length new - length old
+-- and then the rest
+pub emptied_all : (held held' old : List ℕ) {mid new : List ℕ} (E : List Event) {E' : List Event} {n k : ℕ} → mid ≡ old ++ held → held' ≡ []
+    → ReadsToEnd E (Ok n) mid new E' → k ≡ length new - length old
     → ReadsToEnd (events_of held ++ E) (Ok k) old new (events_of held' ++ E')
-emptied_all held held' old {mid} {new} {E} {E'} {n} {k} is none more read count =
+emptied_all held held' old {mid} {new} E {E'} {n} {k} is none read count =
     subst (λ l. ReadsToEnd (events_of held ++ E) (Ok k) old new (events_of l ++ E')) (sym none)
-    (gathered_all n k (gathered_then (emptied held old mid E is) more) read count)
+    (gathered_all n k (emptied held old mid E is) read count)
 
--- or in the first of them
-pub emptied_done : (held held' old : List ℕ) {mid new : List ℕ} {E E' : List Event} {at_end : Bool} {k : ℕ} → mid ≡ old ++ held → held' ≡ []
-    → FillsRoom E (Ok at_end) mid new E' → at_end ≡ true → k ≡ length new - length old
-    → ReadsToEnd (events_of held ++ E) (Ok k) old new (events_of held' ++ E')
-emptied_done held held' old {mid} {new} {E} {E'} {k} is none more end count =
-    let left = more.4 end in
-    subst (λ l. ReadsToEnd (events_of held ++ E) (Ok k) old new (events_of l ++ E')) (sym none)
-    (gathered_done k (gathered_then (emptied held old mid E is) more) left left count)
-
--- or what came before an error in the second
-pub emptied_stop : (held held' old : List ℕ) {mid then new : List ℕ} {E E' after : List Event} {at_end : Bool} {e : Error}
-    → mid ≡ old ++ held → held' ≡ []
-    → FillsRoom E (Ok at_end) mid then after → ReadsToEnd after (Err e) then new E'
-    → ReadsToEnd (events_of held ++ E) (Err e) old new (events_of held' ++ E')
-emptied_stop held held' old {mid} {new} {E} {E'} {e} is none more read =
+-- or what came before an error
+pub emptied_stop : (held held' old : List ℕ) {mid new : List ℕ} {E E' : List Event} {e : Error} → mid ≡ old ++ held → held' ≡ []
+    → ReadsToEnd E (Err e) mid new E' → ReadsToEnd (events_of held ++ E) (Err e) old new (events_of held' ++ E')
+emptied_stop held held' old {mid} {new} {E} {E'} {e} is none read =
     subst (λ l. ReadsToEnd (events_of held ++ E) (Err e) old new (events_of l ++ E')) (sym none)
-    (gathered_stop e (gathered_then (emptied held old mid E is) more) read)
-
--- or in the first
-pub emptied_failed : (held held' old : List ℕ) {mid new : List ℕ} {E E' : List Event} {e : Error} → mid ≡ old ++ held → held' ≡ []
-    → FillsRoom E (Err e) mid new E' → ReadsToEnd (events_of held ++ E) (Err e) old new (events_of held' ++ E')
-emptied_failed held held' old {mid} {new} {E} {E'} {e} is none read =
-    subst (λ l. ReadsToEnd (events_of held ++ E) (Err e) old new (events_of l ++ E')) (sym none)
-    (gathered_then_failed e (emptied held old mid E is) read)
+    (gathered_stop e (emptied held old mid E is) read)
 
 -- what the vector had stays at its front
 pub emptied_front : (held : List ℕ) {old mid : List ℕ} (new : List ℕ) {len n : ℕ} → len ≡ length old → n ≡ length mid
@@ -93,10 +73,6 @@ emptied_front held {old} {mid} new {len} long more is read =
     let first : take len mid ≡ old =
     ap (take len) is ∙ take-append-le len old held (omega (arith, long)) ∙ take_all len old (omega (arith, long)) in
     front_then mid new (omega (arith, long, more, ap length is, length-append old held)) first read
-
--- what the first part has appended stays at the front of the second
-pub emptied_then : {n k : ℕ} {mid then : List ℕ} (new : List ℕ) → n ≤ k → take n then ≡ mid → take k new ≡ then → take n new ≡ mid
-emptied_then {then} new grows first last = front_then then new grows first last
 
 -- and what was held stands behind what the vector had
 pub emptied_shown : (n : ℕ) {mid new whole : List ℕ} → mid ≡ whole → take n new ≡ mid → IsFront whole new
@@ -125,11 +101,6 @@ room_held held E len enough full =
 -- the first fault stands behind what is held
 pub held_fault : (held : List ℕ) (E : List Event) {e : Error} → first_fault E ≡ Some e → first_fault (events_of held ++ E) ≡ Some e
 held_fault held E is = first_fault-append (events_of held) E (HasNoFault-events_of held) ∙ is
-
--- and behind what a part of the rest gave
-pub part_fault : {E after : List Event} (old : List ℕ) {new : List ℕ} {at_end : Bool} {e : Error} → FillsRoom E (Ok at_end) old new after
-    → first_fault after ≡ Some e → first_fault E ≡ Some e
-part_fault {after} old read is = ap first_fault read.1 ∙ first_fault-append read.0 after read.2 ∙ is
 
 -- and once what was held is appended, with no less capacity, there is room for all that comes behind it
 pub emptied_on : (held old : List ℕ) {mid : List ℕ} (E : List Event) {len capacity n capacity' : ℕ}

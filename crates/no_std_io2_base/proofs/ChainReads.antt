@@ -7,11 +7,11 @@ use Rattle.std.proofs.lemmas.Bool.{cases_lt}
 use Rattle.no_std_io2_base.specs.declared.error.Error.{Error}
 use Rattle.no_std_io2_base.specs.declared.traits.chain.Chain.{Chain}
 use Rattle.no_std_io2_base.specs.Errors.{error_kind, is_interruption}
-use Rattle.no_std_io2_base.specs.Read.{Event, byte, fails, events_of, bytes, HasNoFault, FillsRoom, Reads, SpendsTurn}
+use Rattle.no_std_io2_base.specs.Read.{Event, byte, fails, events_of, bytes, HasNoFault, Reads, SpendsTurn}
 use Rattle.no_std_io2_base.specs.Read.{bytes_to_fault, first_fault, HasRoom}
 use Rattle.no_std_io2_base.specs.Chain.{chain_events, chain_tells, InTurn}
 use Rattle.no_std_io2_base.proofs.EventLemmas.{length-events_of}
-use Rattle.no_std_io2_base.proofs.GivenPieces.{first_fault-append, bytes_to_fault-append}
+use Rattle.no_std_io2_base.proofs.GivenPieces.{bytes_to_fault-append}
 
 -- the first reader is at its end: the second is read
 pub record PastFirst {T U : Type 0} (tells : T → Type 0) (tells_second : U → Type 0) (turns : T → ℕ) (events : T → List Event)
@@ -128,24 +128,6 @@ pub room_of_second : (E F : List Event) (len capacity n len' capacity' : ℕ) �
 room_of_second E F len capacity n len' capacity' enough clean all grown more =
     let both = ap length (bytes_to_fault-append E F clean) ∙ length-append (bytes E) (bytes_to_fault F) in
     omega (arith, enough, all, grown, more, both)
-
--- and for what a part of it has left
-pub room_left : {E after : List Event} (old : List ℕ) {new : List ℕ} {len capacity len' capacity' : ℕ} {at_end : Bool}
-    → FillsRoom E (Ok at_end) old new after → HasRoom 32 E len capacity → len ≡ length old → len' ≡ length new → capacity ≤ capacity'
-    → HasRoom 32 after len' capacity'
-room_left {after} old read enough was is more =
-    let all = ap (λ l. length (bytes_to_fault l)) read.1 ∙ ap length (bytes_to_fault-append read.0 after read.2)
-    ∙ length-append (bytes read.0) (bytes_to_fault after) in
-    let gave = ap length read.3 ∙ length-append old (bytes read.0) in
-    omega (arith, enough, was, is, more, all, gave)
-
--- the fault that stops such a part is the first
-pub fault_of_room : {E : List Event} (old : List ℕ) {new : List ℕ} {after : List Event} {e : Error} → FillsRoom E (Err e) old new after
-    → first_fault E ≡ Some e
-fault_of_room old {after} {e} stop =
-    let f = stop.3 in
-    ap first_fault (stop.1 ∙ ap (λ l. l ++ after) f.1 ∙ append_assoc f.0 (fails e ∷ []) after)
-    ∙ first_fault-append f.0 (fails e ∷ after) f.2 ∙ ap (λ t. if t then first_fault after else Some e) f.3
 
 -- the second is all that is left of a chain whose first is done, and both are while it is not
 pub room_when_done : {done : Bool} (E F : List Event) (len : ℕ) {capacity : ℕ} → done ≡ true

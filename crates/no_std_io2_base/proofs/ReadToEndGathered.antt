@@ -99,16 +99,10 @@ gathered_failed {old} {e} {rest} t read fault = (
   (t.front, refl, t.no_fault, fault),
 )
 
--- a reader went on where another one, or it itself, had stopped
-pub gathered_then : {E : List Event} {old mid new : List ℕ} {after rest : List Event} {at_end : Bool}
-    → Gathered E old mid after → FillsRoom after (Ok at_end) mid new rest → Gathered E old new rest
-gathered_then {E = E} {old = old} {rest = rest} t more = record {
-  front = t.front ++ more.0;
-  split = t.split ∙ ap (λ l. t.front ++ l) more.1 ∙ sym (append_assoc t.front more.0 rest);
-  no_fault = HasNoFault-append t.front more.0 t.no_fault more.2;
-  gave = more.3 ∙ ap (λ l. l ++ bytes more.0) t.gave ∙ append_assoc old (bytes t.front) (bytes more.0)
-      ∙ ap (λ l. old ++ l) (sym (bytes-append t.front more.0));
-}
+-- what stands in the room was gathered
+pub gathered_room_filled : {E : List Event} {old new : List ℕ} {after : List Event} {at_end : Bool}
+    → FillsRoom E (Ok at_end) old new after → Gathered E old new after
+gathered_room_filled read = record { front = read.0; split = read.1; no_fault = read.2; gave = read.3 }
 
 -- where there is room for all before the first fault, and for more, a loop has not filled it
 pub gathered_fits : {E : List Event} {old new : List ℕ} {after : List Event} {more len room now : ℕ}
@@ -161,8 +155,20 @@ gathered_stop {old} e {rest} t read = (
   ],
 )
 
--- a reader that went on where another one had stopped failed
-pub gathered_then_failed : {E : List Event} {old mid new : List ℕ} {after rest : List Event} (e : Error)
-    → Gathered E old mid after → FillsRoom after (Err e) mid new rest → ReadsToEnd E (Err e) old new rest
-gathered_then_failed e t more =
-    gathered_stop e t (more.0, more.1, more.2, inl more.3)
+-- room for all is room for what a part has left
+pub room_left : {E after : List Event} (old : List ℕ) {new : List ℕ} {len capacity len' capacity' : ℕ} {at_end : Bool}
+    → FillsRoom E (Ok at_end) old new after → HasRoom 32 E len capacity → len ≡ length old → len' ≡ length new → capacity ≤ capacity'
+    → HasRoom 32 after len' capacity'
+room_left {after} old read enough was is more =
+    let all = ap (λ l. length (bytes_to_fault l)) read.1 ∙ ap length (bytes_to_fault-append read.0 after read.2)
+    ∙ length-append (bytes read.0) (bytes_to_fault after) in
+    let gave = ap length read.3 ∙ length-append old (bytes read.0) in
+    omega (arith, enough, was, is, more, all, gave)
+
+-- the fault that stops such a part is the first
+pub fault_of_room : {E : List Event} (old : List ℕ) {new : List ℕ} {after : List Event} {e : Error} → FillsRoom E (Err e) old new after
+    → first_fault E ≡ Some e
+fault_of_room old {after} {e} stop =
+    let f = stop.3 in
+    ap first_fault (stop.1 ∙ ap (λ l. l ++ after) f.1 ∙ append_assoc f.0 (fails e ∷ []) after)
+    ∙ first_fault-append f.0 (fails e ∷ after) f.2 ∙ ap (λ t. if t then first_fault after else Some e) f.3

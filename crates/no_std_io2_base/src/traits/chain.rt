@@ -9,7 +9,7 @@ ghost use Rattle.no_std_io2_base.specs.Read.{events_of, ReadLaw, ReadExactLaw, R
 
 use super::buf_read::BufRead;
 use super::read::Read;
-use super::room::fill_room;
+use super::room::rest_to_end;
 use super::stored::Stored;
 use crate::error::{Result, failed_to_fill};
 use std::alloc::Allocator;
@@ -158,11 +158,7 @@ impl<T: Read, U: Read> Read for Chain<T, U> {
         let start = buf.len();
         self.first.read_to_end(buf)?;
         self.done_first = true;
-        let is_at_end = fill_room(&mut self.second, buf)?;
-        if is_at_end {
-            return Ok(buf.len() - start);
-        }
-        self.second.read_to_end(buf)?;
+        rest_to_end(&mut self.second, buf)?;
         Ok(buf.len() - start)
     }
 

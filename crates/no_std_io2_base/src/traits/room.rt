@@ -1,7 +1,7 @@
 // Room in a vector for the reads of `read_to_end`.
 ghost use Rattle.std.specs.Prelude.{◌≡◌, take, ◌+◌, ◌≤◌, ◌<◌, false, IfOk, IfErr, OnOk, OnErr, vec_len, vec_capacity};
 ghost use Rattle.no_std_io2_base.specs.Errors.{IsFault, IsOutOfMemory};
-ghost use Rattle.no_std_io2_base.specs.Read.{FillsRoom, GoesOn};
+ghost use Rattle.no_std_io2_base.specs.Read.{FillsRoom, ReadToEndLaw, GoesOn};
 
 use super::read::Read;
 use crate::error::Result;
@@ -66,13 +66,12 @@ pub fn open_room<A: Allocator>(
 }
 
 /// Reads into the room that a vector has, until that is full or the reader is at its end, and says
-/// whether it is there. It asks for no room. It passes over interruptions. For a reader of more
-/// readers or pieces than one, before it hands on `read_to_end`.
+/// whether it is there. It asks for no room. It passes over interruptions.
 ///
 /// # Errors
 /// The first fault: the reader stands right after it, and the bytes before it are appended. Never
 /// `Interrupted`.
-pub fn fill_room<R: Read, A: Allocator>(reader: &mut R, buf: &mut Vec<u8, A>) -> Result<bool>
+fn fill_room<R: Read, A: Allocator>(reader: &mut R, buf: &mut Vec<u8, A>) -> Result<bool>
     ensures told { R.tells reader.old → R.tells reader.new
         × FillsRoom (R.events reader.old) result buf.old.items buf.new.items (R.events reader.new) }
     ensures appends { take (vec_len buf.old) buf.new.items ≡ buf.old.items }
@@ -82,6 +81,8 @@ pub fn fill_room<R: Read, A: Allocator>(reader: &mut R, buf: &mut Vec<u8, A>) ->
     ensures fault { IfErr result IsFault }
     ensures turns { R.turns reader.new ≤ R.turns reader.old }
     ensures turn { vec_len buf.old < vec_len buf.new → R.turns reader.new < R.turns reader.old }
+    ensures metered { R.is_metered reader.old → R.is_metered reader.new }
+    ensures filling { R.is_filling reader.old → R.is_filling reader.new }
     ensures store { GoesOn R.Read reader.old reader.new }
 {
     let start = buf.len();
@@ -102,4 +103,22 @@ pub fn fill_room<R: Read, A: Allocator>(reader: &mut R, buf: &mut Vec<u8, A>) ->
         }
     }
     Ok(false)
+}
+
+/// Reads to the end as `read_to_end` does, but into the room that is there first: the reader is
+/// asked for its own way only where that was not enough. For a reader of more readers or pieces
+/// than one, behind its first.
+///
+/// # Errors
+/// As those of `read_to_end`.
+pub fn rest_to_end<R: Read, A: Allocator>(reader: &mut R, buf: &mut Vec<u8, A>) -> Result<usize>
+    ensures law { ReadToEndLaw R.Read reader.old buf.old result buf.new reader.new }
+{
+    let start = buf.len();
+    let is_at_end = fill_room(reader, buf)?;
+    if is_at_end {
+        return Ok(buf.len() - start);
+    }
+    reader.read_to_end(buf)?;
+    Ok(buf.len() - start)
 }

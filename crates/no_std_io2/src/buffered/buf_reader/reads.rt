@@ -11,7 +11,7 @@ ghost use Rattle.no_std_io2.specs.Buffer.{IsEnd};
 
 use super::BufReader;
 use no_std_io2_base::error::Result;
-use no_std_io2_base::shared::{failed_to_fill, fill_room};
+use no_std_io2_base::shared::{failed_to_fill, rest_to_end};
 use no_std_io2_base::traits::Read;
 use std::alloc::Allocator;
 
@@ -182,11 +182,7 @@ impl<R: Read, const S: usize> Read for BufReader<R, S> {
     {
         let start = buf.len();
         self.buffer.append_to(buf)?;
-        let is_at_end = fill_room(&mut self.inner, buf)?;
-        if is_at_end {
-            return Ok(buf.len() - start);
-        }
-        self.inner.read_to_end(buf)?;
+        rest_to_end(&mut self.inner, buf)?;
         Ok(buf.len() - start)
     }
 

@@ -43,6 +43,8 @@ returns-in-Ok-eq0 g c =
       fault = tt;
       turns = le_trans read.turns before.turns;
       turn = λ more. let spent = before.turn (omega (arith, more, long)) in omega (arith, spent, read.turns);
+      metered = λ m. (read.counts (before.metered m)).0;
+      filling = λ f. (read.fills (before.filling f)).0;
       store = λ s.
           let so_far = before.store s in
           let now = read.store so_far.0 in
@@ -80,6 +82,8 @@ returns-in-Err-2 g c =
       fault = fault;
       turns = le_trans read.turns before.turns;
       turn = λ more. omega (arith, read.turn, before.turns);
+      metered = λ m. (read.counts (before.metered m)).0;
+      filling = λ f. (read.fills (before.filling f)).0;
       store = λ s.
           let so_far = before.store s in
           let tells = g.met.R.Read.store_tells _ so_far.0 in
@@ -115,5 +119,7 @@ returns g c =
       fault = tt;
       turns = before.turns;
       turn = λ more. before.turn (omega (arith, more, c.reads-test.false, c.capacity.ensures, c.reads.buf.ok.1));
+      metered = before.metered;
+      filling = before.filling;
       store = before.store;
     }
