@@ -3,10 +3,12 @@ use Rattle.std.proofs.Common.{◌≡◌, ℕ, List, [], drop}
 use Rattle.std.specs.declared.dyn_box.DynBox.{DynBox}
 use Rattle.no_std_io2_base.specs.declared.traits.read.Read.{Ghosts as Reads}
 use Rattle.no_std_io2_base.specs.declared.traits.stored.Stored.{Ghosts as Stores}
+use Rattle.no_std_io2_base.specs.declared.traits.buf_read.BufRead.{Ghosts as BufReads}
 use Rattle.no_std_io2_base.specs.declared.traits.chain.Chain.{Chain}
 use Rattle.no_std_io2_base.specs.declared.traits.take.Take.{Take}
 use Rattle.no_std_io2_base.specs.Chain.{chain_tells, chain_events, chain_turns}
 use Rattle.no_std_io2_base.specs.Read.{Event, events_of, Reader}
+use Rattle.no_std_io2_base.specs.BufRead.{Lender}
 use Rattle.no_std_io2_base.specs.Take.{take_inner, take_events}
 
 -- the members of a bound
@@ -73,3 +75,33 @@ box_reader tells events turns may_take_none = record {
 -- the law that a told store tells what is to come
 abbrev pub StoreTells : {S : Type 0} → Reader S → Type 0
 StoreTells {S} R = (x : S) → R.has_store x → R.tells x × (R.events x ≡ events_of (drop (R.position x) (R.content x)))
+
+-- what is told beside by one that counts nothing, by what it holds
+abbrev pub holds_alone : {S : Type 0} → (S → List ℕ) → BufReads S
+holds_alone held = record {
+  held = held;
+  counts_fills = λ _. ⊥;
+  fills = λ _. 0;
+  lends_surely = λ _. ⊥;
+  lent_length = λ _. 0;
+}
+
+-- a reader that lends, by what it tells as a reader and beside
+abbrev pub lends_as : {S : Type 0} → Reader S → BufReads S → Lender S
+lends_as read lends = record {
+  has_store = read.has_store;
+  content = read.content;
+  position = read.position;
+  tells = read.tells;
+  events = read.events;
+  turns = read.turns;
+  cost = read.cost;
+  is_metered = read.is_metered;
+  is_filling = read.is_filling;
+  may_take_none = read.may_take_none;
+  held = lends.held;
+  counts_fills = lends.counts_fills;
+  fills = lends.fills;
+  lends_surely = lends.lends_surely;
+  lent_length = lends.lent_length;
+}

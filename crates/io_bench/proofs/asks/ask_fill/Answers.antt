@@ -14,7 +14,7 @@ pub returns-in_err-lent : goal.returns-in_err-lent
 returns-in_err-lent g c =
     let p = err_from_is_err_and c.from_residual.result c.from_residual.ensures.1 in
     rw (p.1, p.2) (record {
-      told = λ t. let after = c.fill_buf.follows.holds-at-none.told t in (after.0, lent_error _ c.in_err-lent.was after.1);
+      told = λ t. let after = c.fill_buf.follows.holds-at-none.law.told t in (after.0, lent_error _ c.in_err-lent.was after.1);
       filling = λ f. absurd (c.in_err-lent.ensures.law.lends_surely f);
     })
 
@@ -26,7 +26,7 @@ returns g c =
     let lent = c.in_ok-lent.field-0.now in
     let n = c.min.result in
     let law = c.in_ok-lent.ensures.law in
-    let after = c.fill_buf.follows.holds-at-none in
+    let after = c.fill_buf.follows.holds-at-none.law in
     let dropped = c.consume.ensures.law in
     let held = lent_held _ c.in_ok-lent.field-0 _ c.in_ok-lent.was after.lends in
     record {

@@ -4,7 +4,7 @@ ghost use Rattle.std.specs.Prelude.{ℕ, List, Result, IsOkAnd, OnOk, OnErr, vec
 ghost use Rattle.std.specs.Prelude.{string_bytes, string_len, string_capacity};
 ghost use Rattle.no_std_io2.specs.Buffer.{IsEnd};
 ghost use Rattle.std.specs.Borrow.{sem};
-ghost use Rattle.no_std_io2_base.specs.BufRead.{FillBufLaw, ConsumeLaw, ReadUntilLaw, ReadLineLaw};
+ghost use Rattle.no_std_io2_base.specs.BufRead.{FillBufLaw, AfterLoan, ConsumeLaw, ReadUntilLaw, ReadLineLaw};
 ghost use Rattle.no_std_io2_base.specs.declared.error.Error.{Error};
 ghost use Rattle.no_std_io2_base.specs.Pieces.{AnswersLine, EndsPiece};
 ghost use Rattle.no_std_io2_base.specs.BufRead.{Rests, IsNotEmpty, Lends, LendsFrom, LendingTurn, reads_needed};
@@ -35,21 +35,9 @@ impl<R: Read, const S: usize> BufRead for BufReader<R, S> {
     fn fill_buf(&mut self) -> Result<&[u8]>
         ensures law { FillBufLaw ⟦<Self as BufRead>⟧ self.old result }
 
-        // The trait's, and at the end its own: what stands after the loan.
+        // Beside the trait's, what lies behind stays or is dropped.
         ensures* after_borrow { sem 𝓛 (Rests (reader-row R.row S.row) self.entry (λ new. record {
-          lends : Lends result (reader_held new);
-          told : R.tells (reader_inner self.old) → R.tells (reader_inner new)
-              × LendsFrom (reader_events R.events self.old) result (reader_events R.events new);
-          turns : reader_turns R.turns new ≤ reader_turns R.turns self.old;
-          turn : LendingTurn result (reader_turns R.turns self.old) (reader_turns R.turns new);
-          counts : R.is_metered (reader_inner self.old) → R.is_metered (reader_inner new)
-              × (R.cost (reader_inner new) ≡ R.cost (reader_inner self.old) + reads_needed (reader_held self.old));
-          stays_sure : R.is_filling (reader_inner self.old) → R.is_filling (reader_inner new);
-          store : reader_has_store R.has_store R.position R.content self.old
-              → reader_has_store R.has_store R.position R.content new
-              × (R.content (reader_inner new) ≡ R.content (reader_inner self.old))
-              × (reader_position R.position new ≡ reader_position R.position self.old);
-          kept : IsNotEmpty (reader_held self.old) → new ≡ self.old;
+          law : AfterLoan ⟦<Self as BufRead>⟧ self.old result new;
           behind : reader_held self.old ≡ [] → reader_behind new ≡ [];
           sound : reader_is_sound R.has_store R.position R.content self.old
               → reader_is_sound R.has_store R.position R.content new;

@@ -1,89 +1,26 @@
-use Rattle.std.proofs.Common.{◌∙◌, refl, sym, arith, append-nil, [], le_refl, le_trans, lt_of_lt_of_le, lt_of_le_of_lt}
+use Rattle.std.proofs.Common.{◌∙◌, sym, lt_of_lt_of_le}
 use Rattle.std.proofs.lemmas.Result.{err_from_is_err_and}
-use Rattle.no_std_io2_base.proofs.PieceLemmas.{piece_none, piece_more, piece_interruption, piece_ended, piece_fault}
-use Rattle.no_std_io2_base.proofs.PieceLemmas.{byte_next, piece_memory, part_taken, none_taken, error_taken, error_turn}
-use Rattle.no_std_io2_base.proofs.PieceLemmas.{whole_part, front_more, front_same, spent_more, part_fits, memory_fault}
-use Rattle.no_std_io2_base.proofs.PieceRoom.{part_has_room, fault_is_first}
+use Rattle.no_std_io2_base.proofs.PieceLemmas.{error_turn}
+use Rattle.no_std_io2_base.proofs.PieceLoop.{until_none, until_interruption, until_fault, until_refused, until_more, until_whole}
 use Rattle.no_std_io2_base.proofs.impls.lending_objects.BoxDynBufReadDropBufRead.read_until.Goals as goal
 
 pub pieces-init : goal.pieces-init
-pieces-init g c =
-    record {
-      start = c.len-start.ensures;
-      grows = le_refl _;
-      capacity = le_refl _;
-      front = ([], sym (append-nil _));
-      turns = le_refl _;
-      spent = λ more. absurd (omega (arith, more));
-      told = λ t. (t, piece_none refl);
-    }
+pieces-init g c = until_none
 
 pub returns-then-is_whole : goal.returns-then-is_whole
 returns-then-is_whole g c =
-    let before = c.pieces.invariant in
-    let filled = c.fill_buf.follows.holds-at-none in
-    let dropped = c.consume.ensures.law in
-    let found = c.find_piece-len.ensures in
-    let appended = c.in_ok-append-in-Ok.ensures.ok in
-    let grown = part_fits _ _ c.in_ok-append-in-Ok.ensures.len found.within in
+    let appended = c.in_ok-append-in-Ok.ensures in
     record {
-      law = record {
-        told = λ t.
-            let so_far = before.told t in
-            let lent = filled.told so_far.0 in
-            let rest = dropped.told lent.0 in
-            let part =
-            part_taken c.in-Ok.lent _
-            ((goal.BufRead-dyn g (c.consume.new.self.vtable, c.consume.new.self.value)).Read.events
-            c.consume.new.self.value)
-            c.find_piece-len.result.0 c.in-Ok.is filled.lends lent.1 rest.1 in (
-              rest.0,
-              piece_ended so_far.1 part
-                  (whole_part found c.if-is_whole.true (c.in-Ok.ensures.law.end so_far.0)) appended
-                  (omega (arith, c.append.new.buf.ok.0, c.args.buf.now.ok.0, c.len.ensures, before.start)),
-            );
-        appends = front_more _ _ before.front appended;
-        count = omega (arith, c.len.ensures, before.start, before.grows, c.in_ok-append-in-Ok.ensures.len);
-        capacity = le_trans before.capacity c.append.ensures.grows;
-        room = λ t enough. tt;
-        fault = tt;
-        turns = omega (arith, dropped.turns, filled.turns, before.turns);
-        turn =
-            λ some. spent_more before.spent before.turns filled.turns dropped.turns dropped.turn grown
-            (omega (arith, some, c.len.ensures, before.start));
-        metered = λ h. absurd h;
-        filling = λ h. absurd h;
-        store = λ h. absurd h;
-      };
+      law = until_whole c.pieces.invariant (λ x told. absurd told) c.fill_buf.follows.holds-at-none c.in-Ok.is c.in-Ok.ensures.law
+          c.find_piece-len.ensures c.consume.ensures.law c.append.ensures.grows appended.ok appended.len c.if-is_whole.true
+          c.len-start.ensures c.len.ensures;
     }
 
 pub pieces-preserved-else-is_whole : goal.pieces-preserved-else-is_whole
 pieces-preserved-else-is_whole g c =
-    let before = c.pieces.invariant in
-    let filled = c.fill_buf.follows.holds-at-none in
-    let dropped = c.consume.ensures.law in
-    let found = c.find_piece-len.ensures in
-    let appended = c.in_ok-append-in-Ok.ensures.ok in
-    record {
-      start = before.start;
-      grows = omega (arith, before.grows, c.in_ok-append-in-Ok.ensures.len);
-      capacity = le_trans before.capacity c.append.ensures.grows;
-      front = front_more _ _ before.front appended;
-      turns = omega (arith, dropped.turns, filled.turns, before.turns);
-      spent =
-          spent_more before.spent before.turns filled.turns dropped.turns dropped.turn
-          (part_fits _ _ c.in_ok-append-in-Ok.ensures.len found.within);
-      told = λ t.
-          let so_far = before.told t in
-          let lent = filled.told so_far.0 in
-          let rest = dropped.told lent.0 in
-          let part =
-          part_taken c.in-Ok.lent _
-          ((goal.BufRead-dyn g (c.consume.new.self.vtable, c.consume.new.self.value)).Read.events
-          c.consume.new.self.value)
-          c.find_piece-len.result.0 c.in-Ok.is filled.lends lent.1 rest.1 in
-          (rest.0, piece_more _ so_far.1 part (found.open_ended c.if-is_whole.false).1 appended);
-    }
+    let appended = c.in_ok-append-in-Ok.ensures in
+    until_more c.pieces.invariant (λ x told. absurd told) c.fill_buf.follows.holds-at-none c.in-Ok.is c.in-Ok.ensures.law
+    c.find_piece-len.ensures c.consume.ensures.law c.append.ensures.grows appended.ok appended.len c.if-is_whole.false
 
 pub pieces-smaller-else-is_whole : goal.pieces-smaller-else-is_whole
 pieces-smaller-else-is_whole g c =
@@ -92,82 +29,24 @@ pieces-smaller-else-is_whole g c =
 
 pub pieces-preserved : goal.pieces-preserved
 pieces-preserved g c =
-    let before = c.pieces.invariant in
-    let filled = c.fill_buf.follows.holds-at-none in
-    record {
-      start = before.start;
-      grows = before.grows;
-      capacity = before.capacity;
-      front = before.front;
-      turns = le_trans filled.turns before.turns;
-      spent = λ more. lt_of_le_of_lt filled.turns (before.spent more);
-      told = λ t.
-          let so_far = before.told t in
-          let lent = filled.told so_far.0 in (
-            lent.0,
-            piece_interruption so_far.1 (error_taken c.in-Err.is lent.1)
-                (sym c.is_interrupted.ensures ∙ c.if-is_interrupted.true),
-          );
-    }
+    until_interruption c.pieces.invariant (λ x told. absurd told) c.fill_buf.follows.holds-at-none c.in-Err.is
+    (sym c.is_interrupted.ensures ∙ c.if-is_interrupted.true)
 
 pub pieces-smaller : goal.pieces-smaller
 pieces-smaller g c = error_turn c.in-Err.is c.fill_buf.follows.holds-at-none.turn
 
 pub returns-in-Err-2 : goal.returns-in-Err-2
 returns-in-Err-2 g c =
-    let before = c.pieces.invariant in
-    let filled = c.fill_buf.follows.holds-at-none in
-    let fault = sym c.is_interrupted.ensures ∙ c.if-is_interrupted.false in
     record {
-      law = record {
-        told = λ t.
-            let so_far = before.told t in
-            let lent = filled.told so_far.0 in
-            (lent.0, piece_fault so_far.1 (error_taken c.in-Err.is lent.1) fault);
-        appends = before.front;
-        count = tt;
-        capacity = before.capacity;
-        room = λ t enough.
-            let so_far = before.told t in
-            fault_is_first so_far.1 (error_taken c.in-Err.is (filled.told so_far.0).1) fault;
-        fault = fault;
-        turns = le_trans filled.turns before.turns;
-        turn = tt;
-        metered = λ h. absurd h;
-        filling = λ h. absurd h;
-        store = λ h. absurd h;
-      };
+      law = until_fault c.pieces.invariant (λ x told. absurd told) c.fill_buf.follows.holds-at-none c.in-Err.is
+          (sym c.is_interrupted.ensures ∙ c.if-is_interrupted.false);
     }
 
 pub returns-in_err-append-in-Ok : goal.returns-in_err-append-in-Ok
 returns-in_err-append-in-Ok g c =
-    let before = c.pieces.invariant in
-    let filled = c.fill_buf.follows.holds-at-none in
     let p = err_from_is_err_and c.from_residual.result c.from_residual.ensures.1 in
     let refused = c.in_err-append-in-Ok.ensures in
     rw (p.1, p.2) (record {
-      law = record {
-        told = λ t.
-            let so_far = before.told t in
-            let lent = filled.told so_far.0 in (
-              lent.0,
-              piece_memory so_far.1 (none_taken c.in-Ok.lent c.in-Ok.is lent.1) refused.err refused.refused
-                  (byte_next (c.in-Ok.ensures.law.front so_far.0) c.find_piece-len.ensures (omega (arith, c.pieces.buf.ok.1)) refused.full),
-            );
-        appends = front_same _ before.front refused.err;
-        count = tt;
-        capacity = le_trans before.capacity c.append.ensures.grows;
-        room = λ t enough.
-            let so_far = before.told t in
-            let found = c.find_piece-len.ensures in
-            absurd
-            (part_has_room so_far.1 (c.in-Ok.ensures.law.front so_far.0) found enough
-            before.capacity c.args.buf.now.ok.0 c.pieces.buf.ok.0 refused.full);
-        fault = memory_fault _ refused.refused;
-        turns = le_trans filled.turns before.turns;
-        turn = tt;
-        metered = λ h. absurd h;
-        filling = λ h. absurd h;
-        store = λ h. absurd h;
-      };
+      law = until_refused c.pieces.invariant (λ x told. absurd told) c.fill_buf.follows.holds-at-none c.in-Ok.is c.in-Ok.ensures.law
+          c.find_piece-len.ensures c.append.ensures.grows refused.refused refused.err refused.full;
     })

@@ -33,17 +33,5 @@ fill_buf-meets g c =
     by_parts w.𝓤 [] [] (emp w.𝓤) (emp w.𝓤) _ _ (λ r e. []) (λ r e. []) more (λ r e. less r (e.0, tt))
     (fact_i w.𝓤 _ _ tt) (λ _. id⊢ w.𝓤 (emp w.𝓤)) (λ r e. fact_i w.𝓤 _ _ tt)
     (λ r e _. lends_on w.𝓛 _ _ _ _ _ _ _ _ _ _
-    (λ new h.
-    record {
-      lends = h.lends;
-      told = h.told;
-      turns = h.turns;
-      turn = h.turn;
-      unchanged = h.kept;
-      counts = h.counts;
-      stays_sure = h.stays_sure;
-      metered = λ n. n;
-      filling = λ n. n;
-      store = h.store;
-    }))
+    (λ new h. h.law))
     (λ _. tt) (λ _ r e _. tt)

@@ -1,0 +1,184 @@
+-- A loop that reads one piece, by what each of its turns does, for any reader that lends.
+use Rattle.std.proofs.Common.{◌≡◌, ℕ, ◌+◌, ◌-◌, ◌<◌, ◌≤◌, Bool, true, false, List, [], ◌++◌, Result, Ok, Err, Vec, vec_len}
+use Rattle.std.proofs.Common.{vec_capacity, length, take, drop, refl, sym, ap, ap₂, ◌∙◌, arith, append-nil, le_refl, le_trans, lt_of_le_of_lt}
+use Rattle.std.specs.Borrow.{Bor}
+use Rattle.no_std_io2_base.specs.declared.error.Error.{Error}
+use Rattle.no_std_io2_base.specs.Errors.{IsInterruption, IsFault, IsOutOfMemory}
+use Rattle.no_std_io2_base.specs.Read.{events_of}
+use Rattle.no_std_io2_base.specs.BufRead.{Lender, FillBufLaw, AfterLoan, ConsumeLaw, ReadUntilLaw}
+use Rattle.no_std_io2_base.specs.Pieces.{FindsPiece}
+use Rattle.no_std_io2_base.specs.Write.{IsFront}
+use Rattle.no_std_io2_base.proofs.PieceLemmas.{PieceSoFar, piece_none, piece_more, piece_interruption, piece_ended, piece_fault}
+use Rattle.no_std_io2_base.proofs.PieceLemmas.{byte_next, piece_memory, part_taken, none_taken, error_taken}
+use Rattle.no_std_io2_base.proofs.PieceLemmas.{whole_part, front_more, front_same, spent_more, part_fits, memory_fault}
+use Rattle.no_std_io2_base.proofs.PieceRoom.{part_has_room, fault_is_first}
+use Rattle.no_std_io2_base.proofs.ReadToEndTaken.{moved_read, no_error}
+
+-- what was taken was appended, without an end so far
+pub record UntilSoFar {X A : Type 0} (R : Lender X) (d : ℕ) (old : X) (buf buf' : Vec ℕ A) (now : X) : Type 0 where
+  pub grows : vec_len buf ≤ vec_len buf'
+  pub capacity : vec_capacity buf ≤ vec_capacity buf'
+  pub front : IsFront buf.items buf'.items
+  pub turns : R.turns now ≤ R.turns old
+  pub spent : vec_len buf < vec_len buf' → R.turns now < R.turns old
+  pub told : R.tells old → R.tells now × PieceSoFar d (R.events old) buf.items buf'.items (R.events now)
+  pub metered : R.is_metered old → R.is_metered now
+  pub filling : R.is_filling old → R.is_filling now
+  pub store : R.has_store old → R.has_store now × (R.content now ≡ R.content old)
+      × (R.position now + length (R.events now) ≡ R.position old + length (R.events old))
+
+-- at the start nothing is taken
+pub until_none : {X A : Type 0} {R : Lender X} {d : ℕ} {old : X} {buf : Vec ℕ A} → UntilSoFar R d old buf buf old
+until_none = record {
+  grows = le_refl _;
+  capacity = le_refl _;
+  front = ([], sym (append-nil _));
+  turns = le_refl _;
+  spent = λ more. absurd (omega (arith, more));
+  told = λ t. (t, piece_none refl);
+  metered = λ m. m;
+  filling = λ f. f;
+  store = λ s. (s, refl, refl);
+}
+
+module _ {X A : Type 0} {R : Lender X} {d : ℕ} {old now after : X} {buf xs : Vec ℕ A} {reply : Result (Bor (List ℕ)) Error}
+    (before : UntilSoFar R d old buf xs now)
+    (law : (x : X) → R.has_store x → R.tells x × (R.events x ≡ events_of (drop (R.position x) (R.content x))))
+    (filled : AfterLoan R now reply after) where
+  module _ {e : Error} (is : reply ≡ Err e) where
+    -- no store is told of a reader that answers an error
+    no_store : R.has_store old → ⊥
+    no_store s =
+        let tells = law now (before.store s).0 in
+        no_error _ tells.1 (error_taken is (filled.told tells.0).1)
+
+    -- an interruption is passed over
+    pub until_interruption : IsInterruption e → UntilSoFar R d old buf xs after
+    until_interruption again = record {
+      grows = before.grows;
+      capacity = before.capacity;
+      front = before.front;
+      turns = le_trans filled.turns before.turns;
+      spent = λ more. lt_of_le_of_lt filled.turns (before.spent more);
+      told = λ t.
+          let so_far = before.told t in
+          let loan = filled.told so_far.0 in
+          (loan.0, piece_interruption so_far.1 (error_taken is loan.1) again);
+      metered = λ m. filled.metered (before.metered m);
+      filling = λ f. filled.filling (before.filling f);
+      store = λ s. absurd (no_store s);
+    }
+
+    -- a fault ends the loop
+    pub until_fault : IsFault e → ReadUntilLaw R old d buf (Err e) xs after
+    until_fault fault = record {
+      told = λ t.
+          let so_far = before.told t in
+          let loan = filled.told so_far.0 in
+          (loan.0, piece_fault so_far.1 (error_taken is loan.1) fault);
+      appends = before.front;
+      count = tt;
+      capacity = before.capacity;
+      room = λ t enough.
+          let so_far = before.told t in fault_is_first so_far.1 (error_taken is (filled.told so_far.0).1) fault;
+      fault = fault;
+      turns = le_trans filled.turns before.turns;
+      turn = tt;
+      metered = λ m. filled.metered (before.metered m);
+      filling = λ f. filled.filling (before.filling f);
+      store = λ s. absurd (no_store s);
+    }
+
+  module _ {lent : Bor (List ℕ)} {n : ℕ} {is_whole : Bool} (is : reply ≡ Ok lent) (shows : FillBufLaw R now (Ok lent))
+      (found : FindsPiece d lent.now n is_whole) where
+    -- so does refused memory
+    pub until_refused : {v : Vec ℕ A} {e : Error} → vec_capacity xs ≤ vec_capacity v → IsOutOfMemory e → v.items ≡ xs.items
+        → vec_capacity xs < vec_len xs + length (take n lent.now) → ReadUntilLaw R old d buf (Err e) v after
+    until_refused grown refused same full = record {
+      told = λ t.
+          let so_far = before.told t in
+          let loan = filled.told so_far.0 in
+          let next = byte_next (shows.front so_far.0) found (omega (arith, xs.ok.1)) full in
+          (loan.0, piece_memory so_far.1 (none_taken lent is loan.1) same refused next);
+      appends = front_same _ before.front same;
+      count = tt;
+      capacity = le_trans before.capacity grown;
+      room = λ t enough.
+          let so_far = before.told t in
+          absurd (part_has_room so_far.1 (shows.front so_far.0) found enough before.capacity buf.ok.0 xs.ok.0 full);
+      fault = memory_fault _ refused;
+      turns = le_trans filled.turns before.turns;
+      turn = tt;
+      metered = λ m. filled.metered (before.metered m);
+      filling = λ f. filled.filling (before.filling f);
+      store = λ s.
+          let so_far = before.store s in
+          let loan = filled.store so_far.0 in
+          let told = filled.told (law now so_far.0).0 in
+          (loan.0, loan.1 ∙ so_far.1, ap₂ (λ p l. p + length l) loan.2 (none_taken lent is told.1) ∙ so_far.2);
+    }
+
+    module _ {new : X} (dropped : ConsumeLaw R after n new) where
+      -- what was lent and then dropped is gone
+      taken : R.tells now → R.tells new × (R.events now ≡ events_of (take n lent.now) ++ R.events new)
+      taken t =
+          let loan = filled.told t in
+          let rest = dropped.told loan.0 in
+          (rest.0, part_taken lent _ (R.events new) n is filled.lends loan.1 rest.1)
+
+      -- and the position has moved by it
+      moved : R.has_store old → R.has_store new × (R.content new ≡ R.content old)
+          × (R.position new + length (R.events new) ≡ R.position old + length (R.events old))
+      moved s =
+          let so_far = before.store s in
+          let loan = filled.store so_far.0 in
+          let rest = dropped.store loan.0 in
+          let gone = (taken (law now so_far.0).0).1 in (
+            rest.0,
+            rest.1 ∙ loan.1 ∙ so_far.1,
+            moved_read (R.events new) n lent.now _ found.within gone (rest.2 ∙ ap (λ p. p + n) loan.2) so_far.2,
+          )
+
+      module _ {v : Vec ℕ A} (grown : vec_capacity xs ≤ vec_capacity v) (appended : v.items ≡ xs.items ++ take n lent.now)
+          (len : vec_len v ≡ vec_len xs + length (take n lent.now)) where
+        -- a part without the end, and the loop goes on
+        pub until_more : is_whole ≡ false → UntilSoFar R d old buf v new
+        until_more going = record {
+          grows = omega (arith, before.grows, len);
+          capacity = le_trans before.capacity grown;
+          front = front_more _ _ before.front appended;
+          turns = omega (arith, dropped.turns, filled.turns, before.turns);
+          spent = spent_more before.spent before.turns filled.turns dropped.turns dropped.turn (part_fits _ _ len found.within);
+          told = λ t.
+              let so_far = before.told t in
+              let rest = taken so_far.0 in
+              (rest.0, piece_more _ so_far.1 rest.1 (found.open_ended going).1 appended);
+          metered = λ m. (dropped.cost (filled.metered (before.metered m))).0;
+          filling = λ f. dropped.filling (filled.filling (before.filling f));
+          store = moved;
+        }
+
+        -- the part that makes the piece whole, and the loop ends
+        pub until_whole : {start end : ℕ} → is_whole ≡ true → start ≡ vec_len buf → end ≡ vec_len v
+            → ReadUntilLaw R old d buf (Ok (end - start)) v new
+        until_whole whole from to = record {
+          told = λ t.
+              let so_far = before.told t in
+              let rest = taken so_far.0 in (
+                rest.0,
+                piece_ended so_far.1 rest.1 (whole_part found whole (shows.end so_far.0)) appended
+                    (omega (arith, v.ok.0, buf.ok.0, from, to)),
+              );
+          appends = front_more _ _ before.front appended;
+          count = omega (arith, from, to, before.grows, len);
+          capacity = le_trans before.capacity grown;
+          room = λ t enough. tt;
+          fault = tt;
+          turns = omega (arith, dropped.turns, filled.turns, before.turns);
+          turn =
+              λ some. spent_more before.spent before.turns filled.turns dropped.turns dropped.turn
+              (part_fits _ _ len found.within) (omega (arith, some, from, to));
+          metered = λ m. (dropped.cost (filled.metered (before.metered m))).0;
+          filling = λ f. dropped.filling (filled.filling (before.filling f));
+          store = moved;
+        }
