@@ -1,15 +1,13 @@
 -- How far an exact read has come.
-use Rattle.std.proofs.Common.{◌≡◌, ℕ, ◌+◌, ◌-◌, ◌<◌, ◌≤◌, List, [], ◌∷◌, ◌++◌, length, take, min, Ok, sym, ap, ◌∙◌}
-use Rattle.std.proofs.Common.{nat_le, if◌then◌else◌, ⊎_elim, length-take-le, arith, length-append, append-nil, inl}
-use Rattle.std.proofs.Common.{subst, drop_of_length-le, take_all}
+use Rattle.std.proofs.Common.{◌≡◌, ℕ, ◌+◌, ◌-◌, ◌<◌, ◌≤◌, List, [], ◌++◌, length, take, min, Ok, sym, ap, ◌∙◌}
+use Rattle.std.proofs.Common.{nat_le, if◌then◌else◌, ⊎_elim, length-take-le, arith, length-append, append-nil}
+use Rattle.std.proofs.Common.{subst, drop_of_length-le}
 use Rattle.std.proofs.lemmas.Bool.{cases_lt}
 use Rattle.std.proofs.lemmas.Bool.Decides.{nat_tests}
 use Rattle.no_std_io2.proofs.BufferTests.{is_past, is_own}
-use Rattle.no_std_io2_base.specs.declared.error.Error.{Error}
-use Rattle.no_std_io2_base.specs.Errors.{IsUnexpectedEnd}
-use Rattle.no_std_io2_base.specs.Read.{Event, fails, events_of, bytes, HasNoFault, cut, Reads, Fills, FallsShort}
-use Rattle.no_std_io2_base.proofs.EventLemmas.{length-events_of, events_of-append, bytes-events_of, HasNoFault-events_of, cut-bytes}
-use Rattle.no_std_io2_base.proofs.ReadToEndTaken.{Taken, taken_fills, no_error}
+use Rattle.no_std_io2_base.specs.Read.{Event, events_of, bytes, HasNoFault, cut, Reads, Fills}
+use Rattle.no_std_io2_base.proofs.EventLemmas.{length-events_of, bytes-events_of, HasNoFault-events_of, cut-bytes}
+use Rattle.no_std_io2_base.proofs.ReadToEndTaken.{Taken}
 use Rattle.no_std_io2.specs.Buffer.{IsEnd}
 use Rattle.no_std_io2.specs.BufReader.{held_or_to_come, exact_reads, exact_left, behind_anew}
 
@@ -168,37 +166,9 @@ gives_to_come held to_come h = ap (λ k. held_or_to_come k to_come) h
 pub gives_held : (held to_come : ℕ) → 0 < held → held_or_to_come held to_come ≡ held
 gives_held held to_come some = grind (arith, nat_tests)
 
--- held bytes before the bytes of a store hold no error
-pub no_error_behind : (held bs : List ℕ) {E E' : List Event} {e : Error} → E ≡ events_of bs → events_of held ++ E ≡ fails e ∷ E' → ⊥
-no_error_behind held bs is read =
-    no_error (held ++ bs)
-    (ap (λ l. events_of held ++ l) is ∙ sym (events_of-append held bs)) read
-
 -- a read of no byte took nothing
 pub nothing_read : (E E' : List Event) (n : ℕ) (buf : List ℕ) → Reads E (Ok n) buf E' → n ≡ 0 → E ≡ E'
 nothing_read E E' n buf read zero = read.0 ∙ ap (λ m. events_of (take m buf) ++ E') zero
-
--- the end came before the buffer was full
-pub taken_end : {E : List Event} {room most : ℕ} {got : List ℕ} {after : List Event} (e : Error) (rest : List Event) (n : ℕ) (buf : List ℕ)
-    → Taken E room got after → Reads after (Ok n) buf rest → n ≡ 0 → 0 < length buf → IsUnexpectedEnd e
-    → length got < most → FallsShort ⊥ E most e rest
-taken_end {E} {most} {after} e rest n buf t read zero some kind short =
-    let end : after ≡ [] = read.1 zero some in
-    let whole : E ≡ t.front = t.split ∙ ap (λ l. t.front ++ l) end ∙ append-nil t.front in
-    record {
-      no_fault = subst HasNoFault (sym whole) t.no_fault;
-      short = subst (λ l. length l < most) (sym (ap bytes whole ∙ t.gave)) short;
-      answer = kind;
-      left = inl (sym (nothing_read after rest n buf read zero) ∙ end);
-    }
-
--- the whole buffer was filled
-pub taken_whole : {E : List Event} {room : ℕ} (at : ℕ) (buf : List ℕ) {after : List Event}
-    → Taken E room (take at buf) after
-    → length buf ≤ at → length buf ≡ room → Fills E buf after
-taken_whole {E = E} {room = room} at buf {after = after} t full long =
-    let whole : take at buf ≡ buf = take_all at buf full in
-    subst (λ l. Fills E l after) whole (taken_fills E room (take at buf) after t (ap length whole ∙ long))
 
 -- what is left after a read of no byte over a filling reader
 pub exact_left-end : (room : ℕ) {len held all at now_held now_inner : ℕ} (next_held rest : ℕ)

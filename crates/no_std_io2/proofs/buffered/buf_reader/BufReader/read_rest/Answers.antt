@@ -1,14 +1,13 @@
 -- An exact read past the held bytes: its turns, and its three ends.
-use Rattle.std.proofs.Common.{◌≡◌, ◌-◌, ◌≤◌, length, take, arith, sym, ap, subst, ◌∙◌, le_refl, inl, inr, length-take-le, length-drop}
+use Rattle.std.proofs.Common.{◌≡◌, ◌-◌, ◌≤◌, length, take, arith, sym, ap, subst, ◌∙◌, length-take-le, length-drop}
 use Rattle.std.proofs.Common.{take_all}
-use Rattle.std.proofs.lemmas.Slice.{take-put_mid_below}
 use Rattle.no_std_io2_base.proofs.ReadParts.{take-put_mid}
-use Rattle.no_std_io2_base.proofs.ReadToEndTaken.{taken_read, taken_interruption, taken_fault, moved_read}
-use Rattle.no_std_io2_base.specs.Errors.{is_interruption}
+use Rattle.no_std_io2_base.proofs.ReadExactLoop.{exact_read, exact_interruption, exact_end, exact_fault, exact_all}
 use Rattle.no_std_io2.specs.BufReader.{reader_held, reader_behind, reader_inner, reader_events}
-use Rattle.no_std_io2.proofs.BufReaderExact.{exact_begins, exact_first, exact_read, exact_end, exact_short, exact_left-end}
-use Rattle.no_std_io2.proofs.BufReaderExact.{exact_left-full, taken_first, taken_end, taken_whole, nothing_read, length-events, no_bytes}
-use Rattle.no_std_io2.proofs.BufReaderExact.{moved_length, no_error_behind, read_ends, read_behind, none_behind, gives_to_come}
+use Rattle.no_std_io2.proofs.BufReaderExact.{exact_begins, exact_first, exact_read as exact_reads, exact_end as exact_ends, exact_short, exact_left-end}
+use Rattle.no_std_io2.proofs.BufReaderExact.{exact_left-full, taken_first, nothing_read, length-events, no_bytes}
+use Rattle.no_std_io2.proofs.BufReaderExact.{moved_length, read_ends, read_behind, none_behind, gives_to_come}
+use Rattle.no_std_io2.proofs.BufReaderLends.{buf_tells}
 use Rattle.no_std_io2.proofs.BufWriterLemmas.{IsEnd-none}
 use Rattle.no_std_io2.proofs.buffered.buf_reader.BufReader.read_rest.Goals as goal
 
@@ -29,16 +28,21 @@ reads-init g c =
     let after = length-events (reader_held new) (g.R.Read.events (reader_inner new)) in
     let same = sym gave.inner in
     record {
-      long = omega arith;
-      within = most;
+      law = record {
+        long = omega arith;
+        within = most;
+        untouched = λ nothing. absurd (omega (arith, nothing, c.requires));
+        told = λ t. (subst g.R.Read.tells same t, taken_first got gave.told (omega arith));
+        turns = omega (arith, gave.turns);
+        turn = λ some. omega (arith, gave.turns, some);
+        metered = λ m. m;
+        filling = λ f. f;
+        store = λ s.
+            let now = gave.store s in
+            (now.0, ap g.R.Stored.content gave.inner, omega (arith, now.1, moved, before, after));
+      };
       none = λ more. left;
-      turns = omega (arith, gave.turns);
-      turn = λ some. omega (arith, gave.turns, some);
       behind = λ more. absurd (omega (arith, more, all));
-      told = λ t. (subst g.R.Read.tells same t, taken_first got gave.told (omega arith));
-      store = λ s.
-          let now = gave.store s in
-          (now.0, ap g.R.Stored.content gave.inner, omega (arith, now.1, moved, before, after));
       sound = gave.sound;
       filling = λ f. (
         subst g.R.Read.is_filling same f,
@@ -61,22 +65,11 @@ reads-preserved-in-Ok g c =
     let to_come = gives_to_come (length (reader_held old)) (length (g.R.Read.events (reader_inner old))) zero in
     let shown = take-put_mid at (length buf - at) n buf c.read.new.buf (omega arith) (omega (arith, read.law.bound)) in
     record {
-      long = omega arith;
-      within = omega arith;
+      law = exact_read c.reads.invariant.law (buf_tells g.R.Stored g.R.Read g.met.R.Read.store_tells)
+          c.reads-test.true c.read.auto.buf read.law c.in-Ok.n-test.1;
       none = λ more. ap length (read.rest (omega (arith, more)));
-      turns = omega (arith, read.law.turns, c.reads.invariant.turns);
-      turn = λ some. omega (arith, read.law.turn (omega arith), c.reads.invariant.turns);
       behind = λ more. read_ends g.row.S at _ n buf _ c.read.new.buf (reader_behind new) (read.behind_anew none) (omega arith)
           (omega (arith, read.law.bound)) (omega (arith, read.law.bound)) shown;
-      told = λ t.
-          let before = c.reads.invariant.told t in
-          let now = read.law.told before.0 in
-          (now.0, taken_read _ before.1 now.1 (omega (arith, read.law.bound)) (omega arith) shown);
-      store = λ t.
-          let before = c.reads.invariant.store t in
-          let now = read.law.store before.0 in
-          let tells = g.met.R.Read.store_tells _ before.0.0 in
-          (now.0, now.1 ∙ before.1, moved_read _ _ _ _ (omega (arith, read.law.bound)) (read.law.told tells.0).1.0 now.2 before.2);
       sound = λ h. read.sound (c.reads.invariant.sound h);
       filling = λ f.
           let before = c.reads.invariant.filling f in
@@ -89,7 +82,7 @@ reads-preserved-in-Ok g c =
             c.requires,
           )) in (
             now.0,
-            exact_read n _ _ before.1 (omega arith) (omega (arith, now.1, to_come)) (λ h. ap length (read.direct before.0 none
+            exact_reads n _ _ before.1 (omega arith) (omega (arith, now.1, to_come)) (λ h. ap length (read.direct before.0 none
                 (omega (arith, h)))) (λ h. read.filled before.0 none (omega (arith, h))) moved (omega arith) (omega (arith, c.requires)),
             λ more. read_behind g.row.S (length c.args.buf.now) _ at n _ c.read.new.buf (reader_behind new) (read.behind_anew none)
                 (omega (arith, read.law.bound)) first (omega arith),
@@ -111,27 +104,14 @@ reads-preserved g c =
     let at = c.reads.at in
     let buf = c.reads.buf in
     let read = c.in-Err.ensures in
-    let again = sym c.is_interrupted.ensures ∙ c.if-is_interrupted.true in
     let none = no_bytes (reader_held c.reads.self) (c.reads.invariant.none (omega arith)) in
-    let same = take-put_mid_below _ _ _ _ _ (le_refl _) (omega arith) in
     record {
-      long = omega arith;
-      within = omega arith;
+      law = exact_interruption c.reads.invariant.law (buf_tells g.R.Stored g.R.Read g.met.R.Read.store_tells)
+          c.reads-test.true c.read.auto.buf read.law (sym c.is_interrupted.ensures ∙ c.if-is_interrupted.true);
       none = λ more. ap length (read.rest (omega (arith, more)));
-      turns = omega (arith, read.law.turns, c.reads.invariant.turns);
-      turn = λ some. omega (arith, read.law.turns, c.reads.invariant.turn some);
       behind = λ more.
           let empty = none_behind g.row.S _ 0 c.read.new.buf (reader_behind c.read.new.self) (read.behind_anew none) (omega arith) in
           (IsEnd-none _ _ empty, omega (arith, ap length empty));
-      told = λ t.
-          let before = c.reads.invariant.told t in
-          let now = read.law.told before.0 in
-          let long = length-take-le at buf (omega arith) in
-          (now.0, taken_interruption before.1 now.1 again (omega arith) same);
-      store = λ t.
-          let before = c.reads.invariant.store t in
-          let tells = g.met.R.Read.store_tells _ before.0.0 in
-          absurd (no_error_behind _ _ tells.1 (read.law.told tells.0).1);
       sound = λ h. read.sound (c.reads.invariant.sound h);
       filling = λ f. absurd (read.gives (c.reads.invariant.filling f).0).1;
       cost = λ m f. absurd (read.gives (c.reads.invariant.filling f).0).1;
@@ -143,21 +123,15 @@ reads-smaller g c = c.in-Err.ensures.law.turn
 pub returns-in-Err-2 : goal.returns-in-Err-2
 returns-in-Err-2 g c =
     let read = c.in-Err.ensures in
-    let fault = sym c.is_interrupted.ensures ∙ c.if-is_interrupted.false in
+    let law = exact_fault c.reads.invariant.law (buf_tells g.R.Stored g.R.Read g.met.R.Read.store_tells)
+    c.reads-test.true c.read.auto.buf read.law (sym c.is_interrupted.ensures ∙ c.if-is_interrupted.false) in
     let none = no_bytes (reader_held c.reads.self) (c.reads.invariant.none (omega arith)) in
     record {
-      told = λ t.
-          let before = c.reads.invariant.told t in
-          let now = read.law.told before.0 in
-          let long = length-take-le c.reads.at c.reads.buf (omega arith) in
-          (now.0, inl (taken_fault before.1 now.1 fault (omega (arith, long))));
-      fault = fault;
-      no_later = omega (arith, read.law.turns, c.reads.invariant.turns);
+      told = law.told;
+      fault = law.fault;
+      no_later = law.turns;
       turn = tt;
-      store = λ t.
-          let before = c.reads.invariant.store t in
-          let tells = g.met.R.Read.store_tells _ before.0.0 in
-          absurd (no_error_behind _ _ tells.1 (read.law.told tells.0).1);
+      store = law.store;
       behind = tt;
       failed = (
         read.rest (omega arith),
@@ -174,28 +148,19 @@ returns-in-Err-2 g c =
 pub returns-in-Ok-eq0 : goal.returns-in-Ok-eq0
 returns-in-Ok-eq0 g c =
     let old = c.reads.self in
+    let law = exact_end c.reads.invariant.law (buf_tells g.R.Stored g.R.Read g.met.R.Read.store_tells)
+    c.reads-test.true c.read.auto.buf {e = c.failed_to_fill.result} c.read.ensures.law c.in-Ok-eq0.is c.in-Ok-eq0.field-0-test c.failed_to_fill.ensures in
     let read = rw c.in-Ok-eq0.is at c.read.ensures in
     let zero : c.in-Ok-eq0.field-0 ≡ 0 = omega arith in
     let empty : length (reader_held old) ≡ 0 = c.reads.invariant.none (omega arith) in
     let none = no_bytes (reader_held old) empty in
     let to_come = gives_to_come (length (reader_held old)) (length (g.R.Read.events (reader_inner old))) empty in
     record {
-      told = λ t.
-          let before = c.reads.invariant.told t in
-          let now = read.law.told before.0 in
-          let long = length-take-le c.reads.at c.reads.buf (omega arith) in (
-            now.0,
-            inr (taken_end c.failed_to_fill.result _ c.in-Ok-eq0.field-0 _ before.1 now.1 zero (omega arith)
-                c.failed_to_fill.ensures (omega (arith, long))),
-          );
-      fault = ap is_interruption c.failed_to_fill.ensures.0;
-      no_later = omega (arith, read.law.turns, c.reads.invariant.turns);
+      told = law.told;
+      fault = law.fault;
+      no_later = law.turns;
       turn = tt;
-      store = λ t.
-          let before = c.reads.invariant.store t in
-          let now = read.law.store before.0 in
-          let tells = g.met.R.Read.store_tells _ before.0.0 in
-          (now.0, now.1 ∙ before.1, moved_read _ _ _ _ (omega (arith, read.law.bound)) (read.law.told tells.0).1.0 now.2 before.2);
+      store = law.store;
       behind = tt;
       failed = (
         read.rest (omega arith),
@@ -226,20 +191,21 @@ returns-in-Ok-eq0 g c =
 pub returns : goal.returns
 returns g c =
     let all = c.reads.invariant in
+    let law = exact_all all.law c.reads-test.false in
     let whole : take c.reads.at c.reads.buf ≡ c.reads.buf = take_all c.reads.at c.reads.buf (omega arith) in
     let full : c.reads.at ≡ length c.args.buf.now = omega arith in
     record {
-      told = λ t. let now = all.told t in (now.0, taken_whole c.reads.at c.reads.buf now.1 (omega arith) (omega arith));
-      fault = tt;
-      no_later = all.turns;
-      turn = all.turn (omega (arith, full, c.requires));
-      store = all.store;
+      told = law.told;
+      fault = law.fault;
+      no_later = law.turns;
+      turn = law.turn (omega (arith, c.requires));
+      store = law.store;
       behind = rw whole at all.behind (omega (arith, full, c.requires));
       failed = tt;
       sound = all.sound;
       asks = λ m f.
           let now = all.cost m f in
-          (now.0, omega (arith, now.1, exact_end (all.filling f).1 (omega arith) (omega (arith, c.requires))));
+          (now.0, omega (arith, now.1, exact_ends (all.filling f).1 (omega arith) (omega (arith, c.requires))));
       left = λ f.
           let now = all.filling f in
           let to_come = length-events (reader_held c.reads.self) (g.R.Read.events (reader_inner c.reads.self)) in

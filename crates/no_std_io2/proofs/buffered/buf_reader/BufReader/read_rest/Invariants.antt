@@ -1,31 +1,20 @@
 -- An exact read ends with its reader's turns, and what it filled is what it took.
-use Rattle.std.proofs.Common.{◌≡◌, ◌≤◌, ◌<◌, ◌+◌, ◌-◌, length, take, min}
-use Rattle.no_std_io2_base.proofs.ReadToEndTaken.{Taken}
+use Rattle.std.proofs.Common.{◌≡◌, ◌<◌, ◌+◌, ◌-◌, length, take, min}
+use Rattle.no_std_io2_base.proofs.ReadExactLoop.{ExactSoFar}
 use Rattle.no_std_io2.specs.BufReader.{reader_held, reader_behind, reader_inner, reader_events, reader_turns}
-use Rattle.no_std_io2.specs.BufReader.{reader_has_store, reader_is_sound, reader_position}
+use Rattle.no_std_io2.specs.BufReader.{reader_is_sound}
 use Rattle.no_std_io2.specs.Buffer.{IsEnd}
 use Rattle.no_std_io2.proofs.BufReaderExact.{Exact, behind_so_far}
+use Rattle.no_std_io2.proofs.BufReaderLends.{buf_reader}
 use Rattle.no_std_io2.proofs.buffered.buf_reader.BufReader.read_rest.Given as goal
 
 abbrev pub invariant-reads : goal.invariant-reads
 invariant-reads g l =
     record {
-      long : length l.buf ≡ length l.fn.buf;
-      within : l.at ≤ length l.buf;
+      law : ExactSoFar (buf_reader g.R.Stored g.R.Read) l.fn.self l.fn.buf l.at l.buf l.self;
       none : l.at < length l.buf → length (reader_held l.self) ≡ 0;
-      turns : reader_turns g.R.Read.turns l.self ≤ reader_turns g.R.Read.turns l.fn.self;
-      turn : 0 < l.at → reader_turns g.R.Read.turns l.self < reader_turns g.R.Read.turns l.fn.self;
       behind : length (reader_held l.fn.self) < l.at
           → IsEnd (take l.at l.buf) (reader_behind l.self) × (length (reader_behind l.self) < g.row.S);
-      told : g.R.Read.tells (reader_inner l.fn.self)
-          → g.R.Read.tells (reader_inner l.self)
-          × Taken (reader_events g.R.Read.events l.fn.self) (length l.fn.buf) (take l.at l.buf)
-          (reader_events g.R.Read.events l.self);
-      store : reader_has_store g.R.Stored.has_store g.R.Stored.position g.R.Stored.content l.fn.self
-          → reader_has_store g.R.Stored.has_store g.R.Stored.position g.R.Stored.content l.self
-          × (g.R.Stored.content (reader_inner l.self) ≡ g.R.Stored.content (reader_inner l.fn.self))
-          × (reader_position g.R.Stored.position l.self + length (reader_events g.R.Read.events l.self)
-          ≡ reader_position g.R.Stored.position l.fn.self + length (reader_events g.R.Read.events l.fn.self));
       sound : reader_is_sound g.R.Stored.has_store g.R.Stored.position g.R.Stored.content l.fn.self
           → reader_is_sound g.R.Stored.has_store g.R.Stored.position g.R.Stored.content l.self;
       filling : g.R.Read.is_filling (reader_inner l.fn.self) → g.R.Read.is_filling (reader_inner l.self)
