@@ -109,10 +109,7 @@ pub fn play_streams<'a, S: Streams, R: Print>(
 
 /// The first line of a text, and what stands behind it.
 pub fn cut_line(text: &str) -> (&str, &str) {
-    match text.split_once("\n") {
-        Some(both) => both,
-        None => (text, ""),
-    }
+    text.split_once("\n").unwrap_or((text, ""))
 }
 
 // Plays a group: what is made, and behind it the rows.

@@ -138,9 +138,9 @@ fn a_buffered_reader_prints_how_much_it_holds(rt: HostRuntime) -> Result<(), Fai
     Ok(())
 }
 
-// The same of writers: a held line counts each of its bytes.
+// The same of a writer.
 #[test]
-fn buffered_writers_print_how_much_they_hold(rt: HostRuntime) -> Result<(), Fail> {
+fn a_buffered_writer_prints_how_much_it_holds(rt: HostRuntime) -> Result<(), Fail> {
     let alloc = rt.alloc();
     let mut w = BufWriter::<Full, 8>::new(Full);
     assert!(rt; is_debug(alloc, &w, "BufWriter { writer: Full, buffer: 0/8 }")?);
@@ -151,6 +151,13 @@ fn buffered_writers_print_how_much_they_hold(rt: HostRuntime) -> Result<(), Fail
     let mut w = BufWriter::<Full, 300>::new(Full);
     w.write_all(&[7; 270])?;
     assert!(rt; is_debug(alloc, &w, "BufWriter { writer: Full, buffer: 270/300 }")?);
+    Ok(())
+}
+
+// A held line of which not each byte counts.
+#[test]
+fn a_line_writer_prints_how_much_it_holds(rt: HostRuntime) -> Result<(), Fail> {
+    let alloc = rt.alloc();
     let mut w = LineWriter::<Full, 8>::new(Full);
     w.write_all(b"ab")?;
     assert!(rt; is_debug(alloc, &w, "LineWriter { writer: Full, buffer: 2/8 }")?);

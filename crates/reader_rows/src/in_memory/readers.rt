@@ -138,10 +138,10 @@ fn lend_slices(tower: &str, words: &str, player: &mut Player<'_, '_>) -> Made<()
     };
     let two = first.as_bytes().chain(second.as_bytes());
     let three = two.chain(third.as_bytes());
-    match (tower, words.next()) {
-        ("Chain of 3", None) => player.play(&mut Lending { tower: three }),
-        ("Chain of 4", Some(fourth)) => player.play(&mut Lending {
-            tower: three.chain(fourth.as_bytes()),
+    match tower {
+        "Chain of 3" => player.play(&mut Lending { tower: three }),
+        "Chain of 4" => player.play(&mut Lending {
+            tower: three.chain(words.next().unwrap_or("").as_bytes()),
         }),
         _ => return Err(NO_STREAM),
     }

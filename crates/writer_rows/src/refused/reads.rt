@@ -15,9 +15,9 @@ use linked_list_allocator::LocalHeap;
 use no_std_io2::io::{BufRead, ErrorKind, Read, Result};
 use std::alloc::Global;
 
-const TEXT: &[u8] = &[b'a'; 1000];
+const TEXT: &[u8] = &[b'a'; 600];
 
-const DOTS: &[u8] = &[b'.'; 1000];
+const DOTS: &[u8] = &[b'.'; 16];
 
 /// A vector over a heap, and how many bytes are to come.
 #[derive(Clone, Copy)]
