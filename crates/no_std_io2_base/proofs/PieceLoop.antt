@@ -1,6 +1,7 @@
 -- A loop that reads one piece, by what each of its turns does, for any reader that lends.
 use Rattle.std.proofs.Common.{◌≡◌, ℕ, ◌+◌, ◌-◌, ◌<◌, ◌≤◌, Bool, true, false, List, [], ◌++◌, Result, Ok, Err, Vec, vec_len}
-use Rattle.std.proofs.Common.{vec_capacity, length, take, drop, refl, sym, ap, ap₂, ◌∙◌, arith, append-nil, le_refl, le_trans, lt_of_le_of_lt}
+use Rattle.std.proofs.Common.{vec_capacity, length, take, drop, refl, sym, ap, ap₂, ◌∙◌, arith, append-nil, le_refl, le_trans}
+use Rattle.std.proofs.Common.{lt_of_le_of_lt}
 use Rattle.std.specs.Borrow.{Bor}
 use Rattle.no_std_io2_base.specs.declared.error.Error.{Error}
 use Rattle.no_std_io2_base.specs.Errors.{IsInterruption, IsFault, IsOutOfMemory}

@@ -4,14 +4,12 @@ ghost use Rattle.std.specs.Prelude.{ℕ, List, Result, IsOkAnd, OnOk, OnErr, vec
 ghost use Rattle.std.specs.Prelude.{string_bytes, string_len, string_capacity};
 ghost use Rattle.no_std_io2.specs.Buffer.{IsEnd};
 ghost use Rattle.std.specs.Borrow.{sem};
-ghost use Rattle.no_std_io2_base.specs.BufRead.{FillBufLaw, AfterLoan, ConsumeLaw, ReadUntilLaw, ReadLineLaw};
+ghost use Rattle.no_std_io2_base.specs.BufRead.{FillBufLaw, AfterLoan, ConsumeLaw, ReadUntilLaw, ReadLineLaw, Rests};
 ghost use Rattle.no_std_io2_base.specs.declared.error.Error.{Error};
 ghost use Rattle.no_std_io2_base.specs.Pieces.{AnswersLine, EndsPiece};
-ghost use Rattle.no_std_io2_base.specs.BufRead.{Rests, IsNotEmpty, Lends, LendsFrom, LendingTurn, reads_needed};
 ghost use Rattle.no_std_io2.specs.contracts.buffered.buf_reader.BufReader.{the_row as reader-row};
-ghost use Rattle.no_std_io2.specs.BufReader.{reader_held, reader_behind, reader_inner, reader_events, reader_turns};
-ghost use Rattle.no_std_io2.specs.BufReader.{reader_has_store, reader_is_sound, reader_position, reader_lent_length, TakesHeld};
-ghost use Rattle.no_std_io2.specs.BufReader.{TakesHeldLine};
+ghost use Rattle.no_std_io2.specs.BufReader.{reader_held, reader_behind, reader_inner, reader_is_sound};
+ghost use Rattle.no_std_io2.specs.BufReader.{reader_lent_length, TakesHeld, TakesHeldLine};
 
 use super::BufReader;
 use super::pieces::find_piece;

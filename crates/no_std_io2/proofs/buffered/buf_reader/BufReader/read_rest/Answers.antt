@@ -4,7 +4,8 @@ use Rattle.std.proofs.Common.{take_all}
 use Rattle.no_std_io2_base.proofs.ReadParts.{take-put_mid}
 use Rattle.no_std_io2_base.proofs.ReadExactLoop.{exact_read, exact_interruption, exact_end, exact_fault, exact_all}
 use Rattle.no_std_io2.specs.BufReader.{reader_held, reader_behind, reader_inner, reader_events}
-use Rattle.no_std_io2.proofs.BufReaderExact.{exact_begins, exact_first, exact_read as exact_reads, exact_end as exact_ends, exact_short, exact_left-end}
+use Rattle.no_std_io2.proofs.BufReaderExact.{exact_begins, exact_first, exact_read as exact_reads, exact_end as exact_ends}
+use Rattle.no_std_io2.proofs.BufReaderExact.{exact_short, exact_left-end}
 use Rattle.no_std_io2.proofs.BufReaderExact.{exact_left-full, taken_first, nothing_read, length-events, no_bytes}
 use Rattle.no_std_io2.proofs.BufReaderExact.{moved_length, read_ends, read_behind, none_behind, gives_to_come}
 use Rattle.no_std_io2.proofs.BufReaderLends.{buf_tells}
@@ -149,7 +150,8 @@ pub returns-in-Ok-eq0 : goal.returns-in-Ok-eq0
 returns-in-Ok-eq0 g c =
     let old = c.reads.self in
     let law = exact_end c.reads.invariant.law (buf_tells g.R.Stored g.R.Read g.met.R.Read.store_tells)
-    c.reads-test.true c.read.auto.buf {e = c.failed_to_fill.result} c.read.ensures.law c.in-Ok-eq0.is c.in-Ok-eq0.field-0-test c.failed_to_fill.ensures in
+    c.reads-test.true c.read.auto.buf {e = c.failed_to_fill.result} c.read.ensures.law c.in-Ok-eq0.is c.in-Ok-eq0.field-0-test
+    c.failed_to_fill.ensures in
     let read = rw c.in-Ok-eq0.is at c.read.ensures in
     let zero : c.in-Ok-eq0.field-0 ≡ 0 = omega arith in
     let empty : length (reader_held old) ≡ 0 = c.reads.invariant.none (omega arith) in

@@ -24,7 +24,18 @@ returns-then-is_whole g c =
       limit = omega (arith, before.limit, filled.limit, dropped.limit, appended.len, is);
       at_limit = λ none.
           let here : take_limit c.pieces.self ≡ 0 = omega (arith, before.limit, before.law.grows, none) in (
-            omega (arith, before.limit, before.law.grows, none, c.len.ensures, c.len-start.ensures, filled.limit, dropped.limit, appended.len, is),
+            omega (
+              arith,
+              before.limit,
+              before.law.grows,
+              none,
+              c.len.ensures,
+              c.len-start.ensures,
+              filled.limit,
+              dropped.limit,
+              appended.len,
+              is,
+            ),
             dropped.at_limit (filled.limit ∙ here) ∙ filled.left_alone here ∙ before.at_limit none,
           );
       along = λ t.
