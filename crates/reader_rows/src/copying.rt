@@ -1,12 +1,14 @@
-// `copy` from one recorder to another, played by rows of `copy`.
+// `copy` from a reader to a writer, played by rows of `copy`.
 //
-// The columns behind a call are its answer, and the calls that reached the two devices; between them, where no names are noted,
-// the bytes out and what the levels of the reader hold.
-use crate::devices::{Devices, NO_STREAM};
+// The columns behind a call are its answer, the bytes out, what stands at each level of the reader, and the calls that reached the
+// two devices; where names are noted the calls alone, and in memory none.
+use crate::devices::{Columns, Devices, NO_STREAM};
+use crate::in_memory::scripts::{new_feed, new_text, new_writer};
 use crate::levels::Levels;
-use io_rows::calls::{Call, show_out};
+use io_bench::{Faulty, Feed};
+use io_rows::calls::Call;
 use io_rows::fault::Made;
-use io_rows::line::Line;
+use io_rows::line::{Line, unescape};
 use io_rows::player::{Player, Stream};
 use io_rows::recorder::Recorder;
 use no_std_io2::io::{BufReader, Read, Write, copy};
@@ -17,11 +19,11 @@ use std::alloc::Global;
 struct Copying<'j, R: Drop, W: Drop, const S: usize> {
     from: R,
     to: W,
-    is_noted: bool,
     devices: Devices<'j>,
 }
 
-impl<'j, R: Read + Levels + Drop, W: Write + Drop, const S: usize> Stream for Copying<'j, R, W, S> {
+impl<'j, R: Read + Levels + Drop, W: Write + Levels + Drop, const S: usize> Stream
+    for Copying<'j, R, W, S> {
     fn play(&mut self, _alloc: Global, call: &Call<'_>, line: &mut Line) {
         // The second is what `copy` asks of S.
         if call.word != "copy" || S >= 1 << 63 {
@@ -29,15 +31,16 @@ impl<'j, R: Read + Levels + Drop, W: Write + Drop, const S: usize> Stream for Co
             return;
         }
         line.position(&copy::<R, W, S>(&mut self.from, &mut self.to));
-        if !self.is_noted {
-            show_out(self.devices.journal, line);
-            self.from.show(line);
-        }
-        self.devices.show(line);
+        self.devices.show_copied(&self.from, &self.to, line);
     }
 }
 
-pub fn lend(name: &str, devices: Devices<'_>, player: &mut Player<'_, '_>) -> Made<()> {
+pub fn lend(
+    name: &str,
+    words: &str,
+    devices: Devices<'_>,
+    player: &mut Player<'_, '_>,
+) -> Made<()> {
     match name {
         "4 noted" => lend_noted(devices, player),
         "0 Device" => lend_plain::<0>(devices, player),
@@ -47,27 +50,26 @@ pub fn lend(name: &str, devices: Devices<'_>, player: &mut Player<'_, '_>) -> Ma
         "300 Device" => lend_plain::<300>(devices, player),
         "2 BufReader 3" => lend_buffered::<3, 2>(devices, player),
         "0 BufReader 1" => lend_buffered::<1, 0>(devices, player),
-        _ => Err(NO_STREAM),
+        _ => lend_in_memory(name, words, devices, player),
     }
 }
 
 fn lend_noted(devices: Devices<'_>, player: &mut Player<'_, '_>) -> Made<()> {
-    let (from, to) = (devices.noted()?, devices.noted()?);
     player.play(&mut Copying::<_, _, 4> {
-        from,
-        to,
-        is_noted: true,
-        devices,
+        from: devices.noted()?,
+        to: devices.noted()?,
+        devices: Devices {
+            columns: Columns::Calls,
+            ..devices
+        },
     });
     Ok(())
 }
 
 fn lend_plain<const S: usize>(devices: Devices<'_>, player: &mut Player<'_, '_>) -> Made<()> {
-    let (from, to) = (devices.first()?, devices.first()?);
     player.play(&mut Copying::<_, _, S> {
-        from,
-        to,
-        is_noted: false,
+        from: devices.first()?,
+        to: devices.first()?,
         devices,
     });
     Ok(())
@@ -83,9 +85,38 @@ fn lend_buffered<const B: usize, const S: usize>(
         player.play(&mut Copying::<_, _, S> {
             from: BufReader::<Recorder, B>::new(from),
             to,
-            is_noted: false,
             devices,
         });
+    }
+    Ok(())
+}
+
+// To a vector, through a writer that fails as it is told.
+fn lend_in_memory(
+    name: &str,
+    words: &str,
+    devices: Devices<'_>,
+    player: &mut Player<'_, '_>,
+) -> Made<()> {
+    let (from, to) = words.split_once(" to ").unwrap_or((words, ""));
+    let to = new_writer(player.alloc, to)?;
+    match name {
+        "4 Cursor" => player.play(&mut Copying::<_, Faulty<Vec<u8>>, 4> {
+            from: new_text(player.alloc, from)?,
+            to,
+            devices,
+        }),
+        "0 &[u8]" => player.play(&mut Copying::<_, Faulty<Vec<u8>>, 0> {
+            from: unescape(player.alloc, from)?.as_slice(),
+            to,
+            devices,
+        }),
+        "0 BufReader 1 Feed" => player.play(&mut Copying::<_, Faulty<Vec<u8>>, 0> {
+            from: BufReader::<Feed, 1>::new(new_feed(player.alloc, from)?),
+            to,
+            devices,
+        }),
+        _ => return Err(NO_STREAM),
     }
     Ok(())
 }

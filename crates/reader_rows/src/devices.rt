@@ -1,5 +1,6 @@
-// The devices of a group, on one journal.
-use io_rows::calls::show_calls;
+// The devices of a group, on one journal, and the columns of its rows.
+use crate::levels::Levels;
+use io_rows::calls::{show_calls, show_out};
 use io_rows::fault::{Fault, Made};
 use io_rows::journal::Journal;
 use io_rows::line::Line;
@@ -11,11 +12,22 @@ use std::rc::Rc;
 
 pub const NO_STREAM: Fault = Fault::Malformed("no such stream");
 
+// The columns behind a call's answer and the bytes that it gave.
+#[derive(Clone, Copy, PartialEq)]
+pub enum Columns {
+    Answers,
+    // The calls that reached the devices.
+    Calls,
+    // What each level holds or has left to give, and those calls.
+    Levels,
+    // What stands at each level of a stream in memory: the bytes behind a buffer's, and a cursor's position, too.
+    Memory,
+}
+
 #[derive(Clone, Copy)]
 pub struct Devices<'j> {
     pub alloc: Global,
-    // The table's first word, which says what columns a row has.
-    pub word: &'j str,
+    pub columns: Columns,
     pub journal: &'j Rc<RefCell<Journal>>,
 }
 
@@ -33,8 +45,40 @@ impl<'j> Devices<'j> {
         Ok(Noted::new(self.first()?, self.journal.clone()?))
     }
 
-    // Prints a column of the calls that reached them.
-    pub fn show(self, line: &mut Line) {
-        show_calls(self.journal, line);
+    // Prints the columns behind a call.
+    pub fn show<T: Levels>(self, tower: &T, line: &mut Line) {
+        if matches!(self.columns, Columns::Levels | Columns::Memory) {
+            tower.show(self.columns, line);
+        }
+        self.show_calls(line);
+    }
+
+    // The calls that reached the devices, where there are such.
+    pub fn show_calls(self, line: &mut Line) {
+        if matches!(self.columns, Columns::Calls | Columns::Levels) {
+            show_calls(self.journal, line);
+        }
+    }
+
+    // The bytes that a writer took, and what stands at each level of the reader.
+    pub fn show_copied<R: Levels, W: Levels>(self, from: &R, to: &W, line: &mut Line) {
+        match self.columns {
+            Columns::Levels => show_out(self.journal, line),
+            Columns::Memory => to.show(self.columns, line),
+            _ => {}
+        }
+        self.show(from, line);
+    }
+
+    // Behind an item the calls, or in memory the item's capacity, where it has one.
+    pub fn show_room(self, capacity: Option<usize>, line: &mut Line) {
+        match (self.columns == Columns::Memory, capacity) {
+            (true, Some(capacity)) => {
+                line.column();
+                line.number(capacity as u64);
+            }
+            (true, None) => line.word(" | -"),
+            _ => self.show_calls(line),
+        }
     }
 }

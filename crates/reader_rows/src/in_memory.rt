@@ -1,16 +1,13 @@
 // Rows of streams in memory, and of scripted devices.
+use crate::devices::{Devices, NO_STREAM};
 use io_rows::fault::Made;
 use io_rows::player::Player;
-use scripts::NO_STREAM;
 
 mod boxes;
-mod copying;
 mod cursors;
-mod items;
-mod levels;
 mod readers;
 mod room;
-mod scripts;
+pub mod scripts;
 mod vectors;
 
 /// Whether a stream of this name is one of these: the first word or the last one says so.
@@ -22,20 +19,21 @@ pub fn has(name: &str) -> bool {
 }
 
 /// Lends the stream of this name: the first word says which columns a row has.
-pub fn lend(name: &str, words: &str, player: &mut Player<'_, '_>) -> Made<()> {
-    let (word, rest) = name.split_once(" ").unwrap_or((name, ""));
+pub fn lend(
+    word: &str,
+    name: &str,
+    words: &str,
+    devices: Devices<'_>,
+    player: &mut Player<'_, '_>,
+) -> Made<()> {
     match word {
-        "cursor" => cursors::lend(rest, words, player),
-        "moved" => cursors::lend_moved(words, player),
-        "reader" => readers::lend(rest, words, player),
-        "boxed" => boxes::lend(rest, words, player),
-        "bytes" => items::lend_bytes(words, player),
-        "split" => items::lend_pieces(words, player),
-        "lines" => items::lend_lines(rest, words, player),
-        "copy" => copying::lend(rest, words, player),
-        "grown" => vectors::lend(rest, words, player),
+        "cursor" => cursors::lend(name, words, player),
+        "moved" => cursors::lend_moved(words, devices, player),
+        "reader" => readers::lend(name, words, devices, player),
+        "boxed" => boxes::lend(name, words, devices, player),
+        "grown" => vectors::lend(name, words, player),
         "room" => {
-            player.play(&mut room::Room { name: rest });
+            player.play(&mut room::Room { name });
             Ok(())
         }
         _ => Err(NO_STREAM),

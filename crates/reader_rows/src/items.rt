@@ -1,17 +1,28 @@
-// The single bytes, pieces and lines of devices, played by rows of `next`.
+// Single bytes, pieces and lines of readers, played by rows of `next`.
 //
-// The columns behind a call are the item, a piece or a line with its kind in front, and the calls that reached the devices.
+// The columns behind a call are the item, a piece or a line with its kind in front, and the calls that reached the devices, or in
+// memory the capacity that a piece or a line has.
 use crate::devices::{Devices, NO_STREAM};
-use crate::reading::show_byte;
+use crate::in_memory::scripts::{cut, new_feed, new_text};
+use crate::streams::show_byte;
+use io_bench::Feed;
 use io_rows::calls::Call;
 use io_rows::fault::Made;
-use io_rows::line::Line;
+use io_rows::line::{Line, unescape};
 use io_rows::player::{Player, Stream};
-use io_rows::recorder::{Name, Recorder};
-use no_std_io2::io::{BufRead, Bytes, Lines, Read, Split};
+use io_rows::recorder::Name;
+use no_std_io2::io::{BufRead, BufReader, Bytes, Lines, Read, Result, Split};
 use std::alloc::Global;
 
-// The single bytes of a tower.
+// Whether a row asks for an item.
+fn is_next(call: &Call<'_>, line: &mut Line) -> bool {
+    if call.word != "next" {
+        line.malformed("no such call");
+        return false;
+    }
+    true
+}
+
 #[derive(Drop)]
 struct Singles<'j, T: Drop> {
     bytes: Bytes<T>,
@@ -20,109 +31,146 @@ struct Singles<'j, T: Drop> {
 
 impl<'j, T: Read + Drop> Stream for Singles<'j, T> {
     fn play(&mut self, _alloc: Global, call: &Call<'_>, line: &mut Line) {
-        if call.word == "next" {
+        if is_next(call, line) {
             show_byte(self.bytes.next(), line);
-            self.devices.show(line);
-        } else {
-            line.malformed("no such call");
+            self.devices.show_calls(line);
         }
     }
 }
 
-// The pieces that commas part.
+// Prints a piece or a line, and the columns behind it.
+fn show_item(kind: &str, item: Option<Result<Vec<u8>>>, devices: Devices<'_>, line: &mut Line) {
+    let mut capacity = None;
+    match item {
+        None => line.word("-"),
+        Some(Ok(bytes)) => {
+            line.word(kind);
+            line.bytes(&bytes);
+            capacity = Some(bytes.capacity());
+        }
+        Some(Err(e)) => line.error(&e),
+    }
+    devices.show_room(capacity, line);
+}
+
 #[derive(Drop)]
-struct Pieces<'j> {
-    pieces: Split<Recorder>,
+struct Pieces<'j, T: Drop> {
+    pieces: Split<T>,
     devices: Devices<'j>,
 }
 
-impl<'j> Pieces<'j> {
-    fn next(&mut self, line: &mut Line) {
-        match self.pieces.next() {
-            None => line.word("-"),
-            Some(Ok(piece)) => {
-                line.word("piece ");
-                line.bytes(&piece);
-            }
-            Some(Err(e)) => line.error(&e),
-        }
-    }
-}
-
-impl<'j> Stream for Pieces<'j> {
+impl<'j, T: BufRead + Drop> Stream for Pieces<'j, T> {
     fn play(&mut self, _alloc: Global, call: &Call<'_>, line: &mut Line) {
-        if call.word == "next" {
-            self.next(line);
-            self.devices.show(line);
-        } else {
-            line.malformed("no such call");
+        if is_next(call, line) {
+            show_item("piece ", self.pieces.next(), self.devices, line);
         }
     }
 }
 
-// The lines of a device.
 #[derive(Drop)]
-struct TextLines<'j> {
-    lines: Lines<Recorder>,
+struct TextLines<'j, T: Drop> {
+    lines: Lines<T>,
     devices: Devices<'j>,
 }
 
-impl<'j> TextLines<'j> {
-    fn next(&mut self, line: &mut Line) {
-        match self.lines.next() {
-            None => line.word("-"),
-            Some(Ok(text)) => {
-                line.word("line ");
-                line.bytes(text.as_bytes());
-            }
-            Some(Err(e)) => line.error(&e),
-        }
-    }
-}
-
-impl<'j> Stream for TextLines<'j> {
+impl<'j, T: BufRead + Drop> Stream for TextLines<'j, T> {
     fn play(&mut self, _alloc: Global, call: &Call<'_>, line: &mut Line) {
-        if call.word == "next" {
-            self.next(line);
-            self.devices.show(line);
-        } else {
-            line.malformed("no such call");
+        if is_next(call, line) {
+            let item = match self.lines.next() {
+                None => None,
+                Some(Ok(text)) => Some(Ok(text.into_bytes())),
+                Some(Err(e)) => Some(Err(e)),
+            };
+            show_item("line ", item, self.devices, line);
         }
     }
 }
 
-pub fn lend(tower: &str, devices: Devices<'_>, player: &mut Player<'_, '_>) -> Made<()> {
-    let device = devices.first()?;
-    match devices.word {
-        "split" => player.play(&mut Pieces {
-            pieces: device.split(player.alloc, b','),
-            devices,
-        }),
-        "lines" => player.play(&mut TextLines {
-            lines: device.lines(player.alloc),
-            devices,
-        }),
-        _ => lend_bytes(tower, device, devices, player)?,
-    }
-    Ok(())
-}
-
-fn lend_bytes(
+pub fn lend_bytes(
     tower: &str,
-    device: Recorder,
+    words: &str,
     devices: Devices<'_>,
     player: &mut Player<'_, '_>,
 ) -> Made<()> {
     match tower {
         "Device" => player.play(&mut Singles {
-            bytes: device.bytes(),
+            bytes: devices.first()?.bytes(),
             devices,
         }),
         "Chain" => player.play(&mut Singles {
-            bytes: device.chain(devices.recorder(Name::Second)?).bytes(),
+            bytes: devices
+                .first()?
+                .chain(devices.recorder(Name::Second)?)
+                .bytes(),
+            devices,
+        }),
+        "Feed" => player.play(&mut Singles {
+            bytes: new_feed(player.alloc, words)?.bytes(),
             devices,
         }),
         _ => return Err(NO_STREAM),
     }
+    Ok(())
+}
+
+// The pieces that commas part, of a text those that each `3` does.
+pub fn lend_pieces(
+    tower: &str,
+    words: &str,
+    devices: Devices<'_>,
+    player: &mut Player<'_, '_>,
+) -> Made<()> {
+    match tower {
+        "Device" => player.play(&mut Pieces {
+            pieces: devices.first()?.split(player.alloc, b','),
+            devices,
+        }),
+        "Cursor" => player.play(&mut Pieces {
+            pieces: new_text(player.alloc, words)?.split(player.alloc, b'3'),
+            devices,
+        }),
+        _ => return Err(NO_STREAM),
+    }
+    Ok(())
+}
+
+pub fn lend_lines(
+    tower: &str,
+    words: &str,
+    devices: Devices<'_>,
+    player: &mut Player<'_, '_>,
+) -> Made<()> {
+    match tower {
+        "Device" => player.play(&mut TextLines {
+            lines: devices.first()?.lines(player.alloc),
+            devices,
+        }),
+        "Cursor" => player.play(&mut TextLines {
+            lines: new_text(player.alloc, words)?.lines(player.alloc),
+            devices,
+        }),
+        "BufReader 2 Feed" => {
+            let reader = BufReader::<Feed, 2>::new(new_feed(player.alloc, words)?);
+            player.play(&mut TextLines {
+                lines: reader.lines(player.alloc),
+                devices,
+            });
+        }
+        "Chain &[u8] &[u8]" => lend_both(words, devices, player)?,
+        _ => return Err(NO_STREAM),
+    }
+    Ok(())
+}
+
+// The lines of two slices.
+fn lend_both(words: &str, devices: Devices<'_>, player: &mut Player<'_, '_>) -> Made<()> {
+    let (first, second) = cut(words);
+    let first = unescape(player.alloc, first)?;
+    let second = unescape(player.alloc, second)?;
+    let both = first.as_slice().chain(second.as_slice());
+    player.play(&mut TextLines {
+        lines: both.lines(player.alloc),
+        devices,
+    });
     Ok(())
 }

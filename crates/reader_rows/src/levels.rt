@@ -1,11 +1,14 @@
-// What each level of a reader holds or has left to give, the outer one first: a column for each that has such.
+// What stands at each level of a reader, the outer one first: a column for each that has such.
+use crate::devices::Columns;
+use crate::in_memory::scripts::show_events;
+use io_bench::{Faulty, Feed, Tally};
 use io_rows::line::Line;
 use io_rows::noted::Noted;
 use io_rows::recorder::Recorder;
-use no_std_io2::io::{BufRead, BufReader, Chain, Cursor, Take};
+use no_std_io2::io::{BufRead, BufReader, Chain, Cursor, Read, Take};
 
 pub trait Levels {
-    fn show(&self, _line: &mut Line) {}
+    fn show(&self, _columns: Columns, _line: &mut Line) {}
 
     // Sets the limit, where there is one.
     fn limit(&mut self, _limit: usize) {}
@@ -15,26 +18,71 @@ impl Levels for Recorder {}
 
 impl Levels for Noted<Recorder> {}
 
-impl Levels for Cursor<Vec<u8>> {}
-
-impl Levels for Box<Recorder> {}
+// Nothing of what is boxed as an object.
+impl Levels for Box<dyn Read + Drop> {}
 
 impl Levels for Box<dyn BufRead + Drop> {}
 
-// What a box has that is no device.
-pub type Both = Chain<Box<Recorder>, Recorder>;
+impl<R: Levels> Levels for Box<R> {
+    fn show(&self, columns: Columns, line: &mut Line) {
+        R::show(self, columns, line);
+    }
+}
 
-impl Levels for Box<Both> {
-    fn show(&self, line: &mut Line) {
-        Both::show(self, line);
+impl<'a, R: Levels> Levels for &'a mut R {
+    fn show(&self, columns: Columns, line: &mut Line) {
+        R::show(self, columns, line);
+    }
+}
+
+// What is left.
+impl<'a> Levels for &'a [u8] {
+    fn show(&self, _columns: Columns, line: &mut Line) {
+        line.column();
+        line.bytes(self);
+    }
+}
+
+// The position of a text in memory.
+impl Levels for Cursor<Vec<u8>> {
+    fn show(&self, columns: Columns, line: &mut Line) {
+        if columns == Columns::Memory {
+            line.column();
+            line.number(self.position());
+        }
+    }
+}
+
+// The events that are left.
+impl Levels for Feed {
+    fn show(&self, _columns: Columns, line: &mut Line) {
+        line.column();
+        show_events(self.left(), line);
+    }
+}
+
+// The bytes that it took.
+impl Levels for Faulty<Vec<u8>> {
+    fn show(&self, _columns: Columns, line: &mut Line) {
+        line.column();
+        line.bytes(self.get_ref());
+    }
+}
+
+// How often it was read.
+impl<R: Levels + Drop> Levels for Tally<R> {
+    fn show(&self, columns: Columns, line: &mut Line) {
+        line.column();
+        line.number(self.reads());
+        self.get_ref().show(columns, line);
     }
 }
 
 impl<A: Levels + Drop, B: Levels + Drop> Levels for Chain<A, B> {
-    fn show(&self, line: &mut Line) {
+    fn show(&self, columns: Columns, line: &mut Line) {
         let (first, second) = self.get_ref();
-        first.show(line);
-        second.show(line);
+        first.show(columns, line);
+        second.show(columns, line);
     }
 
     fn limit(&mut self, limit: usize) {
@@ -45,10 +93,10 @@ impl<A: Levels + Drop, B: Levels + Drop> Levels for Chain<A, B> {
 
 // Its limit.
 impl<R: Levels + Drop> Levels for Take<R> {
-    fn show(&self, line: &mut Line) {
+    fn show(&self, columns: Columns, line: &mut Line) {
         line.column();
         line.number(self.limit());
-        self.get_ref().show(line);
+        self.get_ref().show(columns, line);
     }
 
     fn limit(&mut self, limit: usize) {
@@ -56,11 +104,15 @@ impl<R: Levels + Drop> Levels for Take<R> {
     }
 }
 
-// The bytes held.
+// The bytes held, and in memory those behind.
 impl<R: Levels + Drop, const S: usize> Levels for BufReader<R, S> {
-    fn show(&self, line: &mut Line) {
+    fn show(&self, columns: Columns, line: &mut Line) {
+        if columns == Columns::Memory {
+            line.column();
+            line.bytes(self.behind());
+        }
         line.column();
         line.bytes(self.buffer());
-        self.get_ref().show(line);
+        self.get_ref().show(columns, line);
     }
 }

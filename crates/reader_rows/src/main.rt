@@ -10,8 +10,9 @@ mod levels;
 mod moving;
 mod noted;
 mod reading;
+mod streams;
 
-use devices::{Devices, NO_STREAM};
+use devices::{Columns, Devices, NO_STREAM};
 use io_rows::calls::new_journal;
 use io_rows::fault::Made;
 use io_rows::files::play_files;
@@ -23,10 +24,33 @@ struct Readers;
 
 impl Streams for Readers {
     fn lend(name: &str, words: &str, player: &mut Player<'_, '_>) -> Made<()> {
-        if in_memory::has(name) {
-            in_memory::lend(name, words, player)
+        let (word, tower) = name.split_once(" ").unwrap_or((name, ""));
+        let columns = match word {
+            _ if in_memory::has(name) => Columns::Memory,
+            "answers" => Columns::Answers,
+            "noted" => Columns::Calls,
+            _ => Columns::Levels,
+        };
+        let script = if columns == Columns::Memory {
+            ""
         } else {
-            lend_recorded(name, words, player)
+            words
+        };
+        let journal = new_journal(player.alloc, script)?;
+        let devices = Devices {
+            alloc: player.alloc,
+            columns,
+            journal: &journal,
+        };
+        match word {
+            "bytes" => items::lend_bytes(tower, words, devices, player),
+            "split" => items::lend_pieces(tower, words, devices, player),
+            "lines" => items::lend_lines(tower, words, devices, player),
+            "copy" => copying::lend(tower, words, devices, player),
+            _ if columns == Columns::Memory => {
+                in_memory::lend(word, tower, words, devices, player)
+            }
+            _ => lend_recorded(word, tower, devices, player),
         }
     }
 
@@ -36,22 +60,18 @@ impl Streams for Readers {
     }
 }
 
-// Over devices that write down each call: the first word says which columns a row has.
-fn lend_recorded(name: &str, words: &str, player: &mut Player<'_, '_>) -> Made<()> {
-    let (word, tower) = name.split_once(" ").unwrap_or((name, ""));
-    let journal = new_journal(player.alloc, words)?;
-    let devices = Devices {
-        alloc: player.alloc,
-        word,
-        journal: &journal,
-    };
+// Over devices that write down each call.
+fn lend_recorded(
+    word: &str,
+    tower: &str,
+    devices: Devices<'_>,
+    player: &mut Player<'_, '_>,
+) -> Made<()> {
     match word {
         "reader" | "answers" => reading::lend(tower, devices, player),
         "noted" => noted::lend(tower, devices, player),
         "seeker" => reading::lend_seeker(devices, player),
         "moved" => moving::lend(devices, player),
-        "bytes" | "split" | "lines" => items::lend(tower, devices, player),
-        "copy" => copying::lend(tower, devices, player),
         _ => Err(NO_STREAM),
     }
 }

@@ -70,7 +70,7 @@ impl<'j> Stream for Moving<'j> {
         line.bytes(self.reader.behind());
         line.column();
         line.bytes(self.reader.buffer());
-        self.devices.show(line);
+        self.devices.show_calls(line);
     }
 }
 

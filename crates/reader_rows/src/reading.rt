@@ -1,55 +1,16 @@
-// Readers over recorders, played by rows of calls.
-//
-// The columns behind a call are its answer and the bytes that it gave, and but for `answers` what each level holds or has left to
-// give, and the calls that reached the devices.
+// Readers over recorders.
 use crate::devices::{Devices, NO_STREAM};
-use crate::levels::{Both, Levels};
-use io_rows::calls::{Call, make_seek};
+use crate::in_memory::scripts::new_text;
+use crate::streams::{Lending, Seeking};
 use io_rows::fault::Made;
-use io_rows::line::{Line, unescape};
-use io_rows::player::{Player, Stream};
-use io_rows::reads::make_lend;
+use io_rows::player::Player;
 use io_rows::recorder::{Name, Recorder};
-use no_std_io2::io::{BufRead, BufReader, Chain, Cursor, Read, Result};
-use std::alloc::Global;
-
-// A single byte, and a dash at the end.
-pub fn show_byte(item: Option<Result<u8>>, line: &mut Line) {
-    match item {
-        None => line.word("-"),
-        Some(Ok(byte)) => line.bytes(&[byte]),
-        Some(Err(e)) => line.error(&e),
-    }
-}
-
-// Beside the calls of a reader `limit N` sets a limit, and `next` gives a single byte.
-#[derive(Drop)]
-struct Reading<'j, T: Drop> {
-    tower: T,
-    devices: Devices<'j>,
-}
-
-impl<'j, T: BufRead + Levels + Drop> Stream for Reading<'j, T> {
-    fn play(&mut self, alloc: Global, call: &Call<'_>, line: &mut Line) {
-        match call.word {
-            "limit" => {
-                self.tower.limit(call.number(line));
-                line.word("-");
-            }
-            "next" => show_byte(self.tower.by_ref().bytes().next(), line),
-            _ => make_lend(alloc, &mut self.tower, call, line),
-        }
-        if self.devices.word != "answers" {
-            self.tower.show(line);
-            self.devices.show(line);
-        }
-    }
-}
+use no_std_io2::io::{BufRead, BufReader, Chain, Read};
 
 pub fn lend(tower: &str, devices: Devices<'_>, player: &mut Player<'_, '_>) -> Made<()> {
     let device = devices.first()?;
     match tower {
-        "Device" => player.play(&mut Reading {
+        "Device" => player.play(&mut Lending {
             tower: device,
             devices,
         }),
@@ -58,11 +19,11 @@ pub fn lend(tower: &str, devices: Devices<'_>, player: &mut Player<'_, '_>) -> M
         "BufReader 1" => lend_buffered::<1>(device, devices, player),
         "BufReader 4" => lend_buffered::<4>(device, devices, player),
         "BufReader 300" => lend_buffered::<300>(device, devices, player),
-        "Take" => player.play(&mut Reading {
+        "Take" => player.play(&mut Lending {
             tower: device.take(2),
             devices,
         }),
-        "Take BufReader 1" => player.play(&mut Reading {
+        "Take BufReader 1" => player.play(&mut Lending {
             tower: BufReader::<Recorder, 1>::new(device).take(2),
             devices,
         }),
@@ -73,13 +34,13 @@ pub fn lend(tower: &str, devices: Devices<'_>, player: &mut Player<'_, '_>) -> M
 
 fn lend_box(device: Recorder, devices: Devices<'_>, player: &mut Player<'_, '_>) -> Made<()> {
     let tower = Box::new(player.alloc, device)?;
-    player.play(&mut Reading { tower, devices });
+    player.play(&mut Lending { tower, devices });
     Ok(())
 }
 
 fn lend_object(device: Recorder, devices: Devices<'_>, player: &mut Player<'_, '_>) -> Made<()> {
     let tower: Box<dyn BufRead + Drop> = Box::new(player.alloc, device)?;
-    player.play(&mut Reading { tower, devices });
+    player.play(&mut Lending { tower, devices });
     Ok(())
 }
 
@@ -91,7 +52,7 @@ fn lend_buffered<const S: usize>(
 ) {
     if S > 0 && S < 1 << 32 {
         let tower = BufReader::<Recorder, S>::new(device);
-        player.play(&mut Reading { tower, devices });
+        player.play(&mut Lending { tower, devices });
     }
 }
 
@@ -104,11 +65,11 @@ fn lend_chain(
 ) -> Made<()> {
     let second = devices.recorder(Name::Second)?;
     match tower {
-        "Chain" => player.play(&mut Reading {
+        "Chain" => player.play(&mut Lending {
             tower: device.chain(second),
             devices,
         }),
-        "Chain Take" => player.play(&mut Reading {
+        "Chain Take" => player.play(&mut Lending {
             tower: device.take(2).chain(second),
             devices,
         }),
@@ -116,7 +77,11 @@ fn lend_chain(
         "BufReader 4 Chain" => lend_above::<4>(device.chain(second), devices, player),
         "Box Chain" => lend_both(device, second, devices, player)?,
         "Chain Chain" => lend_three(device, second, devices, player)?,
-        "Chain Text" => lend_text(device, devices, player)?,
+        // what reaches the text is no device's
+        "Chain Text" => player.play(&mut Lending {
+            tower: device.chain(new_text(player.alloc, "456789")?),
+            devices,
+        }),
         _ => return Err(NO_STREAM),
     }
     Ok(())
@@ -130,7 +95,7 @@ fn lend_above<const S: usize>(
 ) {
     if S > 0 && S < 1 << 32 {
         let tower = BufReader::<Chain<Recorder, Recorder>, S>::new(pair);
-        player.play(&mut Reading { tower, devices });
+        player.play(&mut Lending { tower, devices });
     }
 }
 
@@ -140,9 +105,9 @@ fn lend_both(
     devices: Devices<'_>,
     player: &mut Player<'_, '_>,
 ) -> Made<()> {
-    let both: Both = Box::new(player.alloc, first)?.chain(second);
+    let both = Box::new(player.alloc, first)?.chain(second);
     let tower = Box::new(player.alloc, both)?;
-    player.play(&mut Reading { tower, devices });
+    player.play(&mut Lending { tower, devices });
     Ok(())
 }
 
@@ -154,37 +119,16 @@ fn lend_three(
 ) -> Made<()> {
     let third = devices.recorder(Name::Second)?;
     let tower = first.chain(second.chain(third));
-    player.play(&mut Reading { tower, devices });
+    player.play(&mut Lending { tower, devices });
     Ok(())
 }
 
-// A text stands behind a device: what reaches it is no device's.
-fn lend_text(device: Recorder, devices: Devices<'_>, player: &mut Player<'_, '_>) -> Made<()> {
-    let text = Cursor::new(unescape(player.alloc, "456789")?);
-    let tower = device.chain(text);
-    player.play(&mut Reading { tower, devices });
-    Ok(())
-}
-
-// A buffer of 4 bytes that seeks too.
-#[derive(Drop)]
-struct Seeking<'j> {
-    tower: BufReader<Recorder, 4>,
-    devices: Devices<'j>,
-}
-
-impl<'j> Stream for Seeking<'j> {
-    fn play(&mut self, alloc: Global, call: &Call<'_>, line: &mut Line) {
-        if !make_seek(&mut self.tower, call, line) {
-            make_lend(alloc, &mut self.tower, call, line);
-        }
-        self.tower.show(line);
-        self.devices.show(line);
-    }
-}
-
+/// A buffer of 4 bytes that seeks too.
 pub fn lend_seeker(devices: Devices<'_>, player: &mut Player<'_, '_>) -> Made<()> {
-    let tower = BufReader::<Recorder, 4>::new(devices.first()?);
-    player.play(&mut Seeking { tower, devices });
+    player.play(&mut Seeking {
+        tower: BufReader::<Recorder, 4>::new(devices.first()?),
+        lent: 0,
+        devices,
+    });
     Ok(())
 }

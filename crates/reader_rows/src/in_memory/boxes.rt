@@ -1,6 +1,7 @@
 // Boxed objects, played by rows of calls.
-use super::readers::{Lending, Reading};
-use super::scripts::{NO_STREAM, cut, new_text};
+use super::scripts::{cut, new_text};
+use crate::devices::{Devices, NO_STREAM};
+use crate::streams::{Lending, Reading};
 use io_rows::calls::{Call, make_seek};
 use io_rows::fault::Made;
 use io_rows::line::Line;
@@ -22,13 +23,18 @@ impl Stream for Seeking {
     }
 }
 
-pub fn lend(name: &str, words: &str, player: &mut Player<'_, '_>) -> Made<()> {
+pub fn lend(
+    name: &str,
+    words: &str,
+    devices: Devices<'_>,
+    player: &mut Player<'_, '_>,
+) -> Made<()> {
     match name {
-        "Read" => lend_read(words, player),
-        "BufRead" => lend_buf_read(words, player),
+        "Read" => lend_read(words, devices, player),
+        "BufRead" => lend_buf_read(words, devices, player),
         "Seek" => lend_seek(words, player),
-        "Chain Read Read" => lend_both(words, player),
-        "BufReader 4 Chain Box &mut Take" => lend_tower(words, player),
+        "Chain Read Read" => lend_both(words, devices, player),
+        "BufReader 4 Chain Box &mut Take" => lend_tower(words, devices, player),
         _ => Err(NO_STREAM),
     }
 }
@@ -38,15 +44,15 @@ fn new_box(alloc: Global, words: &str) -> Made<Box<Cursor<Vec<u8>>>> {
     Ok(Box::new(alloc, new_text(alloc, words)?)?)
 }
 
-fn lend_read(words: &str, player: &mut Player<'_, '_>) -> Made<()> {
+fn lend_read(words: &str, devices: Devices<'_>, player: &mut Player<'_, '_>) -> Made<()> {
     let tower: Box<dyn Read + Drop> = new_box(player.alloc, words)?;
-    player.play(&mut Reading { tower });
+    player.play(&mut Reading { tower, devices });
     Ok(())
 }
 
-fn lend_buf_read(words: &str, player: &mut Player<'_, '_>) -> Made<()> {
+fn lend_buf_read(words: &str, devices: Devices<'_>, player: &mut Player<'_, '_>) -> Made<()> {
     let tower: Box<dyn BufRead + Drop> = new_box(player.alloc, words)?;
-    player.play(&mut Lending { tower });
+    player.play(&mut Lending { tower, devices });
     Ok(())
 }
 
@@ -56,24 +62,25 @@ fn lend_seek(words: &str, player: &mut Player<'_, '_>) -> Made<()> {
     Ok(())
 }
 
-fn lend_both(words: &str, player: &mut Player<'_, '_>) -> Made<()> {
+fn lend_both(words: &str, devices: Devices<'_>, player: &mut Player<'_, '_>) -> Made<()> {
     let (first, second) = cut(words);
     let first: Box<dyn Read + Drop> = new_box(player.alloc, first)?;
     let second: Box<dyn Read + Drop> = new_box(player.alloc, second)?;
     player.play(&mut Reading {
         tower: first.chain(second),
+        devices,
     });
     Ok(())
 }
 
 // A buffer of 4 bytes over a boxed object and three bytes of a text that is lent.
-fn lend_tower(words: &str, player: &mut Player<'_, '_>) -> Made<()> {
+fn lend_tower(words: &str, devices: Devices<'_>, player: &mut Player<'_, '_>) -> Made<()> {
     let (first, second) = cut(words);
     let mut second = new_text(player.alloc, second)?.take(3);
     let first: Box<dyn Read + Drop> = new_box(player.alloc, first)?;
     let tower = BufReader::<Chain<Box<dyn Read + Drop>, &mut Take<Cursor<Vec<u8>>>>, 4>::new(
         first.chain(&mut second),
     );
-    player.play(&mut Lending { tower });
+    player.play(&mut Lending { tower, devices });
     Ok(())
 }

@@ -2,14 +2,14 @@
 //
 // The columns behind a call are its answer, for a read the bytes that it gave, the content and the position; of a buffer what
 // stands at each level.
-use super::levels::Levels;
 use super::scripts::new_text;
 use super::vectors::Buffered;
-use io_rows::calls::{Call, make_call, make_seek};
+use crate::devices::Devices;
+use crate::streams::make_seeking_call;
+use io_rows::calls::{Call, make_call};
 use io_rows::fault::Made;
 use io_rows::line::{Line, unescape};
 use io_rows::player::{Player, Stream};
-use io_rows::reads::make_lend;
 use no_std_io2::io::{BufRead, BufReader, BufWriter, Cursor, Seek, Write};
 use std::alloc::Global;
 
@@ -28,18 +28,6 @@ pub fn place_of(call: &Call<'_>, line: &mut Line) -> u64 {
     call.number(line) as u64
 }
 
-// A call of a reader that lends and seeks.
-fn make_read_call<T: BufRead + Seek>(
-    alloc: Global,
-    stream: &mut T,
-    call: &Call<'_>,
-    line: &mut Line,
-) {
-    if !make_seek(stream, call, line) {
-        make_lend(alloc, stream, call, line);
-    }
-}
-
 // A call of a stream that writes too.
 fn make_any_call<T: Write + BufRead + Seek>(
     alloc: Global,
@@ -50,7 +38,7 @@ fn make_any_call<T: Write + BufRead + Seek>(
     if call.word.starts_with("write") || call.word == "flush" {
         make_call(stream, call, line);
     } else {
-        make_read_call(alloc, stream, call, line);
+        make_seeking_call(alloc, stream, call, line);
     }
 }
 
@@ -115,7 +103,7 @@ impl<'a> OnLent<'a> {
             "&[u8]" => {
                 let mut cursor = Cursor::new(self.content.as_slice());
                 cursor.set_position(self.position);
-                make_read_call(alloc, &mut cursor, call, line);
+                make_seeking_call(alloc, &mut cursor, call, line);
                 cursor.position()
             }
             _ => {
@@ -139,11 +127,12 @@ impl<'a> Stream for OnLent<'a> {
 // A buffer of 4 bytes over a text. Beside the calls of a reader and a seeker it has `seek_relative N`, and `place N`, which sets
 // the position of the text below.
 #[derive(Drop)]
-struct Moving {
+struct Moving<'j> {
     reader: BufReader<Text, 4>,
+    devices: Devices<'j>,
 }
 
-impl Stream for Moving {
+impl<'j> Stream for Moving<'j> {
     fn play(&mut self, alloc: Global, call: &Call<'_>, line: &mut Line) {
         match call.word {
             "seek_relative" => match call.rest.parse::<i64>() {
@@ -151,9 +140,9 @@ impl Stream for Moving {
                 Err(_) => line.malformed("no offset behind a call"),
             },
             "place" => self.reader.get_mut().set_position(place_of(call, line)),
-            _ => make_read_call(alloc, &mut self.reader, call, line),
+            _ => make_seeking_call(alloc, &mut self.reader, call, line),
         }
-        self.reader.show(line);
+        self.devices.show(&self.reader, line);
     }
 }
 
@@ -175,8 +164,8 @@ pub fn lend(name: &str, words: &str, player: &mut Player<'_, '_>) -> Made<()> {
     Ok(())
 }
 
-pub fn lend_moved(words: &str, player: &mut Player<'_, '_>) -> Made<()> {
+pub fn lend_moved(words: &str, devices: Devices<'_>, player: &mut Player<'_, '_>) -> Made<()> {
     let reader = BufReader::<Text, 4>::new(new_text(player.alloc, words)?);
-    player.play(&mut Moving { reader });
+    player.play(&mut Moving { reader, devices });
     Ok(())
 }

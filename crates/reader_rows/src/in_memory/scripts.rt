@@ -7,8 +7,6 @@ use io_rows::script::{Answer, parse_answers};
 use no_std_io2::io::Cursor;
 use std::alloc::{AllocError, Global};
 
-pub const NO_STREAM: Fault = Fault::Malformed("no such stream");
-
 // Two texts on both sides of a plus: where there is none the first is empty.
 pub fn cut(words: &str) -> (&str, &str) {
     words.rsplit_once(" + ").unwrap_or(("", words))

@@ -1,6 +1,6 @@
 // Vectors that grow, and a buffer over a cursor on one.
 use super::cursors::{place_of, show};
-use super::scripts::NO_STREAM;
+use crate::devices::NO_STREAM;
 use io_rows::calls::{Call, make_call, make_seek};
 use io_rows::fault::{Fault, Made};
 use io_rows::line::Line;
