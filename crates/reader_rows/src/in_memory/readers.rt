@@ -6,7 +6,7 @@ use io_bench::{Feed, Tally};
 use io_rows::fault::{Fault, Made};
 use io_rows::line::unescape;
 use io_rows::player::Player;
-use no_std_io2::io::{BufReader, Read};
+use no_std_io2::io::{BufReader, Chain, Read};
 
 // A stream's name ends with its device's.
 pub fn lend(
@@ -120,6 +120,15 @@ fn lend_slice(
     Ok(())
 }
 
+type Three<'a> = Chain<Chain<&'a [u8], &'a [u8]>, &'a [u8]>;
+
+fn three<'a>(words: &'a str) -> Three<'a> {
+    let (words, third) = cut(words);
+    let (first, second) = cut(words);
+    let two = first.as_bytes().chain(second.as_bytes());
+    two.chain(third.as_bytes())
+}
+
 // Three slices in a row, or four.
 fn lend_slices(
     tower: &str,
@@ -127,21 +136,16 @@ fn lend_slices(
     devices: Devices<'_>,
     player: &mut Player<'_, '_>,
 ) -> Made<()> {
-    let mut words = words.split(" + ");
-    let (Some(first), Some(second), Some(third)) = (words.next(), words.next(), words.next()) else {
-        return Err(Fault::Malformed("no three slices"));
-    };
-    let two = first.as_bytes().chain(second.as_bytes());
-    let three = two.chain(third.as_bytes());
     match tower {
         "Chain of 3" => player.play(&mut Lending {
-            tower: three,
+            tower: three(words),
             devices,
         }),
-        "Chain of 4" => player.play(&mut Lending {
-            tower: three.chain(words.next().unwrap_or("").as_bytes()),
-            devices,
-        }),
+        "Chain of 4" => {
+            let (words, fourth) = cut(words);
+            let tower = three(words).chain(fourth.as_bytes());
+            player.play(&mut Lending { tower, devices });
+        }
         _ => return Err(NO_STREAM),
     }
     Ok(())
