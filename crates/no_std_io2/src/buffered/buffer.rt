@@ -161,8 +161,7 @@ impl<const S: usize> Buffer<S> {
     }
 
     /// Reads once. What was held before is lost, and nothing lies behind.
-    #[cold]
-    #[inline(never)]
+    #[inline]
     pub(crate) fn fill<R: Read>(&mut self, from: &mut R) -> Result<()>
         requires { 0 < S }
         ensures err { OnErr result (buffer_held self.new ≡ []) }

@@ -36,7 +36,7 @@ impl<R: Read, const S: usize> BufReader<R, S> {
         self.buffer.give(buf)
     }
 
-    // Reads once into the buffer, in which nothing is held. The room for the answer is zeroed where it is inlined.
+    // Reads once into the buffer, in which nothing is held.
     #[inline(always)]
     pub(super) fn read_ahead(&mut self) -> Result<()>
         requires { length (reader_held self.old) ≡ 0 }
@@ -64,7 +64,7 @@ impl<R: Read, const S: usize> BufReader<R, S> {
         Ok(())
     }
 
-    // The same. The room for the answer is zeroed where it is inlined.
+    // The call of `read_rest`. The room for its answer is made on this way alone.
     #[inline(always)]
     fn read_on(&mut self, buf: &mut [u8]) -> Result<()>
         requires { length (reader_held self.old) < length buf.old }
