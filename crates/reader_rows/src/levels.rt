@@ -10,8 +10,10 @@ use no_std_io2::io::{BufRead, BufReader, Chain, Cursor, Read, Take};
 pub trait Levels {
     fn show(&self, _columns: Columns, _line: &mut Line) {}
 
-    // Sets the limit, where there is one.
-    fn limit(&mut self, _limit: usize) {}
+    // Sets the limit, and answers whether there is one.
+    fn limit(&mut self, _limit: usize) -> bool {
+        false
+    }
 }
 
 impl Levels for Recorder {}
@@ -85,9 +87,9 @@ impl<A: Levels + Drop, B: Levels + Drop> Levels for Chain<A, B> {
         second.show(columns, line);
     }
 
-    fn limit(&mut self, limit: usize) {
+    fn limit(&mut self, limit: usize) -> bool {
         let (first, _second) = self.get_mut();
-        first.limit(limit);
+        first.limit(limit)
     }
 }
 
@@ -99,8 +101,9 @@ impl<R: Levels + Drop> Levels for Take<R> {
         self.get_ref().show(columns, line);
     }
 
-    fn limit(&mut self, limit: usize) {
+    fn limit(&mut self, limit: usize) -> bool {
         self.set_limit(limit as u64);
+        true
     }
 }
 

@@ -43,8 +43,11 @@ impl<'j, T: BufRead + Levels + Drop> Stream for Lending<'j, T> {
     fn play(&mut self, alloc: Global, call: &Call<'_>, line: &mut Line) {
         match call.word {
             "limit" => {
-                self.tower.limit(call.number(line));
-                line.word("-");
+                if self.tower.limit(call.number(line)) {
+                    line.word("-");
+                } else {
+                    line.malformed("no limit");
+                }
             }
             "next" => show_byte(self.tower.by_ref().bytes().next(), line),
             _ => make_lend(alloc, &mut self.tower, call, line),
