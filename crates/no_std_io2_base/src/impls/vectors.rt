@@ -20,6 +20,12 @@ pub fn append<A: Allocator>(buf: &mut Vec<u8, A>, bytes: &[u8]) -> Result<()>
     ensures full { OnErr result (vec_capacity buf.old < vec_len buf.old + length bytes.now) }
     ensures grows { vec_capacity buf.old ≤ vec_capacity buf.new }
 {
+    // Who writes byte by byte appends one.
+    if bytes.len() == 1 {
+        buf.reserve(1)?;
+        buf.push_reserved(bytes[0]);
+        return Ok(());
+    }
     buf.extend_from_slice(bytes)?;
     Ok(())
 }
