@@ -8,11 +8,13 @@ use Rattle.no_std_io2_base.specs.declared.traits.write.Write.{Ghosts as Writer}
 use Rattle.no_std_io2_base.specs.Write.{Moves, WriteLaw, WriteAllLaw, FlushLaw, calls_for}
 use Rattle.no_std_io2_base.proofs.MovesLemmas.{IsFront-refl, Moves-then, Moves-ends, zero_write-whole}
 use Rattle.no_std_io2.specs.declared.buffered.sender.Sender.{Sender}
-use Rattle.no_std_io2.specs.BufWriter.{sender_inner, sender_buffer, sender_told, sender_with_inner, way_calls}
-use Rattle.no_std_io2.specs.BufWriter.{writing_calls, buffer_after, Sent, MakesWay, Buffers, BuffersAll, Flushes}
+use Rattle.no_std_io2.specs.declared.buffered.buf_writer.BufWriter.{BufWriter}
+use Rattle.no_std_io2.specs.BufWriter.{sender_inner, sender_buffer, sender_told, sender_with_inner, way_calls, writer_inner, writer_buffer}
+use Rattle.no_std_io2.specs.BufWriter.{writing_calls, buffer_after, Sent, MakesWay, Buffers, BuffersAll, Flushes, SendsFirst}
 use Rattle.no_std_io2.proofs.BufWriterLemmas.{Moves-kept, Moves-passed, Moves-sent, Moves-sent_part, Moves-out}
 use Rattle.no_std_io2.proofs.BufWriterLemmas.{none_of_length, IsEnd-none, IsEnd-held, call_steady, sending_some}
 use Rattle.no_std_io2.proofs.BufWriterCounts.{calls_for-le}
+use Rattle.no_std_io2.proofs.AnswerLemmas.{iferr}
 use Rattle.no_std_io2.proofs.LineWriterLemmas.{MovesFront-then, MovesFront-passed, onok, onok_map}
 
 -- the buffer after a write, case by case
@@ -285,3 +287,25 @@ flushed {I} {mid} {r} {inner} steady sent done =
           let then = done.counts first.0 (sent.all t).0 in
           (then.0, omega (arith, first.1, then.1));
     }
+
+-- a call that sends first: the sending failed
+pub sending_failed : {W A : Type 0} {S : ℕ} {I : Writer W} {old new : BufWriter W S} {e : Error}
+    → Sent I old.core (Err e) new.core → SendsFirst {A = A} I writer_inner writer_buffer old (Err e) new
+sending_failed sent =
+    let sends = sent.sends in
+    record {
+      empty = tt;
+      rest = (sends.sent, sends.split);
+      fault = λ _. sent.fault;
+      refused = λ _. Moves-sent_part sends.sent _ _ sends.split sends.moves;
+    }
+
+-- or all was sent, whatever came then
+pub sending_done : {W A : Type 0} {S : ℕ} {I : Writer W} {old new : BufWriter W S} (r : Result A Error)
+    → writer_buffer new ≡ [] → SendsFirst I writer_inner writer_buffer old r new
+sending_done r none = record {
+  empty = onok r _ none;
+  rest = IsEnd-none _ _ none;
+  fault = iferr r (λ e some. absurd (omega (arith, some, ap length none)));
+  refused = iferr r (λ e some. absurd (omega (arith, some, ap length none)));
+}

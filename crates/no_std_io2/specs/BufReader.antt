@@ -49,6 +49,11 @@ abbrev pub reader_is_sound : {R : Type 0} {S : ℕ} → (R → Type 0) → (R �
 reader_is_sound has_store position content r =
     has_store (reader_inner r) × IsSound (reader_behind r ++ reader_held r) (position (reader_inner r)) (content (reader_inner r))
 
+-- where that is so, it is so afterwards
+abbrev pub StaysSound : {R : Type 0} {S : ℕ} → (R → Type 0) → (R → ℕ) → (R → List ℕ) → BufReader R S → BufReader R S → Type 0
+StaysSound has_store position content old new =
+    reader_is_sound has_store position content old → reader_is_sound has_store position content new
+
 -- the inner's position less the bytes held
 abbrev pub reader_position : {R : Type 0} {S : ℕ} → (R → ℕ) → BufReader R S → ℕ
 reader_position position r = position (reader_inner r) - length (reader_held r)
@@ -151,8 +156,7 @@ pub record FillsBuffer {R : Type 0} {S : ℕ} (inner : ReaderWords R) (old : Buf
     (new : BufReader R S) : Type 0 where
   pub held : OnErr reply (reader_held new ≡ [])
   pub behind : reader_behind new ≡ []
-  pub sound : reader_is_sound inner.has_store inner.position inner.content old
-      → reader_is_sound inner.has_store inner.position inner.content new
+  pub sound : StaysSound inner.has_store inner.position inner.content old new
   pub told : inner.tells (reader_inner old) → inner.tells (reader_inner new)
       × FillsFrom (reader_events inner.events old) reply (reader_events inner.events new)
   -- nothing is held then only at the end
@@ -185,8 +189,7 @@ pub record ReadsOn {R : Type 0} {S : ℕ} (inner : ReaderWords R) (old : BufRead
   pub behind : OnOk reply (IsEnd buf (reader_behind new) × (length (reader_behind new) < S))
   -- an error is an inner read's answer, which leaves nothing in the buffer
   pub failed : OnErr reply (HasNoBuffer new)
-  pub sound : reader_is_sound inner.has_store inner.position inner.content old
-      → reader_is_sound inner.has_store inner.position inner.content new
+  pub sound : StaysSound inner.has_store inner.position inner.content old new
   -- over a filling reader: how often that is read, what is held then, and how much of what was given lies behind
   pub asks : inner.is_metered (reader_inner old) → inner.is_filling (reader_inner old) → inner.is_metered (reader_inner new)
       × (inner.cost (reader_inner new) ≡ inner.cost (reader_inner old)

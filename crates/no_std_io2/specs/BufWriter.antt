@@ -216,6 +216,18 @@ pub record Unwraps {W B : Type 0} (I : Writer W) (inner : B → W) (buffer : B �
   pub calls : I.is_metered (inner old) → I.takes_all (inner old) → IfOk reply (λ w. I.is_metered w
       × (I.cost w ≡ I.cost (inner old) + calls_for (buffer old)))
 
+-- A call of a writer B with a buffer sent first: all that was held, or as much as went until a fault, which is the answer then.
+pub record SendsFirst {W B A : Type 0} (I : Writer W) (inner : B → W) (buffer : B → List ℕ) (old : B) (reply : Result A Error) (new : B)
+    : Type 0 where
+  pub empty : OnOk reply (buffer new ≡ [])
+  -- what is held is an end of what was
+  pub rest : IsEnd (buffer old) (buffer new)
+  -- where some bytes are held still, the error is the fault that stopped the sending
+  pub fault : IfErr reply (λ e. 0 < length (buffer new) → IsFault e)
+  -- and no byte is lost
+  pub refused : IfErr reply (λ e. 0 < length (buffer new)
+      → Moves (buffered_told I.told inner buffer old) [] (error_kind e ∷ []) (buffered_told I.told inner buffer new))
+
 -- All was sent, which left the inner writer in some state, and it was sought from there, once.
 pub record SeeksAfterSending {W : Type 0} (I : Writer W) (K : Seeker W) (old : Told) (to : SeekFrom) (new : W)
     (reply : Result ℕ Error) : Type 0 where

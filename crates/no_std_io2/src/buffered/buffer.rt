@@ -246,13 +246,10 @@ impl<const S: usize> Buffer<S> {
             × (buffer_held self.new ≡ buffer_held self.old ++ more.now)) }
         ensures same { OnFalse result (self.new ≡ self.old) }
     {
-        let end = self.end + more.len();
-        if end >= S {
+        if self.end + more.len() >= S {
             return false;
         }
-        let all = &mut self.bytes[..];
-        copy_bytes(more, &mut all[self.end..end]);
-        self.end = end;
+        self.append(more);
         true
     }
 }

@@ -8,7 +8,7 @@ ghost use Rattle.no_std_io2_base.specs.BufRead.{FillBufLaw, AfterLoan, ConsumeLa
 ghost use Rattle.no_std_io2_base.specs.declared.error.Error.{Error};
 ghost use Rattle.no_std_io2_base.specs.Pieces.{AnswersLine, EndsPiece};
 ghost use Rattle.no_std_io2.specs.contracts.buffered.buf_reader.BufReader.{the_row as reader-row};
-ghost use Rattle.no_std_io2.specs.BufReader.{reader_held, reader_behind, reader_inner, reader_is_sound};
+ghost use Rattle.no_std_io2.specs.BufReader.{reader_held, reader_behind, reader_inner, StaysSound};
 ghost use Rattle.no_std_io2.specs.BufReader.{reader_lent_length, TakesHeld, TakesHeldLine};
 
 use super::BufReader;
@@ -37,8 +37,7 @@ impl<R: Read, const S: usize> BufRead for BufReader<R, S> {
         ensures* after_borrow { sem 𝓛 (Rests (reader-row R.row S.row) self.entry (λ new. record {
           law : AfterLoan ⟦<Self as BufRead>⟧ self.old result new;
           behind : reader_held self.old ≡ [] → reader_behind new ≡ [];
-          sound : reader_is_sound R.has_store R.position R.content self.old
-              → reader_is_sound R.has_store R.position R.content new;
+          sound : StaysSound R.has_store R.position R.content self.old new;
         })) }
     {
         if self.buffer.len() == 0 {
@@ -54,8 +53,7 @@ impl<R: Read, const S: usize> BufRead for BufReader<R, S> {
         // Held bytes alone are dropped.
         ensures inner { reader_inner self.new ≡ reader_inner self.old }
         ensures behind { reader_behind self.new ≡ reader_behind self.old ++ take amount (reader_held self.old) }
-        ensures sound { reader_is_sound R.has_store R.position R.content self.old
-            → reader_is_sound R.has_store R.position R.content self.new }
+        ensures sound { StaysSound R.has_store R.position R.content self.old self.new }
     {
         self.buffer.consume(amount);
     }
@@ -70,8 +68,7 @@ impl<R: Read, const S: usize> BufRead for BufReader<R, S> {
 
         // What then lies behind is an end of what lay there and what was appended.
         ensures behind { IsEnd (reader_behind self.old ++ drop (vec_len buf.old) buf.new.items) (reader_behind self.new) }
-        ensures sound { reader_is_sound R.has_store R.position R.content self.old
-            → reader_is_sound R.has_store R.position R.content self.new }
+        ensures sound { StaysSound R.has_store R.position R.content self.old self.new }
     {
         let start = buf.len();
         'pieces: loop {
@@ -104,8 +101,7 @@ impl<R: Read, const S: usize> BufRead for BufReader<R, S> {
         ensures lost { OnErr result ((line : List ℕ) × (read : Result ℕ Error) × AnswersLine line read (string_len buf.old)
             (string_capacity buf.old) result (string_bytes buf.old) (string_bytes buf.new)
             × IsEnd (reader_behind self.old ++ line) (reader_behind self.new)) }
-        ensures sound { reader_is_sound R.has_store R.position R.content self.old
-            → reader_is_sound R.has_store R.position R.content self.new }
+        ensures sound { StaysSound R.has_store R.position R.content self.old self.new }
     {
         let mut line = Vec::new(alloc);
         let read = self.read_until(b'\n', &mut line);

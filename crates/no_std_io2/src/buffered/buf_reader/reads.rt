@@ -4,7 +4,7 @@ ghost use Rattle.std.specs.Prelude.{IfErr, OnErr, vec_len, vec_capacity, OnOk};
 ghost use Rattle.no_std_io2_base.specs.Read.{events_of, given, ReadLaw, ReadExactLaw, ReadToEndLaw};
 ghost use Rattle.no_std_io2_base.specs.BufRead.{IsNotEmpty, reads_needed};
 ghost use Rattle.no_std_io2.specs.BufReader.{reader_held, reader_behind, reader_inner, reader_events, reader_turns};
-ghost use Rattle.no_std_io2.specs.BufReader.{reader_has_store, reader_is_sound, reader_position, behind_anew};
+ghost use Rattle.no_std_io2.specs.BufReader.{reader_has_store, StaysSound, reader_position, behind_anew};
 ghost use Rattle.no_std_io2.specs.BufReader.{held_or_to_come, exact_reads, exact_left, exact_behind, EmptiesInto};
 ghost use Rattle.no_std_io2.specs.BufReader.{HasNoBuffer, FillsBuffer, ReadsOn, sound_tells, sound_fits};
 ghost use Rattle.no_std_io2.specs.Buffer.{IsEnd};
@@ -23,8 +23,7 @@ impl<R: Read, const S: usize> BufReader<R, S> {
         ensures gave { take result buf.new ≡ take result (reader_held self.old) }
         ensures held { reader_held self.new ≡ drop result (reader_held self.old) }
         ensures behind { reader_behind self.new ≡ reader_behind self.old ++ take result buf.new }
-        ensures sound { reader_is_sound R.has_store R.position R.content self.old
-            → reader_is_sound R.has_store R.position R.content self.new }
+        ensures sound { StaysSound R.has_store R.position R.content self.old self.new }
         ensures inner { reader_inner self.new ≡ reader_inner self.old }
         ensures told { reader_events R.events self.old
             ≡ events_of (take result buf.new) ++ reader_events R.events self.new }
@@ -117,8 +116,7 @@ impl<R: Read, const S: usize> Read for BufReader<R, S> {
             → reader_behind self.new ≡ reader_behind self.old ++ take (given result) buf.new }
         ensures behind_anew { reader_held self.old ≡ []
             → reader_behind self.new ≡ behind_anew S (length buf.old) (take (given result) buf.new) }
-        ensures sound { reader_is_sound R.has_store R.position R.content self.old
-            → reader_is_sound R.has_store R.position R.content self.new }
+        ensures sound { StaysSound R.has_store R.position R.content self.old self.new }
     {
         if self.buffer.len() > 0 {
             return Ok(self.give(buf));
@@ -161,8 +159,7 @@ impl<R: Read, const S: usize> Read for BufReader<R, S> {
         ensures failed { OnErr result (HasNoBuffer self.new) }
         ensures behind_length { R.is_filling (reader_inner self.old) → length (reader_held self.old) < length buf.old
             → OnOk result (length (reader_behind self.new) ≡ exact_behind S (length buf.old) (length (reader_held self.old))) }
-        ensures sound { reader_is_sound R.has_store R.position R.content self.old
-            → reader_is_sound R.has_store R.position R.content self.new }
+        ensures sound { StaysSound R.has_store R.position R.content self.old self.new }
     {
         if buf.len() > self.buffer.len() {
             return self.read_on(buf);
@@ -177,8 +174,7 @@ impl<R: Read, const S: usize> Read for BufReader<R, S> {
 
         // What was held is appended whatever the inner reader then answers, and the buffer is dropped.
         ensures empties { EmptiesInto self.old buf.old.items result buf.new.items self.new }
-        ensures sound { reader_is_sound R.has_store R.position R.content self.old
-            → reader_is_sound R.has_store R.position R.content self.new }
+        ensures sound { StaysSound R.has_store R.position R.content self.old self.new }
     {
         let start = buf.len();
         self.buffer.append_to(buf)?;

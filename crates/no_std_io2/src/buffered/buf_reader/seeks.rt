@@ -5,7 +5,7 @@ ghost use Rattle.no_std_io2_base.specs.Seek.{Seeks, WithoutPosition, SeekLaw, St
 ghost use Rattle.no_std_io2_base.specs.Read.{Event};
 ghost use Rattle.no_std_io2.specs.Buffer.{IsInBuffer, IsCutOn, MovesEvents};
 ghost use Rattle.no_std_io2.specs.BufReader.{reader_held, reader_behind, reader_inner, reader_events, reader_has_store};
-ghost use Rattle.no_std_io2.specs.BufReader.{reader_is_sound, reader_position, KeepsBuffer, HasNoBuffer, IsTooFarBack};
+ghost use Rattle.no_std_io2.specs.BufReader.{reader_is_sound, reader_position, StaysSound, KeepsBuffer, HasNoBuffer, IsTooFarBack};
 ghost use Rattle.no_std_io2.specs.BufReader.{SeeksInner, ReaderSeeks, at_start, back_by, led_to, sound_fits};
 
 use super::BufReader;
@@ -34,8 +34,7 @@ impl<R: Seek, const S: usize> BufReader<R, S> {
         ensures sought { R.may_seek (reader_inner self.old) target (reader_inner self.new) result }
         ensures position { IfOk result (λ n. R.has_store (reader_inner self.new)
             → R.position (reader_inner self.new) ≡ n) }
-        ensures sound { reader_is_sound R.has_store R.position R.content self.old
-            → reader_is_sound R.has_store R.position R.content self.new }
+        ensures sound { StaysSound R.has_store R.position R.content self.old self.new }
     {
         let at = self.inner.seek(target)?;
         self.buffer.clear();
@@ -54,8 +53,7 @@ impl<R: Seek, const S: usize> BufReader<R, S> {
             × (R.position (reader_inner self.new) ≡ reader_position R.position self.old) }
         ensures sought { WithoutPosition (R.may_seek (reader_inner self.old)
             (back_by (length (reader_held self.old))) (reader_inner self.new)) result }
-        ensures sound { reader_is_sound R.has_store R.position R.content self.old
-            → reader_is_sound R.has_store R.position R.content self.new }
+        ensures sound { StaysSound R.has_store R.position R.content self.old self.new }
     {
         let held = self.buffer.len();
         self.seek_inner(SeekFrom::Current(-(held as i64)))?;
@@ -81,8 +79,7 @@ impl<R: Seek, const S: usize> BufReader<R, S> {
         ensures dropped { reader_has_store R.has_store R.position R.content self.old
             → IsTooFarBack (SeekFrom.Current offset) (length (reader_held self.old))
             → HasNoBuffer self.new }
-        ensures sound { reader_is_sound R.has_store R.position R.content self.old
-            → reader_is_sound R.has_store R.position R.content self.new }
+        ensures sound { StaysSound R.has_store R.position R.content self.old self.new }
     {
         let held = self.buffer.len();
         match offset_behind(offset, held) {
@@ -165,8 +162,7 @@ impl<R: Seek, const S: usize> Seek for BufReader<R, S> {
             ⊎ (IsTooFarBack pos (length (reader_held self.old)) × HasNoBuffer self.new)) }
         ensures dropped { reader_has_store R.has_store R.position R.content self.old
             → IsTooFarBack pos (length (reader_held self.old)) → HasNoBuffer self.new }
-        ensures sound { reader_is_sound R.has_store R.position R.content self.old
-            → reader_is_sound R.has_store R.position R.content self.new }
+        ensures sound { StaysSound R.has_store R.position R.content self.old self.new }
     {
         match pos {
             SeekFrom::Current(offset) => self.seek_current(offset),
@@ -180,8 +176,7 @@ impl<R: Seek, const S: usize> Seek for BufReader<R, S> {
         ensures empty { OnOk result (reader_held self.new ≡ []) }
         ensures behind { OnOk result (reader_behind self.new ≡ []) }
         ensures kept { OnErr result (KeepsBuffer self.old self.new) }
-        ensures sound { reader_is_sound R.has_store R.position R.content self.old
-            → reader_is_sound R.has_store R.position R.content self.new }
+        ensures sound { StaysSound R.has_store R.position R.content self.old self.new }
     {
         self.seek(SeekFrom::Current(0))
     }
@@ -191,8 +186,7 @@ impl<R: Seek, const S: usize> Seek for BufReader<R, S> {
         ensures empty { OnOk result (reader_held self.new ≡ []) }
         ensures behind { OnOk result (reader_behind self.new ≡ []) }
         ensures kept { OnErr result (KeepsBuffer self.old self.new) }
-        ensures sound { reader_is_sound R.has_store R.position R.content self.old
-            → reader_is_sound R.has_store R.position R.content self.new }
+        ensures sound { StaysSound R.has_store R.position R.content self.old self.new }
     {
         self.seek(SeekFrom::Start(0))?;
         Ok(())
@@ -202,8 +196,7 @@ impl<R: Seek, const S: usize> Seek for BufReader<R, S> {
     fn stream_len(&mut self) -> Result<u64>
         ensures law { StreamLenLaw ⟦<Self as Seek>⟧ self.old result self.new }
         ensures buffer { KeepsBuffer self.old self.new }
-        ensures sound { reader_is_sound R.has_store R.position R.content self.old
-            → reader_is_sound R.has_store R.position R.content self.new }
+        ensures sound { StaysSound R.has_store R.position R.content self.old self.new }
         ensures inner { R.has_store (reader_inner self.old) → R.has_store (reader_inner self.new)
             × (R.content (reader_inner self.new) ≡ R.content (reader_inner self.old))
             × (R.position (reader_inner self.new) ≡ R.position (reader_inner self.old))

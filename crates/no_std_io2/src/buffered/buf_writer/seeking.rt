@@ -1,10 +1,7 @@
-ghost use Rattle.std.specs.Prelude.{◌≡◌, ◌<◌, [], ◌∷◌, length, IsOk, IfOk, IfErr, OnOk, IsOkAnd};
-ghost use Rattle.no_std_io2_base.specs.Errors.{error_kind, IsFault};
+ghost use Rattle.std.specs.Prelude.{◌≡◌, [], length, IsOkAnd};
 ghost use Rattle.no_std_io2_base.specs.Seek.{WithoutPosition, here, SeekLaw, StreamPositionLaw, RewindLaw, StreamLenLaw};
-ghost use Rattle.no_std_io2_base.specs.Write.{Moves};
-ghost use Rattle.no_std_io2.specs.BufWriter.{writer_inner, writer_buffer, writer_told, SeeksAfterSending, WriterSeeks};
+ghost use Rattle.no_std_io2.specs.BufWriter.{writer_inner, writer_buffer, writer_told, SendsFirst, SeeksAfterSending, WriterSeeks};
 ghost use Rattle.no_std_io2.specs.BufWriter.{MeasuredAfterSending};
-ghost use Rattle.no_std_io2.specs.Buffer.{IsEnd};
 ghost use Rattle.no_std_io2.specs.BufReader.{at_start};
 
 use super::BufWriter;
@@ -45,14 +42,8 @@ impl<W: Write + Seek + Drop, const S: usize> Seek for BufWriter<W, S> {
     fn seek(&mut self, pos: SeekFrom) -> Result<u64>
         ensures law { SeekLaw ⟦<Self as Seek>⟧ self.old pos result self.new }
 
-        // Refused by the sending, with bytes still held.
-        ensures rest { IsEnd (writer_buffer self.old) (writer_buffer self.new) }
-        ensures refused { IfErr result (λ e. 0 < length (writer_buffer self.new)
-            → Moves (writer_told W.told self.old) [] (error_kind e ∷ []) (writer_told W.told self.new)) }
-        ensures fault { IfErr result (λ e. 0 < length (writer_buffer self.new) → IsFault e) }
-
-        // Else all was sent, and the inner seek went from there.
-        ensures empty { OnOk result (writer_buffer self.new ≡ []) }
+        // Where all was sent, the inner seek went from there.
+        ensures first { SendsFirst W.Write writer_inner writer_buffer self.old result self.new }
         ensures sent { writer_buffer self.new ≡ [] → SeeksAfterSending W.Write W.Seek (writer_told W.told self.old)
             pos (writer_inner self.new) result }
     {
@@ -65,11 +56,7 @@ impl<W: Write + Seek + Drop, const S: usize> Seek for BufWriter<W, S> {
         ensures law { StreamPositionLaw ⟦<Self as Seek>⟧ self.old result self.new }
 
         // Those of `seek`.
-        ensures rest { IsEnd (writer_buffer self.old) (writer_buffer self.new) }
-        ensures refused { IfErr result (λ e. 0 < length (writer_buffer self.new)
-            → Moves (writer_told W.told self.old) [] (error_kind e ∷ []) (writer_told W.told self.new)) }
-        ensures fault { IfErr result (λ e. 0 < length (writer_buffer self.new) → IsFault e) }
-        ensures empty { OnOk result (writer_buffer self.new ≡ []) }
+        ensures first { SendsFirst W.Write writer_inner writer_buffer self.old result self.new }
         ensures sent { writer_buffer self.new ≡ [] → SeeksAfterSending W.Write W.Seek (writer_told W.told self.old)
             here (writer_inner self.new) result }
     {
@@ -80,11 +67,7 @@ impl<W: Write + Seek + Drop, const S: usize> Seek for BufWriter<W, S> {
         ensures law { RewindLaw ⟦<Self as Seek>⟧ self.old result self.new }
 
         // Those of `seek`.
-        ensures rest { IsEnd (writer_buffer self.old) (writer_buffer self.new) }
-        ensures refused { IfErr result (λ e. 0 < length (writer_buffer self.new)
-            → Moves (writer_told W.told self.old) [] (error_kind e ∷ []) (writer_told W.told self.new)) }
-        ensures fault { IfErr result (λ e. 0 < length (writer_buffer self.new) → IsFault e) }
-        ensures empty { OnOk result (writer_buffer self.new ≡ []) }
+        ensures first { SendsFirst W.Write writer_inner writer_buffer self.old result self.new }
         ensures sent { writer_buffer self.new ≡ [] → WithoutPosition (SeeksAfterSending W.Write W.Seek
             (writer_told W.told self.old) at_start (writer_inner self.new)) result }
     {
@@ -97,11 +80,7 @@ impl<W: Write + Seek + Drop, const S: usize> Seek for BufWriter<W, S> {
         ensures law { StreamLenLaw ⟦<Self as Seek>⟧ self.old result self.new }
 
         // Those of `seek`.
-        ensures rest { IsEnd (writer_buffer self.old) (writer_buffer self.new) }
-        ensures refused { IfErr result (λ e. 0 < length (writer_buffer self.new)
-            → Moves (writer_told W.told self.old) [] (error_kind e ∷ []) (writer_told W.told self.new)) }
-        ensures fault { IfErr result (λ e. 0 < length (writer_buffer self.new) → IsFault e) }
-        ensures empty { OnOk result (writer_buffer self.new ≡ []) }
+        ensures first { SendsFirst W.Write writer_inner writer_buffer self.old result self.new }
         ensures sent { writer_buffer self.new ≡ [] → MeasuredAfterSending W.Write W.Seek (writer_told W.told self.old)
             result (writer_inner self.new) }
     {

@@ -2,37 +2,21 @@
 use Rattle.std.proofs.Common.{[], arith, ap, length}
 use Rattle.std.proofs.lemmas.Result.{err_from_is_err_and}
 use Rattle.no_std_io2.specs.BufWriter.{sender_inner}
-use Rattle.no_std_io2.proofs.AnswerLemmas.{ifok_map, iferr}
-use Rattle.no_std_io2.proofs.BufWriterLemmas.{Moves-out, Moves-sent_part, IsEnd-none}
-use Rattle.no_std_io2.proofs.LineWriterLemmas.{onok}
-use Rattle.no_std_io2.proofs.BufWriterCalls.{no_ok}
+use Rattle.no_std_io2.proofs.AnswerLemmas.{ifok_map}
+use Rattle.no_std_io2.proofs.BufWriterLemmas.{Moves-out}
+use Rattle.no_std_io2.proofs.BufWriterCalls.{no_ok, sending_failed, sending_done}
 use Rattle.no_std_io2.proofs.buffered.buf_writer.seeking.BufWriterSeek.seek.Goals as goal
 
-pub returns-in_err-send-clause-rest : goal.returns-in_err-send-clause-rest
-returns-in_err-send-clause-rest g c = (c.in_err-send.ensures.sends.sent, c.in_err-send.ensures.sends.split)
-
-pub returns-in_err-send-clause-refused : goal.returns-in_err-send-clause-refused
-returns-in_err-send-clause-refused g c =
+pub returns-in_err-send-clause-first : goal.returns-in_err-send-clause-first
+returns-in_err-send-clause-first g c =
     let p = err_from_is_err_and c.from_residual.result c.from_residual.ensures.1 in
-    let sends = c.in_err-send.ensures.sends in
-    rw (p.1, p.2) (λ some. Moves-sent_part sends.sent _ _ sends.split sends.moves)
-
-pub returns-in_err-send-clause-empty : goal.returns-in_err-send-clause-empty
-returns-in_err-send-clause-empty g c =
-    rw (err_from_is_err_and c.from_residual.result c.from_residual.ensures.1).1 tt
+    rw (p.1, p.2) (sending_failed c.in_err-send.ensures)
 
 pub returns-in_err-send-clause-sent : goal.returns-in_err-send-clause-sent
 returns-in_err-send-clause-sent g c = λ none. absurd (omega (arith, c.in_err-send.ensures.left, ap length none))
 
-pub returns-clause-rest : goal.returns-clause-rest
-returns-clause-rest g c = IsEnd-none _ _ c.in_ok-send.ensures.empty
-
-pub returns-clause-refused : goal.returns-clause-refused
-returns-clause-refused g c =
-    iferr c.seek.result (λ e some. absurd (omega (arith, some, ap length c.in_ok-send.ensures.empty)))
-
-pub returns-clause-empty : goal.returns-clause-empty
-returns-clause-empty g c = onok c.seek.result _ c.in_ok-send.ensures.empty
+pub returns-clause-first : goal.returns-clause-first
+returns-clause-first g c = sending_done c.seek.result c.in_ok-send.ensures.empty
 
 pub returns-clause-sent : goal.returns-clause-sent
 returns-clause-sent g c =
@@ -45,29 +29,23 @@ returns-clause-sent g c =
       seeks = rw c.get_mut.ensures.value at c.seek.ensures.law.store;
     }
 
-pub returns-in_err-send-clause-fault : goal.returns-in_err-send-clause-fault
-returns-in_err-send-clause-fault g c =
-    let p = err_from_is_err_and c.from_residual.result c.from_residual.ensures.1 in
-    rw (p.1, p.2) (λ some. c.in_err-send.ensures.fault)
-
-pub returns-clause-fault : goal.returns-clause-fault
-returns-clause-fault g c =
-    iferr c.seek.result (λ e some. absurd (omega (arith, some, ap length c.in_ok-send.ensures.empty)))
-
 pub returns-in_err-send-clause-law : goal.returns-in_err-send-clause-law
-returns-in_err-send-clause-law g c = record {
-  store = λ s. no_ok (c.in_err-send.ensures.idle s.0).1;
-  position = rw (err_from_is_err_and c.from_residual.result c.from_residual.ensures.1).1 tt;
-  sought = record {
-    empty = returns-in_err-send-clause-empty g c;
-    fault = returns-in_err-send-clause-fault g c;
-    sent = returns-in_err-send-clause-sent g c;
-  };
-}
+returns-in_err-send-clause-law g c =
+    let first = returns-in_err-send-clause-first g c in
+    record {
+      store = λ s. no_ok (c.in_err-send.ensures.idle s.0).1;
+      position = rw (err_from_is_err_and c.from_residual.result c.from_residual.ensures.1).1 tt;
+      sought = record {
+        empty = first.empty;
+        fault = first.fault;
+        sent = returns-in_err-send-clause-sent g c;
+      };
+    }
 
 pub returns-clause-law : goal.returns-clause-law
 returns-clause-law g c =
     let inner = c.seek.ensures.law in
+    let first = returns-clause-first g c in
     record {
       store = λ s.
           let sent = c.in_ok-send.ensures in
@@ -76,8 +54,8 @@ returns-clause-law g c =
           ((sent.empty, now.0), now.1, now.2);
       position = ifok_map c.seek.result (λ n at store. at store.1) inner.position;
       sought = record {
-        empty = returns-clause-empty g c;
-        fault = returns-clause-fault g c;
+        empty = first.empty;
+        fault = first.fault;
         sent = returns-clause-sent g c;
       };
     }

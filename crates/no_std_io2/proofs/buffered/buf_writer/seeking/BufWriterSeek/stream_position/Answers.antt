@@ -16,18 +16,3 @@ returns-clause-law g c =
       position = seek.position;
       sought = seek.sought;
     }
-
-pub returns-clause-rest : goal.returns-clause-rest
-returns-clause-rest g c = c.seek.ensures.rest
-
-pub returns-clause-refused : goal.returns-clause-refused
-returns-clause-refused g c = c.seek.ensures.refused
-
-pub returns-clause-fault : goal.returns-clause-fault
-returns-clause-fault g c = c.seek.ensures.fault
-
-pub returns-clause-empty : goal.returns-clause-empty
-returns-clause-empty g c = c.seek.ensures.empty
-
-pub returns-clause-sent : goal.returns-clause-sent
-returns-clause-sent g c = c.seek.ensures.sent
