@@ -6,9 +6,6 @@ use Rattle.io_bench.proofs.accepted.are_clear.Goals as goal
 pub returns-then-ops-replies-clause-no : goal.returns-then-ops-replies-clause-no
 returns-then-ops-replies-clause-no c e clear = absurd (c.if-ops-replies.true (clear_length _ _ clear))
 
-pub calls-init : goal.calls-init
-calls-init c = tt
-
 pub calls-preserved : goal.calls-preserved
 calls-preserved c =
     clear_next _ _ _ _ c.calls-test.true (omega (arith, c.if-ops-replies.false)) c.calls.invariant c.in-Some.ensures.some.0

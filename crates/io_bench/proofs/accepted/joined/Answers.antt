@@ -1,12 +1,9 @@
-use Rattle.std.proofs.Common.{arith, rules, ◌<◌, ◌+◌, [], take, length, refl, subst, sym}
+use Rattle.std.proofs.Common.{arith, rules, ◌<◌, ◌+◌, take, length, refl, subst, sym}
 use Rattle.io_bench.specs.Joined.{IsJoined}
-use Rattle.io_bench.proofs.JoinedLemmas.{joined_none, joined_next, all_through, clear_at, clear_length, unclear, some_accepted, refused_so}
+use Rattle.io_bench.proofs.JoinedLemmas.{joined_next, all_through, clear_at, clear_length, unclear, some_accepted, refused_so}
 use Rattle.no_std_io2_base.specs.Errors.{IsOutOfMemory}
 use Rattle.io_bench.proofs.accepted.joined.Goals as goal
 use Rattle.io_bench.proofs.accepted.joined.Goals.{in-Some+in_ok-extend_from_slice, in_default}
-
-pub calls-init : goal.calls-init
-calls-init c = subst (λ bytes. IsJoined [] [] bytes) (sym c.new-bytes.ensures.items) joined_none
 
 pub bounds-replies-i : goal.bounds-replies-i
 bounds-replies-i c = omega (arith, c.calls-test.true, clear_length _ _ (c.are_clear.ensures.yes c.if-not-are_clear.false))

@@ -1,11 +1,8 @@
 -- The base takes all, so no call fails, and each answers whole.
 use Rattle.no_std_io2_base.proofs.MovesLemmas.{Moves-steady}
 use Rattle.no_std_io2.proofs.BufWriterLemmas.{ok_same}
-use Rattle.io_bench.proofs.RunLemmas.{Answers-write, Answers-write_all}
+use Rattle.io_bench.proofs.RunLemmas.{Answers-write_all}
 use Rattle.io_bench.proofs.closed.make_counted_call.Goals as goal
-
-pub returns-in-Ok-clause-answers : goal.returns-in-Ok-clause-answers
-returns-in-Ok-clause-answers g c = rw c.in-Write.is (Answers-write _ _ c.in-Ok.ensures.law.bound c.in-Ok.ensures.law.moves)
 
 pub returns-in-Ok-clause-all : goal.returns-in-Ok-clause-all
 returns-in-Ok-clause-all g c =
@@ -15,34 +12,19 @@ returns-in-Ok-clause-all g c =
 pub returns-in-Ok-clause-calls : goal.returns-in-Ok-clause-calls
 returns-in-Ok-clause-calls g c = rw c.in-Write.is (c.in-Ok.ensures.buffer.calls tt c.requires.all).1
 
-pub returns-in-Ok-clause-buffer : goal.returns-in-Ok-clause-buffer
-returns-in-Ok-clause-buffer g c = rw c.in-Write.is c.in-Ok.ensures.buffer.after
-
-pub returns-in-Err-clause-answers : goal.returns-in-Err-clause-answers
-returns-in-Err-clause-answers g c = absurd (Moves-steady (g.met.W.Write.steady _ c.requires.all) c.in-Err.ensures.law.moves)
-
 pub returns-in-Err-clause-all : goal.returns-in-Err-clause-all
 returns-in-Err-clause-all g c = absurd (Moves-steady (g.met.W.Write.steady _ c.requires.all) c.in-Err.ensures.law.moves)
 
 pub returns-in-Err-clause-calls : goal.returns-in-Err-clause-calls
 returns-in-Err-clause-calls g c = absurd (Moves-steady (g.met.W.Write.steady _ c.requires.all) c.in-Err.ensures.law.moves)
 
-pub returns-in-Err-clause-buffer : goal.returns-in-Err-clause-buffer
-returns-in-Err-clause-buffer g c = absurd (Moves-steady (g.met.W.Write.steady _ c.requires.all) c.in-Err.ensures.law.moves)
-
 pub returns-in-Ok-write_all-clause-answers : goal.returns-in-Ok-write_all-clause-answers
 returns-in-Ok-write_all-clause-answers g c =
     rw c.in-WriteAll.is (Answers-write_all _ c.in-Ok-write_all.field-0 c.in-Ok-write_all.ensures.law.moves)
 
-pub returns-in-Ok-write_all-clause-all : goal.returns-in-Ok-write_all-clause-all
-returns-in-Ok-write_all-clause-all g c = rw c.in-WriteAll.is (c.in-Ok-write_all.ensures.law.all c.requires.all, tt)
-
 pub returns-in-Ok-write_all-clause-calls : goal.returns-in-Ok-write_all-clause-calls
 returns-in-Ok-write_all-clause-calls g c =
     rw c.in-WriteAll.is (c.in-Ok-write_all.ensures.buffer.calls c.requires.some tt c.requires.all).1
-
-pub returns-in-Ok-write_all-clause-buffer : goal.returns-in-Ok-write_all-clause-buffer
-returns-in-Ok-write_all-clause-buffer g c = rw c.in-WriteAll.is c.in-Ok-write_all.ensures.buffer.after
 
 pub returns-in-Err-write_all-clause-answers : goal.returns-in-Err-write_all-clause-answers
 returns-in-Err-write_all-clause-answers g c =
@@ -60,20 +42,11 @@ pub returns-in-Err-write_all-clause-buffer : goal.returns-in-Err-write_all-claus
 returns-in-Err-write_all-clause-buffer g c =
     absurd (Moves-steady (g.met.W.Write.steady _ c.requires.all) c.in-Err-write_all.ensures.law.moves.moves)
 
-pub returns-in-Ok-flush-clause-all : goal.returns-in-Ok-flush-clause-all
-returns-in-Ok-flush-clause-all g c = rw c.in-Flush.is (c.in-Ok-flush.ensures.law.all c.requires.all, tt)
-
 pub returns-in-Ok-flush-clause-calls : goal.returns-in-Ok-flush-clause-calls
 returns-in-Ok-flush-clause-calls g c = rw c.in-Flush.is (c.in-Ok-flush.ensures.buffer.calls tt c.requires.all).1
-
-pub returns-in-Ok-flush-clause-buffer : goal.returns-in-Ok-flush-clause-buffer
-returns-in-Ok-flush-clause-buffer g c = rw c.in-Flush.is c.in-Ok-flush.ensures.buffer.sent
 
 pub returns-in-Err-flush-clause-all : goal.returns-in-Err-flush-clause-all
 returns-in-Err-flush-clause-all g c = absurd (Moves-steady (g.met.W.Write.steady _ c.requires.all) c.in-Err-flush.ensures.law.moves)
 
 pub returns-in-Err-flush-clause-calls : goal.returns-in-Err-flush-clause-calls
 returns-in-Err-flush-clause-calls g c = absurd (Moves-steady (g.met.W.Write.steady _ c.requires.all) c.in-Err-flush.ensures.law.moves)
-
-pub returns-in-Err-flush-clause-buffer : goal.returns-in-Err-flush-clause-buffer
-returns-in-Err-flush-clause-buffer g c = absurd (Moves-steady (g.met.W.Write.steady _ c.requires.all) c.in-Err-flush.ensures.law.moves)

@@ -6,7 +6,7 @@ use Rattle.no_std_io2.proofs.BufWriterLemmas.{buffer-le, Moves-bare}
 use Rattle.no_std_io2.specs.BufWriter.{writer_inner, writer_buffer}
 use Rattle.io_bench.specs.Runs.{AreWhole}
 use Rattle.io_bench.specs.Tally.{tally_inner, tally_writes}
-use Rattle.io_bench.proofs.RunLemmas.{Ran-next, AreWhole-next, Ran-none, all_made, appended_back}
+use Rattle.io_bench.proofs.RunLemmas.{Ran-next, AreWhole-next, Ran-none, all_made}
 use Rattle.io_bench.proofs.ClosedLemmas.{Paid-on, Paid-all, paid_bound, given_all}
 use Rattle.io_bench.proofs.PaidLemmas.{Paid-empty, calls_for-min}
 use Rattle.io_bench.proofs.closed.run_closed.Goals as goal
@@ -63,12 +63,6 @@ returns-in-Ok-clause-bound g c =
     paid_bound _ last.1 before.paid.1 (ap tally_writes c.new-buffered.ensures.inner)
     (calls_for-min (writer_buffer c.calls.buffered)) bound
 
-pub returns-in-Ok-clause-all : goal.returns-in-Ok-clause-all
-returns-in-Ok-clause-all g c = c.in-Ok.ensures.law.all c.calls.invariant.all
-
-pub returns-in-Ok-clause-appends : goal.returns-in-Ok-clause-appends
-returns-in-Ok-clause-appends g c = appended_back _ _ c.calls.invariant.ran.0 c.calls.invariant.ran.1
-
 pub returns-in-Ok-clause-whole : goal.returns-in-Ok-clause-whole
 returns-in-Ok-clause-whole g c =
     let ran = c.calls.invariant.ran in
@@ -77,6 +71,3 @@ returns-in-Ok-clause-whole g c =
 -- the base takes all, so the sending does not fail
 pub returns-in-Err-clause-kind : goal.returns-in-Err-clause-kind
 returns-in-Err-clause-kind g c = absurd (c.in-Err.ensures.law.all c.calls.invariant.all)
-
-pub returns-in-Err-clause-err : goal.returns-in-Err-clause-err
-returns-in-Err-clause-err g c = absurd (c.in-Err.ensures.law.all c.calls.invariant.all)

@@ -1,5 +1,5 @@
 use Rattle.std.proofs.Common.{◌≡◌, ◌<◌, ◌++◌, ◌∷◌, [], length, rules, arith, ap, ◌∙◌, sym, append-nil, append_assoc}
-use Rattle.io_bench.proofs.RunLemmas.{Ran-none, Ran-next, AreWhole-next, AllPassOver-next, EndsFlushed-next, all_made, appended_back}
+use Rattle.io_bench.proofs.RunLemmas.{Ran-none, Ran-next, AreWhole-next, AllPassOver-next, EndsFlushed-next, all_made}
 use Rattle.io_bench.specs.Runs.{Ran, EndsFlushed, AreWhole, AllPassOver, failures, failures_of, IsShorterBy, HasFewer}
 use Rattle.io_bench.proofs.FailureLemmas.{failures_told, failures_none, fewer_of}
 use Rattle.io_bench.proofs.runs.run_writes.Goals as goal
@@ -31,9 +31,6 @@ calls-preserved g c =
       );
       room = omega (arith, c.push_reserved.ensures.len, c.push_reserved.ensures.capacity, before.room);
     }
-
-pub returns-clause-appends : goal.returns-clause-appends
-returns-clause-appends g c = appended_back _ _ c.calls.invariant.ran.0 c.calls.invariant.ran.1
 
 pub returns-clause-ran : goal.returns-clause-ran
 returns-clause-ran g c =

@@ -1,7 +1,6 @@
 use Rattle.std.proofs.Common.{ap, ◌∙◌, arith}
 use Rattle.no_std_io2.specs.BufWriter.{buffer_after}
 use Rattle.no_std_io2.specs.Lines.{unfinished_line}
-use Rattle.std.proofs.lemmas.Result.{err_from_is_err_and}
 use Rattle.no_std_io2.proofs.LineWriterLemmas.{onok_map}
 use Rattle.no_std_io2.proofs.laws.write_line_and_start.Goals as goal
 
@@ -17,9 +16,6 @@ returns-clause-buffer g c =
 -- the first call can't fail over a writer that takes all
 pub returns-in_err-write_all-clause-lasts : goal.returns-in_err-write_all-clause-lasts
 returns-in_err-write_all-clause-lasts g c = λ t. let never = (c.in_err-write_all.ensures.lasts t).1 in cc
-
-pub returns-in_err-write_all-clause-buffer : goal.returns-in_err-write_all-clause-buffer
-returns-in_err-write_all-clause-buffer g c = rw (err_from_is_err_and c.from_residual.result c.from_residual.ensures.1).1 tt
 
 pub returns-clause-calls : goal.returns-clause-calls
 returns-clause-calls g c = λ m t.

@@ -68,24 +68,6 @@ returns-in-Ok-eq0-clause-told g c = λ t.
           (search rules) (search rules) (λ z. (c.reads.invariant.same z).1),
     )
 
-pub returns-in-Ok-eq0-clause-moves : goal.returns-in-Ok-eq0-clause-moves
-returns-in-Ok-eq0-clause-moves g c = let so_far = c.reads.invariant.written in (so_far.accepted, so_far.count, so_far.moves)
-
-pub returns-in-Ok-eq0-clause-unchanged : goal.returns-in-Ok-eq0-clause-unchanged
-returns-in-Ok-eq0-clause-unchanged g c = λ z. (c.reads.invariant.same z).0
-
-pub returns-in-Ok-eq0-clause-all : goal.returns-in-Ok-eq0-clause-all
-returns-in-Ok-eq0-clause-all g c = c.reads.invariant.all
-
-pub returns-in-Ok-eq0-clause-turns : goal.returns-in-Ok-eq0-clause-turns
-returns-in-Ok-eq0-clause-turns g c = le_trans c.read.ensures.law.turns c.reads.invariant.turns
-
-pub returns-in-Ok-eq0-clause-metered : goal.returns-in-Ok-eq0-clause-metered
-returns-in-Ok-eq0-clause-metered g c = λ m. (c.read.ensures.law.counts (c.reads.invariant.metered m)).0
-
-pub returns-in-Ok-eq0-clause-filling : goal.returns-in-Ok-eq0-clause-filling
-returns-in-Ok-eq0-clause-filling g c = λ f. (c.read.ensures.law.fills (c.reads.invariant.filling f)).0
-
 pub returns-in-Ok-eq0-clause-reads : goal.returns-in-Ok-eq0-clause-reads
 returns-in-Ok-eq0-clause-reads g c = λ some m f.
     let before = c.reads.invariant in
@@ -105,27 +87,15 @@ returns-in-Ok-eq0-clause-store g c = λ s.
 pub returns-in_err-write_all-in-Ok-clause-unchanged : goal.returns-in_err-write_all-in-Ok-clause-unchanged
 returns-in_err-write_all-in-Ok-clause-unchanged g c = λ z. absurd (search rules)
 
-pub returns-in_err-write_all-in-Ok-clause-all : goal.returns-in_err-write_all-in-Ok-clause-all
-returns-in_err-write_all-in-Ok-clause-all g c = λ t. c.in_err-write_all-in-Ok.ensures.law.all (c.reads.invariant.all t)
-
 pub returns-in_err-write_all-in-Ok-clause-fault : goal.returns-in_err-write_all-in-Ok-clause-fault
 returns-in_err-write_all-in-Ok-clause-fault g c =
     let p = err_from_is_err_and c.from_residual.result c.from_residual.ensures.1 in
     rw (p.1, p.2) c.in_err-write_all-in-Ok.ensures.law.fault
 
-pub returns-in_err-write_all-in-Ok-clause-turns : goal.returns-in_err-write_all-in-Ok-clause-turns
-returns-in_err-write_all-in-Ok-clause-turns g c = le_trans c.in-Ok.ensures.law.turns c.reads.invariant.turns
-
-pub returns-in_err-write_all-in-Ok-clause-metered : goal.returns-in_err-write_all-in-Ok-clause-metered
-returns-in_err-write_all-in-Ok-clause-metered g c = λ m. (c.in-Ok.ensures.law.counts (c.reads.invariant.metered m)).0
-
 pub returns-in_err-write_all-in-Ok-clause-reads : goal.returns-in_err-write_all-in-Ok-clause-reads
 returns-in_err-write_all-in-Ok-clause-reads g c = λ _ _ _.
     let p = err_from_is_err_and c.from_residual.result c.from_residual.ensures.1 in
     rw p.1 tt
-
-pub returns-in_err-write_all-in-Ok-clause-filling : goal.returns-in_err-write_all-in-Ok-clause-filling
-returns-in_err-write_all-in-Ok-clause-filling g c = λ f. (c.in-Ok.ensures.law.fills (c.reads.invariant.filling f)).0
 
 pub returns-in_err-write_all-in-Ok-clause-store : goal.returns-in_err-write_all-in-Ok-clause-store
 returns-in_err-write_all-in-Ok-clause-store g c = λ s.
@@ -157,24 +127,6 @@ returns-in_err-write_all-in-Ok-clause-told g c = λ t.
 -- the reader's fault
 pub returns-in-Err-2-clause-moves : goal.returns-in-Err-2-clause-moves
 returns-in-Err-2-clause-moves g c = let so_far = c.reads.invariant.written in (so_far.accepted, inl so_far.moves)
-
-pub returns-in-Err-2-clause-unchanged : goal.returns-in-Err-2-clause-unchanged
-returns-in-Err-2-clause-unchanged g c = λ z. (c.reads.invariant.same z).0
-
-pub returns-in-Err-2-clause-all : goal.returns-in-Err-2-clause-all
-returns-in-Err-2-clause-all g c = c.reads.invariant.all
-
-pub returns-in-Err-2-clause-turns : goal.returns-in-Err-2-clause-turns
-returns-in-Err-2-clause-turns g c = le_trans c.in-Err.ensures.law.turns c.reads.invariant.turns
-
-pub returns-in-Err-2-clause-metered : goal.returns-in-Err-2-clause-metered
-returns-in-Err-2-clause-metered g c = λ m. (c.in-Err.ensures.law.counts (c.reads.invariant.metered m)).0
-
-pub returns-in-Err-2-clause-reads : goal.returns-in-Err-2-clause-reads
-returns-in-Err-2-clause-reads g c = λ _ _ _. tt
-
-pub returns-in-Err-2-clause-filling : goal.returns-in-Err-2-clause-filling
-returns-in-Err-2-clause-filling g c = λ f. (c.in-Err.ensures.law.fills (c.reads.invariant.filling f)).0
 
 pub returns-in-Err-2-clause-store : goal.returns-in-Err-2-clause-store
 returns-in-Err-2-clause-store g c = λ s.

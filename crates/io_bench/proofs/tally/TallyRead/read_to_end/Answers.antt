@@ -59,12 +59,6 @@ returns-in-Ok-eq0 g c =
       writes = read.writes ∙ before.writes;
     }
 
-pub reads-smaller-in-Ok : goal.reads-smaller-in-Ok
-reads-smaller-in-Ok g c = c.in-Ok.ensures.law.turn (some_bytes c.in-Ok.n c.in-Ok.n-test.1)
-
-pub reads-smaller : goal.reads-smaller
-reads-smaller g c = c.in-Err.ensures.law.turn
-
 pub returns-in-Err-2 : goal.returns-in-Err-2
 returns-in-Err-2 g c =
     let before = c.reads.invariant in

@@ -1,15 +1,11 @@
 -- As the trait's `read_to_end`, but for the room, which is what there is.
-use Rattle.std.proofs.Common.{◌<◌, ◌≤◌, false, true, true≢false, length, arith, refl, sym, ◌∙◌, le_refl, le_trans}
+use Rattle.std.proofs.Common.{◌<◌, ◌≤◌, false, true, true≢false, length, arith, sym, ◌∙◌, le_trans}
 use Rattle.no_std_io2_base.proofs.ReadToEndGathered.{gathered_same, gathered_room, gathered_failed, gathered_over}
-use Rattle.no_std_io2_base.proofs.ReadExactExits.{some_bytes}
 use Rattle.no_std_io2_base.proofs.ReadToEndExits.{front_cut, filled_length, whole_room, stays_at_end}
 use Rattle.no_std_io2_base.proofs.ReadToEndTaken.{no_error}
 use Rattle.no_std_io2_base.proofs.TakeToEnd.{nothing_read}
-use Rattle.no_std_io2_base.proofs.ReadToEndLoop.{wrote, to_end_none, to_end_read, to_end_interruption}
+use Rattle.no_std_io2_base.proofs.ReadToEndLoop.{wrote, to_end_read, to_end_interruption}
 use Rattle.no_std_io2_base.proofs.traits.room.fill_room.Goals as goal
-
-pub reads-init : goal.reads-init
-reads-init g c = to_end_none c.len-start.ensures refl refl (le_refl _)
 
 pub returns-in_err-open_room : goal.returns-in_err-open_room
 returns-in_err-open_room g c =
@@ -51,12 +47,6 @@ returns-in-Ok-eq0 g c =
           let tells = g.met.R.Read.store_tells _ so_far.0 in
           (now.0, now.1 ∙ so_far.1, stays_at_end _ _ _ _ (read.told tells.0).1 is none now.2 so_far.2);
     }
-
-pub reads-smaller-in-Ok : goal.reads-smaller-in-Ok
-reads-smaller-in-Ok g c = c.in-Ok.ensures.law.turn (some_bytes c.in-Ok.n c.in-Ok.n-test.1)
-
-pub reads-smaller : goal.reads-smaller
-reads-smaller g c = c.in-Err.ensures.law.turn
 
 pub returns-in-Err-2 : goal.returns-in-Err-2
 returns-in-Err-2 g c =

@@ -118,9 +118,6 @@ reads-preserved g c =
       cost = λ m f. absurd (read.gives (c.reads.invariant.filling f).0).1;
     }
 
-pub reads-smaller : goal.reads-smaller
-reads-smaller g c = c.in-Err.ensures.law.turn
-
 pub returns-in-Err-2 : goal.returns-in-Err-2
 returns-in-Err-2 g c =
     let read = c.in-Err.ensures in

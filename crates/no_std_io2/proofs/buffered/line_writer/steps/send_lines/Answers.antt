@@ -1,12 +1,11 @@
-use Rattle.std.proofs.Common.{refl, inr, ◌≡◌, ◌<◌, [], rules, arith, ap}
+use Rattle.std.proofs.Common.{refl, ◌≡◌, ◌<◌, [], rules, arith, ap}
 use Rattle.no_std_io2.specs.BufWriter.{sender_buffer}
 use Rattle.no_std_io2_base.specs.Write.{calls_for}
 use Rattle.no_std_io2.proofs.BufWriterCounts.{writing_then_sending}
 use Rattle.std.proofs.lemmas.Result.{err_from_is_err_and}
-use Rattle.no_std_io2.proofs.BufWriterCalls.{no_ok}
 use Rattle.no_std_io2.proofs.BufWriterLemmas.{Moves-sent_part, none_of_length, call_steady, IsEnd-sent}
 use Rattle.no_std_io2.proofs.LineWriterLemmas.{IsLineState-end, IsLineState-after, IsLineState-ended, MovesFront-passed}
-use Rattle.no_std_io2.proofs.LineWriterLemmas.{MovesFront-ends, MovesFront-whole, onok}
+use Rattle.no_std_io2.proofs.LineWriterLemmas.{MovesFront-ends, MovesFront-whole}
 use Rattle.no_std_io2.proofs.buffered.line_writer.steps.send_lines.Goals as goal
 
 pub returns-then-is_empty-clause-moves : goal.returns-then-is_empty-clause-moves
@@ -48,15 +47,6 @@ returns-clause-calls g c = λ m t.
     let buffer = c.in_ok-write_all.ensures.after in
     (then.0, omega (arith, first.1, then.1, ap calls_for buffer, writing_then_sending S held c.args.x.now))
 
-pub returns-then-is_empty-clause-line : goal.returns-then-is_empty-clause-line
-returns-then-is_empty-clause-line g c = c.requires.line
-
-pub returns-then-is_empty-clause-fault : goal.returns-then-is_empty-clause-fault
-returns-then-is_empty-clause-fault g c = c.write_all.ensures.law.fault
-
-pub returns-then-is_empty-clause-sent : goal.returns-then-is_empty-clause-sent
-returns-then-is_empty-clause-sent g c = onok c.write_all.result _ (none_of_length _ (search rules))
-
 pub returns-in_err-write_all-clause-sent : goal.returns-in_err-write_all-clause-sent
 returns-in_err-write_all-clause-sent g c =
     let p = err_from_is_err_and c.from_residual.result c.from_residual.ensures.1 in
@@ -71,27 +61,6 @@ pub returns-in_err-write_all-clause-moves : goal.returns-in_err-write_all-clause
 returns-in_err-write_all-clause-moves g c =
     let p = err_from_is_err_and c.from_residual.result c.from_residual.ensures.1 in
     rw (p.1, p.2) c.in_err-write_all.ensures.moves
-
-pub returns-in_err-write_all-clause-all : goal.returns-in_err-write_all-clause-all
-returns-in_err-write_all-clause-all g c = λ t. no_ok (c.in_err-write_all.ensures.all t).1
-
-pub returns-in_err-write_all-clause-calls : goal.returns-in_err-write_all-clause-calls
-returns-in_err-write_all-clause-calls g c = λ _ t. no_ok (c.in_err-write_all.ensures.all t).1
-
-pub returns-clause-sent : goal.returns-clause-sent
-returns-clause-sent g c = c.send.ensures.empty
-
-pub returns-clause-fault : goal.returns-clause-fault
-returns-clause-fault g c = c.send.ensures.fault
-
-pub returns-clause-all : goal.returns-clause-all
-returns-clause-all g c = λ t. c.send.ensures.all (c.in_ok-write_all.ensures.all t).0
-
-pub returns-then-is_empty-clause-rest : goal.returns-then-is_empty-clause-rest
-returns-then-is_empty-clause-rest g c = inr ([], refl)
-
-pub returns-in_err-write_all-clause-rest : goal.returns-in_err-write_all-clause-rest
-returns-in_err-write_all-clause-rest g c = c.in_err-write_all.ensures.rest
 
 pub returns-clause-rest : goal.returns-clause-rest
 returns-clause-rest g c =

@@ -37,9 +37,6 @@ returns-clause-moves g c =
     MovesFront-rest n c.args.x.now _ c.write_all.result (take_rest c.args.x.now n)
     (MovesFront-whole _ tt c.in_ok-send_lines.ensures.moves) c.write_all.ensures.moves
 
-pub returns-clause-all : goal.returns-clause-all
-returns-clause-all g c = λ t. c.write_all.ensures.all (c.in_ok-send_lines.ensures.all t).0
-
 pub returns-clause-after : goal.returns-clause-after
 returns-clause-after g c =
     let x = c.args.x.now in
@@ -53,9 +50,6 @@ pub returns-clause-rest : goal.returns-clause-rest
 returns-clause-rest g c =
     HoldsEnd-rest _ c.args.x.now c.args.len c.in_ok-send_lines.ensures.sent (take_rest c.args.x.now c.args.len)
     c.write_all.ensures.rest
-
-pub returns-in_err-send_lines-clause-after : goal.returns-in_err-send_lines-clause-after
-returns-in_err-send_lines-clause-after g c = rw (err_from_is_err_and c.from_residual.result c.from_residual.ensures.1).1 tt
 
 pub returns-in_err-send_lines-clause-rest : goal.returns-in_err-send_lines-clause-rest
 returns-in_err-send_lines-clause-rest g c = HoldsEnd-front _ c.args.x.now _ c.args.len c.in_err-send_lines.ensures.rest

@@ -1,4 +1,4 @@
-use Rattle.std.proofs.Common.{◌++◌, ◌∙◌, length, ap, arith, inr}
+use Rattle.std.proofs.Common.{◌++◌, ◌∙◌, length, ap, arith}
 use Rattle.std.proofs.lemmas.Result.{err_from_is_err_and}
 use Rattle.no_std_io2.specs.BufWriter.{sender_buffer, buffer_after}
 use Rattle.no_std_io2.proofs.BufWriterCounts.{calls_for-le}
@@ -49,9 +49,6 @@ returns-clause-fits g c = λ none short room.
 -- the held line could not be sent
 pub returns-in_err-send_line-clause-after : goal.returns-in_err-send_line-clause-after
 returns-in_err-send_line-clause-after g c = rw (err_from_is_err_and c.from_residual.result c.from_residual.ensures.1).1 tt
-
-pub returns-in_err-send_line-clause-rest : goal.returns-in_err-send_line-clause-rest
-returns-in_err-send_line-clause-rest g c = inr c.in_err-send_line.ensures.rest
 
 pub returns-in_err-send_line-clause-none : goal.returns-in_err-send_line-clause-none
 returns-in_err-send_line-clause-none g c = λ short.

@@ -9,9 +9,7 @@ use Rattle.no_std_io2.specs.Lines.{unfinished_line, IsLineState}
 use Rattle.no_std_io2.proofs.LinesLast.{writes_lines, writes_none, lines_taken}
 use Rattle.no_std_io2.proofs.LineWriterLemmas.{IsLineState-end, IsLineState-plain, HasNoNewline-none, took_some, held_after}
 use Rattle.no_std_io2.proofs.LineWriterLemmas.{taken_then_held, zero_write-lines, zero_write-some}
-use Rattle.no_std_io2.proofs.BufWriterSends.{takes_not_all}
-use Rattle.no_std_io2.proofs.BufWriterCalls.{no_ok}
-use Rattle.no_std_io2.proofs.BufWriterLemmas.{Moves-sent_part, Moves-buffered, ok_same, IsEnd-none, IsEnd-split}
+use Rattle.no_std_io2.proofs.BufWriterLemmas.{Moves-sent_part, Moves-buffered, ok_same, IsEnd-split}
 use Rattle.no_std_io2.proofs.BufWriterCounts.{calls_for-le}
 use Rattle.no_std_io2.proofs.buffered.line_writer.steps.write_lines.Goals as goal
 
@@ -140,15 +138,6 @@ pub returns-in_err-send-clause-tail : goal.returns-in_err-send-clause-tail
 returns-in_err-send-clause-tail g c =
     rw (err_from_is_err_and c.from_residual.result c.from_residual.ensures.1).1 tt
 
-pub returns-in_err-send-clause-all : goal.returns-in_err-send-clause-all
-returns-in_err-send-clause-all g c = λ t. no_ok (c.in_err-send.ensures.all t).1
-
-pub returns-in_err-send-clause-after : goal.returns-in_err-send-clause-after
-returns-in_err-send-clause-after g c = λ t. no_ok (c.in_err-send.ensures.all t).1
-
-pub returns-in_err-send-clause-calls : goal.returns-in_err-send-clause-calls
-returns-in_err-send-clause-calls g c = λ _ t. no_ok (c.in_err-send.ensures.all t).1
-
 -- nor does it where its write failed
 pub returns-in_err-n-clause-line : goal.returns-in_err-n-clause-line
 returns-in_err-n-clause-line g c = IsLineState-plain _ (HasNoNewline-none _ c.in_ok-send.ensures.empty)
@@ -160,15 +149,6 @@ returns-in_err-n-clause-bound g c =
 pub returns-in_err-n-clause-tail : goal.returns-in_err-n-clause-tail
 returns-in_err-n-clause-tail g c =
     rw (err_from_is_err_and c.from_residual-in_err-n.result c.from_residual-in_err-n.ensures.1).1 tt
-
-pub returns-in_err-n-clause-all : goal.returns-in_err-n-clause-all
-returns-in_err-n-clause-all g c = λ t. absurd (takes_not_all (c.in_err-n.ensures.law.all (c.in_ok-send.ensures.all t).0))
-
-pub returns-in_err-n-clause-after : goal.returns-in_err-n-clause-after
-returns-in_err-n-clause-after g c = λ t. absurd (takes_not_all (c.in_err-n.ensures.law.all (c.in_ok-send.ensures.all t).0))
-
-pub returns-in_err-n-clause-calls : goal.returns-in_err-n-clause-calls
-returns-in_err-n-clause-calls g c = λ _ t. absurd (takes_not_all (c.in_err-n.ensures.law.all (c.in_ok-send.ensures.all t).0))
 
 -- or took nothing of some
 pub returns-then-n-eq0-clause-line : goal.returns-then-n-eq0-clause-line
@@ -189,20 +169,11 @@ returns-then-n-eq0-clause-calls g c = λ _ t.
     took_some c.args.x.now c.args.len _ (c.in_ok-n.ensures.law.all (c.in_ok-send.ensures.all t).0).1 c.if-n-eq0.true c.requires.some
     c.requires.lines.within
 
-pub returns-clause-bound : goal.returns-clause-bound
-returns-clause-bound g c = c.tail_end-end.ensures.within
-
 -- what is held is an end
 pub returns-in_err-send-clause-rest : goal.returns-in_err-send-clause-rest
 returns-in_err-send-clause-rest g c =
     let p = err_from_is_err_and c.from_residual.result c.from_residual.ensures.1 in
     rw (p.1, append-nil (sender_buffer c.args.w.now)) (c.in_err-send.ensures.sends.sent, c.in_err-send.ensures.sends.split)
-
-pub returns-in_err-n-clause-rest : goal.returns-in_err-n-clause-rest
-returns-in_err-n-clause-rest g c = IsEnd-none _ _ c.in_ok-send.ensures.empty
-
-pub returns-then-n-eq0-clause-rest : goal.returns-then-n-eq0-clause-rest
-returns-then-n-eq0-clause-rest g c = IsEnd-none _ _ c.in_ok-send.ensures.empty
 
 pub returns-clause-rest : goal.returns-clause-rest
 returns-clause-rest g c =

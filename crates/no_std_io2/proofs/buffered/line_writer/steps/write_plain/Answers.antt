@@ -25,9 +25,6 @@ returns-clause-after g c =
     onok_map c.write.result _ _
     (λ e. e ∙ ap (λ h. buffer_after g.row.S h c.args.x.now) c.in_ok-send_line.ensures.held) c.write.ensures.after
 
-pub returns-clause-calm : goal.returns-clause-calm
-returns-clause-calm g c = c.write.ensures.calm
-
 pub returns-clause-rest : goal.returns-clause-rest
 returns-clause-rest g c = IsEnd-through _ _ _ _ c.in_ok-send_line.ensures.rest c.write.ensures.rest
 

@@ -3,9 +3,6 @@ use Rattle.std.proofs.Common.{arith}
 use Rattle.no_std_io2.proofs.BufWriterCalls.{way_kept, way_sent}
 use Rattle.no_std_io2.proofs.buffered.sender.Sender.make_way.Goals as goal
 
-pub overflow_sub-len : goal.overflow_sub-len
-overflow_sub-len g c = c.len.ensures.bound
-
 pub returns-then-more-len : goal.returns-then-more-len
 returns-then-more-len g c = way_sent c.send_held.ensures (omega (arith, c.if-more-len.true, c.len.ensures.len))
 

@@ -1,8 +1,7 @@
 -- Sending: each turn moves a front of what is held from the buffer to what was sent.
 use Rattle.std.proofs.Common.{arith, sym, ◌∙◌}
-use Rattle.no_std_io2.proofs.BufWriterLemmas.{none_of_length}
-use Rattle.no_std_io2.proofs.BufWriterSends.{sending_begins, sending_took, sending_again, sending_ends, sending_fails}
-use Rattle.no_std_io2.proofs.BufWriterSends.{sending_stuck, takes_not_all, fewer_left, fewer_turns}
+use Rattle.no_std_io2.proofs.BufWriterSends.{sending_begins, sending_took, sending_again, sending_fails}
+use Rattle.no_std_io2.proofs.BufWriterSends.{sending_stuck, takes_not_all, fewer_left}
 use Rattle.no_std_io2.proofs.buffered.sender.Sender.send_held.Goals as goal
 
 pub sends-init : goal.sends-init
@@ -21,9 +20,6 @@ sends-smaller-in-Ok g c =
 pub sends-preserved : goal.sends-preserved
 sends-preserved g c = sending_again c.sends.invariant (omega arith) c.in-Err.ensures.law
 
-pub sends-smaller : goal.sends-smaller
-sends-smaller g c = fewer_turns c.in-Err.e _ (sym c.is_interrupted.ensures ∙ c.if-is_interrupted.true) c.in-Err.ensures.law.moves
-
 pub returns-in-Ok-eq0 : goal.returns-in-Ok-eq0
 returns-in-Ok-eq0 g c =
     sending_stuck c.sends.invariant (omega arith) c.as_slice.ensures.value c.in-Ok-eq0.is c.in-Ok-eq0.field-0-test
@@ -33,6 +29,3 @@ pub returns-in-Err-2 : goal.returns-in-Err-2
 returns-in-Err-2 g c =
     sending_fails c.sends.invariant (omega arith)
     (sym c.is_interrupted.ensures ∙ c.if-is_interrupted.false) c.in-Err.ensures.law.moves (λ t. takes_not_all (c.in-Err.ensures.law.all t))
-
-pub returns : goal.returns
-returns g c = sending_ends c.sends.invariant (none_of_length _ (omega arith))

@@ -1,6 +1,5 @@
 use Rattle.std.proofs.Common.{sym, arith, ◌∙◌}
 use Rattle.std.proofs.lemmas.Result.{err_from_is_err_and}
-use Rattle.no_std_io2_base.proofs.ReadExactExits.{some_bytes}
 use Rattle.no_std_io2_base.proofs.ReadToEndLoop.{wrote, to_end_none, to_end_no_room, to_end_refused, to_end_read}
 use Rattle.no_std_io2_base.proofs.ReadToEndLoop.{to_end_interruption, to_end_done, to_end_fault}
 use Rattle.no_std_io2_base.proofs.impls.reading_objects.BoxDynReadDropRead.read_to_end.Goals as goal
@@ -33,12 +32,6 @@ returns-in-Ok-eq0 g c =
           (omega (arith, room.grows, c.truncate.ensures.capacity)) c.read.ensures.law c.in-Ok-eq0.is c.in-Ok-eq0.field-0-test
           c.in_ok-open_room.ensures.room c.len-start.ensures;
     }
-
-pub reads-smaller-in-Ok : goal.reads-smaller-in-Ok
-reads-smaller-in-Ok g c = c.in-Ok.ensures.law.turn (some_bytes c.in-Ok.n c.in-Ok.n-test.1)
-
-pub reads-smaller : goal.reads-smaller
-reads-smaller g c = c.in-Err.ensures.law.turn
 
 pub returns-in-Err-2 : goal.returns-in-Err-2
 returns-in-Err-2 g c =

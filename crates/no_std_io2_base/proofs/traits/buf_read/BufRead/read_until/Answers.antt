@@ -1,11 +1,7 @@
 use Rattle.std.proofs.Common.{◌∙◌, sym, lt_of_lt_of_le}
 use Rattle.std.proofs.lemmas.Result.{err_from_is_err_and}
-use Rattle.no_std_io2_base.proofs.PieceLemmas.{error_turn}
-use Rattle.no_std_io2_base.proofs.PieceLoop.{until_none, until_interruption, until_fault, until_refused, until_more, until_whole}
+use Rattle.no_std_io2_base.proofs.PieceLoop.{until_interruption, until_fault, until_refused, until_more, until_whole}
 use Rattle.no_std_io2_base.proofs.traits.buf_read.BufRead.read_until.Goals as goal
-
-pub pieces-init : goal.pieces-init
-pieces-init g c = until_none
 
 pub returns-then-is_whole : goal.returns-then-is_whole
 returns-then-is_whole g c =
@@ -31,9 +27,6 @@ pub pieces-preserved : goal.pieces-preserved
 pieces-preserved g c =
     until_interruption c.pieces.invariant g.met.Self.Read.store_tells c.fill_buf.follows.holds-at-none c.in-Err.is
     (sym c.is_interrupted.ensures ∙ c.if-is_interrupted.true)
-
-pub pieces-smaller : goal.pieces-smaller
-pieces-smaller g c = error_turn c.in-Err.is c.fill_buf.follows.holds-at-none.turn
 
 pub returns-in-Err-2 : goal.returns-in-Err-2
 returns-in-Err-2 g c =

@@ -1,11 +1,7 @@
 use Rattle.std.proofs.Common.{rules, sym, ◌∙◌}
-use Rattle.no_std_io2_base.proofs.ChainReads.{in_turn_none, in_turn_then}
-use Rattle.no_std_io2_base.proofs.ReadExactLoop.{exact_none, exact_read, exact_interruption, exact_end, exact_fault, exact_all}
-use Rattle.no_std_io2_base.proofs.ReadExactExits.{some_bytes}
+use Rattle.no_std_io2_base.proofs.ChainReads.{in_turn_then}
+use Rattle.no_std_io2_base.proofs.ReadExactLoop.{exact_read, exact_interruption, exact_end, exact_fault, exact_all}
 use Rattle.no_std_io2_base.proofs.traits.chain.ChainRead.read_exact.Goals as goal
-
-pub reads-init : goal.reads-init
-reads-init g c = record { law = exact_none; in_turn = in_turn_none }
 
 pub returns-in-Ok-eq0 : goal.returns-in-Ok-eq0
 returns-in-Ok-eq0 g c = record {
@@ -16,12 +12,6 @@ returns-in-Ok-eq0 g c = record {
 
 pub returns : goal.returns
 returns g c = record { law = exact_all c.reads.invariant.law c.reads-test.false; in_turn = c.reads.invariant.in_turn }
-
-pub reads-smaller-in-Ok : goal.reads-smaller-in-Ok
-reads-smaller-in-Ok g c = c.in-Ok.ensures.law.turn (some_bytes c.in-Ok.n c.in-Ok.n-test.1)
-
-pub reads-smaller : goal.reads-smaller
-reads-smaller g c = c.in-Err.ensures.law.turn
 
 pub reads-preserved-in-Ok : goal.reads-preserved-in-Ok
 reads-preserved-in-Ok g c = record {

@@ -1,10 +1,6 @@
 use Rattle.std.proofs.Common.{rules, sym, ◌∙◌}
-use Rattle.no_std_io2_base.proofs.ReadExactLoop.{exact_none, exact_read, exact_interruption, exact_end, exact_fault, exact_all}
-use Rattle.no_std_io2_base.proofs.ReadExactExits.{some_bytes}
+use Rattle.no_std_io2_base.proofs.ReadExactLoop.{exact_read, exact_interruption, exact_end, exact_fault, exact_all}
 use Rattle.no_std_io2_base.proofs.traits.read.Read.read_exact.Goals as goal
-
-pub reads-init : goal.reads-init
-reads-init g c = exact_none
 
 pub returns-in-Ok-eq0 : goal.returns-in-Ok-eq0
 returns-in-Ok-eq0 g c = record {
@@ -14,12 +10,6 @@ returns-in-Ok-eq0 g c = record {
 
 pub returns : goal.returns
 returns g c = record { law = exact_all c.reads.invariant c.reads-test.false }
-
-pub reads-smaller-in-Ok : goal.reads-smaller-in-Ok
-reads-smaller-in-Ok g c = c.in-Ok.ensures.law.turn (some_bytes c.in-Ok.n c.in-Ok.n-test.1)
-
-pub reads-smaller : goal.reads-smaller
-reads-smaller g c = c.in-Err.ensures.law.turn
 
 pub reads-preserved-in-Ok : goal.reads-preserved-in-Ok
 reads-preserved-in-Ok g c =

@@ -1,14 +1,11 @@
 -- As the trait's, and the limit falls by what is appended.
-use Rattle.std.proofs.Common.{◌≡◌, ◌∙◌, length, refl, sym, ap, arith, lt_of_lt_of_le, length-take-le}
+use Rattle.std.proofs.Common.{◌≡◌, ◌∙◌, length, sym, ap, arith, lt_of_lt_of_le, length-take-le}
 use Rattle.std.proofs.lemmas.Result.{err_from_is_err_and}
 use Rattle.no_std_io2_base.specs.Take.{take_limit}
 use Rattle.no_std_io2_base.proofs.TakeAlong.{along_none, along_then, along_fault}
-use Rattle.no_std_io2_base.proofs.PieceLemmas.{none_taken, error_taken, error_turn}
-use Rattle.no_std_io2_base.proofs.PieceLoop.{until_none, until_interruption, until_fault, until_refused, until_more, until_whole}
+use Rattle.no_std_io2_base.proofs.PieceLemmas.{none_taken, error_taken}
+use Rattle.no_std_io2_base.proofs.PieceLoop.{until_interruption, until_fault, until_refused, until_more, until_whole}
 use Rattle.no_std_io2_base.proofs.traits.take.TakeBufRead.read_until.Goals as goal
-
-pub pieces-init : goal.pieces-init
-pieces-init g c = record { law = until_none; limit = refl; at_limit = λ none. refl; along = λ t. along_none refl refl }
 
 pub returns-then-is_whole : goal.returns-then-is_whole
 returns-then-is_whole g c =
@@ -88,9 +85,6 @@ pieces-preserved g c =
           along_then (before.along t)
           (along_fault (error_taken c.in-Err.is (filled.along so_far.0)) filled.limit (λ zero. c.in-Err.ensures.at_limit zero));
     }
-
-pub pieces-smaller : goal.pieces-smaller
-pieces-smaller g c = error_turn c.in-Err.is c.fill_buf.follows.holds-at-none.law.turn
 
 pub returns-in-Err-2 : goal.returns-in-Err-2
 returns-in-Err-2 g c =

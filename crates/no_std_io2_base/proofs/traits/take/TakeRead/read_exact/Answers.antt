@@ -1,11 +1,7 @@
-use Rattle.std.proofs.Common.{rules, arith, refl, sym, ◌∙◌}
-use Rattle.no_std_io2_base.proofs.TakeAlong.{along_none, along_then}
-use Rattle.no_std_io2_base.proofs.ReadExactLoop.{exact_none, exact_read, exact_interruption, exact_end, exact_fault, exact_all}
-use Rattle.no_std_io2_base.proofs.ReadExactExits.{some_bytes}
+use Rattle.std.proofs.Common.{rules, arith, sym, ◌∙◌}
+use Rattle.no_std_io2_base.proofs.TakeAlong.{along_then}
+use Rattle.no_std_io2_base.proofs.ReadExactLoop.{exact_read, exact_interruption, exact_end, exact_fault, exact_all}
 use Rattle.no_std_io2_base.proofs.traits.take.TakeRead.read_exact.Goals as goal
-
-pub reads-init : goal.reads-init
-reads-init g c = record { law = exact_none; limit = omega arith; at_limit = λ none. refl; along = λ t. along_none refl refl }
 
 pub returns-in-Ok-eq0 : goal.returns-in-Ok-eq0
 returns-in-Ok-eq0 g c =
@@ -30,12 +26,6 @@ returns g c =
       at_limit = before.at_limit;
       along = before.along;
     }
-
-pub reads-smaller-in-Ok : goal.reads-smaller-in-Ok
-reads-smaller-in-Ok g c = c.in-Ok.ensures.law.turn (some_bytes c.in-Ok.n c.in-Ok.n-test.1)
-
-pub reads-smaller : goal.reads-smaller
-reads-smaller g c = c.in-Err.ensures.law.turn
 
 pub reads-preserved-in-Ok : goal.reads-preserved-in-Ok
 reads-preserved-in-Ok g c =

@@ -2,7 +2,6 @@ use Rattle.std.proofs.Common.{◌≡◌, ◌+◌, ◌<◌, ◌≤◌, length, ta
 use Rattle.std.proofs.lemmas.Result.{err_from_is_err_and}
 use Rattle.no_std_io2_base.proofs.TakeAlong.{along_none, along_then}
 use Rattle.no_std_io2_base.proofs.ReadToEndGathered.{gathered_same, gathered_first_fault, gathered_fits}
-use Rattle.no_std_io2_base.proofs.ReadExactExits.{some_bytes}
 use Rattle.no_std_io2_base.proofs.ReadToEndExits.{filled_bytes, front_cut, count_cut, len_cut, filled_length}
 use Rattle.no_std_io2_base.proofs.TakeToEnd.{Ended, ended_at_limit, nothing_read, given_none, gathered_done}
 use Rattle.no_std_io2_base.proofs.TakeToEnd.{limit_same, limit_cut, no_turn, none_filled}
@@ -52,12 +51,6 @@ returns-in_err-open_room g c =
       at_limit = λ none. absurd (no_turn before.limit before.law.grows none c.reads-test.true);
       along = before.along;
     })
-
-pub reads-smaller-in-Ok : goal.reads-smaller-in-Ok
-reads-smaller-in-Ok g c = c.in-Ok.ensures.law.turn (some_bytes c.in-Ok.n c.in-Ok.n-test.1)
-
-pub reads-smaller : goal.reads-smaller
-reads-smaller g c = c.in-Err.ensures.law.turn
 
 pub reads-preserved-in-Ok : goal.reads-preserved-in-Ok
 reads-preserved-in-Ok g c =

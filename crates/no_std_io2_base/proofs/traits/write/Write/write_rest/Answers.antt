@@ -1,10 +1,7 @@
 use Rattle.std.proofs.Common.{length}
 use Rattle.no_std_io2_base.proofs.WriteExits.{not_empty, is_empty, fewer_left, fewer_turns}
-use Rattle.no_std_io2_base.proofs.WriteExits.{writes_none, writes_more, writes_interruption, writes_fault, writes_zero, writes_done}
+use Rattle.no_std_io2_base.proofs.WriteExits.{writes_more, writes_zero, writes_done}
 use Rattle.no_std_io2_base.proofs.traits.write.Write.write_rest.Goals as goal
-
-pub writes-init : goal.writes-init
-writes-init g c = writes_none
 
 pub returns-in-Ok-eq0 : goal.returns-in-Ok-eq0
 returns-in-Ok-eq0 g c =
@@ -24,12 +21,6 @@ writes-preserved-in-Ok g c =
 pub writes-smaller : goal.writes-smaller
 writes-smaller g c = fewer_turns c.in-Err.e _ _ (length c.writes.rest.now) c.in-Err.ensures.law.moves.turns
     cc
-
-pub writes-preserved : goal.writes-preserved
-writes-preserved g c = writes_interruption c.writes.invariant c.in-Err.ensures.law
-
-pub returns-in-Err-2 : goal.returns-in-Err-2
-returns-in-Err-2 g c = record { law = writes_fault c.writes.invariant c.in-Err.ensures.law cc }
 
 pub returns : goal.returns
 returns g c =

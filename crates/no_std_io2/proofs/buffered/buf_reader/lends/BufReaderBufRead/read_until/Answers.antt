@@ -2,7 +2,6 @@
 use Rattle.std.proofs.Common.{◌∙◌, length, take, drop, refl, sym, arith, append-nil, [], lt_of_lt_of_le}
 use Rattle.std.proofs.Common.{ap, ap₂, ◌++◌, vec_len, drop_of_length-le}
 use Rattle.std.proofs.lemmas.Result.{err_from_is_err_and}
-use Rattle.no_std_io2_base.proofs.PieceLemmas.{error_turn}
 use Rattle.no_std_io2_base.proofs.PieceLoop.{until_none, until_interruption, until_fault, until_refused, until_more, until_whole}
 use Rattle.no_std_io2.proofs.BufReaderTrail.{trail_filled, trail_taken, trail_same, lent_held}
 use Rattle.no_std_io2.proofs.HeldPieces.{piece_some, piece_open, piece_found}
@@ -105,9 +104,6 @@ pieces-preserved g c =
       behind = trail_filled before.behind (λ some. ap reader_behind (filled.law.unchanged some)) filled.behind;
       sound = λ h. filled.sound (before.sound h);
     }
-
-pub pieces-smaller : goal.pieces-smaller
-pieces-smaller g c = error_turn c.in-Err.is c.fill_buf.follows.holds-at-none.law.turn
 
 pub returns-in-Err-2 : goal.returns-in-Err-2
 returns-in-Err-2 g c =

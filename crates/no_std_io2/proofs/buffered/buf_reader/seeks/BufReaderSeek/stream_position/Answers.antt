@@ -16,6 +16,3 @@ returns-clause-law g c =
       position = seek.position;
       sought = seek.sought;
     }
-
-pub returns-clause-sound : goal.returns-clause-sound
-returns-clause-sound g c = c.seek.ensures.sound
