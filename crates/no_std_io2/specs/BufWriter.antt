@@ -78,6 +78,14 @@ sender_with_inner w x = record { inner = x; buffer = w.buffer }
 abbrev pub writer_with_inner : {W : Type 0} {S : ℕ} → BufWriter W S → W → BufWriter W S
 writer_with_inner w x = record { core = sender_with_inner w.core x }
 
+-- an inner writer that takes all, and whose calls are counted, got so many
+abbrev pub CallsExactly : {W : Type 0} → Writer W → W → ℕ → W → Type 0
+CallsExactly I old n new = I.is_metered old → I.takes_all old → I.is_metered new × (I.cost new ≡ I.cost old + n)
+
+-- the same, and no more than so many
+abbrev pub CallsAtMost : {W : Type 0} → Writer W → W → ℕ → W → Type 0
+CallsAtMost I old n new = I.is_metered old → I.takes_all old → I.is_metered new × (I.cost new ≤ I.cost old + n)
+
 -- What was held was sent: the inner writer accepted some front of it, all of it at `Ok`, and the rest is held.
 pub record Sent {W : Type 0} {S : ℕ} (I : Writer W) (old : Sender W S) (reply : Result (Unit {0}) Error) (new : Sender W S)
     : Type 0 where
@@ -92,8 +100,7 @@ pub record Sent {W : Type 0} {S : ℕ} (I : Writer W) (old : Sender W S) (reply 
   -- an inner writer that takes all still does, and there is no error
   pub all : I.takes_all (sender_inner old) → I.takes_all (sender_inner new) × IsOk reply
   -- and one call of it takes what was held
-  pub calls : I.is_metered (sender_inner old) → I.takes_all (sender_inner old) → I.is_metered (sender_inner new)
-      × (I.cost (sender_inner new) ≡ I.cost (sender_inner old) + calls_for (sender_buffer old))
+  pub calls : CallsExactly I (sender_inner old) (calls_for (sender_buffer old)) (sender_inner new)
   -- no byte moves
   pub unmoved : new.buffer.bytes ≡ old.buffer.bytes
 
@@ -117,8 +124,7 @@ pub record MakesWay {W : Type 0} {S : ℕ} (I : Writer W) (old : Sender W S) (mo
   -- an inner writer that takes all still does, and there is no error
   pub all : I.takes_all (sender_inner old) → I.takes_all (sender_inner new) × IsOk reply
   -- and how many calls of it that takes
-  pub calls : I.is_metered (sender_inner old) → I.takes_all (sender_inner old) → I.is_metered (sender_inner new)
-      × (I.cost (sender_inner new) ≡ I.cost (sender_inner old) + way_calls S (sender_buffer old) more)
+  pub calls : CallsExactly I (sender_inner old) (way_calls S (sender_buffer old) more) (sender_inner new)
 
 -- What a writer B tells that has a buffer in front of its inner writer.
 abbrev pub buffered_told : {W B : Type 0} → (W → Told) → (B → W) → (B → List ℕ) → B → Told
@@ -147,8 +153,7 @@ pub record Buffers {W B : Type 0} (I : Writer W) (S : ℕ) (inner : B → W) (bu
   -- what is held after an `Ok`
   pub after : OnOk reply (buffer new ≡ buffer_after S (buffer old) x)
   -- how many calls an inner writer gets that takes all
-  pub calls : I.is_metered (inner old) → I.takes_all (inner old) → I.is_metered (inner new)
-      × (I.cost (inner new) ≡ I.cost (inner old) + writing_calls S (buffer old) x)
+  pub calls : CallsExactly I (inner old) (writing_calls S (buffer old) x) (inner new)
 
 -- `write_all(x)` of such a writer.
 pub record BuffersAll {W B : Type 0} (I : Writer W) (S : ℕ) (inner : B → W) (buffer : B → List ℕ) (old : B) (x : List ℕ)
@@ -172,11 +177,9 @@ pub record BuffersAll {W B : Type 0} (I : Writer W) (S : ℕ) (inner : B → W) 
   -- what is held after an `Ok`
   pub after : OnOk reply (buffer new ≡ buffer_after S (buffer old) x)
   -- how many calls an inner writer gets that takes all; with S = 0 an empty x makes none
-  pub calls : 0 < S → I.is_metered (inner old) → I.takes_all (inner old) → I.is_metered (inner new)
-      × (I.cost (inner new) ≡ I.cost (inner old) + writing_calls S (buffer old) x)
+  pub calls : 0 < S → CallsExactly I (inner old) (writing_calls S (buffer old) x) (inner new)
   -- one call at most beside the one for what was held, whatever the buffer's length
-  pub few : I.is_metered (inner old) → I.takes_all (inner old) → I.is_metered (inner new)
-      × (I.cost (inner new) ≤ I.cost (inner old) + calls_for (buffer old) + 1)
+  pub few : CallsAtMost I (inner old) (calls_for (buffer old) + 1) (inner new)
 
 -- `flush` of such a writer.
 pub record Flushes {W B : Type 0} (I : Writer W) (inner : B → W) (buffer : B → List ℕ) (old : B) (reply : Result (Unit {0}) Error)
@@ -191,8 +194,7 @@ pub record Flushes {W B : Type 0} (I : Writer W) (inner : B → W) (buffer : B �
   -- an inner writer that takes all still does, and there is no error
   pub all : I.takes_all (inner old) → I.takes_all (inner new) × IsOk reply
   -- and one call of it takes what was held
-  pub calls : I.is_metered (inner old) → I.takes_all (inner old) → I.is_metered (inner new)
-      × (I.cost (inner new) ≡ I.cost (inner old) + calls_for (buffer old))
+  pub calls : CallsExactly I (inner old) (calls_for (buffer old)) (inner new)
 
 -- `into_inner()` of a writer B with a buffer: all that was held was sent and the inner writer came back, or a fault came with the
 -- writer, which holds the rest.

@@ -6,7 +6,7 @@ ghost use Rattle.no_std_io2.specs.contracts.buffered.line_writer.LineWriter.{the
 ghost use Rattle.no_std_io2.specs.Lines.{IsLineState, HasNoNewline, HasNewline, unfinished_line, whole_if_short};
 ghost use Rattle.no_std_io2.specs.LineWriter.{line_inner, line_buffer, line_told, line_with_inner, WritesLines};
 ghost use Rattle.no_std_io2.specs.Buffer.{IsEnd};
-ghost use Rattle.no_std_io2.specs.BufWriter.{HoldsEnd, Unwraps, Flushes, buffer_after, into_inner_error_writer};
+ghost use Rattle.no_std_io2.specs.BufWriter.{HoldsEnd, Unwraps, Flushes, CallsAtMost, buffer_after, into_inner_error_writer};
 ghost use Rattle.no_std_io2_base.specs.Write.{WriteLaw, FlushLaw, WriteAllLaw};
 ghost use Rattle.no_std_io2_base.specs.Errors.{IsNoInterruption};
 ghost use Rattle.no_std_io2_base.specs.Write.{Moves, taken, call_mishap};
@@ -171,9 +171,7 @@ impl<W: Write + Drop, const S: usize> Write for LineWriter<W, S> {
         ensures lines { W.takes_all (line_inner self.old) → HasNewline buf.now
             → IsOkAnd result (λ n. n + (length (unfinished_line buf.now) - S) ≡ length buf.now)
             × (line_buffer self.new ≡ take S (unfinished_line buf.now)) }
-        ensures calls { W.is_metered (line_inner self.old) → W.takes_all (line_inner self.old)
-            → W.is_metered (line_inner self.new)
-            × (W.cost (line_inner self.new) ≤ W.cost (line_inner self.old) + 3) }
+        ensures calls { CallsAtMost W.Write (line_inner self.old) 3 (line_inner self.new) }
     {
         let len = lines_len(buf);
         if len == 0 {
@@ -222,9 +220,7 @@ impl<W: Write + Drop, const S: usize> Write for LineWriter<W, S> {
         ensures none { HasNoNewline buf.now → length buf.now < S → OnErr result (IsEnd
             (line_buffer self.old) (line_buffer self.new)
             × Moves (line_told W.told self.old) [] (call_mishap result) (line_told W.told self.new)) }
-        ensures calls { W.is_metered (line_inner self.old) → W.takes_all (line_inner self.old)
-            → W.is_metered (line_inner self.new)
-            × (W.cost (line_inner self.new) ≤ W.cost (line_inner self.old) + 3) }
+        ensures calls { CallsAtMost W.Write (line_inner self.old) 3 (line_inner self.new) }
     {
         let len = lines_len(buf);
         if len == 0 {

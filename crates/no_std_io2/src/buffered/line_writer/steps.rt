@@ -4,7 +4,7 @@ ghost use Rattle.std.specs.Prelude.{◌≡◌, ◌≢◌, ◌+◌, ◌-◌, ◌<
 ghost use Rattle.std.specs.Prelude.{OnErr, drop, take, slice_index, slice_range};
 ghost use Rattle.no_std_io2.specs.Lines.{IsLineState, HasNoNewline, IsLinesLen, unfinished_line, held_tail, whole_if_short};
 ghost use Rattle.no_std_io2.specs.LineWriter.{WritesLines};
-ghost use Rattle.no_std_io2.specs.BufWriter.{sender_inner, sender_buffer, sender_told, buffer_after, HoldsEnd};
+ghost use Rattle.no_std_io2.specs.BufWriter.{sender_inner, sender_buffer, sender_told, buffer_after, HoldsEnd, CallsAtMost};
 ghost use Rattle.no_std_io2.specs.Buffer.{IsEnd};
 ghost use Rattle.no_std_io2_base.specs.Errors.{IsNoInterruption};
 ghost use Rattle.no_std_io2_base.specs.Write.{Moves, MovesFront, taken, write_mishap, call_mishap, calls_for};
@@ -68,9 +68,7 @@ fn send_line<W: Write + Drop, const S: usize>(w: &mut Sender<W, S>) -> Result<()
         → IsOk result × (sender_inner w.new ≡ sender_inner w.old)
         × (sender_buffer w.new ≡ sender_buffer w.old) }
     ensures all { W.takes_all (sender_inner w.old) → W.takes_all (sender_inner w.new) × IsOk result }
-    ensures calls { W.is_metered (sender_inner w.old) → W.takes_all (sender_inner w.old)
-        → W.is_metered (sender_inner w.new)
-        × (W.cost (sender_inner w.new) ≤ W.cost (sender_inner w.old) + 1) }
+    ensures calls { CallsAtMost W.Write (sender_inner w.old) 1 (sender_inner w.new) }
 {
     if ends_in_newline(w.buffer()) {
         return w.send();
@@ -100,9 +98,7 @@ pub(super) fn write_plain<W: Write + Drop, const S: usize>(
         → W.takes_all (sender_inner w.new) × (result ≡ Ok (length x.now)) }
     ensures after { OnOk result (sender_buffer w.new
         ≡ buffer_after S (unfinished_line (sender_buffer w.old)) x.now) }
-    ensures calls { W.is_metered (sender_inner w.old) → W.takes_all (sender_inner w.old)
-        → W.is_metered (sender_inner w.new)
-        × (W.cost (sender_inner w.new) ≤ W.cost (sender_inner w.old) + 3) }
+    ensures calls { CallsAtMost W.Write (sender_inner w.old) 3 (sender_inner w.new) }
 {
     send_line(w)?;
     w.write(x)
@@ -128,9 +124,7 @@ pub(super) fn write_lines<W: Write + Drop, const S: usize>(
         × IsOkAnd result (λ n. n + (length (unfinished_line x.now) - S) ≡ length x.now) }
     ensures after { W.takes_all (sender_inner w.old)
         → sender_buffer w.new ≡ take S (unfinished_line x.now) }
-    ensures calls { W.is_metered (sender_inner w.old) → W.takes_all (sender_inner w.old)
-        → W.is_metered (sender_inner w.new)
-        × (W.cost (sender_inner w.new) ≤ W.cost (sender_inner w.old) + 3) }
+    ensures calls { CallsAtMost W.Write (sender_inner w.old) 3 (sender_inner w.new) }
 {
     w.send()?;
     let n = w.inner.write(&x[..len])?;
@@ -164,9 +158,7 @@ pub(super) fn write_all_plain<W: Write + Drop, const S: usize>(
     ensures all { W.takes_all (sender_inner w.old) → W.takes_all (sender_inner w.new) × IsOk result }
     ensures after { OnOk result (sender_buffer w.new
         ≡ buffer_after S (unfinished_line (sender_buffer w.old)) x.now) }
-    ensures calls { W.is_metered (sender_inner w.old) → W.takes_all (sender_inner w.old)
-        → W.is_metered (sender_inner w.new)
-        × (W.cost (sender_inner w.new) ≤ W.cost (sender_inner w.old) + 3) }
+    ensures calls { CallsAtMost W.Write (sender_inner w.old) 3 (sender_inner w.new) }
 {
     send_line(w)?;
     w.write_all(x)
@@ -184,9 +176,7 @@ fn send_lines<W: Write + Drop, const S: usize>(w: &mut Sender<W, S>, x: &[u8]) -
     ensures rest { IsEnd (sender_buffer w.old ++ x.now) (sender_buffer w.new)
         ⊎ IsEnd (sender_buffer w.old) (sender_buffer w.new) }
     ensures all { W.takes_all (sender_inner w.old) → W.takes_all (sender_inner w.new) × IsOk result }
-    ensures calls { W.is_metered (sender_inner w.old) → W.takes_all (sender_inner w.old)
-        → W.is_metered (sender_inner w.new)
-        × (W.cost (sender_inner w.new) ≤ W.cost (sender_inner w.old) + 2) }
+    ensures calls { CallsAtMost W.Write (sender_inner w.old) 2 (sender_inner w.new) }
 {
     if w.buffer().is_empty() {
         return w.inner.write_all(x);
@@ -211,9 +201,7 @@ pub(super) fn write_all_lines<W: Write + Drop, const S: usize>(
     ensures rest { HoldsEnd (sender_buffer w.old) x.now (sender_buffer w.new) }
     ensures all { W.takes_all (sender_inner w.old) → W.takes_all (sender_inner w.new) × IsOk result }
     ensures after { OnOk result (sender_buffer w.new ≡ whole_if_short S (unfinished_line x.now)) }
-    ensures calls { W.is_metered (sender_inner w.old) → W.takes_all (sender_inner w.old)
-        → W.is_metered (sender_inner w.new)
-        × (W.cost (sender_inner w.new) ≤ W.cost (sender_inner w.old) + 3) }
+    ensures calls { CallsAtMost W.Write (sender_inner w.old) 3 (sender_inner w.new) }
 {
     send_lines(w, &x[..len])?;
     w.write_all(&x[len..])
