@@ -1,16 +1,7 @@
 use Rattle.std.proofs.Common.{◌++◌}
 use Rattle.line_log.specs.Log.{log_told}
-use Rattle.line_log.specs.Lines.{line_of, IsRefusal}
-use Rattle.pending.proofs.RecordLemmas.{sends_record}
 use Rattle.line_log.proofs.LogLemmas.{ends_line, some_line}
 use Rattle.line_log.proofs.LineLog.log.Goals as goal
-
-pub returns-clause-sends : goal.returns-clause-sends
-returns-clause-sends g c =
-    let text = c.args.line.now in
-    let staged = c.in_ok-stage.ensures in
-    sends_record c.retry.result (line_of text) (IsRefusal text) _ c.retry.ensures.sends staged.rest staged.line
-    c.retry.ensures.done c.retry.ensures.none c.retry.ensures.err
 
 pub returns-clause-passed : goal.returns-clause-passed
 returns-clause-passed g c =

@@ -4,12 +4,6 @@ use Rattle.framing.specs.Part.{most, part_bytes, part_payload}
 use Rattle.framing.proofs.FrameLemmas.{none_lost, end_taken, frame_taken}
 use Rattle.framing.proofs.reader.FrameReader.next.Goals as goal
 
-pub returns-in_err-gather_frame-clause-told : goal.returns-in_err-gather_frame-clause-told
-returns-in_err-gather_frame-clause-told g c = λ t.
-    let p = err_from_is_err_and c.from_residual.result c.from_residual.ensures.1 in
-    let said = c.in_err-gather_frame.ensures.told t in
-    (said.0, rw (p.1, p.2) said.1)
-
 pub returns-in_err-gather_frame-clause-kept : goal.returns-in_err-gather_frame-clause-kept
 returns-in_err-gather_frame-clause-kept g c = λ t.
     let p = err_from_is_err_and c.from_residual.result c.from_residual.ensures.1 in

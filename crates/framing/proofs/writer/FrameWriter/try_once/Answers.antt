@@ -1,6 +1,6 @@
-use Rattle.std.proofs.Common.{map, refl, sym, ap, ◌∙◌}
+use Rattle.std.proofs.Common.{map, refl, ap}
 use Rattle.framing.specs.Frames.{frames}
-use Rattle.framing.proofs.DeliveryLemmas.{tried_flush, flush_done}
+use Rattle.framing.proofs.DeliveryLemmas.{tried_flush}
 use Rattle.framing.proofs.writer.FrameWriter.try_once.Goals as goal
 
 pub returns-in-Ok-clause-sends : goal.returns-in-Ok-clause-sends
@@ -8,8 +8,3 @@ returns-in-Ok-clause-sends g c =
     let none = ap (λ l. frames (map (λ v. v.items) l)) c.in-Ok.ensures.done.2 in
     tried_flush (frames (map (λ v. v.items) c.send_all.new.rest.now)) _ c.flush.result c.err.result
     c.in-Ok.ensures.sends c.flush.ensures.sends refl none c.err.ensures.value
-
-pub returns-in-Ok-clause-done : goal.returns-in-Ok-clause-done
-returns-in-Ok-clause-done g c = λ none.
-    let done = flush_done c.flush.result (sym c.err.ensures.value ∙ none) c.flush.ensures.done in
-    (done.0, done.1, c.in-Ok.ensures.done.2, done.2)
