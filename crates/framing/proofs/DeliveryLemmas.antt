@@ -1,7 +1,7 @@
 -- How tries follow one another.
 use Rattle.std.proofs.Common.{◌≡◌, ℕ, ◌+◌, List, [], ◌∷◌, ◌++◌, length, true, Option, None, Some, Result, Ok}
 use Rattle.std.proofs.Common.{Err, refl, sym, ap, ◌∙◌, subst, arith, append_assoc, count_by}
-use Rattle.std.specs.Result.{result_err, OnOk}
+use Rattle.std.specs.Result.{result_err}
 use Rattle.std.proofs.lemmas.List.Recursion.{is_count_by}
 use Rattle.no_std_io2.specs.declared.io.Error.{Error}
 use Rattle.no_std_io2.specs.declared.io.ErrorKind.{ErrorKind}
@@ -62,9 +62,3 @@ spent_all n None mid new k f g most = most
 spent_all n (Some old) None new k f g most = f
 spent_all n (Some old) (Some mid) None k f g most = g
 spent_all n (Some old) (Some mid) (Some new) k f g most = omega (arith, f, g (λ _. true), count_all mid, count_all new, most)
-
--- a flush without an error did all
-pub flush_done : (reply : Result (Unit {0}) Error) {A B C : Type 0}
-    → result_err reply ≡ None → OnOk reply (A × B × C) → A × B × C
-flush_done (Ok u) {A = A} {B = B} {C = C} is h = h
-flush_done (Err e) {A = A} {B = B} {C = C} is h = let no : ⊥ = cc in absurd no

@@ -40,10 +40,6 @@ last_call (o ∷ ops) (q ∷ replies) op reply ys e r =
 last_call [] (q ∷ replies) op reply ys e r = absurd (omega (arith, e))
 last_call (o ∷ ops) [] op reply ys e r = absurd (omega (arith, e))
 
--- no call, no byte
-pub joined_none : IsJoined [] [] []
-joined_none = (refl, λ other r. r)
-
 -- one call more
 joined_more : (ops : List Op) (replies : List Reply) (xs : List ℕ) (op : Op) (reply : Reply) (ys : List ℕ)
     → length ops ≡ length replies

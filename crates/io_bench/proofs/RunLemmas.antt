@@ -3,12 +3,12 @@ use Rattle.std.proofs.Common.{◌≡◌, ℕ, Bor, Ok, ◌+◌, ◌<◌, ◌≤�
 use Rattle.std.proofs.Common.{refl, sym, ap, ◌∙◌, subst, append_assoc, append-nil}
 use Rattle.std.proofs.Math.Seq.{drop-append_seam}
 use Rattle.std.proofs.lemmas.List.{take_more}
-use Rattle.no_std_io2_base.specs.Write.{Told, Moves, MovesFront, zero_write}
+use Rattle.no_std_io2_base.specs.Write.{Told, Moves, MovesFront}
 use Rattle.no_std_io2_base.proofs.MovesLemmas.{Moves-trans, Moves-refl}
 use Rattle.io_bench.specs.declared.runs.Op.{Op}
-use Rattle.io_bench.specs.declared.runs.Op.TheVariants.{Write, WriteAll}
+use Rattle.io_bench.specs.declared.runs.Op.TheVariants.{WriteAll}
 use Rattle.io_bench.specs.declared.runs.Reply.{Reply}
-use Rattle.io_bench.specs.declared.runs.Reply.TheVariants.{Took, Done}
+use Rattle.io_bench.specs.declared.runs.Reply.TheVariants.{Done}
 use Rattle.io_bench.specs.Runs.{appended, Accepts, Run, mishap_of, mishaps_of, IsFlushed, EndsFlushed, IsWhole}
 use Rattle.io_bench.specs.Runs.{AreWhole, Answers, Ran, PassesOver, AllPassOver}
 
@@ -97,11 +97,6 @@ all_made P {ops = ops} i old {new = new} more h e p =
     subst (λ made. P made (appended old new)) (take_all i ops h)
     (subst (P (take i ops)) (sym (ap (drop (length old)) e ∙ drop-append_seam old more)) p)
 
--- a `write` that took n bytes
-pub Answers-write : {a b : Told} (x : Bor (List ℕ)) (n : ℕ) → n ≤ length x.now → Moves a (take n x.now) (zero_write n x.now) b
-    → Answers a (Write x) (Took n) b
-Answers-write x n bound moves = record { accepted = take n x.now; accepts = (bound, refl); moves = moves; flushed = λ no. absurd no }
-
 -- a `write_all` that answered `Ok`
 pub Answers-write_all : {a b : Told} (x : Bor (List ℕ)) (u : Unit {0}) → MovesFront a x.now (Ok u) b → Answers a (WriteAll x) Done b
 Answers-write_all {a} {b} x u moves = record {
@@ -110,10 +105,6 @@ Answers-write_all {a} {b} x u moves = record {
   moves = subst (λ l. Moves a l [] b) moves.whole moves.moves;
   flushed = λ no. absurd no;
 }
-
--- replies that were put behind the old ones
-pub appended_back : (old new more : List Reply) → new ≡ old ++ more → new ≡ old ++ appended old new
-appended_back old new more e = e ∙ ap (λ l. old ++ l) (sym (ap (drop (length old)) e ∙ drop-append_seam old more))
 
 -- one call more passed over interruptions
 pub AllPassOver-more : (ops : List Op) (replies : List Reply) (op : Op) (reply : Reply) (xs : List ℕ) → Run ops replies xs

@@ -84,20 +84,6 @@ sending_again {mid} before some wrote = record {
   unmoved = before.unmoved;
 }
 
--- all was sent
-pub sending_ends : {W : Type 0} {S : ℕ} {I : Writer W} {old new : Sender W S}
-    → Sending I old new → sender_buffer new ≡ [] → Sent I old (Ok tt) new
-sending_ends {new} before none = record {
-  fault = tt;
-  empty = none;
-  left = tt;
-  sends = record { sent = before.sent; split = before.split; moves = before.moves };
-  idle = λ e. (before.idle e, refl);
-  all = λ t. (before.all t, refl);
-  calls = λ m t. ((before.calls m t).0, omega (arith, (before.calls m t).1, sending_none (sender_buffer new) (ap length none)));
-  unmoved = before.unmoved;
-}
-
 -- a fault came
 pub sending_fails : {W : Type 0} {S : ℕ} {I : Writer W} {old mid : Sender W S} {inner : W} {e : Error}
     → Sending I old mid → 0 < length (sender_buffer mid) → IsFault e

@@ -168,10 +168,6 @@ turn_of_second was now done same = record {
   second_alone = λ h. absurd (true≢false (sym done ∙ h));
 }
 
--- a call that uses none of them uses one after the other
-pub in_turn_none : {T U : Type 0} {was : Chain T U} → InTurn was was
-in_turn_none = record { stays_done = λ done. done; first_alone = λ done. refl; second_alone = λ going. refl }
-
 -- what is not done at the end was not done before
 still_going : (mid now : Bool) → (mid ≡ true → now ≡ true) → now ≡ false → mid ≡ false
 still_going true now stays going = absurd (true≢false (sym (stays refl) ∙ going))

@@ -1,13 +1,12 @@
 -- How records go, piece by piece.
 use Rattle.std.proofs.Common.{◌≡◌, ℕ, ◌<◌, List, [], ◌∷◌, ◌++◌, length, map, Result, Ok, Err, refl, sym, ap, ◌∙◌}
-use Rattle.std.proofs.Common.{subst, inr, arith, append_assoc}
+use Rattle.std.proofs.Common.{subst, arith, append_assoc}
 use Rattle.std.specs.List.{concat}
-use Rattle.std.specs.Result.{OnOk, OnErr}
 use Rattle.std.proofs.lemmas.List.Elements.{All-append, All-push}
 use Rattle.no_std_io2.specs.declared.io.Error.{Error}
 use Rattle.no_std_io2.specs.Write.{Told, Moves, Sends, call_mishap}
-use Rattle.no_std_io2.proofs.MovesLemmas.{Moves-refl, Moves-ends, MovesFront-sends, MovesFront-whole, Sends-then}
-use Rattle.pending.specs.Pending.{SendsRecord, SendsRecords, TakesOff}
+use Rattle.no_std_io2.proofs.MovesLemmas.{Moves-refl, Moves-ends, Sends-then}
+use Rattle.pending.specs.Pending.{SendsRecords, TakesOff}
 
 -- at the start nothing went, and all is still to go
 pub sends_none : (a : Told) (to_go : List ℕ) → Sends a to_go (Ok tt) a to_go
@@ -28,16 +27,6 @@ sends_on {left = left} more f s =
 pub sends_ends : {a b c : Told} {to_go left : List ℕ} (reply : Result (Unit {0}) Error)
     → Sends a to_go (Ok tt) b left → Moves b [] (call_mishap reply) c → Sends a to_go reply c left
 sends_ends reply s m = record { sent = s.sent; split = s.split; moves = Moves-ends s.moves m }
-
--- a record that was staged went as far as it did
-pub sends_record : (reply : Result (Unit {0}) Error) {old new : Told} {rest left was : List ℕ} (whole : List ℕ)
-    (refusal : Error → Type 0) (under_way : List ℕ)
-    → Sends old rest reply new left → rest ≡ whole → was ≡ whole → OnOk reply (under_way ≡ [])
-    → OnOk reply (left ≡ []) → OnErr reply (under_way ≡ was) → SendsRecord whole refusal old reply under_way left new
-sends_record (Ok u) {old} {new} {rest} {left} whole refusal under_way s is staged idle none err =
-    (subst (λ l. Moves old l [] new) is (MovesFront-whole rest u (MovesFront-sends rest left s none)), idle)
-sends_record (Err e) {old} {new} {rest} {left} whole refusal under_way s is staged idle none err =
-    inr (record { is = err ∙ staged; sends = subst (λ l. Sends old l (Err e) new left) is s })
 
 -- what went without a stop, and all did
 pub all_sent : {a b : Told} {to_go left : List ℕ} (under_way : List ℕ) → Sends a to_go (Ok tt) b left
