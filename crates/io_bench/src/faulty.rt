@@ -85,7 +85,7 @@ impl<W: Write> Write for Faulty<W> {
 
     fn write(&mut self, buf: &[u8]) -> Result<usize>
         ensures law { let F = ⟦<Self as Write>⟧ in
-            WriteLaw F.told F.takes_all F.cost F.is_metered self.old buf.now result self.new }
+            WriteLaw F.told F.takes_all F.cost F.is_metered F.may self.old buf.now result self.new }
 
         // One act is spent, and what it says is done.
         ensures acts { acts_left self.new ≡ drop 1 (acts_left self.old) }
@@ -96,10 +96,10 @@ impl<W: Write> Write for Faulty<W> {
         ensures take_none { next_act self.old ≡ Some (Act.Take 0)
             → (result ≡ Ok 0) × (faulty_inner self.new ≡ faulty_inner self.old) }
         ensures take { (n : ℕ) → 0 < n → next_act self.old ≡ Some (Act.Take n)
-            → WriteLaw W.told W.takes_all W.cost W.is_metered
+            → WriteLaw W.told W.takes_all W.cost W.is_metered W.may
             (faulty_inner self.old) (take n buf.now) result (faulty_inner self.new) }
         ensures whole { next_act self.old ≡ None
-            → WriteLaw W.told W.takes_all W.cost W.is_metered
+            → WriteLaw W.told W.takes_all W.cost W.is_metered W.may
             (faulty_inner self.old) buf.now result (faulty_inner self.new) }
     {
         match self.spend() {
@@ -115,14 +115,14 @@ impl<W: Write> Write for Faulty<W> {
 
     fn flush(&mut self) -> Result<()>
         ensures law { let F = ⟦<Self as Write>⟧ in
-            FlushLaw F.told F.takes_all F.cost F.is_metered self.old result self.new }
+            FlushLaw F.told F.takes_all F.cost F.is_metered F.may self.old result self.new }
 
         // One act is spent, and what it says is done.
         ensures acts { acts_left self.new ≡ drop 1 (acts_left self.old) }
         ensures fail { (kind : ErrorKind) → next_act self.old ≡ Some (Act.Fail kind)
             → FailsWith kind result × (faulty_inner self.new ≡ faulty_inner self.old) }
         ensures whole { LetsFlush (next_act self.old)
-            → FlushLaw W.told W.takes_all W.cost W.is_metered
+            → FlushLaw W.told W.takes_all W.cost W.is_metered W.may
             (faulty_inner self.old) result (faulty_inner self.new) }
     {
         match self.spend() {
@@ -133,7 +133,7 @@ impl<W: Write> Write for Faulty<W> {
 
     fn write_all(&mut self, buf: &[u8]) -> Result<()>
         ensures law { let F = ⟦<Self as Write>⟧ in
-            WriteAllLaw F.told F.takes_all F.cost F.is_metered self.old buf.now result self.new }
+            WriteAllLaw F.told F.takes_all F.cost F.is_metered F.may self.old buf.now result self.new }
 
         // Each write spends an act. How many bytes are left is known where all is written.
         ensures acts { (left : ℕ) × OnOk result (left ≡ 0) × (left ≤ length buf.now)
@@ -146,7 +146,7 @@ impl<W: Write> Write for Faulty<W> {
 
     fn write_rest(&mut self, rest: &mut &[u8]) -> Result<()>
         ensures law { let F = ⟦<Self as Write>⟧ in
-            WriteRestLaw F.told F.takes_all F.cost F.is_metered self.old rest.old.now result self.new rest.new.now }
+            WriteRestLaw F.told F.takes_all F.cost F.is_metered F.may self.old rest.old.now result self.new rest.new.now }
 
         // Each write spends an act.
         ensures acts { SpendsActs (acts_left self.old) (length rest.old.now) (faulty_told W.told self.old).turns

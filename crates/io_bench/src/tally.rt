@@ -113,10 +113,10 @@ impl<T: Write> Write for Tally<T> {
 
     fn write(&mut self, buf: &[u8]) -> Result<usize>
         ensures law { let W = ⟦<Self as Write>⟧ in
-            WriteLaw W.told W.takes_all W.cost W.is_metered self.old buf.now result self.new }
+            WriteLaw W.told W.takes_all W.cost W.is_metered W.may self.old buf.now result self.new }
 
         // One write of the inner writer, and one more in the count, whatever the answer.
-        ensures handed { WriteLaw T.told T.takes_all T.cost T.is_metered
+        ensures handed { WriteLaw T.told T.takes_all T.cost T.is_metered T.may
             (tally_inner self.old) buf.now result (tally_inner self.new) }
         ensures writes { tally_writes self.new ≡ tally_writes self.old + 1 }
         ensures reads { tally_reads self.new ≡ tally_reads self.old }
@@ -127,10 +127,10 @@ impl<T: Write> Write for Tally<T> {
 
     fn flush(&mut self) -> Result<()>
         ensures law { let W = ⟦<Self as Write>⟧ in
-            FlushLaw W.told W.takes_all W.cost W.is_metered self.old result self.new }
+            FlushLaw W.told W.takes_all W.cost W.is_metered W.may self.old result self.new }
 
         // One flush of the inner writer, which counts for nothing.
-        ensures handed { FlushLaw T.told T.takes_all T.cost T.is_metered
+        ensures handed { FlushLaw T.told T.takes_all T.cost T.is_metered T.may
             (tally_inner self.old) result (tally_inner self.new) }
         ensures writes { tally_writes self.new ≡ tally_writes self.old }
         ensures reads { tally_reads self.new ≡ tally_reads self.old }
@@ -140,7 +140,7 @@ impl<T: Write> Write for Tally<T> {
 
     fn write_all(&mut self, buf: &[u8]) -> Result<()>
         ensures law { let W = ⟦<Self as Write>⟧ in
-            WriteAllLaw W.told W.takes_all W.cost W.is_metered self.old buf.now result self.new }
+            WriteAllLaw W.told W.takes_all W.cost W.is_metered W.may self.old buf.now result self.new }
 
         // Each write of the inner writer counts: at most one for each byte, each turn that is spent, and the fault.
         ensures counts { CountsLoop (length buf.now)
@@ -155,7 +155,7 @@ impl<T: Write> Write for Tally<T> {
 
     fn write_rest(&mut self, rest: &mut &[u8]) -> Result<()>
         ensures law { let W = ⟦<Self as Write>⟧ in
-            WriteRestLaw W.told W.takes_all W.cost W.is_metered self.old rest.old.now result self.new rest.new.now }
+            WriteRestLaw W.told W.takes_all W.cost W.is_metered W.may self.old rest.old.now result self.new rest.new.now }
 
         // Each write of the inner writer counts: at most one for each byte, each turn that is spent, and the fault.
         ensures counts { CountsLoop (length rest.old.now)

@@ -5,7 +5,11 @@ use Rattle.std.proofs.lemmas.Bool.{cases_lt}
 use Rattle.std.proofs.lemmas.Bool.Decides.{nat_tests}
 use Rattle.no_std_io2_base.specs.declared.error.Error.{Error}
 use Rattle.no_std_io2_base.specs.declared.traits.write.Write.{Ghosts as Writer}
-use Rattle.no_std_io2_base.specs.Write.{Moves, WriteLaw, WriteAllLaw, FlushLaw, calls_for}
+use Rattle.no_std_io2_base.specs.Write.{Made, Wrote, Flushed, none as no_write, Moves, WriteLaw, WriteAllLaw, FlushLaw, calls_for}
+use Rattle.no_std_io2_base.proofs.CallsLemmas.{made_more, made_then}
+use Rattle.std.proofs.Common.{◌∷◌}
+use Rattle.no_std_io2.specs.BufWriter.{CallOf, SendCalls, WayCalls, WriteCalls, WriteAllCalls}
+use Rattle.no_std_io2.specs.BufWriter.{write_refused, write_holds, write_passes, all_refused, all_holds, all_passes}
 use Rattle.no_std_io2_base.proofs.MovesLemmas.{IsFront-refl, Moves-then, Moves-ends, zero_write-whole}
 use Rattle.no_std_io2.specs.declared.buffered.sender.Sender.{Sender}
 use Rattle.no_std_io2.specs.declared.buffered.buf_writer.BufWriter.{BufWriter}
@@ -30,11 +34,11 @@ after_long : (S : ℕ) (held x : List ℕ) → S ≤ length x → buffer_after S
 after_long S held x h = grind (arith, nat_tests)
 
 -- the inner calls of a write, case by case
-calls_short : (S : ℕ) (held x : List ℕ) → length x < S → writing_calls S held x ≡ way_calls S held (length x)
+pub calls_short : (S : ℕ) (held x : List ℕ) → length x < S → writing_calls S held x ≡ way_calls S held (length x)
 calls_short S held x h = grind (arith, nat_tests)
 
 -- a write of S bytes and more takes one inner call more than it takes to make way
-calls_long : (S : ℕ) (held x : List ℕ) → S ≤ length x → writing_calls S held x ≡ way_calls S held (length x) + 1
+pub calls_long : (S : ℕ) (held x : List ℕ) → S ≤ length x → writing_calls S held x ≡ way_calls S held (length x) + 1
 calls_long S held x h = grind (arith, nat_tests)
 
 -- to make way takes at most one inner call, and none where nothing is held
@@ -42,7 +46,7 @@ way_calls-le : (S n : ℕ) (held : List ℕ) → way_calls S held n ≤ calls_fo
 way_calls-le S n held = grind (arith, nat_tests)
 
 -- to make way takes no inner call where n more bytes fit beside what is held
-way_calls-none : (S n : ℕ) (held : List ℕ) → length held + n ≤ S → way_calls S held n ≡ 0
+pub way_calls-none : (S n : ℕ) (held : List ℕ) → length held + n ≤ S → way_calls S held n ≡ 0
 way_calls-none S n held h = grind (arith, nat_tests)
 
 -- to make way takes no inner call where nothing is held
@@ -50,7 +54,7 @@ way_calls-empty : (S n : ℕ) (held : List ℕ) → length held ≡ 0 → way_ca
 way_calls-empty S n held h = grind (arith, nat_tests)
 
 -- to make way takes one inner call where n more bytes don't fit and some are held, and none where none are
-way_calls-over : (S n : ℕ) (held : List ℕ) → S < length held + n → way_calls S held n ≡ calls_for held
+pub way_calls-over : (S n : ℕ) (held : List ℕ) → S < length held + n → way_calls S held n ≡ calls_for held
 way_calls-over S n held h = grind (arith, nat_tests)
 
 -- an error is not `Ok`
@@ -80,7 +84,15 @@ way_kept {I} {old} room = record {
   sent = λ over. absurd (omega (arith, over, room));
   all = λ t. (t, refl);
   calls = λ m t. (m, omega (arith, way_calls-none _ _ (sender_buffer old) room));
+  made = ([], refl, inl (room, refl, refl, refl));
 }
+
+-- where nothing is held no call makes way
+way_idle : (S : ℕ) (held : List ℕ) (n : ℕ) → held ≡ [] → WayCalls S held n [] (Ok tt) held
+way_idle S held n empty = ⊎_elim
+    (λ over. inr (over, subst (λ l. SendCalls l [] (Ok tt) l) (sym empty) no_write))
+    (λ room. inl (room, refl, refl, refl))
+    (cases_lt S (length held + n))
 
 -- nothing is held: nothing has to be sent
 pub way_empty : {W : Type 0} {S : ℕ} {I : Writer W} {old mid : Sender W S} {more : ℕ}
@@ -96,6 +108,7 @@ way_empty {S} {I} {mid} {more} same none =
       sent = λ _. none;
       all = λ t. (t, refl);
       calls = λ m t. (m, omega (arith, way_calls-empty S more (sender_buffer mid) (ap length none)));
+      made = ([], refl, way_idle S (sender_buffer mid) more none);
     })
 
 -- they don't, and what was held was sent
@@ -115,6 +128,7 @@ way_sent {S} {I} {r} {old} {more} sent over =
       calls = λ m t.
           let spent = sent.calls m t in
           (spent.0, spent.1 ∙ ap (λ n. I.cost (sender_inner old) + n) (sym (way_calls-over S more (sender_buffer old) over)));
+      made = (sent.made.0, sent.made.1, inr (over, sent.made.2));
     }
 
 -- all that was held was sent, and the buffer is gone
@@ -138,13 +152,14 @@ refused {old} way = record {
   all = λ t. no_ok (way.all t).1;
   after = tt;
   calls = λ _ t. no_ok (way.all t).1;
+  made = (way.made.0, way.made.1, write_refused way.made.2);
 }
 
 -- `write`: one inner write, past the empty buffer
 pub passed : {W : Type 0} {S : ℕ} {I : Writer W} {old mid : Sender W S} {x : List ℕ} {r : Result ℕ Error} {inner : W}
-    → MakesWay I old (length x) (Ok tt) mid → S ≤ length x → WriteLaw I.told I.takes_all I.cost I.is_metered (sender_inner mid) x r inner
+    → MakesWay I old (length x) (Ok tt) mid → S ≤ length x → WriteLaw I.told I.takes_all I.cost I.is_metered I.may (sender_inner mid) x r inner
     → Buffers I S sender_inner sender_buffer old x r (sender_with_inner mid inner)
-passed {S} {old} {mid} {x} {r} way long wrote =
+passed {S} {I} {old} {mid} {x} {r} way long wrote =
     let none = way.empty long in
     record {
       bound = wrote.bound;
@@ -160,6 +175,13 @@ passed {S} {old} {mid} {x} {r} way long wrote =
           let first = way.calls m t in
           let then = wrote.counts first.0 (way.all t).0 in
           (then.0, omega (arith, first.1, then.1, calls_long S (sender_buffer old) x long));
+      made =
+          let before = way.made in
+          let empty = subst (λ l. WayCalls S (sender_buffer old) (length x) before.0 (Ok tt) l) none before.2 in (
+            before.0 ++ Wrote x r ∷ [],
+            made_more (CallOf I) before.0 (sender_inner old) before.1 wrote,
+            subst (λ l. WriteCalls S (sender_buffer old) x (before.0 ++ Wrote x r ∷ []) r l) (sym none) (write_passes long empty),
+          );
     }
 
 -- what is held in the end, where x was put behind what was left
@@ -193,6 +215,12 @@ held {S} {I} {old} {mid} {new} {x} way short same put =
       calls = λ m t.
           let first = way.calls m t in
           (subst I.is_metered (sym same) first.0, omega (arith, first.1, ap I.cost same, calls_short S (sender_buffer old) x short));
+      made =
+          let before = way.made in (
+            before.0,
+            subst (λ w. Made (CallOf I) (sender_inner old) before.0 w) (sym same) before.1,
+            subst (λ l. WriteCalls S (sender_buffer old) x before.0 (Ok (length x)) l) (sym put) (write_holds short before.2),
+          );
     }
 
 -- `write_all`: sending failed, and nothing was accepted
@@ -209,14 +237,15 @@ refused_all {x} way = record {
   after = tt;
   calls = λ _ _ t. no_ok (way.all t).1;
   few = λ _ t. no_ok (way.all t).1;
+  made = (way.made.0, way.made.1, all_refused way.made.2);
 }
 
 -- `write_all`: one inner `write_all`, past the empty buffer
 pub passed_all : {W : Type 0} {S : ℕ} {I : Writer W} {old mid : Sender W S} {x : List ℕ} {r : Result (Unit {0}) Error} {inner : W}
     → ((w : W) → I.takes_all w → (I.told w).mishaps ≡ Some []) → MakesWay I old (length x) (Ok tt) mid → S ≤ length x
-    → WriteAllLaw I.told I.takes_all I.cost I.is_metered (sender_inner mid) x r inner
+    → WriteAllLaw I.told I.takes_all I.cost I.is_metered I.may (sender_inner mid) x r inner
     → BuffersAll I S sender_inner sender_buffer old x r (sender_with_inner mid inner)
-passed_all {S} {old} {mid} {x} {r} steady way long wrote =
+passed_all {S} {I} {old} {mid} {x} {r} {inner} steady way long wrote =
     let none = way.empty long in
     record {
       fault = wrote.fault;
@@ -235,6 +264,14 @@ passed_all {S} {old} {mid} {x} {r} steady way long wrote =
           let first = way.calls m t in
           let then = wrote.counts first.0 (way.all t).0 in
           (then.0, omega (arith, first.1, then.1, way_calls-le S (length x) (sender_buffer old), calls_for-le x));
+      made =
+          let before = way.made in
+          let empty = subst (λ l. WayCalls S (sender_buffer old) (length x) before.0 (Ok tt) l) none before.2 in
+          let last = wrote.calls in (
+            before.0 ++ last.0,
+            made_then (CallOf I) before.0 (sender_inner old) last.0 (sender_inner mid) inner before.1 last.1,
+            subst (λ l. WriteAllCalls S (sender_buffer old) x (before.0 ++ last.0) r l) (sym none) (all_passes long empty last.2),
+          );
     }
 
 -- `write_all`: x is held behind what was left
@@ -262,14 +299,20 @@ held_all {S} {I} {old} {mid} {new} {x} way short same put = record {
   few = λ m t.
       let first = way.calls m t in
       (subst I.is_metered (sym same) first.0, omega (arith, first.1, ap I.cost same, way_calls-le S (length x) (sender_buffer old)));
+  made =
+      let before = way.made in (
+        before.0,
+        subst (λ w. Made (CallOf I) (sender_inner old) before.0 w) (sym same) before.1,
+        subst (λ l. WriteAllCalls S (sender_buffer old) x before.0 (Ok tt) l) (sym put) (all_holds short before.2),
+      );
 }
 
 -- `flush`: all was sent, and then the inner writer was flushed
 pub flushed : {W : Type 0} {S : ℕ} {I : Writer W} {old mid : Sender W S} {r : Result (Unit {0}) Error} {inner : W}
     → ((w : W) → I.takes_all w → (I.told w).mishaps ≡ Some []) → Sent I old (Ok tt) mid
-    → FlushLaw I.told I.takes_all I.cost I.is_metered (sender_inner mid) r inner
+    → FlushLaw I.told I.takes_all I.cost I.is_metered I.may (sender_inner mid) r inner
     → Flushes I sender_inner sender_buffer old r (sender_with_inner mid inner)
-flushed {I} {mid} {r} {inner} steady sent done =
+flushed {I} {old} {mid} {r} {inner} steady sent done =
     let none = sent.empty in
     record {
       empty = onok_both r _ _ done.empty (λ e. ap (λ l. (I.told inner).held ++ l) none ∙ append-nil _ ∙ e);
@@ -286,6 +329,12 @@ flushed {I} {mid} {r} {inner} steady sent done =
           let first = sent.calls m t in
           let then = done.counts first.0 (sent.all t).0 in
           (then.0, omega (arith, first.1, then.1));
+      made =
+          let before = sent.made in (
+            before.0 ++ Flushed r ∷ [],
+            made_more (CallOf I) before.0 (sender_inner old) before.1 done,
+            inl (before.0, subst (λ l. SendCalls (sender_buffer old) before.0 (Ok tt) l) refl before.2, refl),
+          );
     }
 
 -- a call that sends first: the sending failed

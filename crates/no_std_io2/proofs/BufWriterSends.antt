@@ -1,122 +1,103 @@
 -- The turns of a sending and its ends: all was sent, or a fault came.
-use Rattle.std.proofs.Common.{◌≡◌, true, ℕ, ◌+◌, ◌<◌, ◌≤◌, ◌∙◌, List, [], ◌∷◌, ◌++◌, length, length-drop, take, drop}
-use Rattle.std.proofs.Common.{count_by, Result, Ok, Err, refl, sym, ap, subst, arith}
+use Rattle.std.proofs.Common.{◌≡◌, true, ℕ, ◌+◌, ◌<◌, ◌≤◌, ◌∙◌, List, [], ◌∷◌, length, length-drop, drop, codes}
+use Rattle.std.proofs.Common.{count_by, Result, Ok, Err, OnOk, OnErr, IsOk, refl, sym, ap, subst, arith}
 use Rattle.std.proofs.lemmas.Bool.Decides.{nat_tests}
 use Rattle.no_std_io2_base.specs.declared.error.Error.{Error}
 use Rattle.no_std_io2_base.specs.declared.error.ErrorKind.{ErrorKind}
 use Rattle.no_std_io2_base.specs.declared.error.ErrorKind.TheVariants.{WriteZero}
-use Rattle.no_std_io2_base.specs.Errors.{error_kind, is_interruption, IsFault}
+use Rattle.no_std_io2_base.specs.Errors.{error_kind, is_interruption, IsFault, IsInterruption, IsNoInterruption, SaysError}
 use Rattle.no_std_io2_base.specs.declared.traits.write.Write.{Ghosts as Writer}
-use Rattle.no_std_io2_base.specs.Write.{Told, Moves, WriteLaw, taken, write_mishap, zero_write, calls_for}
-use Rattle.no_std_io2_base.proofs.MovesLemmas.{Moves-refl, Moves-more, Moves-ends, Moves-quiet}
+use Rattle.no_std_io2_base.specs.Write.{Told, Moves, Sends, calls_for, WriteCall, Wrote, Made}
+use Rattle.no_std_io2_base.specs.Write.{none as no_write, took, again as goes_again, stuck, fault as fails}
+use Rattle.no_std_io2_base.proofs.CallsLemmas.{CallsSoFar, calls_none, calls_more, calls_end, writes_whole}
+use Rattle.no_std_io2_base.proofs.WritesFacts.{writes_fault, writes_left, writes_idle, writes_sends, writes_all, writes_counts}
 use Rattle.no_std_io2.specs.declared.buffered.sender.Sender.{Sender}
-use Rattle.no_std_io2.specs.BufWriter.{sender_inner, sender_buffer, sender_with_inner, Sent}
-use Rattle.no_std_io2.proofs.BufWriterLemmas.{none_left, gone_more, drop_whole, sending_none, sending_some, ok_same}
+use Rattle.no_std_io2.specs.BufWriter.{sender_inner, sender_buffer, sender_with_inner, Sent, SendCalls, CallOf, CallsExactly}
 
--- so far a front of what was held was sent
+-- what follows from the calls of a sending
+pub sent_of : {W : Type 0} {S : ℕ} {I : Writer W} {old : Sender W S} {reply : Result (Unit {0}) Error} {new : Sender W S}
+    → new.buffer.bytes ≡ old.buffer.bytes
+    → (C : List WriteCall) × Made (CallOf I) (sender_inner old) C (sender_inner new)
+        × SendCalls (sender_buffer old) C reply (sender_buffer new)
+    → Sent I old reply new
+sent_of {I} {old} {reply} {new} unmoved calls =
+    let made = calls.1 in
+    let writes = calls.2 in
+    let a = sender_inner old in
+    let b = sender_inner new in
+    record {
+      fault = writes_fault writes;
+      empty = writes_whole writes;
+      left = writes_left writes;
+      sends = writes_sends I.told I.takes_all I.cost I.is_metered I.may writes a b made;
+      idle = λ none.
+          let idle = writes_idle writes none in
+          (subst (λ K. Made (CallOf I) a K b) idle.0 made, idle.1);
+      all = λ t. let all = writes_all I.told I.takes_all I.cost I.is_metered I.may writes a b made t in (all.0, all.1);
+      calls = λ m t. writes_counts I.told I.takes_all I.cost I.is_metered I.may writes a b made m t;
+      made = calls;
+      unmoved = unmoved;
+    }
+
+-- the inner calls so far
 pub record Sending {W : Type 0} {S : ℕ} (I : Writer W) (old new : Sender W S) : Type 0 where
-  pub sent : List ℕ
-  pub split : sender_buffer old ≡ sent ++ sender_buffer new
-  pub moves : Moves (I.told (sender_inner old)) sent [] (I.told (sender_inner new))
-  -- with nothing held there was no inner call
-  pub idle : sender_buffer old ≡ [] → sender_inner new ≡ sender_inner old
-  -- an inner writer that takes all still does
-  pub all : I.takes_all (sender_inner old) → I.takes_all (sender_inner new)
-  -- the inner calls so far, and the one for what is still held, are those for all that was held
-  pub calls : I.is_metered (sender_inner old) → I.takes_all (sender_inner old) → I.is_metered (sender_inner new)
-      × (I.cost (sender_inner new) + calls_for (sender_buffer new) ≡ I.cost (sender_inner old) + calls_for (sender_buffer old))
-  -- no byte moved
+  pub made : CallsSoFar (CallOf I) (codes "failed to write the buffered data") (sender_inner old) (sender_buffer old)
+      (sender_buffer new) (sender_inner new)
   pub unmoved : new.buffer.bytes ≡ old.buffer.bytes
 
--- nothing was sent yet
+-- none yet
 pub sending_begins : {W : Type 0} {S : ℕ} {I : Writer W} {old : Sender W S} → Sending I old old
-sending_begins {I} {old} = record {
-  sent = [];
-  split = refl;
-  moves = Moves-refl (I.told (sender_inner old));
-  idle = λ _. refl;
-  all = λ t. t;
-  calls = λ m _. (m, refl);
-  unmoved = refl;
-}
+sending_begins = record { made = calls_none; unmoved = refl }
 
 -- the inner writer took n bytes of what was held
 pub sending_took : {W : Type 0} {S : ℕ} {I : Writer W} {old mid new : Sender W S} {x : List ℕ} {n : ℕ}
-    → Sending I old mid → 0 < length (sender_buffer mid) → x ≡ sender_buffer mid
-    → WriteLaw I.told I.takes_all I.cost I.is_metered (sender_inner mid) x (Ok n) (sender_inner new)
+    → Sending I old mid → 0 < length (sender_buffer mid) → 0 < n → x ≡ sender_buffer mid
+    → CallOf I (sender_inner mid) (Wrote x (Ok n)) (sender_inner new)
     → sender_buffer new ≡ drop n (sender_buffer mid) → new.buffer.bytes ≡ mid.buffer.bytes → Sending I old new
-sending_took {mid} {x} {n} before some given wrote rest unmoved =
-    let held = sender_buffer mid in
-    record {
-      sent = before.sent ++ take n x;
-      split = gone_more _ before.sent x n _ (before.split ∙ ap (λ l. before.sent ++ l) (sym given)) (rest ∙ ap (drop n) (sym given));
-      moves = Moves-more before.moves wrote.moves;
-      idle = λ e. absurd (omega (arith, some, none_left _ before.sent held before.split e));
-      all = λ t. (wrote.all (before.all t)).0;
-      calls = λ m t.
-          let count : n ≡ length x = ok_same (wrote.all (before.all t)).1 in
-          let next = drop_whole held _ n (count ∙ ap length given) rest in
-          let one = wrote.counts (before.calls m t).0 (before.all t) in
-          (one.0, omega (arith, (before.calls m t).1, one.1, sending_none _ next, sending_some held some));
-      unmoved = unmoved ∙ before.unmoved;
-    }
-
--- an error is not the answer of a writer that takes all
-no_err : {x : Error} {n : ℕ} {T : Type 0} → ◌≡◌ {A = Result ℕ Error} (Err x) (Ok n) → T
-no_err e = absurd (let no : ⊥ = cc in no)
-
--- so a writer that answered one does not take all
-pub takes_not_all : {A : Type 0} {x : Error} {n : ℕ} → A × (◌≡◌ {A = Result ℕ Error} (Err x) (Ok n)) → ⊥
-takes_not_all h = no_err h.1
+sending_took {I} {mid} {new} {x} {n} before some more given wrote rest unmoved = record {
+  made = calls_more before.made (subst (λ y. CallOf I (sender_inner mid) (Wrote y (Ok n)) (sender_inner new)) given wrote)
+      (λ D r e w. took some more (subst (λ l. SendCalls l D r e) rest w));
+  unmoved = unmoved ∙ before.unmoved;
+}
 
 -- the inner writer was interrupted
 pub sending_again : {W : Type 0} {S : ℕ} {I : Writer W} {old mid : Sender W S} {inner : W} {x : List ℕ} {e : Error}
-    → Sending I old mid → 0 < length (sender_buffer mid) → WriteLaw I.told I.takes_all I.cost I.is_metered (sender_inner mid) x
-    (Err e) inner
-    → Sending I old (sender_with_inner mid inner)
-sending_again {mid} before some wrote = record {
-  sent = before.sent;
-  split = before.split;
-  moves = Moves-ends before.moves (Moves-quiet wrote.moves);
-  idle = λ none. absurd (omega (arith, some, none_left _ before.sent (sender_buffer mid) before.split none));
-  all = λ t. (wrote.all (before.all t)).0;
-  calls = λ m t. no_err (wrote.all (before.all t)).1;
+    → Sending I old mid → 0 < length (sender_buffer mid) → x ≡ sender_buffer mid → IsInterruption e
+    → CallOf I (sender_inner mid) (Wrote x (Err e)) inner → Sending I old (sender_with_inner mid inner)
+sending_again {I} {mid} {inner} {e = e} before some given interrupted wrote = record {
+  made = calls_more before.made (subst (λ y. CallOf I (sender_inner mid) (Wrote y (Err e)) inner) given wrote)
+      (λ D r end w. goes_again some interrupted w);
   unmoved = before.unmoved;
 }
 
 -- a fault came
-pub sending_fails : {W : Type 0} {S : ℕ} {I : Writer W} {old mid : Sender W S} {inner : W} {e : Error}
-    → Sending I old mid → 0 < length (sender_buffer mid) → IsFault e
-    → Moves (I.told (sender_inner mid)) [] (error_kind e ∷ []) (I.told inner) → (I.takes_all (sender_inner mid) → ⊥)
-    → Sent I old (Err e) (sender_with_inner mid inner)
-sending_fails {mid} before some fault moves all = record {
-  fault = fault;
-  empty = tt;
-  left = some;
-  sends = record { sent = before.sent; split = before.split; moves = Moves-ends before.moves moves };
-  idle = λ none. absurd (omega (arith, some, none_left _ before.sent (sender_buffer mid) before.split none));
-  all = λ t. absurd (all (before.all t));
-  calls = λ _ t. absurd (all (before.all t));
-  unmoved = before.unmoved;
-}
-
--- no byte was taken of some
-zero_write-none : (x : List ℕ) → 0 < length x → zero_write 0 x ≡ WriteZero ∷ []
-zero_write-none x some = grind (arith, nat_tests)
+pub sending_fails : {W : Type 0} {S : ℕ} {I : Writer W} {old mid : Sender W S} {inner : W} {x : List ℕ} {e : Error}
+    → Sending I old mid → 0 < length (sender_buffer mid) → x ≡ sender_buffer mid → IsFault e
+    → CallOf I (sender_inner mid) (Wrote x (Err e)) inner → Sent I old (Err e) (sender_with_inner mid inner)
+sending_fails {I} {mid} {inner} {e = e} before some given fault wrote =
+    let held = sender_buffer mid in
+    let last = subst (λ y. CallOf I (sender_inner mid) (Wrote y (Err e)) inner) given wrote in
+    sent_of before.unmoved
+    (calls_end before.made (Err e) held (Wrote held (Err e) ∷ []) (inner, last, refl) (fails some fault))
 
 -- the inner writer took no byte of some
 pub sending_stuck : {W : Type 0} {S : ℕ} {I : Writer W} {old mid : Sender W S} {inner : W} {x : List ℕ}
     {r : Result ℕ Error} {n : ℕ} {e : Error}
-    → Sending I old mid → 0 < length (sender_buffer mid) → x ≡ sender_buffer mid → r ≡ Ok n → n ≡ 0 → error_kind e ≡ WriteZero
-    → WriteLaw I.told I.takes_all I.cost I.is_metered (sender_inner mid) x r inner → Sent I old (Err e) (sender_with_inner mid inner)
-sending_stuck {I} {mid} {inner} {x} {r} {e} before some given is zero kind wrote =
-    let answer : r ≡ Ok 0 = is ∙ ap Ok zero in
-    let long : 0 < length x = omega (arith, some, ap length given) in
-    let none = subst (λ a. Moves (I.told (sender_inner mid)) (taken a x) (write_mishap a x) (I.told inner)) answer wrote.moves in
-    let mishap : zero_write 0 x ≡ error_kind e ∷ [] = zero_write-none x long ∙ ap (λ k. k ∷ []) (sym kind) in
-    sending_fails before some (ap is_interruption kind)
-    (subst (λ k. Moves (I.told (sender_inner mid)) [] k (I.told inner)) mishap none)
-    (λ t. omega (arith, long, ok_same (sym answer ∙ (wrote.all t).1)))
+    → Sending I old mid → 0 < length (sender_buffer mid) → x ≡ sender_buffer mid → r ≡ Ok n → n ≡ 0
+    → SaysError WriteZero (codes "failed to write the buffered data") e
+    → CallOf I (sender_inner mid) (Wrote x r) inner → Sent I old (Err e) (sender_with_inner mid inner)
+sending_stuck {I} {mid} {inner} {x} {e = e} before some given is zero says wrote =
+    let held = sender_buffer mid in
+    let answered = subst (λ a. CallOf I (sender_inner mid) (Wrote x a) inner) (is ∙ ap Ok zero) wrote in
+    let last = subst (λ y. CallOf I (sender_inner mid) (Wrote y (Ok 0)) inner) given answered in
+    sent_of before.unmoved
+    (calls_end before.made (Err e) held (Wrote held (Ok 0) ∷ []) (inner, last, refl) (stuck some says))
+
+-- all was sent
+pub sending_done : {W : Type 0} {S : ℕ} {I : Writer W} {old new : Sender W S} → Sending I old new → sender_buffer new ≡ []
+    → Sent I old (Ok tt) new
+sending_done {new} before empty = sent_of before.unmoved
+    (calls_end before.made (Ok tt) (sender_buffer new) [] refl (subst (λ l. SendCalls l [] (Ok tt) l) (sym empty) no_write))
 
 -- fewer turns and bytes are left after a write that took some
 pub fewer_left : {a b : Told} {y : List ℕ} {k : List ErrorKind} (x : List ℕ) {held next : List ℕ} {n : ℕ}

@@ -4,6 +4,8 @@ use Rattle.std.specs.Prelude.{◌≡◌, ℕ, ◌+◌, List, [], ◌++◌, lengt
 use Rattle.std.specs.Prelude.{Result, Ok, IsOk, IsOkAnd, IfOk, IfErr, OnOk, OnErr}
 use Rattle.no_std_io2_base.specs.declared.error.Error.{Error}
 use Rattle.no_std_io2_base.specs.Write.{Told, IsFront, Moves, MovesFront, Sends, taken, write_mishap, call_mishap, calls_for}
+use Rattle.no_std_io2_base.specs.Write.{WriteCall, Wrote, WroteAll, WroteRest, Flushed, Made, Writes, AllCalls, CallLaw}
+use Rattle.std.specs.Prelude.{codes, IsErr, Err}
 use Rattle.no_std_io2.specs.Buffer.{buffer_held, IsEnd}
 use Rattle.no_std_io2.specs.declared.buffered.sender.Sender.{Sender}
 use Rattle.no_std_io2.specs.declared.buffered.buf_writer.BufWriter.{BufWriter}
@@ -86,6 +88,58 @@ CallsExactly I old n new = I.is_metered old → I.takes_all old → I.is_metered
 abbrev pub CallsAtMost : {W : Type 0} → Writer W → W → ℕ → W → Type 0
 CallsAtMost I old n new = I.is_metered old → I.takes_all old → I.is_metered new × (I.cost new ≤ I.cost old + n)
 
+-- a call of this writer, as its law says
+abbrev pub CallOf : {W : Type 0} → Writer W → W → WriteCall → W → Type 0
+CallOf I = CallLaw I.told I.takes_all I.cost I.is_metered I.may
+
+-- the inner calls that send what is held, what they answer, and what they leave
+abbrev pub SendCalls : List ℕ → List WriteCall → Result (Unit {0}) Error → List ℕ → Type 0
+SendCalls held C reply left = Writes (codes "failed to write the buffered data") C held reply left
+
+-- the inner calls that make way for n bytes: none where they fit beside what is held, else those that send it
+abbrev pub WayCalls : ℕ → List ℕ → ℕ → List WriteCall → Result (Unit {0}) Error → List ℕ → Type 0
+WayCalls S held n C reply left = ((length held + n ≤ S) × (C ≡ []) × IsOk reply × (left ≡ held))
+    ⊎ ((S < length held + n) × SendCalls held C reply left)
+
+-- The inner calls of `write(x)` through a buffer of S bytes, its answer, and what is held then.
+pub data WriteCalls (S : ℕ) (held x : List ℕ) : List WriteCall → Result ℕ Error → List ℕ → Type 0 where
+  -- there is no way
+  write_refused : {C : List WriteCall} {e : Error} {left : List ℕ} → WayCalls S held (length x) C (Err e) left
+      → WriteCalls S held x C (Err e) left
+  -- x is held
+  write_holds : {C : List WriteCall} {left : List ℕ} → length x < S → WayCalls S held (length x) C (Ok tt) left
+      → WriteCalls S held x C (Ok (length x)) (left ++ x)
+  -- one write hands it on, whose answer this is
+  write_passes : {C : List WriteCall} {reply : Result ℕ Error} → S ≤ length x → WayCalls S held (length x) C (Ok tt) []
+      → WriteCalls S held x (C ++ Wrote x reply ∷ []) reply []
+
+-- The inner calls of `write_all(x)`, likewise.
+pub data WriteAllCalls (S : ℕ) (held x : List ℕ) : List WriteCall → Result (Unit {0}) Error → List ℕ → Type 0 where
+  all_refused : {C : List WriteCall} {e : Error} {left : List ℕ} → WayCalls S held (length x) C (Err e) left
+      → WriteAllCalls S held x C (Err e) left
+  all_holds : {C : List WriteCall} {left : List ℕ} → length x < S → WayCalls S held (length x) C (Ok tt) left
+      → WriteAllCalls S held x C (Ok tt) (left ++ x)
+  -- one `write_all` hands it on
+  all_passes : {C D : List WriteCall} {reply : Result (Unit {0}) Error} → S ≤ length x → WayCalls S held (length x) C (Ok tt) []
+      → AllCalls D x reply → WriteAllCalls S held x (C ++ D) reply []
+
+-- the inner calls of `flush`: those that send what is held, and where all went one flush, whose answer this is
+abbrev pub FlushCalls : List ℕ → List WriteCall → Result (Unit {0}) Error → List ℕ → Type 0
+FlushCalls held C reply left = ((B : List WriteCall) × SendCalls held B (Ok tt) left × (C ≡ B ++ Flushed reply ∷ []))
+    ⊎ (IsErr reply × SendCalls held C reply left)
+
+-- the inner calls of a call of a writer with a buffer of S bytes
+abbrev pub InnerCalls : ℕ → List ℕ → WriteCall → List WriteCall → List ℕ → Type 0
+InnerCalls S held (Wrote x reply) C left = WriteCalls S held x C reply left
+InnerCalls S held (WroteAll x reply) C left = WriteAllCalls S held x C reply left
+InnerCalls S held (WroteRest x reply rest) C left = ⊥
+InnerCalls S held (Flushed reply) C left = FlushCalls held C reply left
+
+-- what a call may do to a writer B with such a buffer: these calls of its inner writer
+abbrev pub BufferMay : {W B : Type 0} → Writer W → ℕ → (B → W) → (B → List ℕ) → B → WriteCall → B → Type 0
+BufferMay I S inner buffer old call new = (C : List WriteCall) × Made (CallOf I) (inner old) C (inner new)
+    × InnerCalls S (buffer old) call C (buffer new)
+
 -- What was held was sent: the inner writer accepted some front of it, all of it at `Ok`, and the rest is held.
 pub record Sent {W : Type 0} {S : ℕ} (I : Writer W) (old : Sender W S) (reply : Result (Unit {0}) Error) (new : Sender W S)
     : Type 0 where
@@ -101,6 +155,9 @@ pub record Sent {W : Type 0} {S : ℕ} (I : Writer W) (old : Sender W S) (reply 
   pub all : I.takes_all (sender_inner old) → I.takes_all (sender_inner new) × IsOk reply
   -- and one call of it takes what was held
   pub calls : CallsExactly I (sender_inner old) (calls_for (sender_buffer old)) (sender_inner new)
+  -- these were the inner calls
+  pub made : (C : List WriteCall) × Made (CallOf I) (sender_inner old) C (sender_inner new)
+      × SendCalls (sender_buffer old) C reply (sender_buffer new)
   -- no byte moves
   pub unmoved : new.buffer.bytes ≡ old.buffer.bytes
 
@@ -125,6 +182,9 @@ pub record MakesWay {W : Type 0} {S : ℕ} (I : Writer W) (old : Sender W S) (mo
   pub all : I.takes_all (sender_inner old) → I.takes_all (sender_inner new) × IsOk reply
   -- and how many calls of it that takes
   pub calls : CallsExactly I (sender_inner old) (way_calls S (sender_buffer old) more) (sender_inner new)
+  -- these were the inner calls
+  pub made : (C : List WriteCall) × Made (CallOf I) (sender_inner old) C (sender_inner new)
+      × WayCalls S (sender_buffer old) more C reply (sender_buffer new)
 
 -- What a writer B tells that has a buffer in front of its inner writer.
 abbrev pub buffered_told : {W B : Type 0} → (W → Told) → (B → W) → (B → List ℕ) → B → Told
@@ -154,6 +214,8 @@ pub record Buffers {W B : Type 0} (I : Writer W) (S : ℕ) (inner : B → W) (bu
   pub after : OnOk reply (buffer new ≡ buffer_after S (buffer old) x)
   -- how many calls an inner writer gets that takes all
   pub calls : CallsExactly I (inner old) (writing_calls S (buffer old) x) (inner new)
+  -- these were the inner calls
+  pub made : (C : List WriteCall) × Made (CallOf I) (inner old) C (inner new) × WriteCalls S (buffer old) x C reply (buffer new)
 
 -- `write_all(x)` of such a writer.
 pub record BuffersAll {W B : Type 0} (I : Writer W) (S : ℕ) (inner : B → W) (buffer : B → List ℕ) (old : B) (x : List ℕ)
@@ -180,6 +242,8 @@ pub record BuffersAll {W B : Type 0} (I : Writer W) (S : ℕ) (inner : B → W) 
   pub calls : 0 < S → CallsExactly I (inner old) (writing_calls S (buffer old) x) (inner new)
   -- one call at most beside the one for what was held, whatever the buffer's length
   pub few : CallsAtMost I (inner old) (calls_for (buffer old) + 1) (inner new)
+  -- these were the inner calls
+  pub made : (C : List WriteCall) × Made (CallOf I) (inner old) C (inner new) × WriteAllCalls S (buffer old) x C reply (buffer new)
 
 -- `flush` of such a writer.
 pub record Flushes {W B : Type 0} (I : Writer W) (inner : B → W) (buffer : B → List ℕ) (old : B) (reply : Result (Unit {0}) Error)
@@ -195,6 +259,8 @@ pub record Flushes {W B : Type 0} (I : Writer W) (inner : B → W) (buffer : B �
   pub all : I.takes_all (inner old) → I.takes_all (inner new) × IsOk reply
   -- and one call of it takes what was held
   pub calls : CallsExactly I (inner old) (calls_for (buffer old)) (inner new)
+  -- these were the inner calls
+  pub made : (C : List WriteCall) × Made (CallOf I) (inner old) C (inner new) × FlushCalls (buffer old) C reply (buffer new)
 
 -- `into_inner()` of a writer B with a buffer: all that was held was sent and the inner writer came back, or a fault came with the
 -- writer, which holds the rest.

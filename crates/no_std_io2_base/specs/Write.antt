@@ -1,10 +1,10 @@
 -- What a writer tells, what its calls do to that, and the law of each call of `Write`.
 use Rattle.std.specs.Prelude.{◌≡◌, ℕ, ◌+◌, ◌≤◌, ◌==◌, ◌&&◌, nat_lt, Bool, if◌then◌else◌, List, [], ◌∷◌, ◌++◌, length, take, ⊤, Option}
-use Rattle.std.specs.Prelude.{None, Some, Result, Ok, Err, OnOk, count_by, IfOk, IsOk}
+use Rattle.std.specs.Prelude.{None, Some, Result, Ok, Err, OnOk, count_by, IfOk, IsOk, ◌<◌, drop, codes, ◌⊎◌}
 use Rattle.no_std_io2_base.specs.declared.error.Error.{Error}
 use Rattle.no_std_io2_base.specs.declared.error.ErrorKind.{ErrorKind}
 use Rattle.no_std_io2_base.specs.declared.error.ErrorKind.TheVariants.{WriteZero}
-use Rattle.no_std_io2_base.specs.Errors.{error_kind, is_interruption, IsNoInterruption}
+use Rattle.no_std_io2_base.specs.Errors.{error_kind, is_interruption, IsNoInterruption, IsInterruption, IsFault, SaysError}
 
 -- What a writer tells.
 pub record Told : Type 0 where
@@ -85,8 +85,46 @@ calls_for x = if nat_lt 0 (length x) then 1 else 0
 abbrev pub told_out : List ℕ → Told
 told_out bytes = record { out = bytes; held = []; mishaps = None; turns = 0 }
 
+-- A call of a writer, with its answer.
+pub data WriteCall : Type 0 where
+  Wrote : List ℕ → Result ℕ Error → WriteCall
+  -- a `write_all` that is no loop of writes
+  WroteAll : List ℕ → Result (Unit {0}) Error → WriteCall
+  -- a `write_rest` that is none, and what it left
+  WroteRest : List ℕ → Result (Unit {0}) Error → List ℕ → WriteCall
+  Flushed : Result (Unit {0}) Error → WriteCall
+
+-- these calls were made, one after another
+abbrev pub Made : {W : Type 0} → (W → WriteCall → W → Type 0) → W → List WriteCall → W → Type 0
+Made may old [] new = new ≡ old
+Made {W} may old (call ∷ C) new = (mid : W) × may old call mid × Made may mid C new
+
+-- C are the calls that write x, what they answer, and what they leave of x. `text` is what the answer says where no byte is taken.
+pub data Writes (text : List ℕ) : List WriteCall → List ℕ → Result (Unit {0}) Error → List ℕ → Type 0 where
+  -- for no bytes there is no call
+  none : Writes text [] [] (Ok tt) []
+  -- some were taken, and it goes on with the others
+  took : {C : List WriteCall} {x left : List ℕ} {reply : Result (Unit {0}) Error} {n : ℕ} → 0 < length x → 0 < n
+      → Writes text C (drop n x) reply left → Writes text (Wrote x (Ok n) ∷ C) x reply left
+  -- an interruption is passed over
+  again : {C : List WriteCall} {x left : List ℕ} {reply : Result (Unit {0}) Error} {e : Error} → 0 < length x → IsInterruption e
+      → Writes text C x reply left → Writes text (Wrote x (Err e) ∷ C) x reply left
+  -- none of some were taken: that is an error, and ends it
+  stuck : {x : List ℕ} {e : Error} → 0 < length x → SaysError WriteZero text e → Writes text (Wrote x (Ok 0) ∷ []) x (Err e) x
+  -- a fault ends it, and is the answer
+  fault : {x : List ℕ} {e : Error} → 0 < length x → IsFault e → Writes text (Wrote x (Err e) ∷ []) x (Err e) x
+
+-- C are the calls of a `write_rest(&mut x)`: these writes, or a call of its own
+abbrev pub RestCalls : List WriteCall → List ℕ → Result (Unit {0}) Error → List ℕ → Type 0
+RestCalls C x reply left = (C ≡ WroteRest x reply left ∷ []) ⊎ Writes (codes "failed to write whole buffer") C x reply left
+
+-- C are the calls of a `write_all(x)`: those of a `write_rest`, or a call of its own
+abbrev pub AllCalls : List WriteCall → List ℕ → Result (Unit {0}) Error → Type 0
+AllCalls C x reply = (C ≡ WroteAll x reply ∷ []) ⊎ ((left : List ℕ) × RestCalls C x reply left)
+
 -- `write(x)`
 pub record WriteLaw {S : Type 0} (told : S → Told) (takes_all : S → Type 0) (cost : S → ℕ) (is_metered : S → Type 0)
+    (may : S → WriteCall → S → Type 0)
     (old : S) (x : List ℕ) (reply : Result ℕ Error) (new : S) : Type 0 where
   -- it takes no more than it is given
   pub bound : IfOk reply (λ n. n ≤ length x)
@@ -96,9 +134,12 @@ pub record WriteLaw {S : Type 0} (told : S → Told) (takes_all : S → Type 0) 
   pub all : takes_all old → takes_all new × (reply ≡ Ok (length x))
   -- the call is counted
   pub counts : is_metered old → takes_all old → is_metered new × (cost new ≡ cost old + 1)
+  -- it is one call
+  pub call : may old (Wrote x reply) new
 
 -- `flush()`
 pub record FlushLaw {S : Type 0} (told : S → Told) (takes_all : S → Type 0) (cost : S → ℕ) (is_metered : S → Type 0)
+    (may : S → WriteCall → S → Type 0)
     (old : S) (reply : Result (Unit {0}) Error) (new : S) : Type 0 where
   -- nothing is held then
   pub empty : OnOk reply ((told new).held ≡ [])
@@ -108,9 +149,22 @@ pub record FlushLaw {S : Type 0} (told : S → Told) (takes_all : S → Type 0) 
   pub all : takes_all old → takes_all new
   -- flushes are not counted
   pub counts : is_metered old → takes_all old → is_metered new × (cost new ≡ cost old)
+  -- it is one call
+  pub call : may old (Flushed reply) new
+
+-- a call as its law says
+abbrev pub CallLaw : {S : Type 0} → (S → Told) → (S → Type 0) → (S → ℕ) → (S → Type 0) → (S → WriteCall → S → Type 0)
+    → S → WriteCall → S → Type 0
+CallLaw told takes_all cost is_metered may old (Wrote x reply) new = WriteLaw told takes_all cost is_metered may old x reply new
+CallLaw told takes_all cost is_metered may old (Flushed reply) new = FlushLaw told takes_all cost is_metered may old reply new
+CallLaw told takes_all cost is_metered may old (WroteAll x reply) new = may old (WroteAll x reply) new
+    × IsNoInterruption reply × MovesFront (told old) x reply (told new) × (takes_all old → takes_all new)
+CallLaw told takes_all cost is_metered may old (WroteRest x reply left) new = may old (WroteRest x reply left) new
+    × IsNoInterruption reply × Sends (told old) x reply (told new) left × (takes_all old → takes_all new)
 
 -- `write_all(x)`
 pub record WriteAllLaw {S : Type 0} (told : S → Told) (takes_all : S → Type 0) (cost : S → ℕ) (is_metered : S → Type 0)
+    (may : S → WriteCall → S → Type 0)
     (old : S) (x : List ℕ) (reply : Result (Unit {0}) Error) (new : S) : Type 0 where
   -- no interruption is answered
   pub fault : IsNoInterruption reply
@@ -120,9 +174,12 @@ pub record WriteAllLaw {S : Type 0} (told : S → Told) (takes_all : S → Type 
   pub all : takes_all old → takes_all new
   -- one call is counted, and none for no bytes
   pub counts : is_metered old → takes_all old → is_metered new × (cost new ≡ cost old + calls_for x)
+  -- which calls it made
+  pub calls : (C : List WriteCall) × Made (CallLaw told takes_all cost is_metered may) old C new × AllCalls C x reply
 
 -- `write_rest(&mut x)`
 pub record WriteRestLaw {S : Type 0} (told : S → Told) (takes_all : S → Type 0) (cost : S → ℕ) (is_metered : S → Type 0)
+    (may : S → WriteCall → S → Type 0)
     (old : S) (x : List ℕ) (reply : Result (Unit {0}) Error) (new : S) (left : List ℕ) : Type 0 where
   -- no interruption is answered
   pub fault : IsNoInterruption reply
@@ -134,3 +191,5 @@ pub record WriteRestLaw {S : Type 0} (told : S → Told) (takes_all : S → Type
   pub all : takes_all old → takes_all new × IsOk reply
   -- one call is counted, and none for no bytes
   pub counts : is_metered old → takes_all old → is_metered new × (cost new ≡ cost old + calls_for x)
+  -- which calls it made
+  pub calls : (C : List WriteCall) × Made (CallLaw told takes_all cost is_metered may) old C new × RestCalls C x reply left

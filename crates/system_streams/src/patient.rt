@@ -226,7 +226,7 @@ impl<D: io::Write> Write for Patient<D> {
 
     fn write(&mut self, buf: &[u8]) -> Result<usize>
         ensures law { let P = ⟦<Self as Write>⟧ in
-            WriteLaw P.told P.takes_all P.cost P.is_metered self.old buf.now result self.new }
+            WriteLaw P.told P.takes_all P.cost P.is_metered P.may self.old buf.now result self.new }
 
         // What the device answered for is out.
         ensures taken { patient_taken self.new ≡ patient_taken self.old ++ taken result buf.now }
@@ -245,7 +245,7 @@ impl<D: io::Write> Write for Patient<D> {
 
     fn flush(&mut self) -> Result<()>
         ensures law { let P = ⟦<Self as Write>⟧ in
-            FlushLaw P.told P.takes_all P.cost P.is_metered self.old result self.new }
+            FlushLaw P.told P.takes_all P.cost P.is_metered P.may self.old result self.new }
 
         // It takes no byte.
         ensures taken { patient_taken self.new ≡ patient_taken self.old }
@@ -260,7 +260,7 @@ impl<D: io::Write> Write for Patient<D> {
 
     fn write_all(&mut self, buf: &[u8]) -> Result<()>
         ensures law { let P = ⟦<Self as Write>⟧ in
-            WriteAllLaw P.told P.takes_all P.cost P.is_metered self.old buf.now result self.new }
+            WriteAllLaw P.told P.takes_all P.cost P.is_metered P.may self.old buf.now result self.new }
 
         // What the device answered for is out: all of it at `Ok`.
         ensures bytes { (left : List ℕ) × OnOk result (left ≡ []) × Gives buf.now left
@@ -274,7 +274,7 @@ impl<D: io::Write> Write for Patient<D> {
 
     fn write_rest(&mut self, rest: &mut &[u8]) -> Result<()>
         ensures law { let P = ⟦<Self as Write>⟧ in
-            WriteRestLaw P.told P.takes_all P.cost P.is_metered self.old rest.old.now result self.new rest.new.now }
+            WriteRestLaw P.told P.takes_all P.cost P.is_metered P.may self.old rest.old.now result self.new rest.new.now }
 
         // What the device answered for is out.
         ensures bytes { Gives rest.old.now rest.new.now (patient_taken self.old) (patient_taken self.new)

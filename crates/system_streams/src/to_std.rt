@@ -111,7 +111,7 @@ impl<W: Write> io::Write for ToStd<W> {
     fn write(&mut self, buf: &[u8]) -> io::Result<usize>
         // It is one call of the writer, and its answer.
         ensures law { (reply : Result ℕ Error) × HandsOn reply result
-            × WriteLaw W.told W.takes_all W.cost W.is_metered (std_inner self.old) buf.now reply (std_inner self.new) }
+            × WriteLaw W.told W.takes_all W.cost W.is_metered W.may (std_inner self.old) buf.now reply (std_inner self.new) }
     {
         match self.inner.write(buf) {
             Ok(n) => Ok(n),
@@ -122,7 +122,7 @@ impl<W: Write> io::Write for ToStd<W> {
     fn flush(&mut self) -> io::Result<()>
         // It is one call of the writer, and its answer.
         ensures law { (reply : Result (Unit {0}) Error) × HandsOn reply result
-            × FlushLaw W.told W.takes_all W.cost W.is_metered (std_inner self.old) reply (std_inner self.new) }
+            × FlushLaw W.told W.takes_all W.cost W.is_metered W.may (std_inner self.old) reply (std_inner self.new) }
     {
         match self.inner.flush() {
             Ok(()) => Ok(()),

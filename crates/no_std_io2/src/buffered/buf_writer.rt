@@ -3,7 +3,7 @@ ghost use Rattle.std.specs.Prelude.{◌≡◌, ◌≤◌, [], length};
 ghost use Rattle.std.specs.Borrow.{Lends, sem};
 ghost use Rattle.no_std_io2.specs.contracts.buffered.buf_writer.BufWriter.{the_row as writer-row};
 ghost use Rattle.no_std_io2_base.specs.Write.{WriteLaw, FlushLaw, WriteAllLaw};
-ghost use Rattle.no_std_io2.specs.BufWriter.{writer_inner, writer_buffer, writer_told, writer_with_inner};
+ghost use Rattle.no_std_io2.specs.BufWriter.{BufferMay, writer_inner, writer_buffer, writer_told, writer_with_inner};
 ghost use Rattle.no_std_io2.specs.BufWriter.{Unwraps, Buffers, BuffersAll, Flushes};
 
 mod seeking;
@@ -148,6 +148,8 @@ impl<W: Write + Drop, const S: usize> Write for BufWriter<W, S> {
 
     ghost cost = { λ w. W.cost (writer_inner w) };
 
+    ghost may = { BufferMay W.Write S writer_inner writer_buffer };
+
     /// Holds `buf` where it is shorter than `S`, else hands it to the inner `write`. What is held is
     /// sent first where both together are above `S`; a refusal there accepts nothing of `buf`.
     ///
@@ -156,7 +158,7 @@ impl<W: Write + Drop, const S: usize> Write for BufWriter<W, S> {
     #[inline(always)]
     fn write(&mut self, buf: &[u8]) -> Result<usize>
         ensures law { let B = ⟦<Self as Write>⟧ in
-            WriteLaw B.told B.takes_all B.cost B.is_metered self.old buf.now result self.new }
+            WriteLaw B.told B.takes_all B.cost B.is_metered B.may self.old buf.now result self.new }
 
         ensures buffer { Buffers W.Write S writer_inner writer_buffer self.old buf.now result self.new }
     {
@@ -170,7 +172,7 @@ impl<W: Write + Drop, const S: usize> Write for BufWriter<W, S> {
     /// not sent is still held.
     fn flush(&mut self) -> Result<()>
         ensures law { let B = ⟦<Self as Write>⟧ in
-            FlushLaw B.told B.takes_all B.cost B.is_metered self.old result self.new }
+            FlushLaw B.told B.takes_all B.cost B.is_metered B.may self.old result self.new }
 
         ensures buffer { Flushes W.Write writer_inner writer_buffer self.old result self.new }
     {
@@ -184,7 +186,7 @@ impl<W: Write + Drop, const S: usize> Write for BufWriter<W, S> {
     #[inline(always)]
     fn write_all(&mut self, buf: &[u8]) -> Result<()>
         ensures law { let B = ⟦<Self as Write>⟧ in
-            WriteAllLaw B.told B.takes_all B.cost B.is_metered self.old buf.now result self.new }
+            WriteAllLaw B.told B.takes_all B.cost B.is_metered B.may self.old buf.now result self.new }
 
         ensures buffer { BuffersAll W.Write S writer_inner writer_buffer self.old buf.now result self.new }
     {

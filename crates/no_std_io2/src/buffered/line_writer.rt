@@ -152,7 +152,7 @@ impl<W: Write + Drop, const S: usize> Write for LineWriter<W, S> {
     /// of `buf` was accepted then, and what was not sent is still held.
     fn write(&mut self, buf: &[u8]) -> Result<usize>
         ensures law { let B = ⟦<Self as Write>⟧ in
-            WriteLaw B.told B.takes_all B.cost B.is_metered self.old buf.now result self.new }
+            WriteLaw B.told B.takes_all B.cost B.is_metered B.may self.old buf.now result self.new }
         ensures fits { HasNoNewline buf.now → HasNoNewline (line_buffer self.old)
             → length buf.now < S → length (line_buffer self.old) + length buf.now ≤ S
             → IsOk result × (line_inner self.new ≡ line_inner self.old)
@@ -187,7 +187,7 @@ impl<W: Write + Drop, const S: usize> Write for LineWriter<W, S> {
     /// not sent is still held, and a later flush goes on there.
     fn flush(&mut self) -> Result<()>
         ensures law { let B = ⟦<Self as Write>⟧ in
-            FlushLaw B.told B.takes_all B.cost B.is_metered self.old result self.new }
+            FlushLaw B.told B.takes_all B.cost B.is_metered B.may self.old result self.new }
         ensures buffer { Flushes W.Write line_inner line_buffer self.old result self.new }
     {
         self.core.buffered.flush()
@@ -204,7 +204,7 @@ impl<W: Write + Drop, const S: usize> Write for LineWriter<W, S> {
     /// held.
     fn write_all(&mut self, buf: &[u8]) -> Result<()>
         ensures law { let B = ⟦<Self as Write>⟧ in
-            WriteAllLaw B.told B.takes_all B.cost B.is_metered self.old buf.now result self.new }
+            WriteAllLaw B.told B.takes_all B.cost B.is_metered B.may self.old buf.now result self.new }
         ensures open { OnOk result (HasNoNewline (line_buffer self.new)) }
         ensures fits { HasNoNewline buf.now → HasNoNewline (line_buffer self.old)
             → length buf.now < S → length (line_buffer self.old) + length buf.now ≤ S

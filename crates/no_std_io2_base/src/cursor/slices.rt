@@ -33,7 +33,7 @@ impl Write for Cursor<&mut [u8]> {
 
     fn write(&mut self, buf: &[u8]) -> Result<usize>
         ensures law { let W = ⟦<Self as Write>⟧ in
-            WriteLaw W.told W.takes_all W.cost W.is_metered self.old buf.now result self.new }
+            WriteLaw W.told W.takes_all W.cost W.is_metered W.may self.old buf.now result self.new }
 
         // What fits, at the position.
         ensures answer { IsOkAnd result (λ n. n
@@ -47,7 +47,7 @@ impl Write for Cursor<&mut [u8]> {
 
     fn flush(&mut self) -> Result<()>
         ensures law { let W = ⟦<Self as Write>⟧ in
-            FlushLaw W.told W.takes_all W.cost W.is_metered self.old result self.new }
+            FlushLaw W.told W.takes_all W.cost W.is_metered W.may self.old result self.new }
 
         // It does nothing.
         ensures ok { IsOk result }
@@ -58,7 +58,7 @@ impl Write for Cursor<&mut [u8]> {
 
     fn write_all(&mut self, buf: &[u8]) -> Result<()>
         ensures law { let W = ⟦<Self as Write>⟧ in
-            WriteAllLaw W.told W.takes_all W.cost W.is_metered self.old buf.now result self.new }
+            WriteAllLaw W.told W.takes_all W.cost W.is_metered W.may self.old buf.now result self.new }
 
         // What fits, at the position, and an error exactly where that is not all.
         ensures variant { IsOk result ↔ (length buf.now ≤ length (cursor_inner self.old).now - cursor_place self.old) }

@@ -82,7 +82,7 @@ impl<A: Allocator> Write for Cursor<Vec<u8, A>> {
     #[inline(always)]
     fn write(&mut self, buf: &[u8]) -> Result<usize>
         ensures law { let W = ⟦<Self as Write>⟧ in
-            WriteLaw W.told W.takes_all W.cost W.is_metered self.old buf.now result self.new }
+            WriteLaw W.told W.takes_all W.cost W.is_metered W.may self.old buf.now result self.new }
 
         // All of the buffer, at the position, or nothing, and that only where it lacks the room.
         ensures puts { PutsWhole (cursor_inner self.old).items (cursor_place self.old) buf.now result
@@ -95,7 +95,7 @@ impl<A: Allocator> Write for Cursor<Vec<u8, A>> {
 
     fn flush(&mut self) -> Result<()>
         ensures law { let W = ⟦<Self as Write>⟧ in
-            FlushLaw W.told W.takes_all W.cost W.is_metered self.old result self.new }
+            FlushLaw W.told W.takes_all W.cost W.is_metered W.may self.old result self.new }
 
         // It does nothing.
         ensures ok { IsOk result }
@@ -107,7 +107,7 @@ impl<A: Allocator> Write for Cursor<Vec<u8, A>> {
     #[inline(always)]
     fn write_all(&mut self, buf: &[u8]) -> Result<()>
         ensures law { let W = ⟦<Self as Write>⟧ in
-            WriteAllLaw W.told W.takes_all W.cost W.is_metered self.old buf.now result self.new }
+            WriteAllLaw W.told W.takes_all W.cost W.is_metered W.may self.old buf.now result self.new }
 
         // All of the buffer, at the position, or nothing, and that only where it lacks the room.
         ensures puts { PutsAll (cursor_inner self.old).items (cursor_place self.old) buf.now result
@@ -133,7 +133,7 @@ impl<A: Allocator> Write for Cursor<&mut Vec<u8, A>> {
     #[inline(always)]
     fn write(&mut self, buf: &[u8]) -> Result<usize>
         ensures law { let W = ⟦<Self as Write>⟧ in
-            WriteLaw W.told W.takes_all W.cost W.is_metered self.old buf.now result self.new }
+            WriteLaw W.told W.takes_all W.cost W.is_metered W.may self.old buf.now result self.new }
 
         // All of the buffer, at the position, or nothing, and that only where it lacks the room.
         ensures puts { PutsWhole (cursor_inner self.old).now.items (cursor_place self.old) buf.now result
@@ -147,7 +147,7 @@ impl<A: Allocator> Write for Cursor<&mut Vec<u8, A>> {
 
     fn flush(&mut self) -> Result<()>
         ensures law { let W = ⟦<Self as Write>⟧ in
-            FlushLaw W.told W.takes_all W.cost W.is_metered self.old result self.new }
+            FlushLaw W.told W.takes_all W.cost W.is_metered W.may self.old result self.new }
 
         // It does nothing.
         ensures ok { IsOk result }
@@ -159,7 +159,7 @@ impl<A: Allocator> Write for Cursor<&mut Vec<u8, A>> {
     #[inline(always)]
     fn write_all(&mut self, buf: &[u8]) -> Result<()>
         ensures law { let W = ⟦<Self as Write>⟧ in
-            WriteAllLaw W.told W.takes_all W.cost W.is_metered self.old buf.now result self.new }
+            WriteAllLaw W.told W.takes_all W.cost W.is_metered W.may self.old buf.now result self.new }
 
         // All of the buffer, at the position, or nothing, and that only where it lacks the room.
         ensures puts { PutsAll (cursor_inner self.old).now.items (cursor_place self.old) buf.now result

@@ -12,6 +12,8 @@ impl<W: Write, A: Allocator> Write for Box<W, A> {
 
     ghost is_metered = { λ b. W.is_metered b.value };
 
+    ghost may = { λ old call new. W.may old.value call new.value };
+
     fn write(&mut self, buf: &[u8]) -> Result<usize> {
         self.as_mut().write(buf)
     }

@@ -12,6 +12,8 @@ impl<W: Write> Write for &mut W {
 
     ghost is_metered = { λ w. W.is_metered w.now };
 
+    ghost may = { λ old call new. W.may old.now call new.now };
+
     fn write(&mut self, buf: &[u8]) -> Result<usize> {
         Write::write(&mut **self, buf)
     }

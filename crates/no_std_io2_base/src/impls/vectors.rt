@@ -38,7 +38,7 @@ impl<A: Allocator> Write for Vec<u8, A> {
     #[inline]
     fn write(&mut self, buf: &[u8]) -> Result<usize>
         ensures law { let W = ⟦<Self as Write>⟧ in
-            WriteLaw W.told W.takes_all W.cost W.is_metered self.old buf.now result self.new }
+            WriteLaw W.told W.takes_all W.cost W.is_metered W.may self.old buf.now result self.new }
 
         // All of the buffer or nothing, and memory alone refuses, where the room was missing.
         ensures whole { IfOk result (λ n. n ≡ length buf.now) }
@@ -54,7 +54,7 @@ impl<A: Allocator> Write for Vec<u8, A> {
     #[inline]
     fn write_all(&mut self, buf: &[u8]) -> Result<()>
         ensures law { let W = ⟦<Self as Write>⟧ in
-            WriteAllLaw W.told W.takes_all W.cost W.is_metered self.old buf.now result self.new }
+            WriteAllLaw W.told W.takes_all W.cost W.is_metered W.may self.old buf.now result self.new }
 
         // All of the buffer or nothing, and memory alone refuses, where the room was missing.
         ensures err { IfErr result IsOutOfMemory }
@@ -67,7 +67,7 @@ impl<A: Allocator> Write for Vec<u8, A> {
 
     fn flush(&mut self) -> Result<()>
         ensures law { let W = ⟦<Self as Write>⟧ in
-            FlushLaw W.told W.takes_all W.cost W.is_metered self.old result self.new }
+            FlushLaw W.told W.takes_all W.cost W.is_metered W.may self.old result self.new }
 
         // It does nothing.
         ensures ok { IsOk result }

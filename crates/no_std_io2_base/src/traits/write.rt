@@ -1,7 +1,7 @@
 ghost use Rattle.std.specs.Prelude.{◌≡◌, ℕ, ◌+◌, ◌≤◌, [], Some, Ok, OnOk, IfOk, IsOk, length};
 ghost use Rattle.no_std_io2_base.specs.Errors.{IsNoInterruption};
 ghost use Rattle.no_std_io2_base.specs.Write.{WriteLaw, FlushLaw, WriteAllLaw, WriteRestLaw};
-ghost use Rattle.no_std_io2_base.specs.Write.{Told, Moves, MovesFront, Sends, taken, write_mishap, call_mishap, calls_for};
+ghost use Rattle.no_std_io2_base.specs.Write.{Told, Moves, MovesFront, Sends, taken, write_mishap, call_mishap, calls_for, WriteCall};
 
 use crate::error::{Result, failed_to_write};
 
@@ -34,6 +34,9 @@ pub trait Write {
 
     ghost is_metered: { Self → Type 0 } = { λ _. ⊥ };
 
+    // What one call, with its answer, may do to it. Left out, anything.
+    ghost may: { Self → WriteCall → Self → Type 0 } = { λ _ _ _. Unit {0} };
+
     /// Writes some front of `buf`: `Ok(n)` accepted its first `n` bytes, `n` at most its length,
     /// and `Err` accepted none. Follows `std::io::Write::write`.
     ///
@@ -47,7 +50,7 @@ pub trait Write {
     /// assert!(rt; w.write(b"def")? == 1); // `ef` was not accepted
     /// ```
     fn write(&mut self, buf: &[u8]) -> Result<usize>
-        ensures law { WriteLaw told takes_all cost is_metered self.old buf.now result self.new };
+        ensures law { WriteLaw told takes_all cost is_metered may self.old buf.now result self.new };
 
     /// Hands on all that is held: after `Ok` nothing is held, and after `Err` the accepted bytes
     /// are the same. Follows `std::io::Write::flush`.
@@ -64,7 +67,7 @@ pub trait Write {
     /// assert!(rt; w.get_ref().as_slice() == b"abc".as_slice());
     /// ```
     fn flush(&mut self) -> Result<()>
-        ensures law { FlushLaw told takes_all cost is_metered self.old result self.new };
+        ensures law { FlushLaw told takes_all cost is_metered may self.old result self.new };
 
     /// Writes the whole of `buf`, passing over interruptions. An empty buffer makes no call. Follows
     /// `std::io::Write::write_all`.
@@ -81,7 +84,7 @@ pub trait Write {
     /// assert!(rt; w.write_all(b"e").is_err()); // no room: `WriteZero`
     /// ```
     fn write_all(&mut self, buf: &[u8]) -> Result<()>
-        ensures law { WriteAllLaw told takes_all cost is_metered self.old buf.now result self.new }
+        ensures law { WriteAllLaw told takes_all cost is_metered may self.old buf.now result self.new }
     {
         let mut rest = buf;
         self.write_rest(&mut rest)
@@ -108,7 +111,7 @@ pub trait Write {
     /// }
     /// ```
     fn write_rest(&mut self, rest: &mut &[u8]) -> Result<()>
-        ensures law { WriteRestLaw told takes_all cost is_metered self.old rest.old.now result self.new rest.new.now }
+        ensures law { WriteRestLaw told takes_all cost is_metered may self.old rest.old.now result self.new rest.new.now }
     {
         'writes: while !rest.is_empty() {
             match self.write(rest) {

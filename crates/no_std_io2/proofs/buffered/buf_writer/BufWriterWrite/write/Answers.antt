@@ -4,7 +4,7 @@ pub returns : goal.returns
 returns g c =
     let core = c.write.ensures in
     record {
-      law = record { bound = core.bound; moves = core.moves; all = core.all; counts = λ no. absurd no };
+      law = record { bound = core.bound; moves = core.moves; all = core.all; counts = λ no. absurd no; call = core.made };
       buffer = record {
         bound = core.bound;
         moves = core.moves;
@@ -16,5 +16,6 @@ returns g c =
         all = core.all;
         after = core.after;
         calls = core.calls;
+        made = core.made;
       };
     }

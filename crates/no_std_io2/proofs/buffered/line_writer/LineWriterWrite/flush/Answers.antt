@@ -10,9 +10,10 @@ returns-clause-law g c = record {
   moves = c.flush.ensures.moves;
   all = λ no. absurd no;
   counts = λ no. absurd no;
+  call = tt;
 }
 
 pub returns-clause-buffer : goal.returns-clause-buffer
 returns-clause-buffer g c =
     let core = c.flush.ensures in
-    record { empty = core.empty; moves = core.moves; sent = core.sent; rest = core.rest; all = core.all; calls = core.calls }
+    record { empty = core.empty; moves = core.moves; sent = core.sent; rest = core.rest; all = core.all; calls = core.calls; made = core.made }

@@ -9,6 +9,7 @@ returns-then-len-eq0-clause-law g c = record {
   moves = c.write_plain.ensures.moves;
   all = λ no. absurd no;
   counts = λ no. absurd no;
+  call = tt;
 }
 
 pub returns-then-len-eq0-clause-tail : goal.returns-then-len-eq0-clause-tail
@@ -27,6 +28,7 @@ returns-clause-law g c = record {
   moves = c.write_lines.ensures.moves;
   all = λ no. absurd no;
   counts = λ no. absurd no;
+  call = tt;
 }
 
 pub returns-clause-fits : goal.returns-clause-fits

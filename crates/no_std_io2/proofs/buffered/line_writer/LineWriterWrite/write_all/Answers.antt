@@ -1,3 +1,4 @@
+use Rattle.no_std_io2_base.proofs.CallsLemmas.{all_own}
 use Rattle.std.proofs.Common.{arith, rules}
 use Rattle.no_std_io2.proofs.BufWriterLemmas.{HoldsEnd-whole}
 use Rattle.no_std_io2.proofs.LinesLast.{none_or_some, none_or_lines}
@@ -9,6 +10,7 @@ returns-then-len-eq0-clause-law g c = record {
   moves = c.write_all_plain.ensures.moves;
   all = λ no. absurd no;
   counts = λ no. absurd no;
+  calls = all_own _ _ _ (tt, c.write_all_plain.ensures.fault, c.write_all_plain.ensures.moves, λ no. no);
 }
 
 pub returns-then-len-eq0-clause-lines : goal.returns-then-len-eq0-clause-lines
@@ -20,6 +22,7 @@ returns-clause-law g c = record {
   moves = c.write_all_lines.ensures.moves;
   all = λ no. absurd no;
   counts = λ no. absurd no;
+  calls = all_own _ _ _ (tt, c.write_all_lines.ensures.fault, c.write_all_lines.ensures.moves, λ no. no);
 }
 
 pub returns-clause-fits : goal.returns-clause-fits

@@ -8,4 +8,5 @@ returns-clause-law c = record {
   moves = fits_moves _ _ _ c.write_fitting.ensures.count c.write_fitting.ensures.puts;
   all = λ h. absurd h;
   counts = λ h. absurd h;
+  call = tt;
 }

@@ -1,3 +1,4 @@
+use Rattle.no_std_io2_base.proofs.CallsLemmas.{all_own}
 use Rattle.std.proofs.Common.{arith, rules}
 use Rattle.no_std_io2_base.proofs.CursorLemmas.{fits_moves_part, fits_moves_all}
 use Rattle.no_std_io2_base.proofs.cursor.slices.CursorRefMutSliceU8Write.write_all.Goals as goal
@@ -9,6 +10,7 @@ returns-then-write_fitting-buf-clause-law c =
       moves = fits_moves_part _ _ c.failed_to_write.result c.failed_to_write.ensures.0 c.write_fitting.ensures.puts;
       all = λ h. h;
       counts = λ h. absurd h;
+  calls = all_own _ _ _ (tt, search rules, fits_moves_part _ _ c.failed_to_write.result c.failed_to_write.ensures.0 c.write_fitting.ensures.puts, λ h. h);
     }
 
 pub returns-clause-law : goal.returns-clause-law
@@ -17,4 +19,5 @@ returns-clause-law c = record {
   moves = fits_moves_all _ _ (omega arith) c.write_fitting.ensures.puts;
   all = λ h. h;
   counts = λ h. absurd h;
+  calls = all_own _ _ _ (tt, tt, fits_moves_all _ _ (omega arith) c.write_fitting.ensures.puts, λ h. h);
 }

@@ -8,4 +8,5 @@ returns-clause-law g c = record {
   moves = puts_moves _ _ _ _ _ _ c.write_at.ensures.puts;
   all = λ h. absurd h;
   counts = λ h. absurd h;
+  call = tt;
 }

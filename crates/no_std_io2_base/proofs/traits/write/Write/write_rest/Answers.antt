@@ -1,12 +1,12 @@
-use Rattle.std.proofs.Common.{length}
+use Rattle.std.proofs.Common.{length, arith, sym, ◌∙◌}
 use Rattle.no_std_io2_base.proofs.WriteExits.{not_empty, is_empty, fewer_left, fewer_turns}
-use Rattle.no_std_io2_base.proofs.WriteExits.{writes_more, writes_zero, writes_done}
+use Rattle.no_std_io2_base.proofs.WriteExits.{writes_more, writes_zero, writes_done, writes_fault, writes_interruption}
 use Rattle.no_std_io2_base.proofs.traits.write.Write.write_rest.Goals as goal
 
 pub returns-in-Ok-eq0 : goal.returns-in-Ok-eq0
 returns-in-Ok-eq0 g c =
     let some = not_empty _ c.writes.rest.now c.is_empty.ensures c.writes-test.true in
-    record { law = writes_zero c.writes.invariant c.write.ensures.law c.in-Ok-eq0.is c.in-Ok-eq0.field-0-test some cc }
+    record { law = writes_zero c.writes.invariant c.write.ensures.law c.in-Ok-eq0.is c.in-Ok-eq0.field-0-test some c.failed_to_write.ensures }
 
 pub writes-smaller-in-Ok : goal.writes-smaller-in-Ok
 writes-smaller-in-Ok g c =
@@ -16,6 +16,7 @@ writes-smaller-in-Ok g c =
 pub writes-preserved-in-Ok : goal.writes-preserved-in-Ok
 writes-preserved-in-Ok g c =
     writes_more c.writes.invariant c.in-Ok.ensures.law (not_empty _ c.writes.rest.now c.is_empty.ensures c.writes-test.true)
+    (omega (arith, c.in-Ok.n-test.1))
 
 -- how the test of an interruption is written is not named here
 pub writes-smaller : goal.writes-smaller
@@ -25,3 +26,13 @@ writes-smaller g c = fewer_turns c.in-Err.e _ _ (length c.writes.rest.now) c.in-
 pub returns : goal.returns
 returns g c =
     record { law = writes_done c.writes.invariant (is_empty _ c.writes.rest.now c.is_empty.ensures c.writes-test.false) }
+
+pub returns-in-Err-2 : goal.returns-in-Err-2
+returns-in-Err-2 g c =
+    let some = not_empty _ c.writes.rest.now c.is_empty.ensures c.writes-test.true in
+    record { law = writes_fault c.writes.invariant c.in-Err.ensures.law (sym c.is_interrupted.ensures ∙ c.if-is_interrupted.false) some }
+
+pub writes-preserved : goal.writes-preserved
+writes-preserved g c =
+    writes_interruption c.writes.invariant c.in-Err.ensures.law (not_empty _ c.writes.rest.now c.is_empty.ensures c.writes-test.true)
+    (sym c.is_interrupted.ensures ∙ c.if-is_interrupted.true)

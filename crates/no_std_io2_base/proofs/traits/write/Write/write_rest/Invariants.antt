@@ -6,7 +6,7 @@ use Rattle.no_std_io2_base.proofs.traits.write.Write.write_rest.Given as goal
 abbrev pub invariant-writes : goal.invariant-writes
 invariant-writes g l =
     let w = g.Self.Write in
-    WritesSoFar w.told w.takes_all w.cost w.is_metered l.initial.self l.initial.rest.now l.self l.rest.now
+    WritesSoFar w.told w.takes_all w.cost w.is_metered w.may l.initial.self l.initial.rest.now l.self l.rest.now
 
 abbrev pub decreases-writes : goal.decreases-writes
 decreases-writes g l = (g.Self.Write.told l.self).turns + length l.rest.now

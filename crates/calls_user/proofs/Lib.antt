@@ -1,0 +1,3 @@
+pub mod SumCalls
+pub mod NumberCalls
+pub mod Refuted

@@ -1,0 +1,5 @@
+//! A user's adaptors, and callers of the default loops and of a buffer.
+#![tactic(auto)]
+
+pub mod numbered;
+pub mod summed;

@@ -1,0 +1,110 @@
+-- Calls one after another.
+use Rattle.std.proofs.Common.{◌≡◌, ℕ, List, [], ◌∷◌, ◌++◌, Result, OnOk, refl, sym, ap, subst, append_assoc, inl, inr}
+use Rattle.no_std_io2_base.specs.declared.error.Error.{Error}
+use Rattle.no_std_io2_base.specs.Write.{WriteCall, Made, WroteAll, WroteRest, Told, CallLaw, Wrote, Flushed, Writes, none, took, again, stuck, fault, RestCalls, AllCalls}
+
+-- one call more
+pub made_more : {W : Type 0} (may : W → WriteCall → W → Type 0) (C : List WriteCall) (a : W) {b c : W} {call : WriteCall}
+    → Made may a C b → may b call c → Made may a (C ++ call ∷ []) c
+made_more may [] a {c = c} {call = call} made last = (c, subst (λ w. may w call c) made last, refl)
+made_more may (x ∷ C) a made last = (made.0, made.1, made_more may C made.0 made.2 last)
+
+-- calls and then others
+pub made_then : {W : Type 0} (may : W → WriteCall → W → Type 0) (C : List WriteCall) (a : W) (D : List WriteCall) (b c : W)
+    → Made may a C b → Made may b D c → Made may a (C ++ D) c
+made_then may [] a D b c made more = subst (λ w. Made may w D c) made more
+made_then may (x ∷ C) a D b c made more = (made.0, made.1, made_then may C made.0 D b c made.2 more)
+
+-- calls of a part are calls of the whole
+pub made_map : {W V : Type 0} (may : W → WriteCall → W → Type 0) (may' : V → WriteCall → V → Type 0) (put : W → V)
+    → ((a b : W) (call : WriteCall) → may a call b → may' (put a) call (put b))
+    → (C : List WriteCall) (a b : W) → Made may a C b → Made may' (put a) C (put b)
+made_map may may' put each [] a b made = ap put made
+made_map may may' put each (call ∷ C) a b made =
+    (put made.0, each _ _ _ made.1, made_map may may' put each C made.0 b made.2)
+
+-- some of them and then the others
+pub made_split : {W : Type 0} (may : W → WriteCall → W → Type 0) (C : List WriteCall) (a : W) (D : List WriteCall) (c : W)
+    → Made may a (C ++ D) c → (b : W) × Made may a C b × Made may b D c
+made_split may [] a D c made = (a, refl, made)
+made_split may (call ∷ C) a D c made =
+    let rest = made_split may C made.0 D c made.2 in (rest.0, (made.0, made.1, rest.1), rest.2)
+
+-- after an `Ok` nothing is left
+pub writes_whole : {text : List ℕ} {C : List WriteCall} {x left : List ℕ} {reply : Result (Unit {0}) Error}
+    → Writes text C x reply left → OnOk reply (left ≡ [])
+writes_whole none = refl
+writes_whole (took some more w) = writes_whole w
+writes_whole (again some interrupted w) = writes_whole w
+writes_whole (stuck some says) = tt
+writes_whole (fault some is) = tt
+
+-- what a call did to a part, as its law says, it did to the whole that tells what the part does
+pub law_of_part : {W V : Type 0} (told : W → Told) (takes_all : W → Type 0) (cost : W → ℕ) (is_metered : W → Type 0)
+    (may : W → WriteCall → W → Type 0) (get : V → W) (old new : V) (call : WriteCall)
+    → CallLaw told takes_all cost is_metered may (get old) call (get new)
+    → CallLaw (λ v. told (get v)) (λ v. takes_all (get v)) (λ v. cost (get v)) (λ v. is_metered (get v))
+    (λ a c b. may (get a) c (get b)) old call new
+law_of_part told takes_all cost is_metered may get old new (Wrote x reply) law =
+    record { bound = law.bound; moves = law.moves; all = law.all; counts = law.counts; call = law.call }
+law_of_part told takes_all cost is_metered may get old new (Flushed reply) law =
+    record { empty = law.empty; moves = law.moves; all = law.all; counts = law.counts; call = law.call }
+law_of_part told takes_all cost is_metered may get old new (WroteAll x reply) law = law
+law_of_part told takes_all cost is_metered may get old new (WroteRest x reply left) law = law
+
+-- a call as its law says is one that the writer may make
+pub law_may : {S : Type 0} (told : S → Told) (takes_all : S → Type 0) (cost : S → ℕ) (is_metered : S → Type 0)
+    (may : S → WriteCall → S → Type 0) (old new : S) (call : WriteCall)
+    → CallLaw told takes_all cost is_metered may old call new → may old call new
+law_may told takes_all cost is_metered may old new (Wrote x reply) law = law.call
+law_may told takes_all cost is_metered may old new (Flushed reply) law = law.call
+law_may told takes_all cost is_metered may old new (WroteAll x reply) law = law.0
+law_may told takes_all cost is_metered may old new (WroteRest x reply left) law = law.0
+
+-- `write_all` is one call of its own
+pub all_own : {W : Type 0} {may : W → WriteCall → W → Type 0} {a : W} (b : W) (x : List ℕ) (reply : Result (Unit {0}) Error)
+    → may a (WroteAll x reply) b → (C : List WriteCall) × Made may a C b × AllCalls C x reply
+all_own b x reply own = (WroteAll x reply ∷ [], (b, own, refl), inl refl)
+
+-- and so is `write_rest`
+pub rest_own : {W : Type 0} {may : W → WriteCall → W → Type 0} {a : W} (b : W) (x : List ℕ) (reply : Result (Unit {0}) Error)
+    (left : List ℕ) → may a (WroteRest x reply left) b → (C : List WriteCall) × Made may a C b × RestCalls C x reply left
+rest_own b x reply left own = (WroteRest x reply left ∷ [], (b, own, refl), inl refl)
+
+-- So far the calls C were made to write `start`: with those that write `left` they write all of it.
+abbrev pub WritesOn : List ℕ → List WriteCall → List ℕ → List ℕ → Type 0
+WritesOn text C start left = (D : List WriteCall) (reply : Result (Unit {0}) Error) (end : List ℕ)
+    → Writes text D left reply end → Writes text (C ++ D) start reply end
+
+-- The calls that were made so far.
+pub record CallsSoFar {W : Type 0} (may : W → WriteCall → W → Type 0) (text : List ℕ) (old : W) (start left : List ℕ) (now : W)
+    : Type 0 where
+  pub calls : List WriteCall
+  pub made : Made may old calls now
+  pub on : WritesOn text calls start left
+
+-- no call yet
+pub calls_none : {W : Type 0} {may : W → WriteCall → W → Type 0} {text : List ℕ} {old : W} {start : List ℕ}
+    → CallsSoFar may text old start start old
+calls_none = record { calls = []; made = refl; on = λ D r e w. w }
+
+module _ {W : Type 0} {may : W → WriteCall → W → Type 0} {text : List ℕ} {old now : W} {start left : List ℕ}
+    (before : CallsSoFar may text old start left now) where
+  -- one more
+  pub calls_more : {new : W} {call : WriteCall} {rest : List ℕ} → may now call new
+      → ((D : List WriteCall) (reply : Result (Unit {0}) Error) (end : List ℕ) → Writes text D rest reply end
+          → Writes text (call ∷ D) left reply end)
+      → CallsSoFar may text old start rest new
+  calls_more {call = call} last on = record {
+    calls = before.calls ++ call ∷ [];
+    made = made_more may before.calls old before.made last;
+    on = λ D r e w. subst (λ C. Writes text C start r e) (sym (append_assoc before.calls (call ∷ []) D))
+        (before.on (call ∷ D) r e (on D r e w));
+  }
+
+  -- and these were the last ones
+  pub calls_end : {new : W} (reply : Result (Unit {0}) Error) (end : List ℕ) (D : List WriteCall) → Made may now D new
+      → Writes text D left reply end
+      → (C : List WriteCall) × Made may old C new × Writes text C start reply end
+  calls_end {new} reply end D made writes =
+      (before.calls ++ D, made_then may before.calls old D now new before.made made, before.on D reply end writes)

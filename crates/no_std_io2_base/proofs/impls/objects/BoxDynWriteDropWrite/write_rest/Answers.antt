@@ -1,0 +1,13 @@
+-- What the call did to the value in the box, it did to the box.
+use Rattle.std.proofs.Common.{rules}
+use Rattle.no_std_io2_base.proofs.BoxedObjects.{write_rest_box}
+use Rattle.no_std_io2_base.proofs.impls.objects.BoxDynWriteDropWrite.write_rest.Goals as goal
+
+pub returns : goal.returns
+returns g c =
+    let o = goal.Write-dyn g in
+    let wrote = c.write_rest.ensures in
+    record {
+      law = write_rest_box (λ p. (o p).told p.1) c.args.self.now c.args.rest.now.now c.write_rest.result c.write_rest.new.rest.now c.deref_box_mut-1.result.now (search rules) c.write_rest.new.self
+          wrote.fault wrote.sends wrote.done;
+    }
