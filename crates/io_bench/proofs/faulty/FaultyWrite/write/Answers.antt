@@ -11,6 +11,7 @@ returns-in-None-clause-law g c = record {
       (sym c.spend.ensures.act ∙ c.in-None.is) c.spend.ensures.acts;
   all = search rules;
   counts = λ no. absurd no;
+  call = tt;
 }
 
 pub returns-in-Some-Fail-clause-law : goal.returns-in-Some-Fail-clause-law
@@ -23,6 +24,7 @@ returns-in-Some-Fail-clause-law g c =
           (sym c.spend.ensures.act ∙ act.is) c.spend.ensures.acts;
       all = search rules;
       counts = λ no. absurd no;
+      call = tt;
     }
 
 pub returns-in-Some-Zero-clause-law : goal.returns-in-Some-Zero-clause-law
@@ -34,6 +36,7 @@ returns-in-Some-Zero-clause-law g c =
           c.spend.ensures.acts;
       all = search rules;
       counts = λ no. absurd no;
+      call = tt;
     }
 
 pub returns-in-Some-Take-clause-law : goal.returns-in-Some-Take-clause-law
@@ -49,4 +52,5 @@ returns-in-Some-Take-clause-law g c =
           (sym c.spend.ensures.act ∙ act.is) c.spend.ensures.acts;
       all = search rules;
       counts = λ no. absurd no;
+      call = tt;
     }

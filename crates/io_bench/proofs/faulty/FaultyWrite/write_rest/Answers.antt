@@ -17,7 +17,7 @@ returns-in-Ok-eq0 g c =
     let before = c.writes.invariant in
     let some = not_empty _ c.writes.rest.now c.is_empty.ensures c.writes-test.true in
     record {
-      law = writes_zero before.law c.write.ensures.law c.in-Ok-eq0.is c.in-Ok-eq0.field-0-test some cc;
+      law = writes_zero before.law c.write.ensures.law c.in-Ok-eq0.is c.in-Ok-eq0.field-0-test some c.failed_to_write.ensures;
       acts = spent_stop before.acts c.write.ensures.acts some (omega (arith, c.write.ensures.law.moves.turns));
     }
 
@@ -37,7 +37,7 @@ writes-preserved-in-Ok g c =
     (λ kind is. (wrote.fail kind is).0) (λ is. (wrote.zero is).0) (λ is. (wrote.take_none is).0)
     (λ m some is. (wrote.take m some is).bound) in
     record {
-      law = writes_more before.law wrote.law (not_empty _ left c.is_empty.ensures c.writes-test.true);
+      law = writes_more before.law wrote.law (not_empty _ left c.is_empty.ensures c.writes-test.true) (omega (arith, c.in-Ok.n-test.1));
       acts = spent_more n before.acts went wrote.acts (left_of n left wrote.law.bound) (omega (arith, fewer));
     }
 
@@ -55,7 +55,7 @@ writes-preserved g c =
     let went = interrupted_by (acts_left c.writes.self) c.in-Err.e again
     (λ kind is. (wrote.fail kind is).0) (λ is. (wrote.zero is).0) (λ is. (wrote.take_none is).0) in
     record {
-      law = writes_interruption before.law wrote.law;
+      law = writes_interruption before.law wrote.law (not_empty _ c.writes.rest.now c.is_empty.ensures c.writes-test.true) again;
       acts = spent_more 0 before.acts went wrote.acts (omega arith) (omega (arith, fewer));
     }
 
@@ -65,7 +65,7 @@ returns-in-Err-2 g c =
     let wrote = c.in-Err.ensures in
     let some = not_empty _ c.writes.rest.now c.is_empty.ensures c.writes-test.true in
     record {
-      law = writes_fault before.law wrote.law cc;
+      law = writes_fault before.law wrote.law (cc) some;
       acts = spent_stop before.acts wrote.acts some (omega (arith, wrote.law.moves.turns));
     }
 

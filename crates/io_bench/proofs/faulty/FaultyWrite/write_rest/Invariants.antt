@@ -11,7 +11,7 @@ invariant-writes g l =
     let before = l.initial.self in
     record {
       law : WritesSoFar (faulty_told w.told) (λ f. w.takes_all (faulty_inner f) × (acts_left f ≡ []))
-          (λ f. w.cost (faulty_inner f)) (λ _. ⊥) before l.initial.rest.now l.self l.rest.now;
+          (λ f. w.cost (faulty_inner f)) (λ _. ⊥) (λ _ _ _. Unit {0}) before l.initial.rest.now l.self l.rest.now;
       acts : ActsSoFar (acts_left before) (length l.initial.rest.now) (faulty_told w.told before).turns
           (length l.rest.now) (faulty_told w.told l.self).turns (acts_left l.self);
     }

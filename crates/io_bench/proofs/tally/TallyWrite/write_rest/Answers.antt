@@ -17,7 +17,7 @@ returns-in-Ok-eq0 g c =
     let before = c.writes.invariant in
     let some = not_empty _ c.writes.rest.now c.is_empty.ensures c.writes-test.true in
     record {
-      law = writes_zero before.law c.write.ensures.law c.in-Ok-eq0.is c.in-Ok-eq0.field-0-test some cc;
+      law = writes_zero before.law c.write.ensures.law c.in-Ok-eq0.is c.in-Ok-eq0.field-0-test some c.failed_to_write.ensures;
       counts = counted_stop before.counts c.write.ensures.writes (omega (arith, c.write.ensures.law.moves.turns));
       none = λ e. absurd (omega (arith, some, ap length (before.none e).1));
       reads = c.write.ensures.reads ∙ before.reads;
@@ -35,7 +35,7 @@ writes-preserved-in-Ok g c =
     let some = not_empty _ c.writes.rest.now c.is_empty.ensures c.writes-test.true in
     let fewer = fewer_left c.in-Ok.n _ _ c.writes.rest.now c.in-Ok.n-test.1 wrote.law.bound wrote.law.moves.turns in
     record {
-      law = writes_more before.law wrote.law some;
+      law = writes_more before.law wrote.law some (omega (arith, c.in-Ok.n-test.1));
       counts = counted_more before.counts wrote.writes (omega (arith, fewer));
       none = λ e. absurd (omega (arith, some, ap length (before.none e).1));
       reads = wrote.reads ∙ before.reads;
@@ -53,7 +53,7 @@ writes-preserved g c =
     let some = not_empty _ c.writes.rest.now c.is_empty.ensures c.writes-test.true in
     let fewer = fewer_turns c.in-Err.e _ _ (length c.writes.rest.now) wrote.law.moves.turns cc in
     record {
-      law = writes_interruption before.law wrote.law;
+      law = writes_interruption before.law wrote.law some (cc);
       counts = counted_more before.counts wrote.writes (omega (arith, fewer));
       none = λ e. absurd (omega (arith, some, ap length (before.none e).1));
       reads = wrote.reads ∙ before.reads;
@@ -65,7 +65,7 @@ returns-in-Err-2 g c =
     let wrote = c.in-Err.ensures in
     let some = not_empty _ c.writes.rest.now c.is_empty.ensures c.writes-test.true in
     record {
-      law = writes_fault before.law wrote.law cc;
+      law = writes_fault before.law wrote.law (cc) some;
       counts = counted_stop before.counts wrote.writes (omega (arith, wrote.law.moves.turns));
       none = λ e. absurd (omega (arith, some, ap length (before.none e).1));
       reads = wrote.reads ∙ before.reads;

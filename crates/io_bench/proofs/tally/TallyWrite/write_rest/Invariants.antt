@@ -12,7 +12,7 @@ invariant-writes g l =
     let before = tally_inner l.initial.self in
     let now = tally_inner l.self in
     record {
-      law : WritesSoFar (λ t. w.told (tally_inner t)) (λ t. w.takes_all (tally_inner t)) tally_writes (λ _. ⊤)
+      law : WritesSoFar (λ t. w.told (tally_inner t)) (λ t. w.takes_all (tally_inner t)) tally_writes (λ _. ⊤) (λ _ _ _. Unit {0})
           l.initial.self l.initial.rest.now l.self l.rest.now;
       counts : CountedSoFar (length l.initial.rest.now) (length l.initial.rest.now + (w.told before).turns) (tally_writes l.initial.self)
           (length l.rest.now) (length l.rest.now + (w.told now).turns) (tally_writes l.self);

@@ -17,7 +17,7 @@ returns-in-Ok-eq0 g c =
     let gives = gives_zero before.gives is c.in-Ok-eq0.field-0-test wrote.taken wrote.bytes in
     let ends = ends_zero c.took_nothing.result c.took_nothing.ensures before.turns is wrote.asked in
     record {
-      law = writes_zero before.law wrote.law is c.in-Ok-eq0.field-0-test some cc;
+      law = writes_zero before.law wrote.law is c.in-Ok-eq0.field-0-test some c.took_nothing.ensures;
       bytes = gives;
       ends = ends;
     }
@@ -32,7 +32,7 @@ writes-preserved-in-Ok g c =
     let before = c.writes.invariant in
     let wrote = c.in-Ok.ensures in
     record {
-      law = writes_more before.law wrote.law (not_empty _ c.writes.rest.now c.is_empty.ensures c.writes-test.true);
+      law = writes_more before.law wrote.law (not_empty _ c.writes.rest.now c.is_empty.ensures c.writes-test.true) (omega (arith, c.in-Ok.n-test.1));
       gives = gives_more c.in-Ok.n before.gives wrote.taken wrote.bytes;
       turns = omega (arith, before.turns, wrote.asked);
     }
@@ -47,7 +47,7 @@ writes-preserved g c =
     let before = c.writes.invariant in
     let wrote = c.in-Err.ensures in
     record {
-      law = writes_interruption before.law wrote.law;
+      law = writes_interruption before.law wrote.law (not_empty _ c.writes.rest.now c.is_empty.ensures c.writes-test.true) cc;
       gives = gives_same before.gives wrote.taken wrote.bytes;
       turns = omega (arith, before.turns, wrote.law.moves.turns);
     }
@@ -60,7 +60,7 @@ returns-in-Err-2 g c =
     let gives = gives_same before.gives wrote.taken wrote.bytes in
     let ends = ends_writes c.in-Err.e fault before.turns wrote.asked in
     record {
-      law = writes_fault before.law wrote.law fault;
+      law = writes_fault before.law wrote.law fault (not_empty _ c.writes.rest.now c.is_empty.ensures c.writes-test.true);
       bytes = gives;
       ends = ends;
     }

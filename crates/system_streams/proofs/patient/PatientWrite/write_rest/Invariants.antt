@@ -8,7 +8,7 @@ use Rattle.system_streams.proofs.patient.PatientWrite.write_rest.Given as goal
 abbrev pub invariant-writes : goal.invariant-writes
 invariant-writes g l =
     record {
-      law : WritesSoFar patient_told (λ _. ⊥) (λ _. 0) (λ _. ⊥) l.initial.self l.initial.rest.now l.self l.rest.now;
+      law : WritesSoFar patient_told (λ _. ⊥) (λ _. 0) (λ _. ⊥) (λ _ _ _. Unit {0}) l.initial.self l.initial.rest.now l.self l.rest.now;
       gives : Gives l.initial.rest.now l.rest.now (patient_taken l.initial.self) (patient_taken l.self)
           (g.D.Write.contents (patient_device l.initial.self)) (g.D.Write.contents (patient_device l.self));
       turns : patient_turns l.self ≤ patient_turns l.initial.self;
