@@ -10,6 +10,7 @@ mod lengths;
 mod narrow;
 mod patiently;
 mod serial;
+mod summed;
 
 pub use broken::Broken;
 pub use inbox::{Inbox, Source};
@@ -18,6 +19,7 @@ pub use narrow::Narrow;
 use no_std_io2::io::{BufWriter, Result, Write};
 pub use patiently::send_patiently;
 pub use serial::{Port, Serial};
+pub use summed::{Summed, flush_summed, write_summed};
 
 pub mod records;
 

@@ -18,7 +18,7 @@ use Rattle.no_std_io2.specs.BufWriter.{sender_inner, sender_buffer, sender_with_
 pub sent_of : {W : Type 0} {S : ℕ} {I : Writer W} {old : Sender W S} {reply : Result (Unit {0}) Error} {new : Sender W S}
     → new.buffer.bytes ≡ old.buffer.bytes
     → (C : List WriteCall) × Made (CallOf I) (sender_inner old) C (sender_inner new)
-        × SendCalls (sender_buffer old) C reply (sender_buffer new)
+    × SendCalls (sender_buffer old) C reply (sender_buffer new)
     → Sent I old reply new
 sent_of {I} {old} {reply} {new} unmoved calls =
     let made = calls.1 in

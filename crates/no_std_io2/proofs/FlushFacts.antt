@@ -81,9 +81,9 @@ module _ {W B : Type 0} (I : Writer W) (inner : B → W) (buffer : B → List �
   flushes_of (Err e) calls =
       elim calls.2 [
         | inl sent ↦
-          let parts = made_split (CallOf I) sent.0 (inner old) (Flushed (Err e) ∷ []) (inner new)
-          (subst (λ K. Made (CallOf I) (inner old) K (inner new)) sent.2 calls.1) in
-          sent_and_flushed sent.0 (Err e) parts.0 parts.1 sent.1
-          (subst (λ w. FlushLaw I.told I.takes_all I.cost I.is_metered I.may parts.0 (Err e) w) (sym parts.2.2) parts.2.1) calls
+            let parts = made_split (CallOf I) sent.0 (inner old) (Flushed (Err e) ∷ []) (inner new)
+            (subst (λ K. Made (CallOf I) (inner old) K (inner new)) sent.2 calls.1) in
+            sent_and_flushed sent.0 (Err e) parts.0 parts.1 sent.1
+            (subst (λ w. FlushLaw I.told I.takes_all I.cost I.is_metered I.may parts.0 (Err e) w) (sym parts.2.2) parts.2.1) calls
         | inr failed ↦ not_sent calls.0 e calls.1 failed.1 calls
       ]

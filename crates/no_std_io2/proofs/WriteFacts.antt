@@ -37,8 +37,8 @@ module _ {W : Type 0} (I : Writer W) where
       ap length kept.1 ∙ sym (way_calls-none S n held kept.0),
     )
     | inr sent ↦
-      let all = writes_all I.told I.takes_all I.cost I.is_metered I.may sent.1 a b made takes in
-      (all.0, all.1, all.2 ∙ sym (way_calls-over S n held sent.0))
+        let all = writes_all I.told I.takes_all I.cost I.is_metered I.may sent.1 a b made takes in
+        (all.0, all.1, all.2 ∙ sym (way_calls-over S n held sent.0))
   ]
 
   -- and how many a write takes

@@ -121,4 +121,10 @@ module _ {I A : Type 0} {V : I → Type 0} (told : ((x : I) × V x) → Told) (b
   write_rest_box x reply left lent back =
       subst (WriteRestOf x reply left) (sym back)
       (λ new fault sends done. record {
-        fault = fault; sends = sends; done = done; all = λ t. absurd t; counts = λ m. absurd m; calls = rest_own (other_box _ new) x reply left (tt, fault, sends, λ t. t) })
+        fault = fault;
+        sends = sends;
+        done = done;
+        all = λ t. absurd t;
+        counts = λ m. absurd m;
+        calls = rest_own (other_box _ new) x reply left (tt, fault, sends, (λ t. t), done);
+      })

@@ -93,7 +93,7 @@ module _ {W : Type 0} {may : W → WriteCall → W → Type 0} {text : List ℕ}
   -- one more
   pub calls_more : {new : W} {call : WriteCall} {rest : List ℕ} → may now call new
       → ((D : List WriteCall) (reply : Result (Unit {0}) Error) (end : List ℕ) → Writes text D rest reply end
-          → Writes text (call ∷ D) left reply end)
+      → Writes text (call ∷ D) left reply end)
       → CallsSoFar may text old start rest new
   calls_more {call = call} last on = record {
     calls = before.calls ++ call ∷ [];

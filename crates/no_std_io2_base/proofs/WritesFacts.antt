@@ -137,8 +137,11 @@ module _ {S : Type 0} (told : S → Told) (takes_all : S → Type 0) (cost : S �
       )
   writes_moves (again some interrupted w) a b made =
       let rest = writes_moves w made.0 b made.2 in (rest.0, rest.1, Moves-trans made.1.moves rest.2)
-  writes_moves (stuck {x = x} some says) a b made =
-      ([], refl, subst (λ w. Moves (told a) [] (happened (Wrote x (Ok 0) ∷ [])) (told w)) (sym made.2)
-      (subst (λ k. Moves (told a) [] k (told made.0)) (sym (append-nil (zero_write 0 x))) made.1.moves))
+  writes_moves (stuck {x = x} some says) a b made = (
+    [],
+    refl,
+    subst (λ w. Moves (told a) [] (happened (Wrote x (Ok 0) ∷ [])) (told w)) (sym made.2)
+        (subst (λ k. Moves (told a) [] k (told made.0)) (sym (append-nil (zero_write 0 x))) made.1.moves),
+  )
   writes_moves (fault {x = x} {e = e} some is) a b made =
       ([], refl, subst (λ w. Moves (told a) [] (error_kind e ∷ []) (told w)) (sym made.2) made.1.moves)

@@ -99,6 +99,14 @@ abbrev pub Made : {W : Type 0} → (W → WriteCall → W → Type 0) → W → 
 Made may old [] new = new ≡ old
 Made {W} may old (call ∷ C) new = (mid : W) × may old call mid × Made may mid C new
 
+-- `Adds old bytes new` is what a writer does as it accepts these bytes: this call did so with those that it accepted.
+abbrev pub CallAdds : {W : Type 0} → (W → List ℕ → W → Type 0) → W → WriteCall → W → Type 0
+CallAdds Adds old (Wrote x reply) new = Adds old (taken reply x) new
+CallAdds Adds old (WroteAll x reply) new =
+    (accepted : List ℕ) × IsFront accepted x × OnOk reply (accepted ≡ x) × Adds old accepted new
+CallAdds Adds old (WroteRest x reply left) new = (sent : List ℕ) × (x ≡ sent ++ left) × OnOk reply (left ≡ []) × Adds old sent new
+CallAdds Adds old (Flushed reply) new = Adds old [] new
+
 -- C are the calls that write x, what they answer, and what they leave of x. `text` is what the answer says where no byte is taken.
 pub data Writes (text : List ℕ) : List WriteCall → List ℕ → Result (Unit {0}) Error → List ℕ → Type 0 where
   -- for no bytes there is no call
@@ -160,7 +168,7 @@ CallLaw told takes_all cost is_metered may old (Flushed reply) new = FlushLaw to
 CallLaw told takes_all cost is_metered may old (WroteAll x reply) new = may old (WroteAll x reply) new
     × IsNoInterruption reply × MovesFront (told old) x reply (told new) × (takes_all old → takes_all new)
 CallLaw told takes_all cost is_metered may old (WroteRest x reply left) new = may old (WroteRest x reply left) new
-    × IsNoInterruption reply × Sends (told old) x reply (told new) left × (takes_all old → takes_all new)
+    × IsNoInterruption reply × Sends (told old) x reply (told new) left × (takes_all old → takes_all new) × OnOk reply (left ≡ [])
 
 -- `write_all(x)`
 pub record WriteAllLaw {S : Type 0} (told : S → Told) (takes_all : S → Type 0) (cost : S → ℕ) (is_metered : S → Type 0)

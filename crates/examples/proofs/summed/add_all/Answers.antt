@@ -1,7 +1,7 @@
 use Rattle.std.proofs.Common.{◌≡◌, ◌+◌, ◌%◌, ◌^◌, arith, ap, take, take_all, ◌∙◌}
 use Rattle.std.specs.List.{sum}
 use Rattle.std.proofs.lemmas.List.Sums.{sum_by_more}
-use Rattle.calls_user.proofs.summed.add_all.Goals as goal
+use Rattle.examples.proofs.summed.add_all.Goals as goal
 
 pub loop-b-preserved : goal.loop-b-preserved
 loop-b-preserved c =

@@ -1,7 +1,7 @@
 -- The sum so far.
 use Rattle.std.proofs.Common.{◌≡◌, ◌+◌, ◌%◌, ◌^◌, take}
 use Rattle.std.specs.List.{sum}
-use Rattle.calls_user.proofs.summed.add_all.Given as goal
+use Rattle.examples.proofs.summed.add_all.Given as goal
 
 abbrev pub invariant-loop-b : goal.invariant-loop-b
 invariant-loop-b l = l.total % 2 ^ 64 ≡ (l.fn.start + sum (take l.b-index l.bytes)) % 2 ^ 64

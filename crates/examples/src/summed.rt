@@ -1,10 +1,12 @@
-ghost use Rattle.std.specs.Prelude.{◌≡◌, ◌+◌, ◌%◌, ◌^◌, ◌++◌, List, OnOk, sum, length, ℕ};
-ghost use Rattle.calls_user.specs.Summed.{summed_inner, summed_sum, SumMay, Adds, AddsSent};
+//! An adaptor with a state of its own: it keeps its promise through the trait's own loops and through a buffer.
+ghost use Rattle.std.specs.Prelude.{◌≡◌, ◌+◌, ◌%◌, ◌^◌, sum};
 ghost use Rattle.no_std_io2.specs.BufWriter.{writer_inner, writer_buffer};
+ghost use Rattle.no_std_io2.specs.Write.{CallAdds, WroteRest};
+ghost use Rattle.examples.specs.Summed.{summed_inner, summed_sum, Sums};
 
 use no_std_io2::io::{BufWriter, Result, Write};
 
-/// A writer with a checksum: the sum of the bytes that were accepted, mod 2 ^ 64.
+/// A writer with a checksum: the sum of the bytes that were accepted, modulo 2^64.
 #[derive(Drop)]
 pub struct Summed<W> {
     inner: W,
@@ -12,6 +14,7 @@ pub struct Summed<W> {
 }
 
 impl<W> Summed<W> {
+    /// Puts a checksum in front of `inner`.
     pub fn new(inner: W) -> Summed<W>
         ensures inner { summed_inner result ≡ inner }
         ensures sum { summed_sum result ≡ 0 }
@@ -20,7 +23,7 @@ impl<W> Summed<W> {
     }
 }
 
-// The sum of some more bytes.
+// Some bytes added to a sum.
 fn add_all(start: u64, bytes: &[u8]) -> u64
     ensures { result % 2 ^ 64 ≡ (start + sum bytes.now) % 2 ^ 64 }
 {
@@ -34,7 +37,8 @@ fn add_all(start: u64, bytes: &[u8]) -> u64
 impl<W: Write> Write for Summed<W> {
     ghost told = { λ s. W.told (summed_inner s) };
 
-    ghost may = { SumMay W.may };
+    // Each call adds the bytes that it accepted.
+    ghost may = { CallAdds Sums };
 
     fn write(&mut self, buf: &[u8]) -> Result<usize> {
         let n = self.inner.write(buf)?;
@@ -49,23 +53,16 @@ impl<W: Write> Write for Summed<W> {
     ghost steady = { λ s h. absurd h };
 }
 
-/// Writes by the trait's own `write_all`: its bytes are in the sum.
-pub fn write_header<W: Write>(w: &mut Summed<W>, bytes: &[u8]) -> Result<()>
-    ensures { OnOk result (Adds w.old bytes.now w.new) }
-{
-    w.write_all(bytes)
-}
-
-/// Writes by the trait's own `write_rest`: what is gone from `rest` is in the sum, after an error too.
-pub fn write_patiently<W: Write>(w: &mut Summed<W>, rest: &mut &[u8]) -> Result<()>
-    ensures { AddsSent w.old rest.old.now w.new rest.new.now }
+/// Writes what is left in `rest` by the trait's own loop: what is gone from it is in the sum, after an error too.
+pub fn write_summed<W: Write>(w: &mut Summed<W>, rest: &mut &[u8]) -> Result<()>
+    ensures { CallAdds Sums w.old (WroteRest rest.old.now result rest.new.now) w.new }
 {
     w.write_rest(rest)
 }
 
-/// Flushes a buffer in front of it: what was held is in the sum.
+/// Flushes a buffer in front of a checksum: what is no longer held is in the sum, and after `Ok` that is all of it.
 pub fn flush_summed<W: Write + Drop, const S: usize>(w: &mut BufWriter<Summed<W>, S>) -> Result<()>
-    ensures { OnOk result (Adds (writer_inner w.old) (writer_buffer w.old) (writer_inner w.new)) }
+    ensures { CallAdds Sums (writer_inner w.old) (WroteRest (writer_buffer w.old) result (writer_buffer w.new)) (writer_inner w.new) }
 {
     w.flush()
 }

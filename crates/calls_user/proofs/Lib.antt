@@ -1,3 +1,0 @@
-pub mod SumCalls
-pub mod NumberCalls
-pub mod Refuted

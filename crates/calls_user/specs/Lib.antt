@@ -1,2 +1,0 @@
-pub mod Summed
-pub mod Numbered
