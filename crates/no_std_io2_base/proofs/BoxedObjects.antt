@@ -1,5 +1,5 @@
 -- A boxed object after a call on the value in it.
-use Rattle.std.proofs.Common.{◌≡◌, ℕ, ◌<◌, ◌≤◌, List, [], length, Result, OnOk, IfOk, IsOk, IsOkAnd, sym, subst, ap}
+use Rattle.std.proofs.Common.{◌≡◌, ℕ, ◌<◌, ◌≤◌, List, [], length, Result, OnOk, IfOk, IsOk, IsOkAnd, refl, sym, subst, ap}
 use Rattle.std.specs.Borrow.{Bor}
 use Rattle.std.specs.declared.dyn_box.DynBox.{DynBox}
 use Rattle.no_std_io2_base.specs.declared.error.Error.{Error}
@@ -7,9 +7,9 @@ use Rattle.no_std_io2_base.specs.Errors.{IsNoInterruption}
 use Rattle.no_std_io2_base.specs.Read.{Event, ReadsExact, ReadExactLaw}
 use Rattle.no_std_io2_base.specs.BufRead.{IsNotEmpty, BeginsWith, LendsFrom, LendingTurn}
 use Rattle.no_std_io2_base.proofs.Readers.{box_reader}
-use Rattle.no_std_io2_base.proofs.CallsLemmas.{all_own, rest_own}
-use Rattle.no_std_io2_base.specs.Write.{Told, Moves, MovesFront, Sends, taken, write_mishap, call_mishap, WriteCall}
-use Rattle.no_std_io2_base.specs.Write.{WriteLaw, FlushLaw, WriteAllLaw, WriteRestLaw}
+use Rattle.no_std_io2_base.proofs.CallsLemmas.{made_map}
+use Rattle.no_std_io2_base.specs.Write.{Told, WriteCall, Wrote, WroteAll, WroteRest, Flushed, Made, CallLaw, BoxMay}
+use Rattle.no_std_io2_base.specs.Write.{WriteAllLaw, WriteRestLaw}
 
 module _ {I A : Type 0} {V : I → Type 0} (tells : ((x : I) × V x) → Type 0) (events : ((x : I) × V x) → List Event)
     (turns : ((x : I) × V x) → ℕ) (may_take_none : ((x : I) × V x) → Type 0) (box : DynBox I A V)
@@ -70,61 +70,79 @@ module _ {I A : Type 0} {V : I → Type 0} (tells : ((x : I) × V x) → Type 0)
     λ some. ap (λ v. record { ptr = box.ptr; vtable = box.vtable; alloc = box.alloc; value = v }) (same some),
   ))
 
-module _ {I A : Type 0} {V : I → Type 0} (told : ((x : I) × V x) → Told) (box : DynBox I A V) where
+module _ {I A : Type 0} {V : I → Type 0} (told : (i : I) → V i → Told) (takes_all : (i : I) → V i → Type 0)
+    (cost : (i : I) → V i → ℕ) (is_metered : (i : I) → V i → Type 0) (may : (i : I) → V i → WriteCall → V i → Type 0)
+    (box : DynBox I A V) where
   -- the box with another value
   abbrev other_box : (i : I) → V i → DynBox I A V
   other_box i new = record { ptr = box.ptr; vtable = i; alloc = box.alloc; value = new }
 
-  -- what a box tells
-  abbrev box_told : DynBox I A V → Told
-  box_told b = told (b.vtable, b.value)
+  -- a call of a value, and one of the box
+  abbrev ValueCall : (i : I) → V i → WriteCall → V i → Type 0
+  ValueCall i = CallLaw (told i) (takes_all i) (cost i) (is_metered i) (may i)
 
-  -- what a call did to the value that was lent, it did to the box
-  abbrev pub WriteOf : List ℕ → Result ℕ Error → ((x : I) × V x) → Type 0
-  WriteOf x reply lent = (new : V lent.0) → IfOk reply (λ n. n ≤ length x)
-      → Moves (told lent) (taken reply x) (write_mishap reply x) (told (lent.0, new))
-      → WriteLaw box_told (λ _. ⊥) (λ _. 0) (λ _. ⊥) (λ _ _ _. Unit {0}) box x reply (other_box lent.0 new)
+  abbrev BoxCall : DynBox I A V → WriteCall → DynBox I A V → Type 0
+  BoxCall = CallLaw (λ b. told b.vtable b.value) (λ _. ⊥) (λ _. 0) (λ _. ⊥) (λ b. BoxMay b (may b.vtable))
 
-  abbrev pub FlushOf : Result (Unit {0}) Error → ((x : I) × V x) → Type 0
-  FlushOf reply lent = (new : V lent.0) → OnOk reply ((told (lent.0, new)).held ≡ [])
-      → Moves (told lent) [] (call_mishap reply) (told (lent.0, new))
-      → FlushLaw box_told (λ _. ⊥) (λ _. 0) (λ _. ⊥) (λ _ _ _. Unit {0}) box reply (other_box lent.0 new)
+  -- what a call did to a value, it did to the box
+  call_box : (i : I) (old new : V i) (call : WriteCall) → ValueCall i old call new → BoxCall (other_box i old) call (other_box i new)
+  call_box i old new (Wrote x reply) law = record {
+    bound = law.bound;
+    moves = law.moves;
+    all = λ t. absurd t;
+    counts = λ m. absurd m;
+    call = (new, refl, law.call);
+  }
+  call_box i old new (Flushed reply) law = record {
+    empty = law.empty;
+    moves = law.moves;
+    all = λ t. absurd t;
+    counts = λ m. absurd m;
+    call = (new, refl, law.call);
+  }
+  call_box i old new (WroteAll x reply) law = ((new, refl, law.0), law.1, law.2, λ t. t)
+  call_box i old new (WroteRest x reply left) law = ((new, refl, law.0), law.1, law.2, (λ t. t), law.4)
 
-  abbrev pub WriteAllOf : List ℕ → Result (Unit {0}) Error → ((x : I) × V x) → Type 0
-  WriteAllOf x reply lent = (new : V lent.0) → IsNoInterruption reply → MovesFront (told lent) x reply (told (lent.0, new))
-      → WriteAllLaw box_told (λ _. ⊥) (λ _. 0) (λ _. ⊥) (λ _ _ _. Unit {0}) box x reply (other_box lent.0 new)
-
-  abbrev pub WriteRestOf : List ℕ → Result (Unit {0}) Error → List ℕ → ((x : I) × V x) → Type 0
-  WriteRestOf x reply left lent = (new : V lent.0) → IsNoInterruption reply → Sends (told lent) x reply (told (lent.0, new)) left
-      → OnOk reply (left ≡ [])
-      → WriteRestLaw box_told (λ _. ⊥) (λ _. 0) (λ _. ⊥) (λ _ _ _. Unit {0}) box x reply (other_box lent.0 new) left
+  -- and so did many
+  made_box : (i : I) (C : List WriteCall) (old new : V i) → Made (ValueCall i) old C new
+      → Made BoxCall (other_box i old) C (other_box i new)
+  made_box i = made_map (ValueCall i) BoxCall (other_box i) (call_box i)
 
   -- the value that was lent is that in the box
-  pub write_box : (x : List ℕ) (reply : Result ℕ Error) (lent : (x : I) × V x) → lent ≡ (box.vtable, box.value) → WriteOf x reply lent
-  write_box x reply lent back =
-      subst (WriteOf x reply) (sym back)
-      (λ new bound moves. record { bound = bound; moves = moves; all = λ t. absurd t; counts = λ m. absurd m; call = tt })
+  pub lent_call : (call : WriteCall) (lent : (i : I) × V i) → lent ≡ (box.vtable, box.value)
+      → (new : V lent.0) → ValueCall lent.0 lent.1 call new → BoxCall box call (other_box lent.0 new)
+  lent_call call lent back =
+      subst (λ l. (new : V l.0) → ValueCall l.0 l.1 call new → BoxCall box call (other_box l.0 new)) (sym back)
+      (λ new law. call_box box.vtable box.value new call law)
 
-  pub flush_box : (reply : Result (Unit {0}) Error) (lent : (x : I) × V x) → lent ≡ (box.vtable, box.value) → FlushOf reply lent
-  flush_box reply lent back =
-      subst (FlushOf reply) (sym back)
-      (λ new empty moves. record { empty = empty; moves = moves; all = λ t. absurd t; counts = λ m. absurd m; call = tt })
+  -- what a `write_all` of a value did, and what it did to the box
+  abbrev pub WriteAllOf : List ℕ → Result (Unit {0}) Error → ((i : I) × V i) → Type 0
+  WriteAllOf x reply lent = (new : V lent.0)
+      → WriteAllLaw (told lent.0) (takes_all lent.0) (cost lent.0) (is_metered lent.0) (may lent.0) lent.1 x reply new
+      → WriteAllLaw (λ b. told b.vtable b.value) (λ _. ⊥) (λ _. 0) (λ _. ⊥) (λ b. BoxMay b (may b.vtable)) box x reply (other_box lent.0 new)
 
-  pub write_all_box : (x : List ℕ) (reply : Result (Unit {0}) Error) (lent : (x : I) × V x) → lent ≡ (box.vtable, box.value)
+  abbrev pub WriteRestOf : List ℕ → Result (Unit {0}) Error → List ℕ → ((i : I) × V i) → Type 0
+  WriteRestOf x reply left lent = (new : V lent.0)
+      → WriteRestLaw (told lent.0) (takes_all lent.0) (cost lent.0) (is_metered lent.0) (may lent.0) lent.1 x reply new left
+      → WriteRestLaw (λ b. told b.vtable b.value) (λ _. ⊥) (λ _. 0) (λ _. ⊥) (λ b. BoxMay b (may b.vtable)) box x reply (other_box lent.0 new) left
+
+  pub write_all_box : (x : List ℕ) (reply : Result (Unit {0}) Error) (lent : (i : I) × V i) → lent ≡ (box.vtable, box.value)
       → WriteAllOf x reply lent
-  write_all_box x reply lent back =
-      subst (WriteAllOf x reply) (sym back)
-      (λ new fault moves. record { fault = fault; moves = moves; all = λ t. absurd t; counts = λ m. absurd m; calls = all_own (other_box _ new) x reply (tt, fault, moves, λ t. t) })
+  write_all_box x reply lent back = subst (WriteAllOf x reply) (sym back) (λ new law. record {
+    fault = law.fault;
+    moves = law.moves;
+    all = λ t. absurd t;
+    counts = λ m. absurd m;
+    calls = (law.calls.0, made_box box.vtable law.calls.0 box.value new law.calls.1, law.calls.2);
+  })
 
-  pub write_rest_box : (x : List ℕ) (reply : Result (Unit {0}) Error) (left : List ℕ) (lent : (x : I) × V x)
+  pub write_rest_box : (x : List ℕ) (reply : Result (Unit {0}) Error) (left : List ℕ) (lent : (i : I) × V i)
       → lent ≡ (box.vtable, box.value) → WriteRestOf x reply left lent
-  write_rest_box x reply left lent back =
-      subst (WriteRestOf x reply left) (sym back)
-      (λ new fault sends done. record {
-        fault = fault;
-        sends = sends;
-        done = done;
-        all = λ t. absurd t;
-        counts = λ m. absurd m;
-        calls = rest_own (other_box _ new) x reply left (tt, fault, sends, (λ t. t), done);
-      })
+  write_rest_box x reply left lent back = subst (WriteRestOf x reply left) (sym back) (λ new law. record {
+    fault = law.fault;
+    sends = law.sends;
+    done = law.done;
+    all = λ t. absurd t;
+    counts = λ m. absurd m;
+    calls = (law.calls.0, made_box box.vtable law.calls.0 box.value new law.calls.1, law.calls.2);
+  })

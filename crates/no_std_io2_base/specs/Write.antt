@@ -1,6 +1,7 @@
 -- What a writer tells, what its calls do to that, and the law of each call of `Write`.
 use Rattle.std.specs.Prelude.{◌≡◌, ℕ, ◌+◌, ◌≤◌, ◌==◌, ◌&&◌, nat_lt, Bool, if◌then◌else◌, List, [], ◌∷◌, ◌++◌, length, take, ⊤, Option}
 use Rattle.std.specs.Prelude.{None, Some, Result, Ok, Err, OnOk, count_by, IfOk, IsOk, ◌<◌, drop, codes, ◌⊎◌}
+use Rattle.std.specs.declared.dyn_box.DynBox.{DynBox}
 use Rattle.no_std_io2_base.specs.declared.error.Error.{Error}
 use Rattle.no_std_io2_base.specs.declared.error.ErrorKind.{ErrorKind}
 use Rattle.no_std_io2_base.specs.declared.error.ErrorKind.TheVariants.{WriteZero}
@@ -98,6 +99,12 @@ pub data WriteCall : Type 0 where
 abbrev pub Made : {W : Type 0} → (W → WriteCall → W → Type 0) → W → List WriteCall → W → Type 0
 Made may old [] new = new ≡ old
 Made {W} may old (call ∷ C) new = (mid : W) × may old call mid × Made may mid C new
+
+-- What a call may do to a boxed object: what it may do to the value in the box, as `may` says.
+abbrev pub BoxMay : {I A : Type 0} {V : I → Type 0} → (old : DynBox I A V) → (V old.vtable → WriteCall → V old.vtable → Type 0)
+    → WriteCall → DynBox I A V → Type 0
+BoxMay {I} {A} {V} old may call new = (value : V old.vtable)
+    × (new ≡ record { ptr = old.ptr; vtable = old.vtable; alloc = old.alloc; value = value }) × may old.value call value
 
 -- `Adds old bytes new` is what a writer does as it accepts these bytes: this call did so with those that it accepted.
 abbrev pub CallAdds : {W : Type 0} → (W → List ℕ → W → Type 0) → W → WriteCall → W → Type 0

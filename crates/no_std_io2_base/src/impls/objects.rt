@@ -1,4 +1,5 @@
 ghost use Rattle.std.specs.Prelude.{[]};
+ghost use Rattle.no_std_io2_base.specs.Write.{BoxMay};
 
 use crate::error::Result;
 use crate::traits::{Seek, SeekFrom, Stored, Write};
@@ -7,6 +8,8 @@ use std::alloc::Allocator;
 /// A boxed trait object tells what is in the box tells, but for counts, and that it takes all.
 impl<A: Allocator> Write for Box<dyn Write + Drop, A> {
     ghost told = { λ b. (Write-box b).told b.value };
+
+    ghost may = { λ b call new. BoxMay b (Write-box b).may call new };
 
     fn write(&mut self, buf: &[u8]) -> Result<usize> {
         (**self).write(buf)

@@ -1,13 +1,14 @@
 -- What the call did to the value in the box, it did to the box.
 use Rattle.std.proofs.Common.{rules}
-use Rattle.no_std_io2_base.proofs.BoxedObjects.{write_box}
+use Rattle.no_std_io2_base.proofs.BoxedObjects.{lent_call}
+use Rattle.no_std_io2_base.specs.Write.{Wrote}
 use Rattle.no_std_io2_base.proofs.impls.objects.BoxDynWriteDropWrite.write.Goals as goal
 
 pub returns : goal.returns
 returns g c =
     let o = goal.Write-dyn g in
-    let wrote = c.write.ensures in
     record {
-      law = write_box (λ p. (o p).told p.1) c.args.self.now c.args.buf.now c.write.result c.deref_box_mut-1.result.now (search rules) c.write.new.self
-          wrote.bound wrote.moves;
+      law = lent_call (λ i v. (o (i, v)).told v) (λ i v. (o (i, v)).takes_all v) (λ i v. (o (i, v)).cost v) (λ i v. (o (i, v)).is_metered v)
+          (λ i old call new. (o (i, old)).may old call new) c.args.self.now (Wrote c.args.buf.now c.write.result) c.deref_box_mut-1.result.now (search rules)
+          c.write.new.self c.write.ensures;
     }
