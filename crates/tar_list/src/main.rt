@@ -5,7 +5,7 @@
 //! standard error.
 #![tactic(auto)]
 
-use no_std_io2::io::{BufReader, Error, ErrorKind, LineWriter, Result, Write, copy};
+use no_std_io2::io::{BufReader, BufWriter, Error, ErrorKind, Result, Write, copy};
 use std::alloc::Global;
 use std::process::ExitCode;
 use std::rt::Env;
@@ -28,8 +28,8 @@ fn one_word<R: Env + Alloc<A = Global>>(rt: &R) -> Option<String> {
 // Prints a line for each member, or copies the member of this name.
 fn list(rt: &HostRuntime, name: Option<String>) -> Result<()> {
     let input = Patient::new(rt.reader(), u64::MAX);
-    let mut archive = Archive::new(rt.alloc(), BufReader::<_, 4096>::new(input));
-    let mut out = LineWriter::<_, 4096>::new(Patient::new(io::writer(rt), u64::MAX));
+    let mut archive = Archive::new(rt.alloc(), BufReader::<_, 8192>::new(input));
+    let mut out = BufWriter::<_, 4096>::new(Patient::new(io::writer(rt), u64::MAX));
     if let Some(name) = name {
         let Some(header) = archive.find(name.as_bytes())? else {
             return Err(Error::new(ErrorKind::NotFound, "no member has this name"));
@@ -37,7 +37,7 @@ fn list(rt: &HostRuntime, name: Option<String>) -> Result<()> {
         if header.kind == Kind::Directory {
             return Err(Error::new(ErrorKind::InvalidInput, "this member is a directory"));
         }
-        copy::<_, _, 512>(archive.member(), &mut out)?;
+        copy::<_, _, 8192>(archive.member(), &mut out)?;
         if archive.member().limit() > 0 {
             return Err(Error::new(ErrorKind::UnexpectedEof, "the archive ends inside a member"));
         }
