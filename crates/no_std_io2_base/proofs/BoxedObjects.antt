@@ -100,8 +100,8 @@ module _ {I A : Type 0} {V : I → Type 0} (told : (i : I) → V i → Told) (ta
     counts = λ m. absurd m;
     call = (new, refl, law.call);
   }
-  call_box i old new (WroteAll x reply) law = ((new, refl, law.0), law.1, law.2, λ t. t)
-  call_box i old new (WroteRest x reply left) law = ((new, refl, law.0), law.1, law.2, (λ t. t), law.4)
+  call_box i old new (WroteAll x reply) law = ((new, refl, law.0), law.1, law.2, (λ t. t), λ m. absurd m)
+  call_box i old new (WroteRest x reply left) law = ((new, refl, law.0), law.1, law.2, law.3, (λ t. t), λ m. absurd m)
 
   -- and so did many
   made_box : (i : I) (C : List WriteCall) (old new : V i) → Made (ValueCall i) old C new

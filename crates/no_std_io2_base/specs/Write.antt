@@ -174,8 +174,10 @@ CallLaw told takes_all cost is_metered may old (Wrote x reply) new = WriteLaw to
 CallLaw told takes_all cost is_metered may old (Flushed reply) new = FlushLaw told takes_all cost is_metered may old reply new
 CallLaw told takes_all cost is_metered may old (WroteAll x reply) new = may old (WroteAll x reply) new
     × IsNoInterruption reply × MovesFront (told old) x reply (told new) × (takes_all old → takes_all new)
+    × (is_metered old → takes_all old → is_metered new × (cost new ≡ cost old + calls_for x))
 CallLaw told takes_all cost is_metered may old (WroteRest x reply left) new = may old (WroteRest x reply left) new
-    × IsNoInterruption reply × Sends (told old) x reply (told new) left × (takes_all old → takes_all new) × OnOk reply (left ≡ [])
+    × IsNoInterruption reply × Sends (told old) x reply (told new) left × OnOk reply (left ≡ []) × (takes_all old → takes_all new)
+    × (is_metered old → takes_all old → is_metered new × (cost new ≡ cost old + calls_for x))
 
 -- `write_all(x)`
 pub record WriteAllLaw {S : Type 0} (told : S → Told) (takes_all : S → Type 0) (cost : S → ℕ) (is_metered : S → Type 0)
