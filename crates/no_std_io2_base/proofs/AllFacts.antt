@@ -6,7 +6,7 @@ use Rattle.no_std_io2_base.specs.Write.{Told, Moves, MovesFront, Sends, call_mis
 use Rattle.no_std_io2_base.specs.Write.{WriteCall, WroteAll, WroteRest, Made, RestCalls, AllCalls, CallLaw}
 use Rattle.no_std_io2_base.proofs.CallsLemmas.{writes_whole}
 use Rattle.no_std_io2_base.proofs.MovesLemmas.{Moves-steady, MovesFront-sends}
-use Rattle.no_std_io2_base.proofs.WritesFacts.{writes_fault, writes_sends, writes_all, writes_counts}
+use Rattle.no_std_io2_base.proofs.WritesFacts.{writes_fault, writes_sends, writes_all}
 
 -- a call of a writer with no mishap to come answers `Ok`
 pub call_steady : {a c : Told} {x : List ℕ} (reply : Result (Unit {0}) Error) → a.mishaps ≡ Some [] → Moves a x (call_mishap reply) c → IsOk reply
@@ -32,16 +32,14 @@ module _ {S : Type 0} (told : S → Told) (takes_all : S → Type 0) (cost : S �
       → IsNoInterruption reply × Sends (told a) x reply (told b) left × OnOk reply (left ≡ []) × TookAll x reply a b
   rest_calls {x = x} {left = left} {reply = reply} calls a b made = elim calls [
     | inl own ↦
-      let one = subst (λ K. Made (CallLaw told takes_all cost is_metered may) a K b) own made in
-      rest_own {x = x} {left = left} {reply = reply} a b
-      (subst (λ w. CallLaw told takes_all cost is_metered may a (WroteRest x reply left) w) (sym one.2) one.1)
+        let one = subst (λ K. Made (CallLaw told takes_all cost is_metered may) a K b) own made in
+        rest_own {x = x} {left = left} {reply = reply} a b
+        (subst (λ w. CallLaw told takes_all cost is_metered may a (WroteRest x reply left) w) (sym one.2) one.1)
     | inr writes ↦ (
       writes_fault writes,
       writes_sends told takes_all cost is_metered may writes a b made,
       writes_whole writes,
-      λ t.
-          let all = writes_all told takes_all cost is_metered may writes a b made t in
-          (all.0, all.1, λ m. writes_counts told takes_all cost is_metered may writes a b made m t),
+      λ t. let all = writes_all told takes_all cost is_metered may writes a b made t in (all.0, all.1, all.3),
     )
   ]
 
@@ -51,10 +49,10 @@ module _ {S : Type 0} (told : S → Told) (takes_all : S → Type 0) (cost : S �
       → IsNoInterruption reply × MovesFront (told a) x reply (told b) × TookAll x reply a b
   all_calls {x = x} {reply = reply} calls a b made = elim calls [
     | inl own ↦
-      let one = subst (λ K. Made (CallLaw told takes_all cost is_metered may) a K b) own made in
-      let law = subst (λ w. CallLaw told takes_all cost is_metered may a (WroteAll x reply) w) (sym one.2) one.1 in
-      (law.1, law.2, λ t. (law.3 t, call_steady reply (steady a t) law.2.moves, λ m. law.4 m t))
+        let one = subst (λ K. Made (CallLaw told takes_all cost is_metered may) a K b) own made in
+        let law = subst (λ w. CallLaw told takes_all cost is_metered may a (WroteAll x reply) w) (sym one.2) one.1 in
+        (law.1, law.2, λ t. (law.3 t, call_steady reply (steady a t) law.2.moves, λ m. law.4 m t))
     | inr rest ↦
-      let said = rest_calls rest.1 a b made in
-      (said.0, MovesFront-sends x rest.0 said.1 said.2, said.3)
+        let said = rest_calls rest.1 a b made in
+        (said.0, MovesFront-sends x rest.0 said.1 said.2, said.3)
   ]

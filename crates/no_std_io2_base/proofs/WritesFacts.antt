@@ -1,14 +1,14 @@
 -- What follows from the calls that were made.
-use Rattle.std.proofs.Common.{◌≡◌, ℕ, ◌+◌, ◌<◌, ◌≤◌, List, [], ◌∷◌, ◌++◌, Result, Ok, Err, OnOk, OnErr, IsOk, length, take, drop}
-use Rattle.std.proofs.Common.{refl, sym, ap, subst, ◌∙◌, arith, append_assoc, append-nil, take-append-drop, length-drop}
+use Rattle.std.proofs.Common.{◌≡◌, ℕ, ◌+◌, ◌<◌, List, [], ◌∷◌, ◌++◌, Result, Ok, Err, OnErr, IsOk, length, take, drop, codes, inr}
+use Rattle.std.proofs.Common.{refl, sym, ap, subst, ◌∙◌, arith, append_assoc, take-append-drop, length-drop}
 use Rattle.std.proofs.lemmas.Bool.Decides.{nat_tests}
 use Rattle.no_std_io2_base.specs.declared.error.Error.{Error}
-use Rattle.no_std_io2_base.specs.declared.error.ErrorKind.{ErrorKind}
 use Rattle.no_std_io2_base.specs.declared.error.ErrorKind.TheVariants.{WriteZero}
 use Rattle.no_std_io2_base.specs.Errors.{error_kind, is_interruption, IsNoInterruption}
-use Rattle.no_std_io2_base.specs.Write.{Told, Moves, Sends, WriteLaw, zero_write, write_mishap, call_mishap, calls_for, WriteCall, Wrote, WroteAll, WroteRest, Flushed, Made, CallLaw}
+use Rattle.no_std_io2_base.specs.Write.{Told, Moves, Sends, WriteRestLaw, zero_write, calls_for, WriteCall, Made, CallLaw}
 use Rattle.no_std_io2_base.specs.Write.{Writes, none, took, again, stuck, fault}
-use Rattle.no_std_io2_base.proofs.MovesLemmas.{Moves-refl, Moves-then, Moves-trans}
+use Rattle.no_std_io2_base.proofs.CallsLemmas.{writes_whole}
+use Rattle.no_std_io2_base.proofs.MovesLemmas.{Moves-refl, Moves-then}
 
 zero_write-some : (x : List ℕ) → 0 < length x → zero_write 0 x ≡ WriteZero ∷ []
 zero_write-some x some = grind (arith, nat_tests)
@@ -85,63 +85,40 @@ module _ {S : Type 0} (told : S → Told) (takes_all : S → Type 0) (cost : S �
     moves = subst (λ w. Moves (told a) [] (error_kind e ∷ []) (told w)) (sym made.2) made.1.moves;
   }
 
-  -- a writer that takes all does so in one call
+  -- a writer that takes all does so in one call, which is counted
   pub writes_all : {text : List ℕ} {C : List WriteCall} {x left : List ℕ} {reply : Result (Unit {0}) Error}
       → Writes text C x reply left → (a b : S) → Made (CallLaw told takes_all cost is_metered may) a C b → takes_all a
-      → takes_all b × IsOk reply × (length C ≡ calls_for x)
-  writes_all none a b made takes = (subst takes_all (sym made) takes, refl, refl)
+      → takes_all b × IsOk reply × (length C ≡ calls_for x) × (is_metered a → is_metered b × (cost b ≡ cost a + calls_for x))
+  writes_all none a b made takes =
+      (subst takes_all (sym made) takes, refl, refl, λ m. (subst is_metered (sym made) m, omega (arith, ap cost made, no_call [] refl)))
   writes_all (took {x = x} {n = n} some more w) a b made takes =
       let took = made.1.all takes in
       let rest = writes_all w made.0 b made.2 took.0 in
-      let empty : length (drop n x) ≡ 0 = omega (arith, took_all took.1, length-drop n x) in
-      (rest.0, rest.1, omega (arith, rest.2, no_call (drop n x) empty, one_call x some))
+      let empty : length (drop n x) ≡ 0 = omega (arith, took_all took.1, length-drop n x) in (
+        rest.0,
+        rest.1,
+        omega (arith, rest.2, no_call (drop n x) empty, one_call x some),
+        λ m.
+            let one = made.1.counts m takes in
+            let counted = rest.3 one.0 in
+            (counted.0, omega (arith, counted.1, one.1, no_call (drop n x) empty, one_call x some)),
+      )
   writes_all (again some interrupted w) a b made takes = no_error (made.1.all takes).1
   writes_all (stuck {x = x} some says) a b made takes = absurd (omega (arith, some, took_all (made.1.all takes).1))
   writes_all (fault some is) a b made takes = no_error (made.1.all takes).1
 
-  -- and that one call is counted
-  pub writes_counts : {text : List ℕ} {C : List WriteCall} {x left : List ℕ} {reply : Result (Unit {0}) Error}
-      → Writes text C x reply left → (a b : S) → Made (CallLaw told takes_all cost is_metered may) a C b
-      → is_metered a → takes_all a → is_metered b × (cost b ≡ cost a + calls_for x)
-  writes_counts none a b made metered takes = (subst is_metered (sym made) metered, omega (arith, ap cost made, no_call [] refl))
-  writes_counts (took {x = x} {n = n} some more w) a b made metered takes =
-      let took = made.1.all takes in
-      let one = made.1.counts metered takes in
-      let rest = writes_counts w made.0 b made.2 one.0 took.0 in
-      let empty : length (drop n x) ≡ 0 = omega (arith, took_all took.1, length-drop n x) in
-      (rest.0, omega (arith, rest.1, one.1, no_call (drop n x) empty, one_call x some))
-  writes_counts (again some interrupted w) a b made metered takes = no_error (made.1.all takes).1
-  writes_counts (stuck {x = x} some says) a b made metered takes = absurd (omega (arith, some, took_all (made.1.all takes).1))
-  writes_counts (fault some is) a b made metered takes = no_error (made.1.all takes).1
-
--- the mishaps that these answers are, all of them, in order
-abbrev pub happened : List WriteCall → List ErrorKind
-happened [] = []
-happened (Wrote x reply ∷ C) = write_mishap reply x ++ happened C
-happened (WroteAll x reply ∷ C) = call_mishap reply ++ happened C
-happened (WroteRest x reply left ∷ C) = call_mishap reply ++ happened C
-happened (Flushed reply ∷ C) = call_mishap reply ++ happened C
-
-module _ {S : Type 0} (told : S → Told) (takes_all : S → Type 0) (cost : S → ℕ) (is_metered : S → Type 0)
-    (may : S → WriteCall → S → Type 0) where
-  -- what was accepted, and each mishap that happened
-  pub writes_moves : {text : List ℕ} {C : List WriteCall} {x left : List ℕ} {reply : Result (Unit {0}) Error}
-      → Writes text C x reply left → (a b : S) → Made (CallLaw told takes_all cost is_metered may) a C b
-      → (sent : List ℕ) × (x ≡ sent ++ left) × Moves (told a) sent (happened C) (told b)
-  writes_moves none a b made = ([], refl, subst (λ w. Moves (told a) [] [] (told w)) (sym made) (Moves-refl (told a)))
-  writes_moves (took {x = x} {left = left} {n = n} some more w) a b made =
-      let rest = writes_moves w made.0 b made.2 in (
-        take n x ++ rest.0,
-        sym (take-append-drop n x) ∙ ap (λ l. take n x ++ l) rest.1 ∙ sym (append_assoc (take n x) rest.0 left),
-        Moves-trans made.1.moves rest.2,
-      )
-  writes_moves (again some interrupted w) a b made =
-      let rest = writes_moves w made.0 b made.2 in (rest.0, rest.1, Moves-trans made.1.moves rest.2)
-  writes_moves (stuck {x = x} some says) a b made = (
-    [],
-    refl,
-    subst (λ w. Moves (told a) [] (happened (Wrote x (Ok 0) ∷ [])) (told w)) (sym made.2)
-        (subst (λ k. Moves (told a) [] k (told made.0)) (sym (append-nil (zero_write 0 x))) made.1.moves),
-  )
-  writes_moves (fault {x = x} {e = e} some is) a b made =
-      ([], refl, subst (λ w. Moves (told a) [] (error_kind e ∷ []) (told w)) (sym made.2) made.1.moves)
+  -- the law of `write_rest` follows from its writes
+  pub writes_law : {x left : List ℕ} {reply : Result (Unit {0}) Error} {a b : S}
+      → (C : List WriteCall) × Made (CallLaw told takes_all cost is_metered may) a C b
+      × Writes (codes "failed to write whole buffer") C x reply left
+      → WriteRestLaw told takes_all cost is_metered may a x reply b left
+  writes_law {x} {left} {reply} {a} {b} calls =
+      let w = calls.2 in
+      record {
+        fault = writes_fault w;
+        sends = writes_sends w a b calls.1;
+        done = writes_whole w;
+        all = λ t. let all = writes_all w a b calls.1 t in (all.0, all.1);
+        counts = λ m t. (writes_all w a b calls.1 t).3 m;
+        calls = (calls.0, calls.1, inr w);
+      }
