@@ -10,7 +10,7 @@ use Rattle.no_std_io2_base.specs.declared.traits.write.Write.{Ghosts as Writer}
 use Rattle.no_std_io2_base.specs.Write.{Told, Moves, Sends, calls_for, WriteCall, Wrote, Made}
 use Rattle.no_std_io2_base.specs.Write.{none as no_write, took, again as goes_again, stuck, fault as fails}
 use Rattle.no_std_io2_base.proofs.CallsLemmas.{CallsSoFar, calls_none, calls_more, calls_end, writes_whole}
-use Rattle.no_std_io2_base.proofs.WritesFacts.{writes_fault, writes_left, writes_idle, writes_sends, writes_all, writes_counts}
+use Rattle.no_std_io2_base.proofs.WritesFacts.{writes_fault, writes_left, writes_idle, writes_sends, writes_all}
 use Rattle.no_std_io2.specs.declared.buffered.sender.Sender.{Sender}
 use Rattle.no_std_io2.specs.BufWriter.{sender_inner, sender_buffer, sender_with_inner, Sent, SendCalls, CallOf, CallsExactly}
 
@@ -34,7 +34,7 @@ sent_of {I} {old} {reply} {new} unmoved calls =
           let idle = writes_idle writes none in
           (subst (λ K. Made (CallOf I) a K b) idle.0 made, idle.1);
       all = λ t. let all = writes_all I.told I.takes_all I.cost I.is_metered I.may writes a b made t in (all.0, all.1);
-      calls = λ m t. writes_counts I.told I.takes_all I.cost I.is_metered I.may writes a b made m t;
+      calls = λ m t. (writes_all I.told I.takes_all I.cost I.is_metered I.may writes a b made t).3 m;
       made = calls;
       unmoved = unmoved;
     }

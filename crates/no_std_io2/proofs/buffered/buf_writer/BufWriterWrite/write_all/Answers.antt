@@ -5,7 +5,7 @@ pub returns : goal.returns
 returns g c =
     let core = c.write_all.ensures in
     record {
-      law = record { fault = core.fault; moves = core.moves; all = λ takes. (core.all takes).0; counts = λ no. absurd no; calls = all_own _ _ _ (core.made, core.fault, core.moves, λ takes. (core.all takes).0) };
+      law = record { fault = core.fault; moves = core.moves; all = λ takes. (core.all takes).0; counts = λ no. absurd no; calls = all_own _ _ _ (core.made, core.fault, core.moves, (λ takes. (core.all takes).0), λ no. absurd no) };
       buffer = record {
         fault = core.fault;
         moves = core.moves;

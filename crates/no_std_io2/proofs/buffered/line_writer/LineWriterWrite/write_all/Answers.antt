@@ -10,7 +10,7 @@ returns-then-len-eq0-clause-law g c = record {
   moves = c.write_all_plain.ensures.moves;
   all = λ no. absurd no;
   counts = λ no. absurd no;
-  calls = all_own _ _ _ (tt, c.write_all_plain.ensures.fault, c.write_all_plain.ensures.moves, λ no. no);
+  calls = all_own _ _ _ (tt, c.write_all_plain.ensures.fault, c.write_all_plain.ensures.moves, (λ no. no), λ no. absurd no);
 }
 
 pub returns-then-len-eq0-clause-lines : goal.returns-then-len-eq0-clause-lines
@@ -22,7 +22,7 @@ returns-clause-law g c = record {
   moves = c.write_all_lines.ensures.moves;
   all = λ no. absurd no;
   counts = λ no. absurd no;
-  calls = all_own _ _ _ (tt, c.write_all_lines.ensures.fault, c.write_all_lines.ensures.moves, λ no. no);
+  calls = all_own _ _ _ (tt, c.write_all_lines.ensures.fault, c.write_all_lines.ensures.moves, (λ no. no), λ no. absurd no);
 }
 
 pub returns-clause-fits : goal.returns-clause-fits
