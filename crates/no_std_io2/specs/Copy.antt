@@ -1,10 +1,13 @@
 -- What `copy` moves.
 use Rattle.std.specs.Prelude.{◌≡◌, ℕ, ◌+◌, ◌-◌, ◌^◌, ◌≤◌, ◌<◌, min, List, [], ◌∷◌, ◌++◌, length, Ok, Err, Result, ◌⊎◌}
 use Rattle.std.specs.Int.{div_ceil}
+use Rattle.std.specs.List.{concat}
 use Rattle.no_std_io2_base.specs.declared.error.Error.{Error}
 use Rattle.no_std_io2_base.specs.Errors.{error_kind}
-use Rattle.no_std_io2_base.specs.Read.{Event, bytes, HasNoFault, EndsInFault}
-use Rattle.no_std_io2_base.specs.Write.{Told, Moves, IsFront}
+use Rattle.no_std_io2_base.specs.Read.{Event, bytes, HasNoFault, EndsInFault, Reader}
+use Rattle.no_std_io2_base.specs.Write.{Told, Moves, IsFront, WriteCall, Made, AllCalls}
+use Rattle.no_std_io2_base.specs.declared.traits.write.Write.{Ghosts as Writer}
+use Rattle.no_std_io2.specs.BufWriter.{CallOf}
 
 -- the number of bytes, up to the greatest `u64`
 abbrev pub counted : List ℕ → ℕ
@@ -39,3 +42,29 @@ CopyMoves (Err e) old new = (b : List ℕ) × (Moves old b [] new ⊎ Moves old 
 -- how many reads a copy of n bytes makes of a reader that fills the room: as many as give bytes, and one that gives none
 abbrev pub copy_reads : ℕ → ℕ → ℕ
 copy_reads room n = div_ceil n room + 1
+
+-- These calls hand the pieces on, one `write_all` each, and none comes behind an error. A piece has a byte, and at most S.
+pub data Handed (S : ℕ) : List (List ℕ) → List WriteCall → Result (Unit {0}) Error → Type 0 where
+  nothing : Handed S [] [] (Ok tt)
+  piece : {x : List ℕ} {xs : List (List ℕ)} {C D : List WriteCall} {reply : Result (Unit {0}) Error} → 0 < length x → length x ≤ S
+      → AllCalls C x (Ok tt) → Handed S xs D reply → Handed S (x ∷ xs) (C ++ D) reply
+  refused : {x : List ℕ} {C : List WriteCall} {e : Error} → 0 < length x → length x ≤ S → AllCalls C x (Err e)
+      → Handed S (x ∷ []) C (Err e)
+
+-- What a reader gave was handed on to a writer, piece by piece.
+pub record HandsOn {R W : Type 0} (K : Reader R) (I : Writer W) (S : ℕ) (from : R) (old : W) (reply : Result (Unit {0}) Error)
+    (from' : R) (new : W) : Type 0 where
+  pub pieces : List (List ℕ)
+  pub calls : List WriteCall
+  pub handed : Handed S pieces calls reply
+  -- no other call was made of the writer
+  pub made : Made (CallOf I) old calls new
+  -- each piece is what one read gave, since no two of them came of one turn
+  pub turns : K.turns from' + length pieces ≤ K.turns from
+  -- joined they are the bytes that are gone from the reader
+  pub bytes : K.tells from → bytes (K.events from) ≡ concat pieces ++ bytes (K.events from')
+
+-- a copy that answers so handed on all that it read, or up to the piece that failed with its error
+abbrev pub CopyHands : {R W : Type 0} → Reader R → Writer W → ℕ → R → W → Result ℕ Error → R → W → Type 0
+CopyHands K I S from old (Ok n) from' new = HandsOn K I S from old (Ok tt) from' new
+CopyHands K I S from old (Err e) from' new = HandsOn K I S from old (Ok tt) from' new ⊎ HandsOn K I S from old (Err e) from' new

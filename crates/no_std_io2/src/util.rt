@@ -2,7 +2,7 @@
 //! [`Sink`].
 ghost use Rattle.std.specs.Prelude.{◌≡◌, ◌+◌, ◌≤◌, ◌<◌, ◌^◌, [], length, IfErr, OnOk, OnErr};
 ghost use Rattle.no_std_io2_base.specs.Errors.{IsFault};
-ghost use Rattle.no_std_io2.specs.Copy.{Copies, CopyMoves, copy_reads};
+ghost use Rattle.no_std_io2.specs.Copy.{Copies, CopyMoves, CopyHands, copy_reads};
 ghost use Rattle.no_std_io2.specs.Passing.{Skips};
 
 use no_std_io2_base::error::Result;
@@ -16,7 +16,8 @@ pub use sink::Sink;
 
 /// Copies all bytes to come of `reader` to `writer`, through a buffer of `S` bytes on the stack,
 /// and returns their number, or the greatest `u64` where there are more. It passes over the
-/// reader's interruptions, and doesn't flush `writer`. Follows `std::io::copy`.
+/// reader's interruptions, hands on what each read gives by one `write_all`, and doesn't flush
+/// `writer`. Follows `std::io::copy`.
 ///
 /// Of a reader that gives as many bytes as fit, `S` above 0, it makes as many reads as give bytes, and
 /// one more, that gives none.
@@ -40,6 +41,8 @@ pub fn copy<R: Read, W: Write, const S: usize>(reader: &mut R, writer: &mut W) -
         × Copies S (R.events reader.old) result (R.events reader.new)
         (W.told writer.old) (W.told writer.new) }
     ensures moves { CopyMoves result (W.told writer.old) (W.told writer.new) }
+    // One `write_all` for what each read gave, none behind a fault, and no other call.
+    ensures calls { CopyHands R.Read W.Write S reader.old writer.old result reader.new writer.new }
     ensures unchanged { S ≡ 0 → writer.new ≡ writer.old }
     ensures all { W.takes_all writer.old → W.takes_all writer.new }
     ensures fault { IfErr result IsFault }

@@ -27,12 +27,14 @@ impl Sink {
 
 /// Every byte is out as soon as it is written, and no mishap comes.
 impl Write for Sink {
-    ghost use Rattle.no_std_io2.specs.Sink.{sink_told};
+    ghost use Rattle.no_std_io2.specs.Sink.{sink_told, SinkMay};
     ghost use Rattle.std.specs.Prelude.{refl};
 
     ghost told = { sink_told };
 
     ghost takes_all = { λ _. ⊤ };
+
+    ghost may = { SinkMay };
 
     fn write(&mut self, buf: &[u8]) -> Result<usize> {
         self.taken.add(buf);
