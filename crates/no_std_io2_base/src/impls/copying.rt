@@ -1,4 +1,4 @@
-ghost use Rattle.std.specs.Prelude.{◌≡◌, ◌≤◌, ◌+◌, ◌++◌, min, length, take, drop};
+ghost use Rattle.std.specs.Prelude.{◌≡◌, ◌≤◌, ◌<◌, ◌+◌, ◌++◌, min, length, take, drop};
 
 use std::simd::Simd;
 
@@ -35,18 +35,25 @@ fn copy_few(from: &[u8], to: &mut [u8])
     }
 }
 
-// Copies a slice of any length. It is a call, since between slices that may overlap, for all that LLVM knows, a copy is a test, a
-// call and loops, which each caller would have inline.
+// Copies a slice of more than 32 bytes, in place up to 128. It is a call, since between slices that may overlap, for all that LLVM
+// knows, a copy is a test, a call and loops, which each caller would have inline.
 #[inline(never)]
 fn copy_long(to: &mut [u8], from: &[u8])
-    requires { length to.old ≡ length from.now }
+    requires same { length to.old ≡ length from.now }
+    requires long { 32 < length from.now }
     ensures { to.new ≡ from.now }
 {
-    to.copy_from_slice(from);
+    if from.len() > 128 {
+        to.copy_from_slice(from);
+    } else if from.len() > 64 {
+        copy_ends::<64>(from, to);
+    } else {
+        copy_ends::<32>(from, to);
+    }
 }
 
-/// Copies bytes over as many others. Up to 32 bytes are moved in place, without a call of `memcpy`, since most pieces that go
-/// through a stream are short. Follows `copy_from_slice` of std's slices.
+/// Copies bytes over as many others. Up to 128 bytes are moved without a call of `memcpy`, and up to 32 without any, since most pieces
+/// that go through a stream are short. Follows `copy_from_slice` of std's slices.
 #[inline(always)]
 pub fn copy_bytes(from: &[u8], to: &mut [u8])
     requires { length from.now ≡ length to.old }

@@ -8,9 +8,22 @@ use crate::error::{Result, failed_to_fill};
 use crate::traits::{BufRead, LEAST_ROOM, Read, Stored, reserve_room};
 use std::alloc::Allocator;
 
+// Makes room for so many bytes to come and 32 more at once, where these would grow the vector twice. Where it is refused, the vector
+// is as it was.
+fn reserve_ahead<A: Allocator>(buf: &mut Vec<u8, A>, coming: usize)
+    ensures items { buf.new.items ≡ buf.old.items }
+    ensures len { vec_len buf.new ≡ vec_len buf.old }
+    ensures grows { vec_capacity buf.old ≤ vec_capacity buf.new }
+{
+    if coming >= LEAST_ROOM && coming >= buf.capacity() - buf.len() {
+        let _ = buf.reserve(coming.saturating_add(LEAST_ROOM));
+    }
+}
+
 /// Takes bytes off the front of a slice and appends them: all of them, or as many as there was room
-/// for where memory is refused. Who knows its bytes asks for room as any reader does in
-/// `read_to_end`, for 32 bytes first, and once that is full for the rest and 32 more at once.
+/// for where memory is refused. Who knows its bytes asks for room for all of them and 32 more at
+/// once, or, where that is refused or they are fewer, as any reader does in `read_to_end`: for 32
+/// bytes first, and once that is full for the rest and 32 more.
 ///
 /// # Errors
 /// `OutOfMemory` where a growth was refused: what was not appended is still in the slice.
@@ -21,6 +34,7 @@ pub fn append_rest<A: Allocator>(rest: &mut &[u8], buf: &mut Vec<u8, A>) -> Resu
     ensures refused { IfErr result IsOutOfMemory }
     ensures full { OnErr result (vec_capacity buf.old < vec_len buf.old + length rest.old.now + 32) }
 {
+    reserve_ahead(buf, rest.len());
     reserve_room(buf, LEAST_ROOM)?;
     let all: &[u8] = *rest;
     let room = buf.capacity() - buf.len();

@@ -4,9 +4,30 @@ ghost use Rattle.no_std_io2_base.specs.Errors.{IsNoInterruption, IsOutOfMemory};
 ghost use Rattle.no_std_io2_base.specs.Write.{WriteLaw, FlushLaw, WriteAllLaw};
 ghost use Rattle.no_std_io2_base.specs.Write.{Moves, MovesFront, taken, write_mishap, call_mishap, told_out};
 
+use super::copying::copy_bytes;
 use crate::error::Result;
 use crate::traits::Write;
 use std::alloc::Allocator;
+
+// The longest piece that is appended in place.
+const IN_PLACE: usize = 32;
+
+// Appends a short piece over zeros, for which there is room: that takes no call, and no test of whether the two lie apart.
+#[inline(always)]
+fn append_in_place<A: Allocator>(buf: &mut Vec<u8, A>, bytes: &[u8])
+    requires short { length bytes.now ≤ 32 }
+    requires room { vec_len buf.old + 32 ≤ vec_capacity buf.old }
+    ensures items { buf.new.items ≡ buf.old.items ++ bytes.now }
+    ensures len { vec_len buf.new ≡ vec_len buf.old + length bytes.now }
+    ensures grows { vec_capacity buf.old ≤ vec_capacity buf.new }
+{
+    let start = buf.len();
+    let end = start + bytes.len();
+    // They are within the capacity, so no memory is asked for.
+    let _ = buf.extend_from_slice(&[0; IN_PLACE]);
+    copy_bytes(bytes, &mut buf[start..end]);
+    buf.truncate(end);
+}
 
 /// Appends these bytes.
 ///
@@ -24,6 +45,10 @@ pub fn append<A: Allocator>(buf: &mut Vec<u8, A>, bytes: &[u8]) -> Result<()>
     if bytes.len() == 1 {
         buf.reserve(1)?;
         buf.push_reserved(bytes[0]);
+        return Ok(());
+    }
+    if bytes.len() <= IN_PLACE && buf.capacity() - buf.len() >= IN_PLACE {
+        append_in_place(buf, bytes);
         return Ok(());
     }
     buf.extend_from_slice(bytes)?;
