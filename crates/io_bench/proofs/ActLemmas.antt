@@ -1,17 +1,21 @@
 -- What is behind the acts that a call spends.
 use Rattle.std.proofs.Common.{◌≡◌, ℕ, ◌<◌, List, [], ◌∷◌, ◌++◌, drop, Option, None, Some}
 use Rattle.std.proofs.Common.{refl, sym, ap, ◌∙◌, subst, arith, append-nil, ◌≤◌, min, length, take, Result}
-use Rattle.std.proofs.Common.{Ok, Err, IfOk, length-take, take-take}
+use Rattle.std.proofs.Common.{Ok, Err, IfOk, length-take, take-take, take_all, ⊎_elim}
+use Rattle.std.proofs.lemmas.Bool.{cases_lt}
 use Rattle.std.proofs.lemmas.Bool.Decides.{nat_tests}
 use Rattle.no_std_io2_base.specs.declared.error.Error.{Error}
 use Rattle.no_std_io2_base.specs.declared.error.ErrorKind.TheVariants.{WriteZero}
 use Rattle.std.specs.Option.{option_map}
 use Rattle.no_std_io2_base.specs.declared.error.ErrorKind.{ErrorKind}
 use Rattle.no_std_io2_base.specs.Errors.{is_interruption}
-use Rattle.no_std_io2_base.specs.Write.{Told, Moves, HasSpent, taken, write_mishap, zero_write}
+use Rattle.no_std_io2_base.specs.Write.{Told, Moves, HasSpent, taken, write_mishap, zero_write, Wrote}
+use Rattle.no_std_io2_base.specs.declared.traits.write.Write.{Ghosts as Writer}
+use Rattle.no_std_io2.specs.BufWriter.{CallOf}
 use Rattle.no_std_io2_base.proofs.MovesLemmas.{Moves-refl, Moves-forget, count_by-append}
 use Rattle.io_bench.specs.declared.faulty.Act.{Act}
-use Rattle.io_bench.specs.Faulty.{act_mishap, act_mishaps, first_act, with_acts}
+use Rattle.io_bench.specs.declared.faulty.Act.TheVariants.{Take}
+use Rattle.io_bench.specs.Faulty.{act_mishap, act_mishaps, first_act, with_acts, WritesBehind}
 
 -- the mishaps that happened and those that acts made are gone
 spent_mishaps : (old : Option (List ErrorKind)) (k l m : List ErrorKind) (new : Option (List ErrorKind)) → HasSpent old k new
@@ -111,3 +115,22 @@ taken_of_front {a} {b} (Ok m) n {most} buf some is bound moves =
     let same : take m (take most buf) ≡ take m buf = take-take m most buf (omega (arith, bound, long)) in
     let mishap : zero_write m (take most buf) ≡ zero_write m buf = grind (arith, nat_tests) in
     subst (λ l. Moves a (take m buf) l b) mishap (subst (λ l. Moves a l (zero_write m (take most buf)) b) same moves)
+
+-- what was done behind the act that was spent
+pub behind : {W : Type 0} (I : Writer W) {act act' : Option Act} {a a' : W} (b : W) (x : List ℕ) (reply : Result ℕ Error) → act' ≡ act
+    → a' ≡ a
+    → WritesBehind I act' a' x reply b → WritesBehind I act a x reply b
+behind I {act} {a' = a'} b x reply same kept done =
+    subst (λ w. WritesBehind I act w x reply b) kept (subst (λ y. WritesBehind I y a' x reply b) same done)
+
+-- the act lets so many bytes through, and there may be fewer
+pub behind_take : {W : Type 0} (I : Writer W) {a b : W} (n : ℕ) {most : ℕ} (buf : List ℕ) (reply : Result ℕ Error) → 0 < n
+    → most ≡ min n (length buf) → CallOf I a (Wrote (take most buf) reply) b → WritesBehind I (Some (Take n)) a buf reply b
+behind_take I {a} {b} n {most} buf reply some is wrote =
+    (λ _. subst (λ x. CallOf I a (Wrote x reply) b) front wrote, λ none. absurd (omega (arith, some, none)))
+  where
+    front : take most buf ≡ take n buf
+    front = ⊎_elim
+        (λ short. take_all most buf (omega (arith, is, short)) ∙ sym (take_all n buf (omega (arith, short))))
+        (λ room. ap (λ k. take k buf) (omega (arith, is, room)))
+        (cases_lt (length buf) n)

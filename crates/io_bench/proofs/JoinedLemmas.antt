@@ -10,7 +10,7 @@ use Rattle.io_bench.specs.declared.runs.Reply.{Reply}
 use Rattle.io_bench.specs.declared.runs.Reply.TheVariants.{Took, Done, Failed}
 use Rattle.io_bench.specs.Runs.{Accepts, Run}
 use Rattle.io_bench.specs.Joined.{IsClear, AreClear, IsJoined, HasIdleFailure}
-use Rattle.io_bench.proofs.RunLemmas.{Run-more}
+use Rattle.io_bench.proofs.RunLemmas.{JoinsEach-more}
 
 -- a reply that says what was accepted says one list
 accepted_once : (op : Op) (reply : Reply) (xs ys : List ℕ) → IsClear op reply → Accepts op reply xs → Accepts op reply ys → ys ≡ xs
@@ -45,7 +45,7 @@ joined_more : (ops : List Op) (replies : List Reply) (xs : List ℕ) (op : Op) (
     → length ops ≡ length replies
     → IsJoined ops replies xs → IsClear op reply → Accepts op reply ys → IsJoined (ops ++ op ∷ []) (replies ++ reply ∷ []) (xs ++ ys)
 joined_more ops replies xs op reply ys e j c a = (
-  Run-more ops replies xs op reply ys j.0 a,
+  JoinsEach-more Accepts ops replies xs op reply ys j.0 a,
   λ other r. let s = last_call ops replies op reply other e r in
       s.4 ∙ ap (λ l. l ++ s.1) (j.1 s.0 s.2) ∙ ap (λ l. xs ++ l) (accepted_once op reply ys s.1 c a s.3),
 )

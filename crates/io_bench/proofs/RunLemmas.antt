@@ -3,23 +3,34 @@ use Rattle.std.proofs.Common.{◌≡◌, ℕ, Bor, Ok, ◌+◌, ◌<◌, ◌≤�
 use Rattle.std.proofs.Common.{refl, sym, ap, ◌∙◌, subst, append_assoc, append-nil}
 use Rattle.std.proofs.Math.Seq.{drop-append_seam}
 use Rattle.std.proofs.lemmas.List.{take_more}
-use Rattle.no_std_io2_base.specs.Write.{Told, Moves, MovesFront}
+use Rattle.no_std_io2_base.specs.declared.traits.write.Write.{Ghosts as Writer}
+use Rattle.no_std_io2_base.specs.Write.{Told, Moves, MovesFront, WriteCall, Made}
+use Rattle.no_std_io2_base.proofs.CallsLemmas.{made_then}
+use Rattle.no_std_io2.specs.BufWriter.{CallOf}
+use Rattle.no_std_io2.specs.Towers.{Through}
+use Rattle.no_std_io2.proofs.TowerCalls.{through}
 use Rattle.no_std_io2_base.proofs.MovesLemmas.{Moves-trans, Moves-refl}
 use Rattle.io_bench.specs.declared.runs.Op.{Op}
 use Rattle.io_bench.specs.declared.runs.Op.TheVariants.{WriteAll}
 use Rattle.io_bench.specs.declared.runs.Reply.{Reply}
 use Rattle.io_bench.specs.declared.runs.Reply.TheVariants.{Done}
 use Rattle.io_bench.specs.Runs.{appended, Accepts, Run, mishap_of, mishaps_of, IsFlushed, EndsFlushed, IsWhole}
-use Rattle.io_bench.specs.Runs.{AreWhole, Answers, Ran, PassesOver, AllPassOver}
+use Rattle.io_bench.specs.Runs.{AreWhole, Answers, Ran, JoinsEach, OpCalls, RunCalls, RunBelow}
 
 -- one call more
-pub Run-more : (ops : List Op) (replies : List Reply) (xs : List ℕ) (op : Op) (reply : Reply) (ys : List ℕ)
-    → Run ops replies xs → Accepts op reply ys → Run (ops ++ op ∷ []) (replies ++ reply ∷ []) (xs ++ ys)
-Run-more [] [] xs op reply ys r a = (ys, [], a, refl, ap (λ l. l ++ ys) r ∙ sym (append-nil ys))
-Run-more (o ∷ ops) (q ∷ replies) xs op reply ys r a =
-    (r.0, r.1 ++ ys, r.2, Run-more ops replies r.1 op reply ys r.3 a, ap (λ l. l ++ ys) r.4 ∙ append_assoc r.0 r.1 ys)
-Run-more [] (q ∷ replies) xs op reply ys r a = absurd r
-Run-more (o ∷ ops) [] xs op reply ys r a = absurd r
+pub JoinsEach-more : {A : Type 0} (gives : Op → Reply → List A → Type 0) (ops : List Op) (replies : List Reply) (xs : List A)
+    (op : Op) (reply : Reply) (ys : List A) → JoinsEach gives ops replies xs → gives op reply ys
+    → JoinsEach gives (ops ++ op ∷ []) (replies ++ reply ∷ []) (xs ++ ys)
+JoinsEach-more gives [] [] xs op reply ys r a = (ys, [], a, refl, ap (λ l. l ++ ys) r ∙ sym (append-nil ys))
+JoinsEach-more gives (o ∷ ops) (q ∷ replies) xs op reply ys r a = (
+  r.0,
+  r.1 ++ ys,
+  r.2,
+  JoinsEach-more gives ops replies r.1 op reply ys r.3 a,
+  ap (λ l. l ++ ys) r.4 ∙ append_assoc r.0 r.1 ys,
+)
+JoinsEach-more gives [] (q ∷ replies) xs op reply ys r a = absurd r
+JoinsEach-more gives (o ∷ ops) [] xs op reply ys r a = absurd r
 
 -- the mishap of one call more, if it has one, stands behind those of the run
 mishaps_of-more : (ops : List Op) (replies : List Reply) (xs : List ℕ) (op : Op) (reply : Reply) → Run ops replies xs
@@ -59,7 +70,7 @@ pub Ran-more : {a b c : Told} {op : Op} {reply : Reply} (ops : List Op) (replies
     → Answers b op reply c → Ran a (ops ++ op ∷ []) (replies ++ reply ∷ []) c
 Ran-more {a} {b} {c} {op} {reply} ops replies r s = record {
   accepted = r.accepted ++ s.accepted;
-  run = Run-more ops replies r.accepted op reply s.accepted r.run s.accepts;
+  run = JoinsEach-more Accepts ops replies r.accepted op reply s.accepted r.run s.accepts;
   moves =
       subst (λ k. Moves a (r.accepted ++ s.accepted) k c) (sym (mishaps_of-more ops replies r.accepted op reply r.run))
       (Moves-trans r.moves s.moves);
@@ -106,19 +117,36 @@ Answers-write_all {a} {b} x u moves = record {
   flushed = λ no. absurd no;
 }
 
--- one call more passed over interruptions
-pub AllPassOver-more : (ops : List Op) (replies : List Reply) (op : Op) (reply : Reply) (xs : List ℕ) → Run ops replies xs
-    → AllPassOver ops replies
-    → PassesOver op reply → AllPassOver (ops ++ op ∷ []) (replies ++ reply ∷ [])
-AllPassOver-more [] [] op reply xs r a p = (p, tt)
-AllPassOver-more (o ∷ ops) (q ∷ replies) op reply xs r a p = (a.0, AllPassOver-more ops replies op reply r.1 r.3 a.1 p)
-AllPassOver-more [] (q ∷ replies) op reply xs r a p = absurd r
-AllPassOver-more (o ∷ ops) [] op reply xs r a p = absurd r
+-- no call at all
+pub RunCalls-none : {W : Type 0} {I : Writer W} {a : W} → RunCalls I a [] [] a
+RunCalls-none = record { calls = []; made = refl; joined = refl }
 
--- where the first i calls of a list passed over interruptions, and the next one did, the first i + 1 did
-pub AllPassOver-next : {a b : Told} (reply : Reply) (ops : List Op) (i : ℕ) (d : Op) (replies : List Reply) → i < length ops
-    → Ran a (take i ops) replies b → AllPassOver (take i ops) replies → PassesOver (get_or ops i d) reply
-    → AllPassOver (take (i + 1) ops) (replies ++ reply ∷ [])
-AllPassOver-next reply ops i d replies h ran so_far p =
-    subst (λ made. AllPassOver made (replies ++ reply ∷ [])) (sym (take_more ops i d h))
-    (AllPassOver-more (take i ops) replies (get_or ops i d) reply ran.accepted ran.run so_far p)
+-- the calls of one more
+pub RunCalls-next : {W : Type 0} {I : Writer W} {a b c : W} (reply : Reply) (ops : List Op) (i : ℕ) (d : Op) (replies : List Reply)
+    → i < length ops → RunCalls I a (take i ops) replies b
+    → (C : List WriteCall) × Made (CallOf I) b C c × OpCalls (get_or ops i d) reply C
+    → RunCalls I a (take (i + 1) ops) (replies ++ reply ∷ []) c
+RunCalls-next {I = I} {a} {b} {c} reply ops i d replies h r s =
+    subst (λ made. RunCalls I a made (replies ++ reply ∷ []) c) (sym (take_more ops i d h)) (record {
+      calls = r.calls ++ s.0;
+      made = made_then (CallOf I) r.calls a s.0 b c r.made s.1;
+      joined = JoinsEach-more OpCalls (take i ops) replies r.calls (get_or ops i d) reply s.0 r.joined s.2;
+    })
+
+-- a run is one of the writer itself
+pub below_none : {W : Type 0} {I : Writer W} {a b : W} {ops : List Op} {replies : List Reply} → RunCalls I a ops replies b
+    → RunBelow I (λ calls below. below ≡ calls) a ops replies b
+below_none r = record { calls = r.calls; joined = r.joined; below = r.calls; made = r.made; is = refl }
+
+-- and one of what is below its buffer
+pub below_more : {W B : Type 0} (I : Writer W) {K : Writer B} (inner : B → W) (buffer : B → List ℕ)
+    (level : List ℕ → WriteCall → List WriteCall → List ℕ → Type 0)
+    → ((a b : B) (call : WriteCall) → K.may a call b
+    → (D : List WriteCall) × Made (CallOf I) (inner a) D (inner b) × level (buffer a) call D (buffer b))
+    → {tower : List WriteCall → List WriteCall → Type 0} {a b : B} {ops : List Op} {replies : List Reply}
+    → RunBelow K tower a ops replies b
+    → RunBelow I (λ calls below. (mid : List WriteCall) × tower calls mid × Through level (buffer a) mid below (buffer b))
+    (inner a) ops replies (inner b)
+below_more I {K = K} inner buffer level each {a = a} {b = b} r =
+    let below = through I K inner buffer level each r.below a b r.made in
+    record { calls = r.calls; joined = r.joined; below = below.0; made = below.1; is = (r.below, r.is, below.2) }

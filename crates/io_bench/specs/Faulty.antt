@@ -1,14 +1,16 @@
--- What a clause reads of a `Faulty`, and which acts a loop of writes spends.
+-- What a clause reads of a `Faulty`, and what its acts make of a call.
 use Rattle.std.proofs.Common.{ap, ◌∙◌}
-use Rattle.std.specs.Prelude.{◌≡◌, Some, None, Option, List, [], ◌∷◌, ◌++◌, drop, if◌then◌else◌, ◌==◌, ℕ, ◌+◌, ◌≤◌, ◌<◌}
-use Rattle.std.specs.Prelude.{true, count_by, length, min, Result, OnOk, ⊤}
-use Rattle.no_std_io2_base.specs.declared.error.Error.{Error}
-use Rattle.io_bench.specs.Calls.{stopped}
-use Rattle.no_std_io2_base.specs.Errors.{is_interruption}
+use Rattle.std.specs.Prelude.{◌≡◌, Some, None, Option, List, [], ◌∷◌, ◌++◌, drop, if◌then◌else◌, ◌==◌, ℕ, ◌+◌, ◌<◌}
+use Rattle.std.specs.Prelude.{count_by, take, Result, Ok}
 use Rattle.std.specs.Option.{option_map}
+use Rattle.no_std_io2_base.specs.declared.error.Error.{Error}
 use Rattle.no_std_io2_base.specs.declared.error.ErrorKind.{ErrorKind}
 use Rattle.no_std_io2_base.specs.declared.error.ErrorKind.TheVariants.{WriteZero}
-use Rattle.no_std_io2_base.specs.Write.{Told}
+use Rattle.no_std_io2_base.specs.declared.traits.write.Write.{Ghosts as Writer}
+use Rattle.no_std_io2_base.specs.Errors.{is_interruption}
+use Rattle.no_std_io2_base.specs.Write.{Told, WriteCall, Wrote, WroteAll, WroteRest, Flushed}
+use Rattle.no_std_io2.specs.BufWriter.{CallOf}
+use Rattle.io_bench.specs.Calls.{FailsWith}
 use Rattle.io_bench.specs.declared.faulty.Act.{Act}
 use Rattle.io_bench.specs.declared.faulty.Act.TheVariants.{Take, Zero, Fail}
 use Rattle.io_bench.specs.declared.faulty.Faulty.{Faulty}
@@ -30,12 +32,29 @@ first_act (act ∷ acts) = Some act
 abbrev pub next_act : {W : Type 0} → Faulty W → Option Act
 next_act f = first_act (acts_left f)
 
--- a flush is handed on
-abbrev pub LetsFlush : Option Act → Type 0
-LetsFlush None = ⊤
-LetsFlush (Some (Take n)) = ⊤
-LetsFlush (Some Zero) = ⊤
-LetsFlush (Some (Fail kind)) = ⊥
+-- A `write` of x behind this act: a front of x is handed on, or nothing is.
+abbrev pub WritesBehind : {W : Type 0} → Writer W → Option Act → W → List ℕ → Result ℕ Error → W → Type 0
+WritesBehind I None old x reply new = CallOf I old (Wrote x reply) new
+WritesBehind I (Some (Take n)) old x reply new =
+    (0 < n → CallOf I old (Wrote (take n x) reply) new) × (n ≡ 0 → (reply ≡ Ok 0) × (new ≡ old))
+WritesBehind I (Some Zero) old x reply new = (reply ≡ Ok 0) × (new ≡ old)
+WritesBehind I (Some (Fail kind)) old x reply new = FailsWith kind reply × (new ≡ old)
+
+-- A `flush` behind this act is handed on, or fails.
+abbrev pub FlushesBehind : {W : Type 0} → Writer W → Option Act → W → Result (Unit {0}) Error → W → Type 0
+FlushesBehind I None old reply new = CallOf I old (Flushed reply) new
+FlushesBehind I (Some (Take n)) old reply new = CallOf I old (Flushed reply) new
+FlushesBehind I (Some Zero) old reply new = CallOf I old (Flushed reply) new
+FlushesBehind I (Some (Fail kind)) old reply new = FailsWith kind reply × (new ≡ old)
+
+-- what one call does: it spends an act, and does what that says
+abbrev pub FaultyMay : {W : Type 0} → Writer W → Faulty W → WriteCall → Faulty W → Type 0
+FaultyMay I old (Wrote x reply) new =
+    (acts_left new ≡ drop 1 (acts_left old)) × WritesBehind I (next_act old) (faulty_inner old) x reply (faulty_inner new)
+FaultyMay I old (Flushed reply) new =
+    (acts_left new ≡ drop 1 (acts_left old)) × FlushesBehind I (next_act old) (faulty_inner old) reply (faulty_inner new)
+FaultyMay I old (WroteAll x reply) new = ⊥
+FaultyMay I old (WroteRest x reply left) new = ⊥
 
 -- the mishap that an act makes of a call
 abbrev pub act_mishap : Act → List ErrorKind
@@ -58,42 +77,6 @@ with_acts told acts = record told {
 -- what a `Faulty` tells, where its inner writer tells `told`
 abbrev pub faulty_told : {W : Type 0} → (W → Told) → Faulty W → Told
 faulty_told told f = with_acts (told f.inner) (acts_left f)
-
--- how many bytes an act lets through
-abbrev pub act_bytes : Act → ℕ
-act_bytes (Take n) = n
-act_bytes Zero = 0
-act_bytes (Fail kind) = 0
-
--- how many bytes these acts let through
-abbrev pub acts_bytes : List Act → ℕ
-acts_bytes [] = 0
-acts_bytes (act ∷ acts) = act_bytes act + acts_bytes acts
-
--- behind such an act a loop of writes goes on
-abbrev pub GoesOn : Act → Type 0
-GoesOn (Take n) = 0 < n
-GoesOn Zero = ⊥
-GoesOn (Fail kind) = is_interruption kind ≡ true
-
--- behind each of these
-abbrev pub AllGoOn : List Act → Type 0
-AllGoOn [] = ⊤
-AllGoOn (act ∷ acts) = GoesOn act × AllGoOn acts
-
--- A loop of writes had `wanted` bytes to write, and `left` are left, and with its turns each call spent an act, as long as there was one.
-pub record SpendsActs (acts : List Act) (wanted turns : ℕ) (reply : Result (Unit {0}) Error) (left turns' : ℕ)
-    (acts' : List Act) : Type 0 where
-  pub spent : List Act
-  pub split : acts ≡ spent ++ acts'
-  -- some bytes ask for one at least
-  pub least : min 1 (min wanted (length acts)) ≤ length spent
-  -- and for no more than one for each byte that went, each turn that is spent, and the fault
-  pub most : length spent + (left + turns') ≤ wanted + turns + stopped reply
-  -- while acts are left, no more bytes went than they let through
-  pub bytes : 0 < length acts' → wanted ≤ left + acts_bytes spent
-  -- all is written only where it went on behind each
-  pub on : OnOk reply (AllGoOn spent)
 
 -- behind no act, a writer with no mishap to come has none
 pub faulty_steady : {W : Type 0} (told : W → Told) (f : Faulty W) → (told (faulty_inner f)).mishaps ≡ Some []

@@ -1,9 +1,11 @@
 -- What replies accept, which of them failed, and whole runs.
 use Rattle.std.specs.Prelude.{◌≡◌, ℕ, ◌+◌, ◌≤◌, ◌==◌, ◌&&◌, nat_lt, Bool, true, false, if◌then◌else◌, List, [], ◌∷◌}
-use Rattle.std.specs.Prelude.{◌++◌, length, take, drop, count_by, ⊤, Option, None, Some}
+use Rattle.std.specs.Prelude.{◌++◌, length, take, drop, count_by, ⊤, Option, None, Some, Ok, Err}
 use Rattle.no_std_io2_base.specs.declared.error.ErrorKind.{ErrorKind}
-use Rattle.no_std_io2_base.specs.Errors.{error_kind, kind_number, IsFault}
-use Rattle.no_std_io2_base.specs.Write.{Told, Moves, IsFront, zero_write}
+use Rattle.no_std_io2_base.specs.Errors.{error_kind, kind_number}
+use Rattle.no_std_io2_base.specs.Write.{Told, Moves, IsFront, zero_write, WriteCall, Wrote, Flushed, Made, AllCalls}
+use Rattle.no_std_io2_base.specs.declared.traits.write.Write.{Ghosts as Writer}
+use Rattle.no_std_io2.specs.BufWriter.{CallOf}
 use Rattle.io_bench.specs.declared.runs.Op.{Op}
 use Rattle.io_bench.specs.declared.runs.Op.TheVariants.{Write, WriteAll, Flush}
 use Rattle.io_bench.specs.declared.runs.Reply.{Reply}
@@ -26,13 +28,45 @@ Accepts (Write x) Done accepted = ⊥
 Accepts (WriteAll x) (Took n) accepted = ⊥
 Accepts Flush (Took n) accepted = ⊥
 
--- the lists are equally long, and each call accepted what its reply says, one after another
+-- the calls that one of the run makes of the writer: its own, with the answer that the reply tells
+abbrev pub OpCalls : Op → Reply → List WriteCall → Type 0
+OpCalls (Write x) (Took n) calls = calls ≡ Wrote x.now (Ok n) ∷ []
+OpCalls (Write x) (Failed e) calls = calls ≡ Wrote x.now (Err e) ∷ []
+OpCalls (WriteAll x) Done calls = AllCalls calls x.now (Ok tt)
+OpCalls (WriteAll x) (Failed e) calls = AllCalls calls x.now (Err e)
+OpCalls Flush Done calls = calls ≡ Flushed (Ok tt) ∷ []
+OpCalls Flush (Failed e) calls = calls ≡ Flushed (Err e) ∷ []
+-- no other reply is given
+OpCalls (Write x) Done calls = ⊥
+OpCalls (WriteAll x) (Took n) calls = ⊥
+OpCalls Flush (Took n) calls = ⊥
+
+-- the lists are equally long, and `whole` is what each call and its reply give, one after another
+abbrev pub JoinsEach : {A : Type 0} → (Op → Reply → List A → Type 0) → List Op → List Reply → List A → Type 0
+JoinsEach gives [] [] whole = whole ≡ []
+JoinsEach {A} gives (op ∷ ops) (reply ∷ replies) whole =
+    (first : List A) × (rest : List A) × gives op reply first × JoinsEach gives ops replies rest × (whole ≡ first ++ rest)
+JoinsEach gives [] (reply ∷ replies) whole = ⊥
+JoinsEach gives (op ∷ ops) [] whole = ⊥
+
+-- each call accepted what its reply says, one after another
 abbrev pub Run : List Op → List Reply → List ℕ → Type 0
-Run [] [] accepted = accepted ≡ []
-Run (op ∷ ops) (reply ∷ replies) accepted =
-    (first : List ℕ) × (rest : List ℕ) × Accepts op reply first × Run ops replies rest × (accepted ≡ first ++ rest)
-Run [] (reply ∷ replies) accepted = ⊥
-Run (op ∷ ops) [] accepted = ⊥
+Run ops replies accepted = JoinsEach Accepts ops replies accepted
+
+-- A run made these calls of a writer, one after another, each as its law says.
+pub record RunCalls {W : Type 0} (I : Writer W) (old : W) (ops : List Op) (replies : List Reply) (new : W) : Type 0 where
+  pub calls : List WriteCall
+  pub made : Made (CallOf I) old calls new
+  pub joined : JoinsEach OpCalls ops replies calls
+
+-- A run through a tower of buffers made these calls of the device below. `tower` says which calls of the tower they are.
+pub record RunBelow {W : Type 0} (I : Writer W) (tower : List WriteCall → List WriteCall → Type 0) (old : W) (ops : List Op)
+    (replies : List Reply) (new : W) : Type 0 where
+  pub calls : List WriteCall
+  pub joined : JoinsEach OpCalls ops replies calls
+  pub below : List WriteCall
+  pub made : Made (CallOf I) old below new
+  pub is : tower calls below
 
 -- the mishap that a reply tells, if it tells one
 abbrev pub mishap_of : Op → Reply → List ErrorKind
@@ -120,20 +154,6 @@ AreWhole [] [] = ⊤
 AreWhole (op ∷ ops) (reply ∷ replies) = IsWhole op reply × AreWhole ops replies
 AreWhole [] (reply ∷ replies) = ⊥
 AreWhole (op ∷ ops) [] = ⊥
-
--- a `write_all` passes over interruptions, so what it failed with is a fault
-abbrev pub PassesOver : Op → Reply → Type 0
-PassesOver (WriteAll x) (Failed e) = IsFault e
-PassesOver (WriteAll x) (Took n) = ⊤
-PassesOver (WriteAll x) Done = ⊤
-PassesOver (Write x) reply = ⊤
-PassesOver Flush reply = ⊤
-
--- each `write_all` does
-abbrev pub AllPassOver : List Op → List Reply → Type 0
-AllPassOver [] replies = ⊤
-AllPassOver (op ∷ ops) [] = ⊤
-AllPassOver (op ∷ ops) (reply ∷ replies) = PassesOver op reply × AllPassOver ops replies
 
 -- one call and its reply, from old to new
 pub record Answers (old : Told) (op : Op) (reply : Reply) (new : Told) : Type 0 where

@@ -1,12 +1,7 @@
 // A writer that fails as it is told.
-ghost use Rattle.std.specs.Prelude.{◌≡◌, ℕ, ◌+◌, ◌<◌, ◌≤◌, [], ◌∷◌, Some, None, Ok, IfOk, OnOk, IsOk, IsErrAnd};
-ghost use Rattle.std.specs.Prelude.{MatchOption, length, take, drop, vec_len};
-ghost use Rattle.no_std_io2_base.specs.declared.error.ErrorKind.{ErrorKind};
-ghost use Rattle.no_std_io2_base.specs.Write.{WriteLaw, FlushLaw, WriteAllLaw, WriteRestLaw};
-ghost use Rattle.io_bench.specs.Calls.{FailsWith};
+ghost use Rattle.std.specs.Prelude.{◌≡◌, ◌≤◌, [], drop, vec_len};
 
 use no_std_io2::io::{Error, ErrorKind, Result, Write};
-use no_std_io2_base::shared::failed_to_write;
 
 /// What a [`Faulty`] does with its next call.
 #[derive(Clone, Copy, Debug, PartialEq, Eq)]
@@ -22,7 +17,7 @@ pub enum Act {
 
 /// A writer in front of another one, that fails as its acts say. Each call of `write` or `flush`
 /// spends the next act; once the acts are spent, calls are handed on whole. `write_all` and `write_rest`
-/// write through `write`, as the trait's own do.
+/// are the trait's own, so each of their writes spends one.
 #[derive(Debug, Drop)]
 pub struct Faulty<W> {
     inner: W,
@@ -73,9 +68,9 @@ impl<W> Faulty<W> {
 
 /// Tells what the inner writer tells, and where that tells mishaps to come, also those of the acts
 /// that are left. It takes all where the inner writer does and no act is left. Its cost is the
-/// inner writer's, and it is not metered.
+/// inner writer's, and it is not metered. A call makes at most one call of the inner writer: the one that its act lets through.
 impl<W: Write> Write for Faulty<W> {
-    ghost use Rattle.io_bench.specs.Faulty.{faulty_inner, faulty_told, faulty_steady, acts_left, next_act, LetsFlush, SpendsActs};
+    ghost use Rattle.io_bench.specs.Faulty.{faulty_inner, faulty_told, faulty_steady, acts_left, FaultyMay};
 
     ghost told = { faulty_told W.told };
 
@@ -83,25 +78,9 @@ impl<W: Write> Write for Faulty<W> {
 
     ghost cost = { λ f. W.cost (faulty_inner f) };
 
-    fn write(&mut self, buf: &[u8]) -> Result<usize>
-        ensures law { let F = ⟦<Self as Write>⟧ in
-            WriteLaw F.told F.takes_all F.cost F.is_metered F.may self.old buf.now result self.new }
+    ghost may = { FaultyMay W.Write };
 
-        // One act is spent, and what it says is done.
-        ensures acts { acts_left self.new ≡ drop 1 (acts_left self.old) }
-        ensures fail { (kind : ErrorKind) → next_act self.old ≡ Some (Act.Fail kind)
-            → FailsWith kind result × (faulty_inner self.new ≡ faulty_inner self.old) }
-        ensures zero { next_act self.old ≡ Some Act.Zero
-            → (result ≡ Ok 0) × (faulty_inner self.new ≡ faulty_inner self.old) }
-        ensures take_none { next_act self.old ≡ Some (Act.Take 0)
-            → (result ≡ Ok 0) × (faulty_inner self.new ≡ faulty_inner self.old) }
-        ensures take { (n : ℕ) → 0 < n → next_act self.old ≡ Some (Act.Take n)
-            → WriteLaw W.told W.takes_all W.cost W.is_metered W.may
-            (faulty_inner self.old) (take n buf.now) result (faulty_inner self.new) }
-        ensures whole { next_act self.old ≡ None
-            → WriteLaw W.told W.takes_all W.cost W.is_metered W.may
-            (faulty_inner self.old) buf.now result (faulty_inner self.new) }
-    {
+    fn write(&mut self, buf: &[u8]) -> Result<usize> {
         match self.spend() {
             None => self.inner.write(buf),
             Some(Act::Fail(kind)) => Err(Error::from(kind)),
@@ -113,54 +92,11 @@ impl<W: Write> Write for Faulty<W> {
         }
     }
 
-    fn flush(&mut self) -> Result<()>
-        ensures law { let F = ⟦<Self as Write>⟧ in
-            FlushLaw F.told F.takes_all F.cost F.is_metered F.may self.old result self.new }
-
-        // One act is spent, and what it says is done.
-        ensures acts { acts_left self.new ≡ drop 1 (acts_left self.old) }
-        ensures fail { (kind : ErrorKind) → next_act self.old ≡ Some (Act.Fail kind)
-            → FailsWith kind result × (faulty_inner self.new ≡ faulty_inner self.old) }
-        ensures whole { LetsFlush (next_act self.old)
-            → FlushLaw W.told W.takes_all W.cost W.is_metered W.may
-            (faulty_inner self.old) result (faulty_inner self.new) }
-    {
+    fn flush(&mut self) -> Result<()> {
         match self.spend() {
             Some(Act::Fail(kind)) => Err(Error::from(kind)),
             _ => self.inner.flush(),
         }
-    }
-
-    fn write_all(&mut self, buf: &[u8]) -> Result<()>
-        ensures law { let F = ⟦<Self as Write>⟧ in
-            WriteAllLaw F.told F.takes_all F.cost F.is_metered F.may self.old buf.now result self.new }
-
-        // Each write spends an act. How many bytes are left is known where all is written.
-        ensures acts { (left : ℕ) × OnOk result (left ≡ 0) × (left ≤ length buf.now)
-            × SpendsActs (acts_left self.old) (length buf.now) (faulty_told W.told self.old).turns
-            result left (faulty_told W.told self.new).turns (acts_left self.new) }
-    {
-        let mut rest = buf;
-        self.write_rest(&mut rest)
-    }
-
-    fn write_rest(&mut self, rest: &mut &[u8]) -> Result<()>
-        ensures law { let F = ⟦<Self as Write>⟧ in
-            WriteRestLaw F.told F.takes_all F.cost F.is_metered F.may self.old rest.old.now result self.new rest.new.now }
-
-        // Each write spends an act.
-        ensures acts { SpendsActs (acts_left self.old) (length rest.old.now) (faulty_told W.told self.old).turns
-            result (length rest.new.now) (faulty_told W.told self.new).turns (acts_left self.new) }
-    {
-        'writes: while !rest.is_empty() {
-            match self.write(rest) {
-                Ok(0) => return Err(failed_to_write()),
-                Ok(n) => *rest = &rest[n..],
-                Err(e) if e.is_interrupted() => {}
-                Err(e) => return Err(e),
-            }
-        }
-        Ok(())
     }
 
     ghost steady = { λ f h. faulty_steady W.told f (W.steady (faulty_inner f) h.0) h.1 };

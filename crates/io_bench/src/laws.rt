@@ -2,8 +2,9 @@
 ghost use Rattle.std.specs.Prelude.{◌≡◌, [], ◌++◌};
 ghost use Rattle.std.specs.Option.{option_map};
 ghost use Rattle.io_bench.specs.Feed.{feed_left, all_to_come};
-ghost use Rattle.io_bench.specs.Tally.{tally_inner, tally_writes, tally_reads};
-ghost use Rattle.io_bench.specs.Faulty.{faulty_inner, acts_left, act_mishaps};
+ghost use Rattle.no_std_io2.specs.Write.{WriteCall};
+ghost use Rattle.io_bench.specs.Tally.{tally_inner, tally_writes, tally_reads, TallyMay};
+ghost use Rattle.io_bench.specs.Faulty.{faulty_inner, acts_left, act_mishaps, FaultyMay};
 
 use crate::faulty::Faulty;
 use crate::feed::Feed;
@@ -17,6 +18,12 @@ fn tally_tells<T: Write>(t: &Tally<T>)
     ensures metered { ⟦<Tally<T> as Write>⟧.is_metered t.now }
 {}
 
+// Each call is handed on, and a `write` counts.
+fn tally_calls<T: Write>(old: &Tally<T>, new: &Tally<T>)
+    ensures { (call : WriteCall) → ⟦<Tally<T> as Write>⟧.may old.now call new.now
+        → TallyMay T.Write old.now call new.now }
+{}
+
 fn faulty_tells<W: Write>(f: &Faulty<W>)
     ensures out { (⟦<Faulty<W> as Write>⟧.told f.now).out ≡ (W.told (faulty_inner f.now)).out }
     ensures held { (⟦<Faulty<W> as Write>⟧.told f.now).held ≡ (W.told (faulty_inner f.now)).held }
@@ -27,6 +34,12 @@ fn faulty_tells<W: Write>(f: &Faulty<W>)
         → ⟦<Faulty<W> as Write>⟧.takes_all f.now }
     ensures cost { ⟦<Faulty<W> as Write>⟧.cost f.now ≡ W.cost (faulty_inner f.now) }
     ensures plain { ¬ (⟦<Faulty<W> as Write>⟧.is_metered f.now) }
+{}
+
+// A call spends an act, and does what that says.
+fn faulty_calls<W: Write>(old: &Faulty<W>, new: &Faulty<W>)
+    ensures { (call : WriteCall) → ⟦<Faulty<W> as Write>⟧.may old.now call new.now
+        → FaultyMay W.Write old.now call new.now }
 {}
 
 fn feed_tells(f: &Feed)

@@ -1,9 +1,11 @@
 // Calls of a writer in a row.
-ghost use Rattle.std.specs.Prelude.{◌≡◌, ◌+◌, ◌<◌, [], ◌++◌, Some, OnOk, OnErr, IfErr, length, vec_len, vec_capacity};
-ghost use Rattle.no_std_io2_base.specs.Errors.{IsOutOfMemory};
-ghost use Rattle.no_std_io2_base.specs.declared.error.ErrorKind.{ErrorKind};
+ghost use Rattle.std.specs.Prelude.{◌≡◌, ◌+◌, ◌<◌, List, [], ◌++◌, Some, OnOk, OnErr, IfErr, length, vec_len, vec_capacity};
+ghost use Rattle.no_std_io2.specs.Errors.{IsOutOfMemory};
+ghost use Rattle.no_std_io2.specs.Write.{WriteCall, Made};
+ghost use Rattle.no_std_io2.specs.BufWriter.{CallOf};
+ghost use Rattle.no_std_io2.specs.declared.io.ErrorKind.{ErrorKind};
 ghost use Rattle.io_bench.specs.Runs.{appended, Answers, Ran, EndsFlushed, failures, failures_of, IsShorterBy};
-ghost use Rattle.io_bench.specs.Runs.{HasFewer, AreWhole, IsWhole, AllPassOver, PassesOver};
+ghost use Rattle.io_bench.specs.Runs.{HasFewer, AreWhole, IsWhole, OpCalls, RunCalls};
 
 use no_std_io2::io::{Error, ErrorKind, Result, Write};
 use std::alloc::Allocator;
@@ -34,7 +36,7 @@ pub enum Reply {
 fn make_call<W: Write>(w: &mut W, op: Op<'_>) -> Reply
     ensures answers { Answers (W.told w.old) op.entry result (W.told w.new) }
     ensures all { W.takes_all w.old → W.takes_all w.new × IsWhole op.entry result }
-    ensures passes { PassesOver op.entry result }
+    ensures calls { (calls : List WriteCall) × Made (CallOf W.Write) w.old calls w.new × OpCalls op.entry result calls }
 {
     match op {
         Op::Write(x) => match w.write(x) {
@@ -73,6 +75,9 @@ pub fn run_writes<W: Write>(
     // One reply a call, and exactly what the replies say was accepted.
     ensures ran { OnOk result (Ran (W.told w.old) ops.now
         (appended replies.old.items replies.new.items) (W.told w.new)) }
+    // Each call once, in order, and no other call; its reply is its answer.
+    ensures calls { OnOk result (RunCalls W.Write w.old ops.now
+        (appended replies.old.items replies.new.items) w.new) }
     ensures flushed { OnOk result (EndsFlushed ops.now (appended replies.old.items replies.new.items)
         → (W.told w.new).held ≡ []) }
     // No more failures than mishaps were told.
@@ -86,8 +91,6 @@ pub fn run_writes<W: Write>(
         → failures ops.now (appended replies.old.items replies.new.items) ≡ 0) }
     ensures all { OnOk result (W.takes_all w.old → W.takes_all w.new
         × AreWhole ops.now (appended replies.old.items replies.new.items)) }
-    // A `write_all` passes over interruptions, so none is its reply.
-    ensures passes { OnOk result (AllPassOver ops.now (appended replies.old.items replies.new.items)) }
     ensures kind { IfErr result IsOutOfMemory }
     // Nothing is refused where there is room for the replies.
     ensures full { OnErr result (vec_capacity replies.old < vec_len replies.old + length ops.now) }

@@ -1,16 +1,14 @@
 // A stream that counts.
 ghost use Rattle.std.specs.Prelude.{◌≡◌, ◌+◌, ◌-◌, ◌^◌, ◌≤◌, [], Ok, IfOk, IfErr, OnOk, IsOk, IsOkAnd, ⊤, length, min};
 ghost use Rattle.std.specs.Prelude.{take, vec_len, vec_capacity};
-ghost use Rattle.no_std_io2_base.specs.Errors.{IsFault, IsNoInterruption};
-ghost use Rattle.no_std_io2_base.specs.Read.{ReadLaw, ReadExactLaw, ReadToEndLaw};
-ghost use Rattle.no_std_io2_base.specs.Write.{WriteLaw, FlushLaw, WriteAllLaw, WriteRestLaw};
+ghost use Rattle.no_std_io2.specs.Errors.{IsFault, IsNoInterruption};
+ghost use Rattle.no_std_io2.specs.Read.{ReadLaw, ReadExactLaw, ReadToEndLaw};
+ghost use Rattle.no_std_io2.specs.Write.{WriteLaw};
 ghost use Rattle.io_bench.specs.Calls.{CountsLoop, CountsToEnd};
 
 use no_std_io2::io::{Read, Result, Stored, Write};
 use no_std_io2::trace::Trace;
-use no_std_io2_base::shared::{
-    LEAST_ROOM, failed_to_fill, failed_to_write, open_room, reserve_room,
-};
+use no_std_io2_base::shared::{LEAST_ROOM, failed_to_fill, open_room, reserve_room};
 use std::alloc::Allocator;
 use std::fmt;
 
@@ -98,10 +96,10 @@ impl<T> Tally<T> {
     }
 }
 
-/// As the inner writer, and metered: its cost is the exact count. `write_all` and `write_rest` write through
-/// `write`, as the trait's own do, so each of their writes counts.
+/// As the inner writer, and metered: its cost is the exact count. Each call is the same call of the inner writer, once, and its
+/// answer. `write_all` and `write_rest` are the trait's own, so each of their writes counts.
 impl<T: Write> Write for Tally<T> {
-    ghost use Rattle.io_bench.specs.Tally.{tally_inner, tally_writes, tally_reads};
+    ghost use Rattle.io_bench.specs.Tally.{tally_inner, tally_writes, TallyMay};
 
     ghost told = { λ t. T.told (tally_inner t) };
 
@@ -111,68 +109,21 @@ impl<T: Write> Write for Tally<T> {
 
     ghost is_metered = { λ _. ⊤ };
 
+    ghost may = { TallyMay T.Write };
+
     fn write(&mut self, buf: &[u8]) -> Result<usize>
         ensures law { let W = ⟦<Self as Write>⟧ in
             WriteLaw W.told W.takes_all W.cost W.is_metered W.may self.old buf.now result self.new }
 
-        // One write of the inner writer, and one more in the count, whatever the answer.
-        ensures handed { WriteLaw T.told T.takes_all T.cost T.is_metered T.may
-            (tally_inner self.old) buf.now result (tally_inner self.new) }
+        // Each call counts, whatever the answer.
         ensures writes { tally_writes self.new ≡ tally_writes self.old + 1 }
-        ensures reads { tally_reads self.new ≡ tally_reads self.old }
     {
         self.count_write();
         self.inner.write(buf)
     }
 
-    fn flush(&mut self) -> Result<()>
-        ensures law { let W = ⟦<Self as Write>⟧ in
-            FlushLaw W.told W.takes_all W.cost W.is_metered W.may self.old result self.new }
-
-        // One flush of the inner writer, which counts for nothing.
-        ensures handed { FlushLaw T.told T.takes_all T.cost T.is_metered T.may
-            (tally_inner self.old) result (tally_inner self.new) }
-        ensures writes { tally_writes self.new ≡ tally_writes self.old }
-        ensures reads { tally_reads self.new ≡ tally_reads self.old }
-    {
+    fn flush(&mut self) -> Result<()> {
         self.inner.flush()
-    }
-
-    fn write_all(&mut self, buf: &[u8]) -> Result<()>
-        ensures law { let W = ⟦<Self as Write>⟧ in
-            WriteAllLaw W.told W.takes_all W.cost W.is_metered W.may self.old buf.now result self.new }
-
-        // Each write of the inner writer counts: at most one for each byte, each turn that is spent, and the fault.
-        ensures counts { CountsLoop (length buf.now)
-            (length buf.now + (T.told (tally_inner self.old)).turns) (tally_writes self.old) result
-            (T.told (tally_inner self.new)).turns (tally_writes self.new) }
-        ensures none { buf.now ≡ [] → self.new ≡ self.old }
-        ensures reads { tally_reads self.new ≡ tally_reads self.old }
-    {
-        let mut rest = buf;
-        self.write_rest(&mut rest)
-    }
-
-    fn write_rest(&mut self, rest: &mut &[u8]) -> Result<()>
-        ensures law { let W = ⟦<Self as Write>⟧ in
-            WriteRestLaw W.told W.takes_all W.cost W.is_metered W.may self.old rest.old.now result self.new rest.new.now }
-
-        // Each write of the inner writer counts: at most one for each byte, each turn that is spent, and the fault.
-        ensures counts { CountsLoop (length rest.old.now)
-            (length rest.old.now + (T.told (tally_inner self.old)).turns) (tally_writes self.old) result
-            (length rest.new.now + (T.told (tally_inner self.new)).turns) (tally_writes self.new) }
-        ensures none { rest.old.now ≡ [] → self.new ≡ self.old }
-        ensures reads { tally_reads self.new ≡ tally_reads self.old }
-    {
-        'writes: while !rest.is_empty() {
-            match self.write(rest) {
-                Ok(0) => return Err(failed_to_write()),
-                Ok(n) => *rest = &rest[n..],
-                Err(e) if e.is_interrupted() => {}
-                Err(e) => return Err(e),
-            }
-        }
-        Ok(())
     }
 
     ghost steady = { λ t h. T.steady (tally_inner t) h };

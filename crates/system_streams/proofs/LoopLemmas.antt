@@ -1,21 +1,18 @@
 -- What loops of a patient's calls have moved.
 use Rattle.std.proofs.Common.{◌≡◌, ℕ, zero, suc, ◌+◌, ◌-◌, ◌<◌, ◌≤◌, List, [], ◌++◌, Option, None, Some, Result}
-use Rattle.std.proofs.Common.{Ok, Err, length, take, drop, refl, sym, ap, subst, ◌∙◌, arith, append_assoc, append-nil}
-use Rattle.std.proofs.Common.{take-append-drop, take_all, length-drop}
+use Rattle.std.proofs.Common.{Ok, Err, length, take, refl, sym, ap, subst, ◌∙◌, arith, append_assoc, append-nil}
 use Rattle.std.proofs.Common.{inl, inr, ◌⊎◌}
 use Rattle.std.specs.Result.{IsErrAnd}
 use borrow.Rule.Slice.PartMut.{put_mid}
 use Rattle.std.proofs.lemmas.Slice.{take-put_mid_below}
-use Rattle.std.specs.Io.KnownBytes.{Appends, Consumes, Keeps, WriteAppends, ReadConsumes}
+use Rattle.std.specs.Io.KnownBytes.{Consumes, Keeps, ReadConsumes}
 use Rattle.no_std_io2.proofs.ReadParts.{take-put_mid}
 use Rattle.no_std_io2.specs.declared.io.Error.{Error}
-use Rattle.no_std_io2.specs.Errors.{is_interruption, IsFault, IsUnwritten}
-use Rattle.no_std_io2.specs.Write.{taken}
+use Rattle.no_std_io2.specs.Errors.{is_interruption, IsFault}
 use Rattle.no_std_io2.specs.Read.{Reader}
 use Rattle.system_streams.specs.declared.patient.Patient.{Patient}
 use Rattle.system_streams.specs.Patient.{patient_turns}
-use Rattle.system_streams.specs.Turns.{Gives, AnswersRead, AnswersWrite, EndsReads, EndsWrites, IsOutOfTurns}
-use Rattle.system_streams.specs.Turns.{IsPlainInterruption, IsDeviceFault}
+use Rattle.system_streams.specs.Turns.{AnswersRead, EndsReads, IsOutOfTurns, IsPlainInterruption, IsDeviceFault}
 
 -- what a patient reader tells
 abbrev pub patient_reader : {D : Type 0} → Reader (Patient D)
@@ -31,78 +28,6 @@ patient_reader = record {
   is_filling = λ _. ⊥;
   may_take_none = λ _. ⊥;
 }
-
--- known bytes that stay as they are have grown by nothing
-appends_nil : (a : Option (List ℕ)) → Appends a a []
-appends_nil None = tt
-appends_nil (Some x) = sym (append-nil x)
-
--- known bytes that grew by bs and then by cs have grown by both, in that order
-appends_then : (a b c : Option (List ℕ)) (bs cs : List ℕ) → Appends a b bs → Appends b c cs → Appends a c (bs ++ cs)
-appends_then None b c bs cs p q = tt
-appends_then (Some x) None c bs cs p q = absurd p
-appends_then (Some x) (Some y) None bs cs p q = absurd q
-appends_then (Some x) (Some y) (Some z) bs cs p q = q ∙ ap (λ l. l ++ cs) p ∙ append_assoc x bs cs
-
--- known bytes that grew by bs, and stayed so from then on, have grown by bs
-appends_kept : (a b c : Option (List ℕ)) (bs : List ℕ) → Appends a b bs → Keeps b c → Appends a c bs
-appends_kept None b c bs p q = tt
-appends_kept (Some x) None c bs p q = absurd p
-appends_kept (Some x) (Some y) None bs p q = absurd q
-appends_kept (Some x) (Some y) (Some z) bs p q = q ∙ p
-
--- at the start nothing is given
-pub gives_none : {text out : List ℕ} {known : Option (List ℕ)} → Gives text text out out known known
-gives_none {out} {known} = record { given = []; split = refl; taken = sym (append-nil out); device = appends_nil known }
-
--- the device took n bytes more
-pub gives_more : {text left out out' out'' : List ℕ} {known known' known'' : Option (List ℕ)} (n : ℕ)
-    → Gives text left out out' known known'
-    → out'' ≡ out' ++ take n left → Appends known' known'' (take n left)
-    → Gives text (take (length left - n) (drop n left)) out out'' known known''
-gives_more {left} {out} {known} {known'} {known''} n so_far more device =
-    let rest : take (length left - n) (drop n left) ≡ drop n left =
-    take_all (length left - n) (drop n left) (omega (arith, length-drop n left)) in
-    record {
-      given = so_far.given ++ take n left;
-      split = so_far.split ∙ ap (λ l. so_far.given ++ l) (sym (take-append-drop n left) ∙ ap (λ l. take n left ++ l) (sym rest))
-          ∙ sym (append_assoc so_far.given (take n left) (take (length left - n) (drop n left)));
-      taken = more ∙ ap (λ l. l ++ take n left) so_far.taken ∙ append_assoc out so_far.given (take n left);
-      device = appends_then known known' known'' so_far.given (take n left) so_far.device device;
-    }
-
--- it took nothing
-pub gives_same : {text left out out' out'' : List ℕ} {known known' known'' : Option (List ℕ)} → Gives text left out out' known known'
-    → out'' ≡ out' ++ [] → Keeps known' known'' → Gives text left out out'' known known''
-gives_same {out'} {known} {known'} {known''} so_far same device = record {
-  given = so_far.given;
-  split = so_far.split;
-  taken = same ∙ append-nil out' ∙ so_far.taken;
-  device = appends_kept known known' known'' so_far.given so_far.device device;
-}
-
--- it took none of some bytes
-pub gives_zero : {text left out out' out'' : List ℕ} {known known' known'' : Option (List ℕ)} {reply : Result ℕ Error} {n : ℕ}
-    → Gives text left out out' known known' → reply ≡ Ok n → n ≡ 0 → out'' ≡ out' ++ taken reply left
-    → WriteAppends known' known'' reply left
-    → Gives text left out out'' known known''
-gives_zero {left} {out'} {out''} {known} {known'} {known''} {reply} so_far is none more device =
-    let zero : reply ≡ Ok 0 = is ∙ ap Ok none in
-    record {
-      given = so_far.given;
-      split = so_far.split;
-      taken = subst (λ r. out'' ≡ out' ++ taken r left) zero more ∙ append-nil out' ∙ so_far.taken;
-      device = subst (λ l. Appends known known'' l) (append-nil so_far.given)
-          (appends_then known known' known'' so_far.given [] so_far.device (subst (λ r. WriteAppends known' known'' r left) zero device));
-    }
-
--- and no turn is spent then
-pub ends_zero : (e : Error) {reply : Result ℕ Error} {n first old new : ℕ} → IsUnwritten e → old ≤ first → reply ≡ Ok n
-    → AnswersWrite reply old new
-    → EndsWrites {T = Unit {0}} (Err e) first new
-ends_zero e {old} {new} kind fewer is asked =
-    let same : new ≡ old = subst (λ r. AnswersWrite r old new) is asked in
-    (omega (arith, fewer, same), inr (inr kind))
 
 -- known bytes stay as they were where nothing happens to them
 keeps_refl : (a : Option (List ℕ)) → Keeps a a
@@ -131,13 +56,6 @@ consumes_kept None b c bs p q = tt
 consumes_kept (Some x) None c bs p q = absurd p
 consumes_kept (Some x) (Some y) None bs p q = absurd q
 consumes_kept (Some x) (Some y) (Some z) bs p q = p ∙ ap (λ l. bs ++ l) (sym q)
-
--- another error ends a loop of writes
-pub ends_writes : (e : Error) {first old new : ℕ} → IsFault e → old ≤ first → AnswersWrite {T = ℕ} (Err e) old new
-    → EndsWrites {T = Unit {0}} (Err e) first new
-ends_writes e fault fewer (inl plain) = let no = ap is_interruption plain.0.0 in absurd cc
-ends_writes e fault fewer (inr (inl out)) = (omega (arith, out.2), inl (out.0, out.2))
-ends_writes e fault fewer (inr (inr device)) = (omega (arith, fewer, device.1), inr (inl device.0))
 
 -- what a read that gave bytes consumed: the device was asked then
 pub consumed_some : {A C : Type 0} {old : ℕ} (n : ℕ) (known known' : Option (List ℕ)) (buf : List ℕ) → (n ≡ 0 → ⊥)

@@ -1,9 +1,13 @@
 -- How a patient answers: its errors, the turns that an answer spends, and the bytes that loops of its calls move.
-use Rattle.std.specs.Prelude.{◌≡◌, ℕ, ◌+◌, ◌<◌, ◌≤◌, List, ◌++◌, length, take, Option, None, Some, Ok, Err, Result, OnOk, codes, ◌⊎◌}
-use Rattle.std.specs.Io.KnownBytes.{Appends, Consumes}
+use Rattle.std.specs.Prelude.{◌≡◌, ℕ, ◌+◌, ◌<◌, ◌≤◌, List, length, take, Option, None, Some, Ok, Err, Result, OnOk, codes, ◌⊎◌}
+use Rattle.std.specs.Io.KnownBytes.{Consumes}
+use Rattle.std.specs.IoError as Io
+use Rattle.std.specs.declared.io.Error as Std
+use Rattle.std.specs.declared.io.ErrorKind as StdKind
+use Rattle.std.specs.declared.io.ErrorKind.TheVariants as kind
 use Rattle.no_std_io2.specs.declared.io.Error.{Error}
 use Rattle.no_std_io2.specs.declared.io.ErrorKind.TheVariants.{TimedOut, Interrupted, Other}
-use Rattle.no_std_io2.specs.Errors.{error_kind, error_text, IsUnwritten, IsUnexpectedEnd}
+use Rattle.no_std_io2.specs.Errors.{error_kind, error_text, IsUnexpectedEnd}
 
 -- no turn was left to ask the device again
 abbrev pub IsOutOfTurns : Error → Type 0
@@ -22,23 +26,27 @@ abbrev pub AnswersRead : Result ℕ Error → ℕ → ℕ → Type 0
 AnswersRead (Ok n) old new = (n ≡ 0 → new ≡ old) × (0 < n → new + 1 ≡ old)
 AnswersRead (Err e) old new = (new + 1 ≡ old) × (IsPlainInterruption e ⊎ IsDeviceFault e)
 
--- a writer's answer, and the turns before and after: an interruption spends one, and is passed on only where one was left
-abbrev pub AnswersWrite : {T : Type 0} → Result T Error → ℕ → ℕ → Type 0
-AnswersWrite (Ok x) old new = new ≡ old
-AnswersWrite (Err e) old new =
-    (IsPlainInterruption e × (new + 1 ≡ old)) ⊎ (IsOutOfTurns e × (old ≡ 0) × (new ≡ 0)) ⊎ (IsDeviceFault e × (new ≡ old))
+-- a reader's answer, where its device answered so: an interruption stays one, and any other fault is `device fault`
+abbrev pub GivesOn : Result ℕ Std.Error → Result ℕ Error → Type 0
+GivesOn (Ok n) (Ok m) = m ≡ n
+GivesOn (Err e) (Err f) = (Io.error_kind e ≡ kind.Interrupted → IsPlainInterruption f)
+    × ((Io.error_kind e ≡ kind.Interrupted → ⊥) → IsDeviceFault f)
+GivesOn (Ok n) (Err f) = ⊥
+GivesOn (Err e) (Ok m) = ⊥
 
--- a loop of writes ended so: its turns ran out, its device failed, or took nothing of some bytes
-abbrev pub EndsWrites : {T : Type 0} → Result T Error → ℕ → ℕ → Type 0
-EndsWrites (Ok x) old new = new ≤ old
-EndsWrites (Err e) old new = (new ≤ old) × ((IsOutOfTurns e × (new ≡ 0)) ⊎ (IsDeviceFault e ⊎ IsUnwritten e))
+-- What a device's error of this kind becomes, and the turns before and after: an interruption spends one, and with none left the answer
+-- is that; any other fault is `device fault`.
+pub record Becomes (of : StdKind.ErrorKind) (e : Error) (old new : ℕ) : Type 0 where
+  pub interrupted : of ≡ kind.Interrupted → 0 < old → IsPlainInterruption e × (new + 1 ≡ old)
+  pub over : of ≡ kind.Interrupted → old ≡ 0 → IsOutOfTurns e × (new ≡ 0)
+  pub fault : (of ≡ kind.Interrupted → ⊥) → IsDeviceFault e × (new ≡ old)
 
--- The device answered for the front of a text, and `left` is left: so much is out now, and stands behind its known bytes.
-pub record Gives (text left out out' : List ℕ) (known known' : Option (List ℕ)) : Type 0 where
-  pub given : List ℕ
-  pub split : text ≡ given ++ left
-  pub taken : out' ≡ out ++ given
-  pub device : Appends known known' given
+-- a writer's answer, where its device answered so
+abbrev pub AnswersFor : {T : Type 0} → Result T Std.Error → Result T Error → ℕ → ℕ → Type 0
+AnswersFor (Ok x) (Ok y) old new = (y ≡ x) × (new ≡ old)
+AnswersFor (Err e) (Err f) old new = Becomes (Io.error_kind e) f old new
+AnswersFor (Ok x) (Err f) old new = ⊥
+AnswersFor (Err e) (Ok y) old new = ⊥
 
 -- a loop of reads that had some room ended so: it spent a turn at least, or its turns ran out, its device failed, or its bytes ended
 abbrev pub EndsReads : {T : Type 0} → ℕ → Result T Error → ℕ → ℕ → Type 0

@@ -1,18 +1,20 @@
 //! Pins what each type tells: with a member that tells nothing, every promise over it would be empty and still be proved.
 ghost use Rattle.std.specs.Prelude.{◌≡◌, Some};
 ghost use Rattle.no_std_io2.specs.Read.{bytes};
-ghost use Rattle.system_streams.specs.Patient.{patient_turns, patient_told};
+ghost use Rattle.system_streams.specs.Patient.{patient_turns, patient_told, PatientMay};
+ghost use Rattle.no_std_io2.specs.Write.{WriteCall};
 ghost use Rattle.system_streams.specs.Telling.{telling_inner};
 ghost use Rattle.system_streams.specs.ToStd.{std_inner, accepted};
 
 use crate::patient::Patient;
+use crate::system::{SystemRead, SystemWrite};
 use crate::telling::Telling;
 use crate::to_std::ToStd;
 use no_std_io2::io::{Read, Stored, Write};
 use std::io;
 
 /// No events and no store, but its turns. No read of it is counted.
-pub fn patient_reader_tells<D: io::Read>(p: &Patient<D>)
+pub fn patient_reader_tells<D: SystemRead>(p: &Patient<D>)
     ensures tells { ⟦<Patient<D> as Read>⟧.tells p.now → ⊥ }
     ensures turns { ⟦<Patient<D> as Read>⟧.turns p.now ≡ patient_turns p.now }
     ensures cost { ⟦<Patient<D> as Read>⟧.cost p.now ≡ 0 }
@@ -23,11 +25,17 @@ pub fn patient_reader_tells<D: io::Read>(p: &Patient<D>)
 {}
 
 /// The bytes that its device answered for are out. No write of it is counted.
-pub fn patient_writer_tells<D: io::Write>(p: &Patient<D>)
+pub fn patient_writer_tells<D: SystemWrite>(p: &Patient<D>)
     ensures told { ⟦<Patient<D> as Write>⟧.told p.now ≡ patient_told p.now }
     ensures takes_all { ⟦<Patient<D> as Write>⟧.takes_all p.now → ⊥ }
     ensures cost { ⟦<Patient<D> as Write>⟧.cost p.now ≡ 0 }
     ensures is_metered { ⟦<Patient<D> as Write>⟧.is_metered p.now → ⊥ }
+{}
+
+/// A call asks its device once.
+pub fn patient_writer_calls<D: SystemWrite>(old: &Patient<D>, new: &Patient<D>)
+    ensures { (call : WriteCall) → ⟦<Patient<D> as Write>⟧.may old.now call new.now
+        → PatientMay ⟦<D as SystemWrite>⟧ old.now call new.now }
 {}
 
 /// Its bytes to come.

@@ -16,10 +16,12 @@
 mod copy;
 mod laws;
 mod patient;
+mod system;
 mod telling;
 mod to_std;
 
 pub use copy::copy_through;
 pub use patient::Patient;
+pub use system::{SystemRead, SystemWrite};
 pub use telling::Telling;
 pub use to_std::ToStd;

@@ -1,15 +1,15 @@
 // A reader or a writer of the system's, with a number of turns that bounds every loop over it.
-ghost use Rattle.std.specs.Prelude.{◌≡◌, ℕ, List, ◌+◌, ◌<◌, ◌≤◌, ◌⊎◌, ◌++◌, [], Ok, IsOk, IfOk, IfErr, IsErrAnd, length, OnOk};
-ghost use Rattle.std.specs.Io.KnownBytes.{ReadConsumes, WriteAppends, Keeps};
+ghost use Rattle.std.specs.Prelude.{◌≡◌, ℕ, ◌+◌, ◌<◌, ◌⊎◌, [], Ok, IsErrAnd, Result, length};
+ghost use Rattle.std.specs.Io.KnownBytes.{ReadConsumes};
+ghost use Rattle.std.specs.declared.io.Error.{Error as StdError};
 ghost use Rattle.no_std_io2.specs.Read.{ReadLaw, ReadExactLaw};
-ghost use Rattle.no_std_io2.specs.Errors.{IsNoInterruption, IsUnwritten, IsUnexpectedEnd};
-ghost use Rattle.no_std_io2.specs.Write.{WriteLaw, FlushLaw, WriteAllLaw, WriteRestLaw, taken};
+ghost use Rattle.no_std_io2.specs.Errors.{IsUnexpectedEnd};
 ghost use Rattle.system_streams.specs.Turns.{IsOutOfTurns, IsPlainInterruption, IsDeviceFault, AnswersRead};
-ghost use Rattle.system_streams.specs.Turns.{AnswersWrite, EndsReads, EndsWrites, Gives, Got};
+ghost use Rattle.system_streams.specs.Turns.{GivesOn, Becomes, EndsReads, Got};
 
+use crate::system::{SystemRead, SystemWrite};
 use no_std_io2::io::{Error, ErrorKind, Read, Result, Stored, Write};
 use no_std_io2::trace::Trace;
-use std::io;
 use std::io::ErrorKind as SystemKind;
 
 /// A reader or writer of Rust's `std::io` as one of this library's.
@@ -72,8 +72,7 @@ impl<D> Patient<D> {
     fn refuse(&mut self, kind: SystemKind) -> Error
         ensures taken { patient_taken self.new ≡ patient_taken self.old }
         ensures device { patient_device self.new ≡ patient_device self.old }
-        ensures fault { (kind ≡ SystemKind.Interrupted → ⊥) → IsDeviceFault result }
-        ensures interrupted { kind ≡ SystemKind.Interrupted → IsPlainInterruption result ⊎ IsOutOfTurns result }
+        ensures becomes { Becomes kind result (patient_turns self.old) (patient_turns self.new) }
         ensures answer { (IsPlainInterruption result × (patient_turns self.new + 1 ≡ patient_turns self.old))
             ⊎ (IsOutOfTurns result × (patient_turns self.old ≡ 0) × (patient_turns self.new ≡ 0))
             ⊎ (IsDeviceFault result × (patient_turns self.new ≡ patient_turns self.old)) }
@@ -87,12 +86,6 @@ impl<D> Patient<D> {
         self.turns -= 1;
         interruption()
     }
-}
-
-fn took_nothing() -> Error
-    ensures { IsUnwritten result }
-{
-    Error::new(ErrorKind::WriteZero, "failed to write whole buffer")
 }
 
 fn gave_too_little() -> Error
@@ -141,7 +134,7 @@ impl<D> Stored for Patient<D> {
 }
 
 /// A patient tells no events: its device's are not known.
-impl<D: io::Read> Read for Patient<D> {
+impl<D: SystemRead> Read for Patient<D> {
     ghost use Rattle.system_streams.specs.Patient.{patient_device, patient_turns, patient_taken};
 
     ghost tells = { λ _. ⊥ };
@@ -163,11 +156,13 @@ impl<D: io::Read> Read for Patient<D> {
         ensures last { 0 < length buf.old → patient_turns self.old ≡ 1 → IsErrAnd result IsOutOfTurns
             × (patient_turns self.new ≡ 0) × (patient_device self.new ≡ patient_device self.old) }
 
-        // With more turns the device is asked.
+        // With more turns the device is asked, once.
         ensures asked { 0 < length buf.old → 1 < patient_turns self.old
             → AnswersRead result (patient_turns self.old) (patient_turns self.new) }
-        ensures bytes { 1 < patient_turns self.old → ReadConsumes (D.remaining (patient_device self.old))
-            (D.remaining (patient_device self.new)) result buf.new }
+        ensures device { 0 < length buf.old → 1 < patient_turns self.old → (answer : Result ℕ StdError)
+            × D.may_read (patient_device self.old) answer buf.new (patient_device self.new) × GivesOn answer result }
+        ensures bytes { 1 < patient_turns self.old → ReadConsumes (D.known (patient_device self.old))
+            (D.known (patient_device self.new)) result buf.new }
         ensures taken { patient_taken self.new ≡ patient_taken self.old }
     {
         if buf.is_empty() || self.turns == 0 {
@@ -177,7 +172,7 @@ impl<D: io::Read> Read for Patient<D> {
             self.turns = 0;
             return Err(no_turns_left());
         }
-        match self.device.read(buf) {
+        match self.device.ask_read(buf) {
             Ok(0) => Ok(0),
             Ok(n) => {
                 self.turns -= 1;
@@ -194,7 +189,7 @@ impl<D: io::Read> Read for Patient<D> {
         ensures law { ReadExactLaw ⟦<Self as Read>⟧ self.old buf.old result buf.new self.new }
 
         // What was read is what the device gave, and each answer of it but its end spent a turn.
-        ensures bytes { Got (D.remaining (patient_device self.old)) (D.remaining (patient_device self.new))
+        ensures bytes { Got (D.known (patient_device self.old)) (D.known (patient_device self.new))
             result buf.new }
         ensures ends { EndsReads (length buf.old) result (patient_turns self.old) (patient_turns self.new) }
         ensures taken { patient_taken self.new ≡ patient_taken self.old }
@@ -218,23 +213,17 @@ impl<D: io::Read> Read for Patient<D> {
     ghost store_fits = { λ p h. absurd h };
 }
 
-/// The bytes that the device answered for are out, nothing is held, and mishaps are not told.
-impl<D: io::Write> Write for Patient<D> {
-    ghost use Rattle.system_streams.specs.Patient.{patient_device, patient_turns, patient_taken, patient_told};
+/// The bytes that the device answered for are out, nothing is held, and mishaps are not told. Each call asks the device once, for the
+/// same; `write_all` and `write_rest` are the trait's own.
+impl<D: SystemWrite> Write for Patient<D> {
+    ghost use Rattle.system_streams.specs.Patient.{patient_told, PatientMay};
 
     ghost told = { patient_told };
 
-    fn write(&mut self, buf: &[u8]) -> Result<usize>
-        ensures law { let P = ⟦<Self as Write>⟧ in
-            WriteLaw P.told P.takes_all P.cost P.is_metered P.may self.old buf.now result self.new }
+    ghost may = { PatientMay ⟦<D as SystemWrite>⟧ };
 
-        // What the device answered for is out.
-        ensures taken { patient_taken self.new ≡ patient_taken self.old ++ taken result buf.now }
-        ensures asked { AnswersWrite result (patient_turns self.old) (patient_turns self.new) }
-        ensures bytes { WriteAppends (D.contents (patient_device self.old))
-            (D.contents (patient_device self.new)) result buf.now }
-    {
-        match self.device.write(buf) {
+    fn write(&mut self, buf: &[u8]) -> Result<usize> {
+        match self.device.ask_write(buf) {
             Ok(n) => {
                 self.taken.add(&buf[..n]);
                 Ok(n)
@@ -243,53 +232,11 @@ impl<D: io::Write> Write for Patient<D> {
         }
     }
 
-    fn flush(&mut self) -> Result<()>
-        ensures law { let P = ⟦<Self as Write>⟧ in
-            FlushLaw P.told P.takes_all P.cost P.is_metered P.may self.old result self.new }
-
-        // It takes no byte.
-        ensures taken { patient_taken self.new ≡ patient_taken self.old }
-        ensures asked { AnswersWrite result (patient_turns self.old) (patient_turns self.new) }
-        ensures bytes { Keeps (D.contents (patient_device self.old)) (D.contents (patient_device self.new)) }
-    {
-        match self.device.flush() {
+    fn flush(&mut self) -> Result<()> {
+        match self.device.ask_flush() {
             Ok(()) => Ok(()),
             Err(e) => Err(self.refuse(e.kind())),
         }
-    }
-
-    fn write_all(&mut self, buf: &[u8]) -> Result<()>
-        ensures law { let P = ⟦<Self as Write>⟧ in
-            WriteAllLaw P.told P.takes_all P.cost P.is_metered P.may self.old buf.now result self.new }
-
-        // What the device answered for is out: all of it at `Ok`.
-        ensures bytes { (left : List ℕ) × OnOk result (left ≡ []) × Gives buf.now left
-            (patient_taken self.old) (patient_taken self.new)
-            (D.contents (patient_device self.old)) (D.contents (patient_device self.new)) }
-        ensures ends { EndsWrites result (patient_turns self.old) (patient_turns self.new) }
-    {
-        let mut rest = buf;
-        self.write_rest(&mut rest)
-    }
-
-    fn write_rest(&mut self, rest: &mut &[u8]) -> Result<()>
-        ensures law { let P = ⟦<Self as Write>⟧ in
-            WriteRestLaw P.told P.takes_all P.cost P.is_metered P.may self.old rest.old.now result self.new rest.new.now }
-
-        // What the device answered for is out.
-        ensures bytes { Gives rest.old.now rest.new.now (patient_taken self.old) (patient_taken self.new)
-            (D.contents (patient_device self.old)) (D.contents (patient_device self.new)) }
-        ensures ends { EndsWrites result (patient_turns self.old) (patient_turns self.new) }
-    {
-        'writes: while !rest.is_empty() {
-            match self.write(rest) {
-                Ok(0) => return Err(took_nothing()),
-                Ok(n) => *rest = &rest[n..],
-                Err(e) if e.is_interrupted() => {}
-                Err(e) => return Err(e),
-            }
-        }
-        Ok(())
     }
 
     ghost steady = { λ p h. absurd h };

@@ -1,13 +1,13 @@
 use Rattle.std.proofs.Common.{◌≡◌, ◌<◌, ◌++◌, ◌∷◌, [], length, rules, arith, ap, ◌∙◌, sym, append-nil, append_assoc}
-use Rattle.io_bench.proofs.RunLemmas.{Ran-none, Ran-next, AreWhole-next, AllPassOver-next, EndsFlushed-next, all_made}
-use Rattle.io_bench.specs.Runs.{Ran, EndsFlushed, AreWhole, AllPassOver, failures, failures_of, IsShorterBy, HasFewer}
+use Rattle.io_bench.proofs.RunLemmas.{Ran-none, Ran-next, AreWhole-next, EndsFlushed-next, RunCalls-none, RunCalls-next, all_made}
+use Rattle.io_bench.specs.Runs.{Ran, EndsFlushed, AreWhole, RunCalls, failures, failures_of, IsShorterBy, HasFewer}
 use Rattle.io_bench.proofs.FailureLemmas.{failures_told, failures_none, fewer_of}
 use Rattle.io_bench.proofs.runs.run_writes.Goals as goal
 
 pub calls-init : goal.calls-init
 calls-init g c =
     record {
-      ran = ([], c.reserve.ensures.items ∙ sym (append-nil c.args.replies.now.items), Ran-none _, λ e. absurd e, λ t. (t, tt), tt);
+      ran = ([], c.reserve.ensures.items ∙ sym (append-nil c.args.replies.now.items), Ran-none _, λ e. absurd e, λ t. (t, tt), RunCalls-none);
       room = search rules;
     }
 
@@ -27,7 +27,7 @@ calls-preserved g c =
         Ran-next ops i _ replies within before.ran.2 call.answers,
         EndsFlushed-next ops i _ replies within before.ran.2 call.answers,
         λ t. let b = before.ran.4 t in let a = call.all b.0 in (a.0, AreWhole-next _ ops i _ replies within b.1 a.1),
-        AllPassOver-next _ ops i _ replies within before.ran.2 before.ran.5 call.passes,
+        RunCalls-next _ ops i _ replies within before.ran.5 call.calls,
       );
       room = omega (arith, c.push_reserved.ensures.len, c.push_reserved.ensures.capacity, before.room);
     }
@@ -75,7 +75,7 @@ returns-clause-all g c =
     (omega arith) ran.1
     ran.4
 
-pub returns-clause-passes : goal.returns-clause-passes
-returns-clause-passes g c =
+pub returns-clause-calls : goal.returns-clause-calls
+returns-clause-calls g c =
     let ran = c.calls.invariant.ran in
-    all_made AllPassOver c.calls.op-index _ ran.0 (omega arith) ran.1 ran.5
+    all_made (λ o r. RunCalls g.W.Write c.args.w.now o r c.calls.w) c.calls.op-index _ ran.0 (omega arith) ran.1 ran.5

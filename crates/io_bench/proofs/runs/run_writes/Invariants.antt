@@ -2,7 +2,7 @@
 use Rattle.std.proofs.Common.{◌≡◌, ◌+◌, ◌-◌, ◌≤◌, List, [], ◌++◌, length, take, vec_len}
 use Rattle.std.specs.Vec.{vec_capacity}
 use Rattle.io_bench.specs.declared.runs.Reply.{Reply}
-use Rattle.io_bench.specs.Runs.{Ran, EndsFlushed, AreWhole, AllPassOver}
+use Rattle.io_bench.specs.Runs.{Ran, EndsFlushed, AreWhole, RunCalls}
 use Rattle.io_bench.proofs.runs.run_writes.Given as goal
 
 abbrev pub invariant-calls : goal.invariant-calls
@@ -13,6 +13,6 @@ invariant-calls g l =
       ran : (more : List Reply) × (l.replies.items ≡ l.fn.replies.items ++ more) × Ran (told l.fn.w) made more (told l.w)
           × (EndsFlushed made more → (told l.w).held ≡ [])
           × (g.W.Write.takes_all l.fn.w → g.W.Write.takes_all l.w × AreWhole made more)
-          × AllPassOver made more;
+          × RunCalls g.W.Write l.fn.w made more l.w;
       room : vec_len l.replies + (length l.ops - l.op-index) ≤ vec_capacity l.replies;
     }

@@ -11,6 +11,6 @@ returns g c =
         moves = wrote.moves;
         all = wrote.all;
         counts = wrote.counts;
-        calls = all_own _ _ _ (tt, wrote.fault, wrote.moves, wrote.all);
+        calls = all_own _ _ _ (tt, wrote.fault, wrote.moves, wrote.all, wrote.counts);
       };
     }

@@ -12,6 +12,6 @@ returns g c =
         done = wrote.done;
         all = λ a. let all = wrote.all a in (all.0, all.1);
         counts = wrote.counts;
-        calls = rest_own _ _ _ _ (tt, wrote.fault, wrote.sends, λ a. (wrote.all a).0);
+        calls = rest_own _ _ _ _ (tt, wrote.fault, wrote.sends, wrote.done, (λ a. (wrote.all a).0), wrote.counts);
       };
     }

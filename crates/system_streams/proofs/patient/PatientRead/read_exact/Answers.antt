@@ -18,7 +18,7 @@ returns-in-Ok-eq0 g c =
     let old = c.reads.buf in
     let room = some_part at old _ c.reads-test.true refl in
     let stays = length_stays at old c.read.new.buf c.read.auto.buf in
-    let known = g.D.Read.remaining in
+    let known = g.D.SystemRead.known in
     let none = consumed_end c.read.result _ c.in-Ok-eq0.is c.in-Ok-eq0.field-0-test
     (λ e. ap (λ p. known (patient_device p)) (read.over e).1)
     (λ e. (read.last room e).0) read.bytes in
@@ -63,7 +63,7 @@ reads-preserved g c =
     let at = c.reads.at in
     let old = c.reads.buf in
     let room = some_part at old _ c.reads-test.true refl in
-    let known = g.D.Read.remaining in
+    let known = g.D.SystemRead.known in
     let kept = consumed_none c.in-Err.e read.over (λ e. let l = read.last room e in (l.0, l.1, ap known l.2)) read.bytes in
     record {
       law = exact_interruption before.law (λ x told. absurd told) c.reads-test.true c.read.auto.buf read.law cc;
@@ -79,7 +79,7 @@ returns-in-Err-2 g c =
     let old = c.reads.buf in
     let room = some_part at old _ c.reads-test.true refl in
     let stays = length_stays at old c.read.new.buf c.read.auto.buf in
-    let known = g.D.Read.remaining in
+    let known = g.D.SystemRead.known in
     let kept = consumed_none c.in-Err.e read.over (λ e. let l = read.last room e in (l.0, l.1, ap known l.2)) read.bytes in
     let fault : IsFault c.in-Err.e = cc in
     record {
