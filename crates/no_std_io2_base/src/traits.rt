@@ -13,6 +13,7 @@ mod seek;
 mod split;
 mod stored;
 mod take;
+mod text;
 mod write;
 
 pub use buf_read::BufRead;
@@ -26,4 +27,5 @@ pub use seek::{Seek, SeekFrom};
 pub use split::Split;
 pub use stored::Stored;
 pub use take::Take;
+pub use text::Answers;
 pub use write::Write;

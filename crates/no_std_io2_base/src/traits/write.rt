@@ -1,9 +1,13 @@
 ghost use Rattle.std.specs.Prelude.{◌≡◌, ℕ, ◌+◌, ◌≤◌, [], Some, Ok, OnOk, IfOk, IsOk, length};
 ghost use Rattle.no_std_io2_base.specs.Errors.{IsNoInterruption};
 ghost use Rattle.no_std_io2_base.specs.Write.{WriteLaw, FlushLaw, WriteAllLaw, WriteRestLaw};
+ghost use Rattle.no_std_io2_base.specs.Text.{WriteFmtLaw};
 ghost use Rattle.no_std_io2_base.specs.Write.{Told, Moves, MovesFront, Sends, taken, write_mishap, call_mishap, calls_for, WriteCall};
 
-use crate::error::{Result, failed_to_write};
+use super::text::{Answers, Lent, Printed, answer_of, print_to};
+use crate::error::{ErrorKind, Result, failed_to_write};
+use std::fmt::Display;
+use std::marker::Brand;
 
 /// A sink of bytes. Follows Rust's `std::io::Write`.
 ///
@@ -122,6 +126,36 @@ pub trait Write {
             }
         }
         Ok(())
+    }
+
+    /// Writes a text as it is printed, by `write!` and `writeln!`: each piece as by `write_all`, without allocation.
+    /// Follows `std::io::Write::write_fmt`.
+    ///
+    /// # Errors
+    /// Those of `write_all`: some front of the text was accepted then, and nothing more was asked of the device.
+    /// `Other`, `formatter error`, where the text's own `fmt` failed: some bytes, possibly none, were accepted.
+    ///
+    /// ```rust
+    /// let mut device = Vec::<u8>::new(rt.alloc());
+    /// let n = 3;
+    /// write!(device, "n is {n}\n")?;
+    /// assert!(rt; device.as_slice() == b"n is 3\n".as_slice());
+    /// ```
+    final fn write_fmt<D: Display + Drop, E>(&mut self, text: D) -> std::result::Result<(), E>
+    where
+        Self: Sized,
+        ErrorKind: Answers<E>,
+        ensures law { WriteFmtLaw told takes_all cost is_metered may self.old (D.output text)
+            (⟦<ErrorKind as Answers<E>>⟧.seen result) self.new }
+    {
+        let Printed {
+            inner,
+            met,
+            formatted,
+        } = print_to::<Self, D, Brand>(Lent { inner: self }, text);
+        // No effect at run time: the proof reads what the writer tells from this use.
+        let _ = &*inner;
+        <ErrorKind as Answers<E>>::answer(answer_of(formatted, met))
     }
 
     /// Lends the writer itself, for an adaptor that would take it by value. Follows

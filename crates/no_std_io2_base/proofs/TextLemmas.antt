@@ -1,0 +1,232 @@
+-- How the calls that print a text follow one another, and what is known behind any formatter.
+use Rattle.std.proofs.Common.{◌≡◌, ℕ, List, [], ◌++◌, Option, None, Some, Result, Ok, Err, OnOk, OnErr, IfSome, IsErrAnd, Bool, true, false, true≢false, is_ok, IsOk, ◌∷◌}
+use Rattle.std.proofs.Common.{refl, sym, ap, subst, ◌∙◌, append_assoc, append-nil, length, drop, inl, inr}
+use Rattle.std.proofs.Math.Seq.{drop-append_seam}
+use Rattle.std.proofs.Math.Logic.{∥∥₁_elim, ∥∥₁_map}
+use Rattle.std.proofs.Props.{props}
+use Rattle.std.specs.Coded.{le_prop, Π_prop, Unit-prop}
+use mathlib.Core.HLevel.{⊥_prop}
+use Rattle.std.proofs.lemmas.List.Folds.{concat-append}
+use Rattle.std.proofs.lemmas.Fn.{chained_keeps}
+use Rattle.std.specs.List.{concat}
+use Rattle.std.specs.Fmt.{WritesInCalls, DisplaysOnOk, IsPlainFormatter, formatter_writer}
+use Rattle.std.specs.declared.fmt.Formatter.{Formatter}
+use Rattle.std.specs.declared.fmt.Error.{Error as FormatError}
+use Rattle.no_std_io2_base.specs.declared.error.Error.{Error}
+use Rattle.no_std_io2_base.specs.declared.error.ErrorKind.{ErrorKind}
+use Rattle.no_std_io2_base.specs.Write.{Told, Moves, MovesFront, HasSpent, WriteCall, WriteAllLaw, call_mishap}
+use Rattle.no_std_io2_base.specs.Text.{TextCalls, none, piece, silent, Prints, IsTextError, AnswersText, MovesText, WriteFmtLaw}
+use Rattle.no_std_io2_base.specs.Errors.{is_interruption, IsNoInterruption}
+use Rattle.no_std_io2_base.proofs.CallsLemmas.{made_then}
+use Rattle.no_std_io2_base.proofs.MovesLemmas.{IsFront-refl, Moves-refl, MovesFront-join, MovesFront-first}
+
+module _ {S : Type 0} {told : S → Told} {takes_all : S → Type 0} {cost : S → ℕ} {is_metered : S → Type 0}
+    {may : S → WriteCall → S → Type 0} {old : S} where
+  -- nothing yet
+  pub prints_none : Prints told takes_all cost is_metered may old [] (Ok tt) old
+  prints_none = record {
+    fault = tt;
+    moves = record { accepted = []; front = IsFront-refl []; whole = refl; moves = Moves-refl (told old) };
+    all = λ a. a;
+    calls = ([], refl, none);
+  }
+
+  -- a piece more
+  pub prints_more : {text x : List ℕ} {reply : Result (Unit {0}) Error} {mid new : S}
+      → Prints told takes_all cost is_metered may old text (Ok tt) mid → WriteAllLaw told takes_all cost is_metered may mid x reply new
+      → Prints told takes_all cost is_metered may old (text ++ x) reply new
+  prints_more {text} {x} {reply} {mid} {new} so_far wrote = record {
+    fault = wrote.fault;
+    moves = MovesFront-join text x reply so_far.moves wrote.moves;
+    all = λ a. wrote.all (so_far.all a);
+    calls = (
+      so_far.calls.0 ++ wrote.calls.0,
+      made_then _ so_far.calls.0 old wrote.calls.0 mid new so_far.calls.1 wrote.calls.1,
+      piece x so_far.calls.2 wrote.calls.2,
+    );
+  }
+
+  -- nothing more after an error
+  pub prints_silent : {text : List ℕ} (x : List ℕ) {e : Error} {now : S} → Prints told takes_all cost is_metered may old text (Err e) now
+      → Prints told takes_all cost is_metered may old (text ++ x) (Err e) now
+  prints_silent {text} x {e} so_far = record {
+    fault = so_far.fault;
+    moves = MovesFront-first text x e so_far.moves;
+    all = so_far.all;
+    calls = (so_far.calls.0, so_far.calls.1, silent x so_far.calls.2);
+  }
+
+  -- the test says that none was met
+  pub prints_next : (b : Bool) {met : Result (Unit {0}) Error} → b ≡ is_ok met → b ≡ true → {text bytes x : List ℕ} {reply : Result (Unit {0}) Error}
+      {mid new : S} → WriteAllLaw told takes_all cost is_metered may mid bytes reply new → bytes ≡ x
+      → Prints told takes_all cost is_metered may old text met mid → Prints told takes_all cost is_metered may old (text ++ x) reply new
+  prints_next b {met = Ok u} is had {text = text} {reply = reply} {new = new} wrote same so_far =
+      subst (λ l. Prints told takes_all cost is_metered may old (text ++ l) reply new) same (prints_more so_far wrote)
+  prints_next b {met = Err e} is had wrote same so_far = absurd (true≢false (sym had ∙ is))
+
+  -- or that one was
+  pub prints_after : (b : Bool) {met : Result (Unit {0}) Error} → b ≡ is_ok met → b ≡ false → {text : List ℕ} (x : List ℕ) {now : S}
+      → Prints told takes_all cost is_metered may old text met now → Prints told takes_all cost is_metered may old (text ++ x) met now
+  prints_after b {met = Ok u} is had x so_far = absurd (true≢false (sym is ∙ had))
+  prints_after b {met = Err e} is had x so_far = prints_silent x so_far
+
+-- a formatter's calls, one after another, print what they print together
+module _ {W S : Type 0} (prints : S → List ℕ → W → Type 0) where
+  abbrev Then : W → List ℕ → W → Type 0
+  Then s bs t = (old : S) (text : List ℕ) → prints old text s → prints old (text ++ bs) t
+
+  prints_calls : (s : W) {bs : List ℕ} (t : W) (old : S) → WritesInCalls Then s bs t → prints old [] s → prints old bs t
+  prints_calls s t old w start = subst (λ l. prints old l t) w.whole
+      (chained_keeps Then (λ xs q. prints old (concat xs) q)
+      (λ xs q x v so_far next. subst (λ l. prints old l v)
+      (sym (concat-append xs (x ∷ []) ∙ ap (λ l. concat xs ++ l) (append-nil x))) (next old (concat xs) so_far))
+      w.parts s t start w.calls)
+
+  -- a text was printed through a formatter: whatever its `fmt` did, and its output where that is specified
+  pub prints_shown : (f g : Formatter W) {s t : W} {old : S} (output : Option (List ℕ)) (formatted : Result (Unit {0}) FormatError)
+      → formatter_writer f ≡ s → IsPlainFormatter f → t ≡ formatter_writer g → DisplaysOnOk Then f formatted output g → prints old [] s
+      → ∥ ((old : S) × (text : List ℕ) × prints old text t) ∥₁
+      → ∥ ((old : S) × (text : List ℕ) × prints old text t × (IsOk formatted → IfSome output (λ bs. text ≡ bs))) ∥₁
+  prints_shown f g None formatted over plain back shows start had = ∥∥₁_map had (λ p. (p.0, p.1, p.2, λ ok. tt))
+  prints_shown f g (Some bs) (Err e) over plain back shows start had =
+      ∥∥₁_map had (λ p. (p.0, p.1, p.2, λ ok. absurd (true≢false (sym ok))))
+  prints_shown f g {old = old} (Some bs) (Ok u) over plain back shows start had =
+      ∣ (
+        old,
+        bs,
+        subst (prints old bs) (sym back) (prints_calls (formatter_writer f) (formatter_writer g) old
+            (shows plain refl).wrote (subst (prints old []) (sym over) start)),
+        λ ok. refl,
+      ) ∣₁
+
+-- ---- what is known behind any formatter
+
+list_prop : (xs ys : List ℕ) → IsProp (xs ≡ ys)
+list_prop xs ys = Prim.hlevel props
+
+-- what stands behind a front
+behind : (xs ys zs : List ℕ) → ys ≡ xs ++ zs → ys ≡ xs ++ drop (length xs) ys
+behind xs ys zs e = e ∙ ap (λ l. xs ++ l) (sym (ap (drop (length xs)) e ∙ drop-append_seam xs zs))
+
+HasSpent-prop : (a : Option (List ErrorKind)) (k : List ErrorKind) (c : Option (List ErrorKind)) → IsProp (HasSpent a k c)
+HasSpent-prop None k c = Unit-prop
+HasSpent-prop (Some a) k None = ⊥_prop
+HasSpent-prop (Some a) k (Some c) = Π_prop (λ p. le_prop)
+
+-- the bytes that were accepted from a to b
+abbrev since : Told → Told → List ℕ
+since a b = drop (length (a.out ++ a.held)) (b.out ++ b.held)
+
+-- whatever was accepted, it is those
+since-is : {a b : Told} {x : List ℕ} {k : List ErrorKind} → Moves a x k b → x ≡ since a b
+since-is {a} {b} {x} m = sym (ap (drop (length (a.out ++ a.held))) m.bytes ∙ drop-append_seam (a.out ++ a.held) x)
+
+Moves-had : {a b : Told} {k : List ErrorKind} → ∥ ((x : List ℕ) × Moves a x k b) ∥₁ → Moves a (since a b) k b
+Moves-had {a} {b} {k} had = record {
+  front = (drop (length a.out) b.out, ∥∥₁_elim had (list_prop _ _) (λ m. behind a.out b.out m.1.front.0 m.1.front.1));
+  bytes = ∥∥₁_elim had (list_prop _ _) (λ m. behind (a.out ++ a.held) (b.out ++ b.held) m.0 m.1.bytes);
+  mishaps = ∥∥₁_elim had (HasSpent-prop a.mishaps k b.mishaps) (λ m. m.1.mishaps);
+  turns = ∥∥₁_elim had le_prop (λ m. m.1.turns);
+}
+
+OnOk-prop : (r : Result (Unit {0}) Error) (xs ys : List ℕ) → IsProp (OnOk r (xs ≡ ys))
+OnOk-prop (Ok u) xs ys = list_prop xs ys
+OnOk-prop (Err e) xs ys = Unit-prop
+
+-- of a known text the front that was accepted is known
+MovesFront-had : {a b : Told} {text : List ℕ} {r : Result (Unit {0}) Error} → ∥ MovesFront a text r b ∥₁ → MovesFront a text r b
+MovesFront-had {a} {b} {text} {r} had = record {
+  accepted = since a b;
+  front = (
+    drop (length (since a b)) text,
+    ∥∥₁_elim had (list_prop _ _)
+        (λ m. behind (since a b) text m.front.0 (m.front.1 ∙ ap (λ l. l ++ m.front.0) (since-is m.moves))),
+  );
+  whole = ∥∥₁_elim had (OnOk-prop r _ _) (λ m. is_whole r text (since-is m.moves) m.whole);
+  moves = Moves-had (∥∥₁_map had (λ m. (m.accepted, m.moves)));
+}
+  where
+    is_whole : (r : Result (Unit {0}) Error) {x y : List ℕ} (z : List ℕ) → x ≡ y → OnOk r (x ≡ z) → OnOk r (y ≡ z)
+    is_whole (Ok u) z is whole = sym is ∙ whole
+    is_whole (Err e) z is whole = tt
+
+-- of any text some bytes were accepted
+MovesFront-some : {a b : Told} {r : Result (Unit {0}) Error} → ∥ ((text : List ℕ) × MovesFront a text r b) ∥₁
+    → MovesFront a (since a b) r b
+MovesFront-some {a} {b} {r} had = record {
+  accepted = since a b;
+  front = IsFront-refl (since a b);
+  whole = is_whole r;
+  moves = Moves-had (∥∥₁_map had (λ m. (m.1.accepted, m.1.moves)));
+}
+  where
+    is_whole : (r : Result (Unit {0}) Error) → OnOk r (since a b ≡ since a b)
+    is_whole (Ok u) = refl
+    is_whole (Err e) = tt
+
+-- what was printed of a text whose `fmt` answered `Ok`
+moves_text : {a b : Told} (output : Option (List ℕ)) {met : Result (Unit {0}) Error}
+    → ∥ ((text : List ℕ) × MovesFront a text met b × IfSome output (λ bs. text ≡ bs)) ∥₁ → MovesText a output met b
+moves_text {a} {b} None {met} had = record {
+  text = since a b;
+  met = met;
+  moves = MovesFront-some (∥∥₁_map had (λ m. (m.0, m.1)));
+  answers = inl (tt, refl);
+}
+moves_text {a} {b} (Some bs) {met} had = record {
+  text = bs;
+  met = met;
+  moves = MovesFront-had (∥∥₁_map had (λ m. subst (λ l. MovesFront a l met b) m.2 m.1));
+  answers = inl (refl, refl);
+}
+
+IsNoInterruption-prop : (r : Result (Unit {0}) Error) → IsProp (IsNoInterruption r)
+IsNoInterruption-prop (Ok u) = Unit-prop
+IsNoInterruption-prop (Err e) = Prim.hlevel props
+
+text_fault : (r : Result (Unit {0}) Error) → IsErrAnd r IsTextError → IsNoInterruption r
+text_fault (Ok u) why = absurd why
+text_fault (Err e) why = ap is_interruption why.0
+
+-- the name of the loan is what it was
+pub name_kept : {S : Type 0} {at : S → Type 0} {name was : ℕ} {R : S → List ℕ → Type 0} {Q : List ℕ → Type 0}
+    → ∥ ((x : S) × (text : List ℕ) × ((at x × (name ≡ was)) × R x text) × Q text) ∥₁ → name ≡ was
+name_kept had = ∥∥₁_elim had (Prim.hlevel props) (λ p. p.2.0.1)
+
+module _ {S : Type 0} {told : S → Told} {takes_all : S → Type 0} {cost : S → ℕ} {is_metered : S → Type 0}
+    {may : S → WriteCall → S → Type 0} {old new : S} {name was : ℕ} {output : Option (List ℕ)} {met : Result (Unit {0}) Error} where
+  -- what is known of a text that was printed, from the answer
+  pub law_shown : (formatted : Result (Unit {0}) FormatError) (reply : Result (Unit {0}) Error)
+      → ∥ ((x : S) × (text : List ℕ) × (((x ≡ old) × (name ≡ was)) × Prints told takes_all cost is_metered may x text met new)
+      × (IsOk formatted → IfSome output (λ bs. text ≡ bs))) ∥₁
+      → OnOk formatted (reply ≡ met) → OnErr formatted (IsErrAnd reply IsTextError)
+      → WriteFmtLaw told takes_all cost is_metered may old output reply new
+  law_shown (Ok u) reply had same why =
+      let prints : ∥ ((text : List ℕ) × Prints told takes_all cost is_metered may old text met new × IfSome output (λ bs. text ≡ bs)) ∥₁ =
+      ∥∥₁_map had (λ p. (p.1, subst (λ x. Prints told takes_all cost is_metered may x p.1 met new) p.2.0.0 p.2.1, p.3 refl)) in
+      subst (λ r. WriteFmtLaw told takes_all cost is_metered may old output r new) (sym same) (record {
+        fault = ∥∥₁_elim prints (IsNoInterruption-prop met) (λ p. p.1.fault);
+        moves = moves_text output (∥∥₁_map prints (λ p. (p.0, p.1.moves, p.2)));
+        calls = ∥∥₁_map prints (λ p. (p.0, met, p.1, inl (p.2, refl)));
+      })
+  law_shown (Err f) reply had same why =
+      let prints : ∥ ((text : List ℕ) × Prints told takes_all cost is_metered may old text met new) ∥₁ =
+      ∥∥₁_map had (λ p. (p.1, subst (λ x. Prints told takes_all cost is_metered may x p.1 met new) p.2.0.0 p.2.1)) in
+      record {
+        fault = text_fault reply why;
+        moves = record {
+          text = since (told old) (told new);
+          met = met;
+          moves = MovesFront-some (∥∥₁_map prints (λ p. (p.0, p.1.moves)));
+          answers = inr why;
+        };
+        calls = ∥∥₁_map prints (λ p. (p.0, met, p.1, inr why));
+      }
+
+-- where the output is specified
+pub MovesFront-text : {a b : Told} {bs : List ℕ} {u : Unit {0}} → MovesText a (Some bs) (Ok u) b → MovesFront a bs (Ok u) b
+MovesFront-text {a} {b} {bs} {u} f = ok f.answers
+  where
+    ok : AnswersText (Some bs) f.text f.met (Ok u) → MovesFront a bs (Ok u) b
+    ok (inl (same, is)) = subst (λ r. MovesFront a bs r b) (sym is) (subst (λ l. MovesFront a l f.met b) same f.moves)
+    ok (inr failed) = absurd failed
