@@ -23,4 +23,6 @@ mod streams;
 #[cfg(test)]
 mod tables;
 #[cfg(test)]
+mod text;
+#[cfg(test)]
 mod whole;

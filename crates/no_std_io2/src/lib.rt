@@ -25,10 +25,15 @@ pub mod error {
 /// traits make, `copy`, and errors.
 pub mod io {
     pub use super::buffered::{BufReader, BufWriter, IntoInnerError, LineWriter};
-    pub use super::util::{Sink, copy, empty, skip};
+    pub use super::util::{Sink, copy, empty, skip, write_with_retries};
     pub use no_std_io2_base::cursor::{AsSlice, Cursor};
     pub use no_std_io2_base::error::{Error, ErrorKind, Result};
     pub use no_std_io2_base::traits::{
-        BufRead, Bytes, Chain, Lines, Read, Seek, SeekFrom, Split, Stored, Take, Write,
+        Answers, BufRead, Bytes, Chain, Lines, Read, Seek, SeekFrom, Split, Stored, Take, Write,
     };
+
+    /// The traits, by `use no_std_io2::io::prelude::*`. Follows `std::io::prelude`.
+    pub mod prelude {
+        pub use no_std_io2_base::traits::{BufRead, Read, Seek, Write};
+    }
 }

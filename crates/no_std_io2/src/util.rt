@@ -1,4 +1,5 @@
-//! Whole copies from a reader to a writer, [`copy`], bytes that are passed over, [`skip`], and streams without a device, [`empty`] and
+//! Whole copies from a reader to a writer, [`copy`], bytes that are passed over, [`skip`], writes
+//! that are tried again, [`write_with_retries`], and streams without a device, [`empty`] and
 //! [`Sink`].
 ghost use Rattle.std.specs.Prelude.{◌≡◌, ◌+◌, ◌≤◌, ◌<◌, ◌^◌, [], length, IfErr, OnOk, OnErr};
 ghost use Rattle.no_std_io2_base.specs.Errors.{IsFault};
@@ -9,9 +10,11 @@ use no_std_io2_base::error::Result;
 use no_std_io2_base::shared::failed_to_fill;
 use no_std_io2_base::traits::{BufRead, Read, Write};
 
+mod retries;
 mod sink;
 mod steady;
 
+pub use retries::write_with_retries;
 pub use sink::Sink;
 
 /// Copies all bytes to come of `reader` to `writer`, through a buffer of `S` bytes on the stack,

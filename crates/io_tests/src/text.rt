@@ -1,0 +1,146 @@
+// What `write!` prints to each writer, and what it does where a device fails or a text's own `fmt` does.
+ghost use Rattle.no_std_io2.specs.Write.{told_out};
+
+use no_std_io2::io::{BufWriter, Cursor, Error, ErrorKind, LineWriter, Result as IoResult, Write};
+use std::fmt;
+use std::test::Fail;
+
+// Takes so many writes whole, and then fails at each, with a text of its own.
+#[derive(Drop)]
+struct Failing {
+    taken: Vec<u8>,
+    calls: usize,
+}
+
+impl Write for Failing {
+    ghost told = { λ d. told_out d.taken.items };
+
+    fn write(&mut self, buf: &[u8]) -> IoResult<usize> {
+        if self.calls == 0 {
+            return Err(Error::new(ErrorKind::BrokenPipe, "unplugged"));
+        }
+        self.calls -= 1;
+        self.taken.write(buf)
+    }
+
+    fn flush(&mut self) -> IoResult<()> {
+        Ok(())
+    }
+
+    ghost steady = { λ w h. absurd h };
+}
+
+// It prints `ab`, and then answers an error of its own.
+#[derive(Drop)]
+struct Broken;
+
+impl fmt::Display for Broken {
+    fn fmt<W: fmt::Write>(&self, f: &mut fmt::Formatter<W>) -> fmt::Result {
+        f.write_str("ab")?;
+        Err(fmt::Error)
+    }
+}
+
+// It prints `abcdef` in two parts, and passes over what the parts answer.
+#[derive(Drop)]
+struct Deaf;
+
+impl fmt::Display for Deaf {
+    fn fmt<W: fmt::Write>(&self, f: &mut fmt::Formatter<W>) -> fmt::Result {
+        let _ = f.write_str("abcde");
+        let _ = f.write_str("f");
+        Ok(())
+    }
+}
+
+// A value that prints values.
+#[derive(Drop)]
+struct Point {
+    x: i32,
+    y: i32,
+}
+
+impl fmt::Display for Point {
+    fn fmt<W: fmt::Write>(&self, f: &mut fmt::Formatter<W>) -> fmt::Result {
+        write!(f, "({}, {})", self.x, self.y)
+    }
+}
+
+// A piece that is left out, printed twice or in another order, and a width that is dropped.
+#[test]
+fn a_text_is_printed_to_each_writer(rt: HostRuntime) -> Result<(), Fail> {
+    let want = b"n is  -7, 0a, (1, -2) and +3\n".as_slice();
+    let point = Point { x: 1, y: -2 };
+    let mut bytes = Vec::<u8>::new(rt.alloc());
+    write!(bytes, "n is {:>3}, {:02x}, {point} and {:+}\n", -7, 10, 3)?;
+    assert!(rt; bytes.as_slice() == want);
+    let mut buffered = BufWriter::<Vec<u8>, 8>::new(Vec::new(rt.alloc()));
+    write!(
+        buffered,
+        "n is {:>3}, {:02x}, {point} and {:+}\n",
+        -7, 10, 3
+    )?;
+    buffered.flush()?;
+    assert!(rt; buffered.get_ref().as_slice() == want);
+    let mut lines = LineWriter::<&mut Vec<u8>, 8>::new(&mut bytes);
+    writeln!(lines, "n is {:>3}, {:02x}, {point} and {:+}", -7, 10, 3)?;
+    assert!(rt; lines.get_ref().len() == 2 * want.len());
+    let mut boxed: Box<dyn Write + Drop> = Box::new(rt.alloc(), Vec::<u8>::new(rt.alloc()))?;
+    writeln!(boxed, "{point}")?;
+    Ok(())
+}
+
+// An error that is swallowed, made anew or told without its text, and a piece that is written behind it.
+#[test]
+fn a_device_that_fails_at_a_piece_has_the_front_before_it(rt: HostRuntime) -> Result<(), Fail> {
+    let whole = b"t=  21, (1, -2)\n".as_slice();
+    let mut fronts = 0;
+    'pieces: for calls in 0..100 {
+        let mut device = Failing {
+            taken: Vec::new(rt.alloc()),
+            calls,
+        };
+        match write!(device, "{}={:>4}, {}\n", "t", 21, Point { x: 1, y: -2 }) {
+            Ok(()) => {
+                assert!(rt; device.taken.as_slice() == whole);
+                break 'pieces;
+            }
+            Err(e) => {
+                assert!(rt; e.kind() == ErrorKind::BrokenPipe, "{calls}");
+                assert!(rt; e.get_ref().copied() == Some("unplugged"), "{calls}");
+                assert!(rt; whole.starts_with(device.taken.as_slice()), "{calls}");
+                fronts += 1;
+            }
+        }
+    }
+    assert!(rt; fronts > 5);
+    Ok(())
+}
+
+// A device's error that a text passes over, as if it had gone well.
+#[test]
+fn a_text_that_passes_over_errors_hides_none(rt: HostRuntime) -> Result<(), Fail> {
+    let mut room = [0u8; 4];
+    let mut device = Cursor::new(&mut room[..]);
+    match write!(device, "{Deaf}!") {
+        Ok(()) => assert!(rt; false),
+        Err(e) => assert!(rt; e.kind() == ErrorKind::WriteZero),
+    }
+    assert!(rt; room == *b"abcd");
+    Ok(())
+}
+
+// A text's own failure that is passed over, and what it had printed taken back.
+#[test]
+fn a_text_that_fails_is_told(rt: HostRuntime) -> Result<(), Fail> {
+    let mut device = Vec::<u8>::new(rt.alloc());
+    match write!(device, "<{Broken}>") {
+        Ok(()) => assert!(rt; false),
+        Err(e) => {
+            assert!(rt; e.kind() == ErrorKind::Other);
+            assert!(rt; e.get_ref().copied() == Some("formatter error"));
+        }
+    }
+    assert!(rt; device.as_slice() == b"<ab".as_slice());
+    Ok(())
+}

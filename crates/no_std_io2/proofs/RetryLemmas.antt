@@ -1,0 +1,42 @@
+-- How tries follow one another.
+use Rattle.std.proofs.Common.{◌≡◌, ℕ, ◌+◌, List, [], ◌∷◌, length, true, Option, None, Some, Result, Ok, refl, arith, count_by}
+use Rattle.std.proofs.lemmas.List.Recursion.{is_count_by}
+use Rattle.no_std_io2_base.specs.declared.error.Error.{Error}
+use Rattle.no_std_io2_base.specs.declared.error.ErrorKind.{ErrorKind}
+use Rattle.no_std_io2_base.specs.Write.{Told, Moves, Sends, HasSpent, call_mishap}
+use Rattle.no_std_io2_base.proofs.MovesLemmas.{Moves-refl, Moves-ends}
+use Rattle.no_std_io2.specs.Retries.{HasAtMost, HasSpentTries}
+
+-- at the start nothing went, and all is still to go
+pub sends_none : (a : Told) (to_go : List ℕ) → Sends a to_go (Ok tt) a to_go
+sends_none a to_go = record { sent = []; split = refl; moves = Moves-refl a }
+
+-- a call that accepts nothing, as a `flush`, behind what went
+pub sends_ends : {a b c : Told} {to_go left : List ℕ} (reply : Result (Unit {0}) Error)
+    → Sends a to_go (Ok tt) b left → Moves b [] (call_mishap reply) c → Sends a to_go reply c left
+sends_ends reply s m = record { sent = s.sent; split = s.split; moves = Moves-ends s.moves m }
+
+-- what was left out of a list of kinds, counted
+count_all : (xs : List ErrorKind) → length xs ≡ count_by (λ _. true) xs
+count_all = is_count_by length (λ _. true) refl (λ x xs. omega arith)
+
+-- no try was made, and no mishap spent
+pub spent_none : (n : ℕ) (old : Option (List ErrorKind)) → HasSpentTries n n old old
+spent_none n None = tt
+spent_none n (Some old) = omega arith
+
+-- a mishap more was spent
+pub spent_more : (n left less : ℕ) (old mid new : Option (List ErrorKind)) (k : ErrorKind)
+    → HasSpentTries n left old mid → HasSpent mid (k ∷ []) new → left ≡ less + 1 → HasSpentTries n less old new
+spent_more n left less None mid new k f g is = tt
+spent_more n left less (Some old) None new k f g is = absurd f
+spent_more n left less (Some old) (Some mid) None k f g is = absurd g
+spent_more n left less (Some old) (Some mid) (Some new) k f g is = omega (arith, f, g (λ _. true), count_all mid, count_all new)
+
+-- no more mishaps than were told
+pub spent_all : (n : ℕ) (old mid new : Option (List ErrorKind)) (k : ErrorKind) → HasSpentTries n 0 old mid
+    → HasSpent mid (k ∷ []) new → HasAtMost n old → ⊥
+spent_all n None mid new k f g most = most
+spent_all n (Some old) None new k f g most = f
+spent_all n (Some old) (Some mid) None k f g most = g
+spent_all n (Some old) (Some mid) (Some new) k f g most = omega (arith, f, g (λ _. true), count_all mid, count_all new, most)

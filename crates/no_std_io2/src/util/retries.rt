@@ -1,0 +1,46 @@
+//! A slice that is written and flushed, again after each of so many faults.
+ghost use Rattle.std.specs.Prelude.{◌≡◌, [], OnOk, IsOk};
+ghost use Rattle.no_std_io2_base.specs.Write.{Sends};
+ghost use Rattle.no_std_io2.specs.Retries.{HasAtMost};
+
+use no_std_io2_base::error::Result;
+use no_std_io2_base::traits::Write;
+
+// Writes what is left and flushes, once.
+fn write_and_flush<W: Write>(writer: &mut W, rest: &mut &[u8]) -> Result<()>
+    ensures sends { Sends (W.told writer.old) rest.old.now result (W.told writer.new) rest.new.now }
+    ensures done { OnOk result (rest.new.now ≡ []) }
+    ensures flushed { OnOk result ((W.told writer.new).held ≡ []) }
+{
+    writer.write_rest(rest)?;
+    writer.flush()
+}
+
+/// Writes what is left in `rest` and flushes, and does so again after each of the first `retries` faults: what was
+/// accepted is gone from the front of `rest`, so no byte goes out twice. Over a writer that tells at most
+/// `retries` mishaps to come it succeeds. Rust's std has no such function.
+///
+/// # Errors
+/// The fault after the last try: what is left in `rest` was not accepted, and the same call goes on there.
+///
+/// ```rust
+/// let mut w = BufWriter::<Vec<u8>, 64>::new(Vec::new(rt.alloc()));
+/// let mut rest = b"abc".as_slice();
+/// write_with_retries(&mut w, &mut rest, 3)?; // tries again after each of the first three faults
+/// assert!(rt; w.get_ref().as_slice() == b"abc".as_slice());
+/// ```
+pub fn write_with_retries<W: Write>(writer: &mut W, rest: &mut &[u8], retries: u32) -> Result<()>
+    ensures sends { Sends (W.told writer.old) rest.old.now result (W.told writer.new) rest.new.now }
+    ensures done { OnOk result (rest.new.now ≡ []) }
+    ensures flushed { OnOk result ((W.told writer.new).held ≡ []) }
+    ensures enough { HasAtMost retries (W.told writer.old).mishaps → IsOk result }
+{
+    let mut left = retries;
+    'tries: loop {
+        match write_and_flush(writer, rest) {
+            Ok(()) => return Ok(()),
+            Err(fault) if left == 0 => return Err(fault),
+            Err(_fault) => left -= 1,
+        }
+    }
+}
