@@ -8,7 +8,7 @@ ghost use Rattle.no_std_io2_base.specs.Cursor.{cursor_inner, cursor_place};
 ghost use Rattle.no_std_io2_base.specs.Errors.{IsFault, error_display, kind_number};
 ghost use Rattle.no_std_io2_base.specs.Read.{events_of, cut, bytes_reader, NextByte};
 ghost use Rattle.no_std_io2_base.specs.Take.{take_inner, take_limit};
-ghost use Rattle.no_std_io2_base.specs.Write.{told_out};
+ghost use Rattle.no_std_io2_base.specs.Write.{told_out, WriteCall, BoxMay};
 
 use crate::cursor::{AsSlice, Cursor};
 use crate::error::{Error, ErrorKind, Result};
@@ -104,6 +104,22 @@ fn boxed_writer_tells<W: Write>(w: &Box<W>)
 fn boxed_object_tells(w: &Box<dyn Write + Drop>)
     ensures told { ⟦<Box<dyn Write + Drop> as Write>⟧.told w.now ≡ told w.now }
     ensures cost { ⟦<Box<dyn Write + Drop> as Write>⟧.cost w.now ≡ 0 }
+{}
+
+// A call of a reference or a box may do what the same call of its target may.
+fn lent_writer_calls<'a, W: Write>(old: &&'a mut W, new: &&'a mut W)
+    ensures { (call : WriteCall) → ⟦<&'a mut W as Write>⟧.may old.now call new.now
+        → W.may old.now.now call new.now.now }
+{}
+
+fn boxed_writer_calls<W: Write>(old: &Box<W>, new: &Box<W>)
+    ensures { (call : WriteCall) → ⟦<Box<W> as Write>⟧.may old.now call new.now
+        → W.may old.now.value call new.now.value }
+{}
+
+fn boxed_object_calls(old: &Box<dyn Write + Drop>, new: &Box<dyn Write + Drop>)
+    ensures { (call : WriteCall) → ⟦<Box<dyn Write + Drop> as Write>⟧.may old.now call new.now
+        → BoxMay old.now (Write-box old.now).may call new.now }
 {}
 
 fn lent_store_tells<'a, T: Stored>(r: &&'a mut T)
