@@ -50,3 +50,12 @@ trail_line front line lent (Ok n) (Ok m) len capacity text text' {behind = behin
     subst (λ l. IsEnd (front ++ l) behind) (ap (λ k. drop k line) zero ∙ sym same ∙ sym left) end
 trail_line front line lent (Err f) (Ok m) len capacity text text' zero whole same follows end = absurd follows
 trail_line front line lent read (Err e) len capacity text text' zero whole same follows end = tt
+
+-- a line that went straight to the text, of which what lies behind is an end then
+pub trail_given : (text part behind : List ℕ) {len : ℕ} {text' behind' : List ℕ} → len ≡ length text → text' ≡ text ++ part
+    → behind' ≡ behind ++ part → IsEnd (behind ++ drop len text') behind'
+trail_given text part behind {len} whole given taken = (
+  [],
+  ap (λ l. behind ++ drop len l) given ∙ ap (λ k. behind ++ drop k (text ++ part)) whole
+      ∙ ap (λ l. behind ++ l) (drop-append_seam text part) ∙ sym taken,
+)

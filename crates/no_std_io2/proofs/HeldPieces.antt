@@ -1,6 +1,6 @@
 -- A piece that stands first in what is held.
 use Rattle.std.proofs.Common.{◌≡◌, ℕ, Bool, true, List, [], ◌∷◌, ◌++◌, length, take, drop, refl, sym, ap, ap₂, subst, ◌∙◌, arith}
-use Rattle.std.proofs.Common.{Result, Ok, Err, inl, inr, ⊎_elim, append_assoc, length-append, length-take-le, take-append-drop, take_all}
+use Rattle.std.proofs.Common.{◌≤◌, ◌<◌, true≢false, Result, Ok, Err, inl, inr, ⊎_elim, append_assoc, length-append, length-take-le, take-append-drop, take_all}
 use Rattle.no_std_io2_base.specs.declared.error.Error.{Error}
 use Rattle.no_std_io2_base.specs.Errors.{IsOutOfMemory}
 use Rattle.no_std_io2_base.specs.BufRead.{IsNotEmpty}
@@ -75,3 +75,26 @@ line_held line rest none items lent old new (Err f) (Err e) len capacity text te
     ))
     (λ other. absurd (other.0 taken.0.0))
     refused
+
+-- what was found of the bytes held, where it is whole and some, is a line
+pub line_first : {n : ℕ} {is_whole : Bool} {lent : List ℕ} (held : List ℕ) → lent ≡ held → FindsPiece 10 lent n is_whole
+    → is_whole ≡ true → 0 < n → (n ≤ length held) × EndsPiece 10 (take n held)
+line_first {n} {is_whole} held same finds ended some =
+    let found : FindsPiece 10 held n is_whole = subst (λ l. FindsPiece 10 l n is_whole) same finds in
+    (found.within, ⊎_elim (λ ends. ends) (λ none. absurd (omega (arith, some, found.within, ap length none))) (found.whole ended))
+
+-- a line that was held went straight to the text
+pub line_given : {R : Type 0} {S n : ℕ} (line rest : List ℕ) (old new : BufReader R S) (text : List ℕ) {text' : List ℕ}
+    → n ≤ length (reader_held old) → EndsPiece 10 (take n (reader_held old)) → reader_held new ≡ drop n (reader_held old)
+    → reader_behind new ≡ reader_behind old ++ take n (reader_held old) → reader_inner new ≡ reader_inner old
+    → text' ≡ text ++ take n (reader_held old) → reader_held old ≡ line ++ rest → EndsPiece 10 line
+    → TakesHeldLine line rest old text (Ok n) text' new
+line_given {n = n} line rest old new text within first held behind inner given is ends =
+    let found : FindsPiece 10 (reader_held old) n true = record { within = within; whole = λ whole. inl first; open_ended = λ none. absurd (true≢false none) } in
+    let part = piece_found line rest (reader_held old) is ends found refl in (
+      part.0,
+      given ∙ ap (λ l. text ++ l) part.1,
+      held ∙ part.2,
+      behind ∙ ap (λ l. reader_behind old ++ l) part.1,
+      inner,
+    )

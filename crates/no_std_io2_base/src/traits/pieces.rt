@@ -2,8 +2,9 @@
 ghost use Rattle.std.specs.Prelude.{◌≡◌, ◌≢◌, ◌<◌, ◌≤◌, ◌+◌, ◌++◌, false, All, length, take, slice_index, IfSome};
 ghost use Rattle.std.specs.Prelude.{IfNone, OnOk, OnErr, IfErr, IfOk, IsOk, IsUtf8, vec_len, vec_capacity};
 ghost use Rattle.std.specs.Prelude.{string_bytes, string_len, string_capacity};
+ghost use Rattle.std.specs.Bool.{OnTrue, OnFalse};
 ghost use Rattle.std.specs.List.{AllWithin};
-ghost use Rattle.no_std_io2_base.specs.Pieces.{FindsPiece, ends_in, without, line_text, IsInvalidText, AnswersLine};
+ghost use Rattle.no_std_io2_base.specs.Pieces.{FindsPiece, ends_in, without, line_text, IsInvalidText, AnswersLine, Follows};
 ghost use Rattle.no_std_io2_base.specs.Errors.{IsFault};
 ghost use Rattle.no_std_io2_base.specs.Write.{IsFront};
 
@@ -113,6 +114,25 @@ pub fn append_line(buf: &mut String, line: &[u8], read: Result<usize>) -> Result
         return Err(Error::from(ErrorKind::OutOfMemory));
     }
     read
+}
+
+/// Appends a line to a text, where it is UTF-8 and the text has the room or is given it, and answers
+/// whether it did. Else the text is as it was. For a reader with a `read_line` of its own.
+pub fn append_text(buf: &mut String, line: &[u8]) -> bool
+    ensures appended { OnTrue result (Follows line.now (string_bytes buf.old) (string_bytes buf.new)
+        × (string_len buf.new ≡ string_len buf.old + length line.now)) }
+    ensures same { OnFalse result ((string_bytes buf.new ≡ string_bytes buf.old)
+        × (string_len buf.new ≡ string_len buf.old) × (string_capacity buf.new ≡ string_capacity buf.old)) }
+{
+    let Ok(text) = std::str::from_utf8(line) else {
+        return false;
+    };
+    if buf.reserve(text.len()).is_err() {
+        return false;
+    }
+    // It has the room, so no memory is asked for.
+    let _ = buf.push_str(text);
+    true
 }
 
 // The bytes aren't UTF-8.

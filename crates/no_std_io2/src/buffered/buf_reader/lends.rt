@@ -1,12 +1,12 @@
 // A `BufReader` as a reader that lends.
-ghost use Rattle.std.specs.Prelude.{◌≡◌, ◌+◌, ◌-◌, ◌<◌, ◌≤◌, [], ◌++◌, min, length, take, drop, Some, IfOk, IfErr};
+ghost use Rattle.std.specs.Prelude.{◌≡◌, ◌+◌, ◌-◌, ◌<◌, ◌≤◌, [], ◌++◌, min, length, take, drop, Some, IfOk, IfErr, IfSome, IfNone};
 ghost use Rattle.std.specs.Prelude.{ℕ, List, Result, IsOkAnd, OnOk, OnErr, vec_len, vec_capacity};
 ghost use Rattle.std.specs.Prelude.{string_bytes, string_len, string_capacity};
 ghost use Rattle.no_std_io2.specs.Buffer.{IsEnd};
 ghost use Rattle.std.specs.Borrow.{sem};
 ghost use Rattle.no_std_io2_base.specs.BufRead.{FillBufLaw, AfterLoan, ConsumeLaw, ReadUntilLaw, ReadLineLaw, Rests};
 ghost use Rattle.no_std_io2_base.specs.declared.error.Error.{Error};
-ghost use Rattle.no_std_io2_base.specs.Pieces.{AnswersLine, EndsPiece};
+ghost use Rattle.no_std_io2_base.specs.Pieces.{AnswersLine, EndsPiece, Follows};
 ghost use Rattle.no_std_io2.specs.contracts.buffered.buf_reader.BufReader.{the_row as reader-row};
 ghost use Rattle.no_std_io2.specs.BufReader.{reader_held, reader_behind, reader_inner, StaysSound};
 ghost use Rattle.no_std_io2.specs.BufReader.{reader_lent_length, TakesHeld, TakesHeldLine};
@@ -14,9 +14,34 @@ ghost use Rattle.no_std_io2.specs.BufReader.{reader_lent_length, TakesHeld, Take
 use super::BufReader;
 use super::pieces::find_piece;
 use no_std_io2_base::error::Result;
-use no_std_io2_base::shared::{append, append_line};
+use no_std_io2_base::shared::{append, append_line, append_text};
 use no_std_io2_base::traits::{BufRead, Read};
 use std::alloc::{Allocator, Global};
+
+impl<R: Read, const S: usize> BufReader<R, S> {
+    // Appends the line that is held first to the text, where it is held whole and the text takes it: its length. Else nothing changes.
+    #[inline(always)]
+    fn take_line(&mut self, buf: &mut String) -> Option<usize>
+        ensures line { IfSome result (λ n. (n ≤ length (reader_held self.old))
+            × EndsPiece 10 (take n (reader_held self.old))) }
+        ensures text { IfSome result (λ n. Follows (take n (reader_held self.old)) (string_bytes buf.old) (string_bytes buf.new)
+            × (string_len buf.new ≡ string_len buf.old + n)) }
+        ensures law { IfSome result (λ n. ConsumeLaw ⟦<BufReader<R, S> as BufRead>⟧ self.old n self.new) }
+        ensures behind { IfSome result (λ n. reader_behind self.new ≡ reader_behind self.old ++ take n (reader_held self.old)) }
+        ensures inner { IfSome result (λ _. reader_inner self.new ≡ reader_inner self.old) }
+        ensures sound { StaysSound R.has_store R.position R.content self.old self.new }
+        ensures none { IfNone result ((self.new ≡ self.old) × (string_bytes buf.new ≡ string_bytes buf.old)
+            × (string_len buf.new ≡ string_len buf.old) × (string_capacity buf.new ≡ string_capacity buf.old)) }
+    {
+        let held = self.buffer();
+        let (len, is_whole) = find_piece(held, b'\n');
+        if !is_whole || len == 0 || !append_text(buf, &held[..len]) {
+            return None;
+        }
+        self.consume(len);
+        Some(len)
+    }
+}
 
 impl<R: Read, const S: usize> BufRead for BufReader<R, S> {
     ghost held = { reader_held };
@@ -41,7 +66,7 @@ impl<R: Read, const S: usize> BufRead for BufReader<R, S> {
         })) }
     {
         if self.buffer.len() == 0 {
-            self.read_ahead()?;
+            self.refill()?;
         }
         Ok(self.buffer())
     }
@@ -87,7 +112,7 @@ impl<R: Read, const S: usize> BufRead for BufReader<R, S> {
         }
     }
 
-    // The trait's body.
+    // A line that is held whole goes straight to the text; any other as in the trait's body.
     fn read_line(&mut self, alloc: Global, buf: &mut String) -> Result<usize>
         ensures law { ReadLineLaw ⟦<Self as BufRead>⟧ self.old buf.old result buf.new self.new }
 
@@ -103,8 +128,13 @@ impl<R: Read, const S: usize> BufRead for BufReader<R, S> {
             × IsEnd (reader_behind self.old ++ line) (reader_behind self.new)) }
         ensures sound { StaysSound R.has_store R.position R.content self.old self.new }
     {
-        let mut line = Vec::new(alloc);
-        let read = self.read_until(b'\n', &mut line);
-        append_line(buf, &line, read)
+        match self.take_line(buf) {
+            Some(len) => Ok(len),
+            None => {
+                let mut line = Vec::new(alloc);
+                let read = self.read_until(b'\n', &mut line);
+                append_line(buf, &line, read)
+            }
+        }
     }
 }

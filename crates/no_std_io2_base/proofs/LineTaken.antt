@@ -1,0 +1,111 @@
+-- A line that lies whole in what a reader lends, and goes straight to a text.
+use Rattle.std.proofs.Common.{◌≡◌, ℕ, ◌+◌, ◌<◌, ◌≤◌, List, length, take, drop, refl, ap, inl, arith, length-append, length-take-le, Ok, String}
+use Rattle.std.proofs.Common.{string_bytes, string_len, string_capacity, IfOk, IfErr, IsOk, OnOk, Err, Result, Vec, [], sym, subst}
+use Rattle.no_std_io2_base.specs.declared.error.Error.{Error}
+use Rattle.no_std_io2_base.specs.Write.{IsFront}
+use Rattle.no_std_io2_base.specs.Errors.{IsFault}
+use Rattle.no_std_io2_base.specs.Read.{events_of}
+use Rattle.no_std_io2_base.specs.BufRead.{Lender, ConsumeLaw, ReadUntilLaw, ReadLineLaw}
+use Rattle.no_std_io2_base.specs.Pieces.{AnswersLine, EndsPiece, Follows, TakesLine, TakesPiece}
+use Rattle.no_std_io2_base.proofs.EventLemmas.{length-events_of}
+use Rattle.no_std_io2_base.proofs.PieceLemmas.{piece_none, piece_ended}
+
+-- it is taken by one `consume`, and the text grows by it
+pub line_at_once : {X A : Type 0} {R : Lender X} {old new : X} {n : ℕ} {buf buf' : String A}
+    → ((x : X) → R.has_store x → R.tells x × (R.events x ≡ events_of (drop (R.position x) (R.content x))))
+    → n ≤ length (R.held old) → EndsPiece 10 (take n (R.held old)) → ConsumeLaw R old n new
+    → Follows (take n (R.held old)) (string_bytes buf) (string_bytes buf') → string_len buf' ≡ string_len buf + n
+    → ReadLineLaw R old buf (Ok n) buf' new
+line_at_once {R = R} {old} {new} {n} law within ends dropped follows grows =
+    let line = take n (R.held old) in
+    let long = length-take-le n (R.held old) within in
+    record {
+      told = λ t.
+          let rest = dropped.told t in (
+            rest.0,
+            record {
+              line = line;
+              read = Ok n;
+              takes = piece_ended (piece_none refl) rest.1 (inl ends) refl (omega (arith, long));
+              answers = (follows, refl);
+            },
+          );
+      appends = (line, follows.1);
+      count = grows;
+      fault = tt;
+      turns = dropped.turns;
+      turn = dropped.turn;
+      metered = λ m. (dropped.cost m).0;
+      filling = dropped.filling;
+      store = λ s.
+          let rest = dropped.store s in
+          let gone = (dropped.told (law old s).0).1 in (
+            rest.0,
+            rest.1,
+            omega (arith, rest.2, ap length gone, length-append (events_of line) (R.events new), length-events_of line, long),
+          );
+    }
+
+-- where the answer is the read's, so is what is said of it
+ok_same : (P : ℕ → Type 0) (read reply : Result ℕ Error) → (IsOk reply → reply ≡ read) → IfOk read P → IfOk reply P
+ok_same P read (Ok n) same said = subst (λ r. IfOk r P) (sym (same refl)) said
+ok_same P read (Err e) same said = tt
+
+-- a text grows by as many bytes as were read
+grown : (read reply : Result ℕ Error) (len len' : ℕ) {none some line : ℕ} → (IsOk reply → reply ≡ read) → none ≡ 0 → some ≡ line
+    → IfOk read (λ n. some ≡ none + n) → OnOk reply (len' ≡ len + line) → IfOk reply (λ n. len' ≡ len + n)
+grown read (Ok n) len len' {none} {some} same zero long count more =
+    omega (arith, zero, long, ok_same (λ m. some ≡ none + m) read (Ok n) same count, more)
+grown read (Err e) len len' same zero long count more = tt
+
+-- a line that was read into a vector, and then appended
+pub line_gathered : {X A B : Type 0} {R : Lender X} {old new : X} (none all : Vec ℕ B) {line : List ℕ} {buf buf' : String A}
+    (read reply : Result ℕ Error) → none.items ≡ [] → line ≡ all.items → ReadUntilLaw R old 10 none read all new
+    → AnswersLine line read (string_len buf) (string_capacity buf) reply (string_bytes buf) (string_bytes buf')
+    → IsFront (string_bytes buf) (string_bytes buf') → (IsOk reply → reply ≡ read)
+    → OnOk reply (string_len buf' ≡ string_len buf + length line) → (IfErr read IsFault → IfErr reply IsFault)
+    → ReadLineLaw R old buf reply buf' new
+line_gathered {R = R} {old} {new} none all {line} {buf} {buf'} read reply empty same until answers appends given more fault = record {
+  told = λ t.
+      let taken = until.told t in (
+        taken.0,
+        record {
+          line = line;
+          read = read;
+          takes = subst (λ l. TakesPiece 10 (R.events old) read [] l (R.events new)) (sym same)
+              (subst (λ l. TakesPiece 10 (R.events old) read l all.items (R.events new)) empty taken.1);
+          answers = answers;
+        },
+      );
+  appends = appends;
+  count = grown read reply (string_len buf) (string_len buf') given (omega (arith, none.ok.0, ap length empty)) (omega (arith, all.ok.0, ap length same)) until.count more;
+  fault = fault until.fault;
+  turns = until.turns;
+  turn = ok_same (λ n. 0 < n → R.turns new < R.turns old) read reply given until.turn;
+  metered = until.metered;
+  filling = until.filling;
+  store = until.store;
+}
+
+-- one text is as good as another with the same bytes, length and capacity
+pub line_same : {X A : Type 0} {R : Lender X} {old new : X} {buf other buf' : String A} {reply : Result ℕ Error} → ReadLineLaw R old buf reply buf' new
+    → string_bytes buf ≡ string_bytes other → string_len buf ≡ string_len other → string_capacity buf ≡ string_capacity other
+    → ReadLineLaw R old other reply buf' new
+line_same {R = R} {old} {new} {buf} {other} {buf'} {reply} law bytes len capacity = record {
+  told = λ t.
+      let taken = law.told t in (
+        taken.0,
+        subst (λ b. TakesLine (R.events old) (string_len other) (string_capacity other) reply b (string_bytes buf') (R.events new)) bytes
+            (subst (λ n. TakesLine (R.events old) (string_len other) n reply (string_bytes buf) (string_bytes buf') (R.events new)) capacity
+            (subst (λ n. TakesLine (R.events old) n (string_capacity buf) reply (string_bytes buf) (string_bytes buf') (R.events new)) len
+            taken.1)),
+      );
+  appends = subst (λ b. IsFront b (string_bytes buf')) bytes law.appends;
+  count = subst (λ n. IfOk reply (λ m. string_len buf' ≡ n + m)) len law.count;
+  fault = law.fault;
+  turns = law.turns;
+  turn = law.turn;
+  metered = law.metered;
+  filling = law.filling;
+  store = law.store;
+}
