@@ -2,15 +2,13 @@
 use Rattle.std.specs.Prelude.{ℕ, negsuc, List, [], ◌∷◌, Result, Ok}
 use Rattle.no_std_io2.specs.BufReader.{ReaderSeeks}
 use Rattle.no_std_io2.specs.Read.{Reader, ReadExactLaw}
-use Rattle.no_std_io2.specs.Seek.{WithoutPosition}
+use Rattle.no_std_io2.specs.Seek.{SeekCall, WithoutPosition}
 use Rattle.no_std_io2.specs.declared.buffered.buf_reader.BufReader.{BufReader}
-use Rattle.no_std_io2.specs.declared.io.Error.{Error}
-use Rattle.no_std_io2.specs.declared.io.SeekFrom.{SeekFrom}
 use Rattle.no_std_io2.specs.declared.io.SeekFrom.TheVariants.{Current}
 
 -- it was read by `read_exact`, and then the reader was sought back by two, outside its buffer
-abbrev pub SoughtBack : {R : Type 0} {S : ℕ} → Reader (BufReader R S) → (R → SeekFrom → R → Result ℕ Error → Type 0)
+abbrev pub SoughtBack : {R : Type 0} {S : ℕ} → Reader (BufReader R S) → (R → SeekCall → R → Type 0)
     → BufReader R S → List ℕ → BufReader R S → Type 0
-SoughtBack {R} {S} reader may_seek old header new =
+SoughtBack {R} {S} reader may old header new =
     (between : BufReader R S) × ReadExactLaw reader old (0 ∷ 0 ∷ []) (Ok tt) header between
-    × WithoutPosition (ReaderSeeks may_seek between (Current (negsuc 1)) new) (Ok tt)
+    × WithoutPosition (ReaderSeeks may between (Current (negsuc 1)) new) (Ok tt)

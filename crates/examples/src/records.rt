@@ -29,7 +29,7 @@ pub fn peek_header<R: Read + Seek, const S: usize>(r: &mut BufReader<R, S>) -> R
 
     // And then they stand first in what is held, or the reader was sought back to them.
     ensures steps_back { IfOk result (λ header. IsFront (header.0 ∷ header.1 ∷ []) (reader_held r.new)
-        ⊎ SoughtBack ⟦<BufReader<R, S> as Read>⟧ R.may_seek r.old (header.0 ∷ header.1 ∷ []) r.new) }
+        ⊎ SoughtBack ⟦<BufReader<R, S> as Read>⟧ R.Seek.may r.old (header.0 ∷ header.1 ∷ []) r.new) }
 
     // A sound store stays so and where it was. It fails exactly where fewer than two bytes are left, and these are taken.
     ensures store { reader_is_sound R.has_store R.position R.content r.old

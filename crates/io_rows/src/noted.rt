@@ -160,7 +160,7 @@ impl<T: Seek> Seek for Noted<T> {
         self.inner.stream_len()
     }
 
-    ghost may_seek = { λ old pos new reply. T.may_seek old.inner pos new.inner reply };
+    ghost may = { λ old call new. T.may old.inner call new.inner };
 
     ghost seek_fits = { λ n h. T.seek_fits n.inner h };
 }

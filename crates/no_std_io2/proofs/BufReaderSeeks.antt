@@ -7,7 +7,7 @@ use Rattle.std.specs.Int.{w64}
 use Rattle.no_std_io2_base.specs.declared.error.Error.{Error}
 use Rattle.no_std_io2_base.specs.declared.traits.seek.SeekFrom.{SeekFrom}
 use Rattle.no_std_io2_base.specs.declared.traits.seek.SeekFrom.TheVariants.{Start, End, Current}
-use Rattle.no_std_io2_base.specs.Seek.{IsAtOffset, IsTarget, Seeks}
+use Rattle.no_std_io2_base.specs.Seek.{IsAtOffset, IsTarget, Seeks, SeekCall, Sought}
 use Rattle.no_std_io2.specs.BufReader.{SeeksInner, IsTooFarBack}
 use Rattle.no_std_io2.specs.Buffer.{IsSound}
 
@@ -140,13 +140,13 @@ elsewhere (End o) is len at at' n h = h
 elsewhere (Current o) is len at at' n h = absurd (is_current o is)
 
 -- one of these is one seek of the inner reader
-pub one_inner : {R : Type 0} (may_seek : R → SeekFrom → R → Result ℕ Error → Type 0) (held : ℕ) {old new : R}
+pub one_inner : {R : Type 0} (may : R → SeekCall → R → Type 0) (held : ℕ) {old new : R}
     (reply : Result ℕ Error) (target : SeekFrom)
-    → ((k : ℕ) × (target ≡ Start k)) ⊎ ((o : ℤ) × (target ≡ End o)) → may_seek old target new reply
-    → SeeksInner may_seek held old target new reply
-one_inner may_seek held reply (Start k) is h = h
-one_inner may_seek held reply (End o) is h = h
-one_inner may_seek held reply (Current o) is h = absurd (is_current o is)
+    → ((k : ℕ) × (target ≡ Start k)) ⊎ ((o : ℤ) × (target ≡ End o)) → may old (Sought target reply) new
+    → SeeksInner may held old target new reply
+one_inner may held reply (Start k) is h = h
+one_inner may held reply (End o) is h = h
+one_inner may held reply (Current o) is h = absurd (is_current o is)
 
 -- a seek from the start or from the end is never too far back
 pub not_far : (target : SeekFrom) (held : ℕ) → ((k : ℕ) × (target ≡ Start k)) ⊎ ((o : ℤ) × (target ≡ End o)) → IsTooFarBack target held → ⊥

@@ -1,6 +1,6 @@
 -- The three ends of a write through a buffer: what was held could not be sent, the bytes go past it, or they are held.
 use Rattle.std.proofs.Common.{◌≡◌, false, true, ℕ, ◌+◌, ◌<◌, ◌≤◌, ◌∙◌, List, [], ◌++◌, length, Result, Ok, Err, Some}
-use Rattle.std.proofs.Common.{IfOk, OnOk, refl, sym, ap, subst, inl, inr, arith, le_refl, take_all, append-nil, ⊎_elim}
+use Rattle.std.proofs.Common.{IfOk, IfErr, OnOk, refl, sym, ap, subst, inl, inr, arith, le_refl, take_all, append-nil, ⊎_elim}
 use Rattle.std.proofs.lemmas.Bool.{cases_lt}
 use Rattle.std.proofs.lemmas.Bool.Decides.{nat_tests}
 use Rattle.no_std_io2_base.specs.declared.error.Error.{Error}
@@ -14,7 +14,7 @@ use Rattle.no_std_io2_base.proofs.MovesLemmas.{IsFront-refl, Moves-then, Moves-e
 use Rattle.no_std_io2.specs.declared.buffered.sender.Sender.{Sender}
 use Rattle.no_std_io2.specs.declared.buffered.buf_writer.BufWriter.{BufWriter}
 use Rattle.no_std_io2.specs.BufWriter.{sender_inner, sender_buffer, sender_told, sender_with_inner, way_calls, writer_inner, writer_buffer}
-use Rattle.no_std_io2.specs.BufWriter.{writing_calls, buffer_after, Sent, MakesWay, Buffers, BuffersAll, Flushes, SendsFirst}
+use Rattle.no_std_io2.specs.BufWriter.{writing_calls, buffer_after, Sent, MakesWay, Buffers, BuffersAll, Flushes, SendsFirst, SendsAll}
 use Rattle.no_std_io2.proofs.BufWriterLemmas.{Moves-kept, Moves-passed, Moves-sent, Moves-sent_part, Moves-out}
 use Rattle.no_std_io2.proofs.BufWriterLemmas.{none_of_length, IsEnd-none, IsEnd-held, call_steady, sending_some}
 use Rattle.no_std_io2.proofs.BufWriterCounts.{calls_for-le}
@@ -358,3 +358,16 @@ sending_done r none = record {
   fault = iferr r (λ e some. absurd (omega (arith, some, ap length none)));
   refused = iferr r (λ e some. absurd (omega (arith, some, ap length none)));
 }
+
+-- all was sent
+pub sends_all : {W : Type 0} {S : ℕ} {I : Writer W} {old new : Sender W S} → Sent I old (Ok tt) new
+    → SendsAll I (sender_inner old) (sender_buffer old) (sender_inner new)
+sends_all {old = old} s = record {
+  moves = Moves-out {k = []} _ s.sends.sent _ s.sends.split s.empty s.sends.moves;
+  made = (s.made.0, s.made.1, subst (SendCalls (sender_buffer old) s.made.0 (Ok tt)) s.empty s.made.2);
+}
+
+-- with nothing left no sending failed
+pub none_refused : {A : Type 0} (r : Result A Error) {left : List ℕ} (P : Error → Type 0) → left ≡ [] → IfErr r (λ e. 0 < length left → P e)
+none_refused (Ok n) P none = tt
+none_refused (Err e) P none = λ some. absurd (omega (arith, some, ap length none))

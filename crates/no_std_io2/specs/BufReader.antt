@@ -9,7 +9,8 @@ use Rattle.no_std_io2_base.specs.declared.traits.seek.SeekFrom.{SeekFrom}
 use Rattle.no_std_io2_base.specs.declared.traits.seek.SeekFrom.TheVariants.{Start, Current}
 use Rattle.no_std_io2_base.specs.Errors.{IsFault, IsOutOfMemory}
 use Rattle.no_std_io2_base.specs.Cursor.{HasMoved}
-use Rattle.no_std_io2_base.specs.Write.{IsFront}
+use Rattle.no_std_io2_base.specs.Write.{IsFront, Made}
+use Rattle.no_std_io2_base.specs.Seek.{SeekCall, Sought, Measured, LenCalls}
 use Rattle.no_std_io2_base.specs.Read.{Event, events_of, fails, ReadsExact, bytes, bytes-events_of}
 use Rattle.no_std_io2.specs.contracts.buffered.buf_reader.BufReader.{the_row as reader-row}
 use Rattle.no_std_io2.specs.declared.buffered.buf_reader.BufReader.{BufReader}
@@ -214,29 +215,35 @@ abbrev pub back_by : ℕ → SeekFrom
 back_by held = Current (pos 0 -ℤ pos held)
 
 -- Back by the bytes held, which arrived somewhere, and then by the offset.
-pub record SeeksTwice {R : Type 0} (may_seek : R → SeekFrom → R → Result ℕ Error → Type 0) (held : ℕ) (old : R) (offset : ℤ)
+pub record SeeksTwice {R : Type 0} (may : R → SeekCall → R → Type 0) (held : ℕ) (old : R) (offset : ℤ)
     (new : R) (reply : Result ℕ Error) : Type 0 where
   pub between : R
   pub at : ℕ
-  pub back : may_seek old (back_by held) between (Ok at)
-  pub on : may_seek between (Current offset) new reply
+  pub back : may old (Sought (back_by held) (Ok at)) between
+  pub on : may between (Sought (Current offset) reply) new
 
 -- The inner seeks that stand for one of a reader that holds so many bytes: one, by so many fewer where it counts from the current
 -- position; or, where that is too far back for one, two, or the first of them alone where that fails.
-abbrev pub SeeksInner : {R : Type 0} → (R → SeekFrom → R → Result ℕ Error → Type 0) → ℕ → R → SeekFrom → R → Result ℕ Error → Type 0
-SeeksInner may_seek held old (Current offset) new reply =
-    may_seek old (Current (offset -ℤ pos held)) new reply
+abbrev pub SeeksInner : {R : Type 0} → (R → SeekCall → R → Type 0) → ℕ → R → SeekFrom → R → Result ℕ Error → Type 0
+SeeksInner may held old (Current offset) new reply =
+    may old (Sought (Current (offset -ℤ pos held)) reply) new
     ⊎ (IsTooFarBack (Current offset) held
-    × (SeeksTwice may_seek held old offset new reply ⊎ (IsErr reply × may_seek old (back_by held) new reply)))
-SeeksInner may_seek held old to new reply = may_seek old to new reply
+    × (SeeksTwice may held old offset new reply ⊎ (IsErr reply × may old (Sought (back_by held) reply) new)))
+SeeksInner may held old to new reply = may old (Sought to reply) new
 
 -- A buffered reader was sought: its inner reader was, and the buffer dropped, or it failed, and the buffer was kept where one
 -- seek was made.
-pub record ReaderSeeks {R : Type 0} {S : ℕ} (may_seek : R → SeekFrom → R → Result ℕ Error → Type 0) (old : BufReader R S)
+pub record ReaderSeeks {R : Type 0} {S : ℕ} (may : R → SeekCall → R → Type 0) (old : BufReader R S)
     (to : SeekFrom) (new : BufReader R S) (reply : Result ℕ Error) : Type 0 where
   pub dropped : OnOk reply (HasNoBuffer new)
   pub kept : OnErr reply (KeepsBuffer old new ⊎ (IsTooFarBack to (length (reader_held old)) × HasNoBuffer new))
-  pub inner : SeeksInner may_seek (length (reader_held old)) (reader_inner old) to (reader_inner new) reply
+  pub inner : SeeksInner may (length (reader_held old)) (reader_inner old) to (reader_inner new) reply
+
+-- what a call may do to a buffered reader: these seeks, or the inner reader is measured, and the buffer is kept
+abbrev pub ReaderMaySeek : {R : Type 0} {S : ℕ} → (R → SeekCall → R → Type 0) → BufReader R S → SeekCall → BufReader R S → Type 0
+ReaderMaySeek may old (Sought to reply) new = ReaderSeeks may old to new reply
+ReaderMaySeek may old (Measured reply) new = KeepsBuffer old new
+    × ((C : List SeekCall) × Made may (reader_inner old) C (reader_inner new) × LenCalls C reply)
 
 -- a `BufReader<R, S>` fits in memory
 abbrev pub BufReaderFits : RattleType → ℕ → Type 0

@@ -13,7 +13,7 @@ use Rattle.no_std_io2.specs.declared.buffered.into_inner_error.IntoInnerError.{I
 use Rattle.no_std_io2_base.specs.declared.traits.write.Write.{Ghosts as Writer}
 use Rattle.no_std_io2_base.specs.Errors.{error_kind, IsFault, IsNoInterruption}
 use Rattle.no_std_io2_base.specs.declared.traits.seek.SeekFrom.{SeekFrom}
-use Rattle.no_std_io2_base.specs.Seek.{Seeks, Seeker}
+use Rattle.no_std_io2_base.specs.Seek.{Seeks, Seeker, SeekCall, Sought, Measured}
 use denote.Param.{param, number}
 use denote.RattleType.{RattleType}
 use Rattle.std.specs.Mem.{FitsInMemory}
@@ -296,39 +296,43 @@ pub record SendsFirst {W B A : Type 0} (I : Writer W) (inner : B → W) (buffer 
   pub refused : IfErr reply (λ e. 0 < length (buffer new)
       → Moves (buffered_told I.told inner buffer old) [] (error_kind e ∷ []) (buffered_told I.told inner buffer new))
 
--- All was sent, which left the inner writer in some state, and it was sought from there, once.
-pub record SeeksAfterSending {W : Type 0} (I : Writer W) (K : Seeker W) (old : Told) (to : SeekFrom) (new : W)
+-- All that was held was sent, which left the inner writer in some state.
+pub record SendsAll {W : Type 0} (I : Writer W) (old : W) (held : List ℕ) (sent : W) : Type 0 where
+  -- no byte is lost
+  pub moves : Moves (with_buffer (I.told old) held) [] [] (I.told sent)
+  -- these were the calls
+  pub made : (C : List WriteCall) × Made (CallOf I) old C sent × SendCalls held C (Ok tt) []
+
+-- The sending failed, and nothing else was called.
+abbrev pub SendingFails : {W : Type 0} → Writer W → W → List ℕ → Error → W → List ℕ → Type 0
+SendingFails I old held e new left = (C : List WriteCall) × Made (CallOf I) old C new × SendCalls held C (Err e) left
+
+-- All was sent, and the inner writer was sought from there, once.
+pub record SeeksAfterSending {W : Type 0} (I : Writer W) (K : Seeker W) (old : W) (held : List ℕ) (to : SeekFrom) (new : W)
     (reply : Result ℕ Error) : Type 0 where
   -- the state that the sending left
   pub sent : W
-  -- no byte is lost
-  pub moves : Moves old [] [] (I.told sent)
+  pub sends : SendsAll I old held sent
   -- one seek of the inner writer, and its answer
-  pub sought : K.may_seek sent to new reply
+  pub sought : K.may sent (Sought to reply) new
   -- a store that it told then was sought
   pub seeks : K.has_store sent
       → K.has_store new × (K.content new ≡ K.content sent)
       × Seeks (length (K.content sent)) (K.position sent) to reply (K.position new)
 
--- A buffered writer that holds this now was sought: all was sent and then its inner writer was sought, or the sending failed.
-pub record WriterSeeks {W : Type 0} (I : Writer W) (K : Seeker W) (old : Told) (to : SeekFrom) (held : List ℕ) (new : W)
-    (reply : Result ℕ Error) : Type 0 where
-  pub empty : OnOk reply (held ≡ [])
-  -- where some bytes are held still, the error is the fault that stopped the sending
-  pub fault : IfErr reply (λ e. 0 < length held → IsFault e)
-  pub sent : held ≡ [] → SeeksAfterSending I K old to new reply
-
--- All was sent, which left the inner writer in some state; a store that it told then was measured, and stayed.
-pub record MeasuredAfterSending {W : Type 0} (I : Writer W) (K : Seeker W) (old : Told) (reply : Result ℕ Error) (new : W)
-    : Type 0 where
-  -- the state that the sending left
-  pub sent : W
-  -- no byte is lost
-  pub moves : Moves old [] [] (I.told sent)
-  pub measured : K.has_store sent
-      → K.has_store new × (K.content new ≡ K.content sent) × (K.position new ≡ K.position sent)
-      × IsOkAnd reply (λ n. n ≡ length (K.content sent))
-
 -- a `BufWriter<W, S>` fits in memory
 abbrev pub BufWriterFits : RattleType → ℕ → Type 0
 BufWriterFits W S = FitsInMemory (writer-row W (param 0 (number S)))
+
+-- A call of a buffered writer as a seeker: the sending failed, which left some bytes, or all was sent and then it did this.
+pub record SendsThen {W : Type 0} (I : Writer W) (old : W) (held : List ℕ) (reply : Result ℕ Error) (new : W) (left : List ℕ)
+    (Then : Type 0) : Type 0 where
+  pub empty : OnOk reply (left ≡ [])
+  pub refused : IfErr reply (λ e. 0 < length left → SendingFails I old held e new left)
+  pub sent : left ≡ [] → Then
+
+-- what a call may do to a buffered writer, which has no `stream_len` of its own
+abbrev pub WriterMaySeek : {W : Type 0} {S : ℕ} → Writer W → Seeker W → BufWriter W S → SeekCall → BufWriter W S → Type 0
+WriterMaySeek I K old (Sought to reply) new = SendsThen I (writer_inner old) (writer_buffer old) reply (writer_inner new)
+    (writer_buffer new) (SeeksAfterSending I K (writer_inner old) (writer_buffer old) to (writer_inner new) reply)
+WriterMaySeek I K old (Measured reply) new = ⊥

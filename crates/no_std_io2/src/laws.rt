@@ -5,8 +5,9 @@ ghost use Rattle.no_std_io2_base.specs.Read.{events_of};
 ghost use Rattle.no_std_io2_base.specs.BufRead.{BeginsWith};
 ghost use Rattle.no_std_io2_base.specs.Write.{Told};
 ghost use Rattle.no_std_io2.specs.Buffer.{IsInBuffer, MovesEvents, IsSound};
-ghost use Rattle.no_std_io2.specs.BufWriter.{writer_inner, writer_buffer, writer_told, with_buffer, buffer_after, WriterSeeks};
-ghost use Rattle.no_std_io2.specs.BufReader.{reader_held, reader_behind, reader_inner, reader_is_sound, ReaderSeeks};
+ghost use Rattle.no_std_io2_base.specs.Seek.{SeekCall};
+ghost use Rattle.no_std_io2.specs.BufWriter.{writer_inner, writer_buffer, writer_told, with_buffer, buffer_after, WriterMaySeek};
+ghost use Rattle.no_std_io2.specs.BufReader.{reader_held, reader_behind, reader_inner, reader_is_sound, ReaderMaySeek};
 ghost use Rattle.no_std_io2.specs.LineWriter.{line_inner, line_buffer};
 ghost use Rattle.no_std_io2.specs.Sink.{sink_taken};
 ghost use Rattle.no_std_io2.specs.Lines.{HasNoNewline, HasNewline, unfinished_line, whole_if_short};
@@ -36,13 +37,10 @@ fn buffered_store_tells<W: Write + Stored + Drop, const S: usize>(w: &BufWriter<
 // Its seeks send what is held, and then make one of the inner writer.
 fn buffered_seeker_tells<W: Write + Seek + Drop, const S: usize>(
     old: &BufWriter<W, S>,
-    pos: SeekFrom,
     new: &BufWriter<W, S>,
-    reply: &Result<u64>,
 )
-    ensures { ⟦<BufWriter<W, S> as Seek>⟧.may_seek old.now pos new.now reply.now
-        → WriterSeeks W.Write W.Seek (writer_told W.told old.now) pos (writer_buffer new.now)
-        (writer_inner new.now) reply.now }
+    ensures { (call : SeekCall) → ⟦<BufWriter<W, S> as Seek>⟧.may old.now call new.now
+        → WriterMaySeek W.Write W.Seek old.now call new.now }
 {}
 
 // The inner's out; the inner's held, then the own buffer; the inner's mishaps and turns.
@@ -148,14 +146,9 @@ fn consume_counted<R: Read, const S: usize>(r: &mut BufReader<R, S>, amount: usi
 }
 
 // Its seeks are one of the inner reader, or two.
-fn reader_seeks_tell<R: Seek, const S: usize>(
-    old: &BufReader<R, S>,
-    pos: SeekFrom,
-    new: &BufReader<R, S>,
-    reply: &Result<u64>,
-)
-    ensures { ⟦<BufReader<R, S> as Seek>⟧.may_seek old.now pos new.now reply.now
-        → ReaderSeeks R.may_seek old.now pos new.now reply.now }
+fn reader_seeks_tell<R: Seek, const S: usize>(old: &BufReader<R, S>, new: &BufReader<R, S>)
+    ensures { (call : SeekCall) → ⟦<BufReader<R, S> as Seek>⟧.may old.now call new.now
+        → ReaderMaySeek R.may old.now call new.now }
 {}
 
 // Moves inside the buffer once. The events to come move with it, and none is taken from the inner.

@@ -4,27 +4,27 @@ use Rattle.no_std_io2_base.specs.declared.error.Error.{Error}
 use Rattle.no_std_io2_base.specs.Write.{WriteCall, Made, WroteAll, WroteRest, Told, CallLaw, Wrote, Flushed, Writes, none, took, again, stuck, fault, RestCalls, AllCalls}
 
 -- one call more
-pub made_more : {W : Type 0} (may : W → WriteCall → W → Type 0) (C : List WriteCall) (a : W) {b c : W} {call : WriteCall}
+pub made_more : {W A : Type 0} (may : W → A → W → Type 0) (C : List A) (a : W) {b c : W} {call : A}
     → Made may a C b → may b call c → Made may a (C ++ call ∷ []) c
 made_more may [] a {c = c} {call = call} made last = (c, subst (λ w. may w call c) made last, refl)
 made_more may (x ∷ C) a made last = (made.0, made.1, made_more may C made.0 made.2 last)
 
 -- calls and then others
-pub made_then : {W : Type 0} (may : W → WriteCall → W → Type 0) (C : List WriteCall) (a : W) (D : List WriteCall) (b c : W)
+pub made_then : {W A : Type 0} (may : W → A → W → Type 0) (C : List A) (a : W) (D : List A) (b c : W)
     → Made may a C b → Made may b D c → Made may a (C ++ D) c
 made_then may [] a D b c made more = subst (λ w. Made may w D c) made more
 made_then may (x ∷ C) a D b c made more = (made.0, made.1, made_then may C made.0 D b c made.2 more)
 
 -- calls of a part are calls of the whole
-pub made_map : {W V : Type 0} (may : W → WriteCall → W → Type 0) (may' : V → WriteCall → V → Type 0) (put : W → V)
-    → ((a b : W) (call : WriteCall) → may a call b → may' (put a) call (put b))
-    → (C : List WriteCall) (a b : W) → Made may a C b → Made may' (put a) C (put b)
+pub made_map : {W V A : Type 0} (may : W → A → W → Type 0) (may' : V → A → V → Type 0) (put : W → V)
+    → ((a b : W) (call : A) → may a call b → may' (put a) call (put b))
+    → (C : List A) (a b : W) → Made may a C b → Made may' (put a) C (put b)
 made_map may may' put each [] a b made = ap put made
 made_map may may' put each (call ∷ C) a b made =
     (put made.0, each _ _ _ made.1, made_map may may' put each C made.0 b made.2)
 
 -- some of them and then the others
-pub made_split : {W : Type 0} (may : W → WriteCall → W → Type 0) (C : List WriteCall) (a : W) (D : List WriteCall) (c : W)
+pub made_split : {W A : Type 0} (may : W → A → W → Type 0) (C : List A) (a : W) (D : List A) (c : W)
     → Made may a (C ++ D) c → (b : W) × Made may a C b × Made may b D c
 made_split may [] a D c made = (a, refl, made)
 made_split may (call ∷ C) a D c made =

@@ -1,9 +1,10 @@
 -- Where a seek goes, and the law of each call of `Seek`.
-use Rattle.std.specs.Prelude.{◌≡◌, ℕ, ℤ, pos, negsuc, ◌+◌, ◌^◌, ◌<◌, Ok, Err, Result, List, length, IfOk, IsOk, IsOkAnd}
+use Rattle.std.specs.Prelude.{◌≡◌, ◌≢◌, ℕ, ℤ, pos, negsuc, ◌+◌, ◌^◌, ◌<◌, Ok, Err, Result, List, [], ◌∷◌, length, IfOk, IsOk, IsOkAnd}
 use Rattle.no_std_io2_base.specs.declared.error.Error.{Error}
 use Rattle.no_std_io2_base.specs.declared.traits.seek.SeekFrom.{SeekFrom}
 use Rattle.no_std_io2_base.specs.declared.traits.seek.SeekFrom.TheVariants.{Start, End, Current}
 use Rattle.no_std_io2_base.specs.Errors.{IsInvalidSeek}
+use Rattle.no_std_io2_base.specs.Write.{Made}
 
 -- n is `base + offset`
 abbrev pub IsAtOffset : ℕ → ℤ → ℕ → Type 0
@@ -25,6 +26,23 @@ Seeks len old from (Err e) new = ((n : ℕ) → IsTarget len old from n → ⊥)
 abbrev pub here : SeekFrom
 here = Current (pos 0)
 
+-- A call of a seeker, with its answer.
+pub data SeekCall : Type 0 where
+  Sought : SeekFrom → Result ℕ Error → SeekCall
+  -- a `stream_len` that is no run of seeks
+  Measured : Result ℕ Error → SeekCall
+
+-- C are the calls of a `stream_len()`, and its answer: a call of its own; or where it is, the end, and back where that is elsewhere,
+-- of which the first error ends them.
+pub data LenCalls : List SeekCall → Result ℕ Error → Type 0 where
+  measured : {reply : Result ℕ Error} → LenCalls (Measured reply ∷ []) reply
+  no_place : {e : Error} → LenCalls (Sought here (Err e) ∷ []) (Err e)
+  no_end : {n : ℕ} {e : Error} → LenCalls (Sought here (Ok n) ∷ Sought (End (pos 0)) (Err e) ∷ []) (Err e)
+  at_end : {n : ℕ} → LenCalls (Sought here (Ok n) ∷ Sought (End (pos 0)) (Ok n) ∷ []) (Ok n)
+  back : {n len at : ℕ} → n ≢ len → LenCalls (Sought here (Ok n) ∷ Sought (End (pos 0)) (Ok len) ∷ Sought (Start n) (Ok at) ∷ []) (Ok len)
+  no_way_back : {n len : ℕ} {e : Error} → n ≢ len
+      → LenCalls (Sought here (Ok n) ∷ Sought (End (pos 0)) (Ok len) ∷ Sought (Start n) (Err e) ∷ []) (Err e)
+
 -- a call that answers as a seek did, and leaves out the position
 abbrev pub WithoutPosition : (Result ℕ Error → Type 0) → Result (Unit {0}) Error → Type 0
 WithoutPosition answers (Ok done) = (n : ℕ) × answers (Ok n)
@@ -36,7 +54,7 @@ Seeker X = record {
   has_store : X → Type 0;
   content : X → List ℕ;
   position : X → ℕ;
-  may_seek : X → SeekFrom → X → Result ℕ Error → Type 0;
+  may : X → SeekCall → X → Type 0;
 }
 
 -- `seek(target)`
@@ -46,8 +64,8 @@ pub record SeekLaw {X : Type 0} (S : Seeker X) (old : X) (target : SeekFrom) (re
       × Seeks (length (S.content old)) (S.position old) target reply (S.position new)
   -- the answer is the position
   pub position : IfOk reply (λ n. S.has_store new → S.position new ≡ n)
-  -- it did what one seek of this type may do
-  pub sought : S.may_seek old target new reply
+  -- it is one call
+  pub call : S.may old (Sought target reply) new
 
 -- `stream_position()`
 pub record StreamPositionLaw {X : Type 0} (S : Seeker X) (old : X) (reply : Result ℕ Error) (new : X) : Type 0 where
@@ -57,17 +75,19 @@ pub record StreamPositionLaw {X : Type 0} (S : Seeker X) (old : X) (reply : Resu
   -- the answer is the position
   pub position : IfOk reply (λ n. S.has_store new → S.position new ≡ n)
   -- it made one seek, of no distance
-  pub sought : S.may_seek old here new reply
+  pub call : S.may old (Sought here reply) new
 
 -- `rewind()`
 pub record RewindLaw {X : Type 0} (S : Seeker X) (old : X) (reply : Result (Unit {0}) Error) (new : X) : Type 0 where
   -- a told store keeps its content, and its position is the start
   pub store : S.has_store old → S.has_store new × (S.content new ≡ S.content old) × (S.position new ≡ 0) × IsOk reply
   -- it made one seek, to the start
-  pub sought : WithoutPosition (S.may_seek old (Start 0) new) reply
+  pub call : WithoutPosition (λ answer. S.may old (Sought (Start 0) answer) new) reply
 
 -- `stream_len()`
 pub record StreamLenLaw {X : Type 0} (S : Seeker X) (old : X) (reply : Result ℕ Error) (new : X) : Type 0 where
   -- a told store stays as it is, and its length is the answer
   pub store : S.has_store old → S.has_store new × (S.content new ≡ S.content old)
       × (S.position new ≡ S.position old) × IsOkAnd reply (λ n. n ≡ length (S.content old))
+  -- which calls it made
+  pub calls : (C : List SeekCall) × Made S.may old C new × LenCalls C reply

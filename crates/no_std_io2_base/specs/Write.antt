@@ -96,14 +96,14 @@ pub data WriteCall : Type 0 where
   Flushed : Result (Unit {0}) Error → WriteCall
 
 -- these calls were made, one after another
-abbrev pub Made : {W : Type 0} → (W → WriteCall → W → Type 0) → W → List WriteCall → W → Type 0
+abbrev pub Made : {S A : Type 0} → (S → A → S → Type 0) → S → List A → S → Type 0
 Made may old [] new = new ≡ old
-Made {W} may old (call ∷ C) new = (mid : W) × may old call mid × Made may mid C new
+Made {S} may old (call ∷ C) new = (mid : S) × may old call mid × Made may mid C new
 
 -- What a call may do to a boxed object: what it may do to the value in the box, as `may` says.
-abbrev pub BoxMay : {I A : Type 0} {V : I → Type 0} → (old : DynBox I A V) → (V old.vtable → WriteCall → V old.vtable → Type 0)
-    → WriteCall → DynBox I A V → Type 0
-BoxMay {I} {A} {V} old may call new = (value : V old.vtable)
+abbrev pub BoxMay : {I A C : Type 0} {V : I → Type 0} → (old : DynBox I A V) → (V old.vtable → C → V old.vtable → Type 0)
+    → C → DynBox I A V → Type 0
+BoxMay {I} {A} {C} {V} old may call new = (value : V old.vtable)
     × (new ≡ record { ptr = old.ptr; vtable = old.vtable; alloc = old.alloc; value = value }) × may old.value call value
 
 -- `Adds old bytes new` is what a writer does as it accepts these bytes: this call did so with those that it accepted.

@@ -7,6 +7,7 @@ ghost use Rattle.no_std_io2_base.specs.Chain.{chain_first, chain_second, chain_i
 ghost use Rattle.no_std_io2_base.specs.Cursor.{cursor_inner, cursor_place};
 ghost use Rattle.no_std_io2_base.specs.Errors.{IsFault, error_display, kind_number};
 ghost use Rattle.no_std_io2_base.specs.Read.{events_of, cut, bytes_reader, NextByte};
+ghost use Rattle.no_std_io2_base.specs.Seek.{SeekCall};
 ghost use Rattle.no_std_io2_base.specs.Take.{take_inner, take_limit};
 ghost use Rattle.no_std_io2_base.specs.Write.{told_out, WriteCall, BoxMay};
 
@@ -135,19 +136,17 @@ fn boxed_store_tells<T: Stored>(b: &Box<T>)
 {}
 
 // A lent seeker makes the seeks of its target, and a boxed one those of what is in the box.
-fn lent_seeker_tells<'a, T: Seek>(
-    old: &&'a mut T,
-    pos: SeekFrom,
-    new: &&'a mut T,
-    reply: &Result<u64>,
-)
-    ensures { ⟦<&'a mut T as Seek>⟧.may_seek old.now pos new.now reply.now
-        → T.may_seek old.now.now pos new.now.now reply.now }
+fn lent_seeker_tells<'a, T: Seek>(old: &&'a mut T, new: &&'a mut T)
+    ensures { (call : SeekCall) → ⟦<&'a mut T as Seek>⟧.may old.now call new.now → T.may old.now.now call new.now.now }
 {}
 
-fn boxed_seeker_tells<T: Seek>(old: &Box<T>, pos: SeekFrom, new: &Box<T>, reply: &Result<u64>)
-    ensures { ⟦<Box<T> as Seek>⟧.may_seek old.now pos new.now reply.now
-        → T.may_seek old.now.value pos new.now.value reply.now }
+fn boxed_seeker_tells<T: Seek>(old: &Box<T>, new: &Box<T>)
+    ensures { (call : SeekCall) → ⟦<Box<T> as Seek>⟧.may old.now call new.now → T.may old.now.value call new.now.value }
+{}
+
+fn seeking_object_tells(old: &Box<dyn Seek + Drop>, new: &Box<dyn Seek + Drop>)
+    ensures { (call : SeekCall) → ⟦<Box<dyn Seek + Drop> as Seek>⟧.may old.now call new.now
+        → BoxMay old.now (Seek-box old.now).Seek.may call new.now }
 {}
 
 fn lent_reader_tells<'a, R: Read>(r: &&'a mut R)

@@ -110,7 +110,7 @@ impl<T: Seek, A: Allocator> Seek for Box<T, A> {
         self.as_mut().stream_len()
     }
 
-    ghost may_seek = { λ old pos new reply. T.may_seek old.value pos new.value reply };
+    ghost may = { λ old call new. T.may old.value call new.value };
 
     ghost seek_fits = { λ b h. T.seek_fits b.value h };
 }

@@ -110,7 +110,7 @@ impl<T: Seek> Seek for &mut T {
         Seek::stream_len(&mut **self)
     }
 
-    ghost may_seek = { λ old pos new reply. T.may_seek old.now pos new.now reply };
+    ghost may = { λ old call new. T.may old.now call new.now };
 
     ghost seek_fits = { λ r h. T.seek_fits r.now h };
 }

@@ -47,5 +47,7 @@ impl<A: Allocator> Seek for Box<dyn Seek + Drop, A> {
         (**self).stream_len()
     }
 
+    ghost may = { λ b call new. BoxMay b (Seek-box b).Seek.may call new };
+
     ghost seek_fits = { λ b h. absurd h };
 }

@@ -1,4 +1,4 @@
-ghost use Rattle.std.specs.Prelude.{◌<◌, ◌^◌, ℕ, ⊤, Result, length};
+ghost use Rattle.std.specs.Prelude.{◌<◌, ◌^◌, length};
 
 use super::stored::Stored;
 use crate::error::Result;
@@ -24,12 +24,10 @@ pub enum SeekFrom {
 
 /// A stream with a position that can be moved. Follows Rust's `std::io::Seek`.
 pub trait Seek: Stored {
-    ghost use Rattle.no_std_io2_base.specs.declared.error.Error.{Error};
-    ghost use Rattle.no_std_io2_base.specs.declared.traits.seek.SeekFrom.{SeekFrom};
-    ghost use Rattle.no_std_io2_base.specs.Seek.{SeekLaw, StreamPositionLaw, RewindLaw, StreamLenLaw};
+    ghost use Rattle.no_std_io2_base.specs.Seek.{SeekCall, SeekLaw, StreamPositionLaw, RewindLaw, StreamLenLaw};
 
-    // What one `seek` of this type may do: the state before, the target, the state after, the answer. Left out, anything.
-    ghost may_seek: { Self → SeekFrom → Self → Result ℕ Error → Type 0 } = { λ old pos new reply. ⊤ };
+    // What one call, with its answer, may do to it. Left out, anything.
+    ghost may: { Self → SeekCall → Self → Type 0 } = { λ _ _ _. Unit {0} };
 
     /// Moves to `pos`, past the end too, and returns the new position from the start. A told store
     /// keeps its content. Follows `std::io::Seek::seek`.

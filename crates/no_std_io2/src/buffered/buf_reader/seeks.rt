@@ -1,12 +1,12 @@
 // A `BufReader` as a seeker.
 ghost use Rattle.std.specs.Prelude.{FitsSigned, SomeIff, ◌≡◌, ◌<◌, ◌^◌, ◌⊎◌, ◌-ℤ◌, pos, [], List, length, IfOk, IsOk, IsOkAnd, OnOk, OnErr};
 ghost use Rattle.std.specs.Int.{w64};
-ghost use Rattle.no_std_io2_base.specs.Seek.{Seeks, WithoutPosition, SeekLaw, StreamPositionLaw, RewindLaw, StreamLenLaw};
+ghost use Rattle.no_std_io2_base.specs.Seek.{Seeks, Sought, WithoutPosition, SeekLaw, StreamPositionLaw, RewindLaw, StreamLenLaw};
 ghost use Rattle.no_std_io2_base.specs.Read.{Event};
 ghost use Rattle.no_std_io2.specs.Buffer.{IsInBuffer, IsCutOn, MovesEvents};
 ghost use Rattle.no_std_io2.specs.BufReader.{reader_held, reader_behind, reader_inner, reader_events, reader_has_store};
 ghost use Rattle.no_std_io2.specs.BufReader.{reader_is_sound, reader_position, StaysSound, KeepsBuffer, HasNoBuffer, IsTooFarBack};
-ghost use Rattle.no_std_io2.specs.BufReader.{SeeksInner, ReaderSeeks, at_start, back_by, led_to, sound_fits};
+ghost use Rattle.no_std_io2.specs.BufReader.{SeeksInner, ReaderSeeks, ReaderMaySeek, at_start, back_by, led_to, sound_fits};
 
 use super::BufReader;
 use no_std_io2_base::error::Result;
@@ -31,7 +31,7 @@ impl<R: Seek, const S: usize> BufReader<R, S> {
             × (R.content (reader_inner self.new) ≡ R.content (reader_inner self.old))
             × Seeks (length (R.content (reader_inner self.old))) (R.position (reader_inner self.old))
             target result (R.position (reader_inner self.new)) }
-        ensures sought { R.may_seek (reader_inner self.old) target (reader_inner self.new) result }
+        ensures sought { R.may (reader_inner self.old) (Sought target result) (reader_inner self.new) }
         ensures position { IfOk result (λ n. R.has_store (reader_inner self.new)
             → R.position (reader_inner self.new) ≡ n) }
         ensures sound { StaysSound R.has_store R.position R.content self.old self.new }
@@ -51,8 +51,8 @@ impl<R: Seek, const S: usize> BufReader<R, S> {
             → R.has_store (reader_inner self.new) × IsOk result
             × (R.content (reader_inner self.new) ≡ R.content (reader_inner self.old))
             × (R.position (reader_inner self.new) ≡ reader_position R.position self.old) }
-        ensures sought { WithoutPosition (R.may_seek (reader_inner self.old)
-            (back_by (length (reader_held self.old))) (reader_inner self.new)) result }
+        ensures sought { WithoutPosition (λ answer. R.may (reader_inner self.old)
+            (Sought (back_by (length (reader_held self.old))) answer) (reader_inner self.new)) result }
         ensures sound { StaysSound R.has_store R.position R.content self.old self.new }
     {
         let held = self.buffer.len();
@@ -67,7 +67,7 @@ impl<R: Seek, const S: usize> BufReader<R, S> {
             × (R.content (reader_inner self.new) ≡ R.content (reader_inner self.old))
             × Seeks (length (R.content (reader_inner self.old))) (reader_position R.position self.old)
             (SeekFrom.Current offset) result (reader_position R.position self.new) }
-        ensures sought { SeeksInner R.may_seek (length (reader_held self.old)) (reader_inner self.old)
+        ensures sought { SeeksInner R.may (length (reader_held self.old)) (reader_inner self.old)
             (SeekFrom.Current offset) (reader_inner self.new) result }
         ensures position { IfOk result (λ n. R.has_store (reader_inner self.new)
             → R.position (reader_inner self.new) ≡ n) }
@@ -119,7 +119,7 @@ impl<R: Seek, const S: usize> BufReader<R, S> {
             → OnOk result (HasNoBuffer self.new) × OnErr result (KeepsBuffer self.old self.new
             ⊎ (IsTooFarBack (SeekFrom.Current offset) (length (reader_held self.old)) × HasNoBuffer self.new)) }
         ensures far { ¬ IsInBuffer offset (length (reader_behind self.old)) (length (reader_held self.old))
-            → WithoutPosition (ReaderSeeks R.may_seek self.old (SeekFrom.Current offset) self.new) result }
+            → WithoutPosition (ReaderSeeks R.may self.old (SeekFrom.Current offset) self.new) result }
         ensures sought { ¬ IsInBuffer offset (length (reader_behind self.old)) (length (reader_held self.old))
             → reader_has_store R.has_store R.position R.content self.old
             → reader_has_store R.has_store R.position R.content self.new
@@ -205,7 +205,7 @@ impl<R: Seek, const S: usize> Seek for BufReader<R, S> {
         self.inner.stream_len()
     }
 
-    ghost may_seek = { λ old pos new reply. ReaderSeeks R.may_seek old pos new reply };
+    ghost may = { ReaderMaySeek R.may };
 
     ghost seek_fits = { λ r h. sound_fits _ (reader_held r) _ (R.seek_fits (reader_inner r) h.0) };
 }

@@ -5,6 +5,7 @@ use Rattle.std.proofs.lemmas.Result.{err_from_is_err_and}
 use Rattle.std.specs.Int.{w64}
 use mir.Val.{to_z, of_z}
 use Rattle.no_std_io2_base.specs.declared.traits.seek.SeekFrom.TheVariants.{Current}
+use Rattle.no_std_io2_base.specs.Seek.{Sought}
 use Rattle.no_std_io2.specs.BufReader.{reader_held, reader_behind, reader_inner, IsTooFarBack}
 use Rattle.no_std_io2.proofs.BufReaderCalls.{not_ok}
 use Rattle.no_std_io2.proofs.BufReaderSeeks.{sought_current, sought_again, fits_not_far, far_unless_fits, kept_whole}
@@ -25,7 +26,7 @@ returns-in-Some g c =
           let done = sought_current c.args.offset rest c.seek_inner.result held (reader_held c.seek_inner.new.self) is s.1
           now.1 now.2 seek.empty seek.kept in
           ((now.0, done.0), now.1, done.1);
-      sought = inl (subst (λ (z : ℤ). g.R.Seek.may_seek inner (Current z) new c.seek_inner.result) is seek.sought);
+      sought = inl (subst (λ (z : ℤ). g.R.Seek.may inner (Sought (Current z) c.seek_inner.result) new) is seek.sought);
       position = seek.position;
       empty = seek.empty;
       behind = seek.behind;
@@ -53,7 +54,7 @@ returns-in_ok-seek_back-in-None g c =
     let small : c.len-held.result < 2 ^ 63 = omega (arith, c.len-held.ensures.bound, c.args.self.now.in_memory) in
     let far = far_unless_fits c.args.offset c.len-held.result c.ranges.offset small not_fits in
     let too_far = subst (IsTooFarBack (Current c.args.offset)) c.len-held.ensures.len far in
-    let on = λ (z : ℤ). g.R.Seek.may_seek (reader_inner mid) (Current z) (reader_inner new) answer in
+    let on = λ (z : ℤ). g.R.Seek.may (reader_inner mid) (Sought (Current z) answer) (reader_inner new) in
     record {
       store = λ s.
           let there = first.store s in

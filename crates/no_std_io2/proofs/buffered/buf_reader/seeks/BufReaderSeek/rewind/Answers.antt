@@ -12,5 +12,5 @@ returns-in_err-seek-clause-law g c =
     let at = reader_position g.R.Stored.position c.args.self.now in
     rw (p.1, p.2) (record {
       store = λ s. absurd (start_not_refused c.in_err-seek.field-0.0 len at _ (seek.store s).2);
-      sought = seek.sought;
+      call = seek.call;
     })

@@ -22,9 +22,9 @@ returns-in-Current-clause-law g c =
           target c.seek_current.result (place c.seek_current.new.self) in
           (now.0, now.1, subst sought_here same now.2);
       position = arrives_at c.seek_current.result _ _ _ _ seek.position seek.empty;
-      sought =
+      call =
           let sought_to =
-          λ (target : SeekFrom). ReaderSeeks g.R.Seek.may_seek c.args.self.now target c.seek_current.new.self c.seek_current.result in
+          λ (target : SeekFrom). ReaderSeeks g.R.Seek.may c.args.self.now target c.seek_current.new.self c.seek_current.result in
           subst sought_to same (record {
             dropped = dropped_whole c.seek_current.result _ _ seek.empty seek.behind;
             kept = seek.kept;
@@ -46,10 +46,10 @@ returns-in-Start-clause-law g c =
           now.1 now.2 seek.empty seek.kept in
           ((now.0, done.0), now.1, done.1);
       position = arrives_at c.seek_inner.result _ _ _ _ seek.position seek.empty;
-      sought = record {
+      call = record {
         dropped = dropped_whole c.seek_inner.result _ _ seek.empty seek.behind;
         kept = kept_whole c.seek_inner.result _ _ _ seek.kept seek.behind_kept;
-        inner = one_inner g.R.Seek.may_seek _ c.seek_inner.result c.args.pos c.in-Start.is seek.sought;
+        inner = one_inner g.R.Seek.may _ c.seek_inner.result c.args.pos c.in-Start.is seek.sought;
       };
     }
 

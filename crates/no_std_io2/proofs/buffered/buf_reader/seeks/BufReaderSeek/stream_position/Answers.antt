@@ -14,5 +14,5 @@ returns-clause-law g c =
           let done = stays c.seek.result (length (g.R.Stored.content (reader_inner old))) _ _ fits.1 now.2 in
           (now.0, now.1, done.0, done.1);
       position = seek.position;
-      sought = seek.sought;
+      call = seek.call;
     }

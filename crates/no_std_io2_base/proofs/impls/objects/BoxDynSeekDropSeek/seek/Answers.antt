@@ -1,0 +1,12 @@
+-- What the call did to the value in the box, it did to the box.
+use Rattle.std.proofs.Common.{rules}
+use Rattle.no_std_io2_base.proofs.SeekCalls.{seek_box}
+use Rattle.no_std_io2_base.proofs.impls.objects.BoxDynSeekDropSeek.seek.Goals as goal
+
+pub returns : goal.returns
+returns g c =
+    let o = goal.Seek-dyn g in
+    record {
+      law = seek_box (λ i v. (o (i, v)).Seek.may v) c.args.self.now c.args.pos c.seek.result c.deref_box_mut-1.result.now
+          (search rules) c.seek.new.self c.seek.ensures.call;
+    }
