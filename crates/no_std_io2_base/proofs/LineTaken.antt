@@ -86,26 +86,3 @@ line_gathered {R = R} {old} {new} none all {line} {buf} {buf'} read reply empty 
   filling = until.filling;
   store = until.store;
 }
-
--- one text is as good as another with the same bytes, length and capacity
-pub line_same : {X A : Type 0} {R : Lender X} {old new : X} {buf other buf' : String A} {reply : Result ℕ Error} → ReadLineLaw R old buf reply buf' new
-    → string_bytes buf ≡ string_bytes other → string_len buf ≡ string_len other → string_capacity buf ≡ string_capacity other
-    → ReadLineLaw R old other reply buf' new
-line_same {R = R} {old} {new} {buf} {other} {buf'} {reply} law bytes len capacity = record {
-  told = λ t.
-      let taken = law.told t in (
-        taken.0,
-        subst (λ b. TakesLine (R.events old) (string_len other) (string_capacity other) reply b (string_bytes buf') (R.events new)) bytes
-            (subst (λ n. TakesLine (R.events old) (string_len other) n reply (string_bytes buf) (string_bytes buf') (R.events new)) capacity
-            (subst (λ n. TakesLine (R.events old) n (string_capacity buf) reply (string_bytes buf) (string_bytes buf') (R.events new)) len
-            taken.1)),
-      );
-  appends = subst (λ b. IsFront b (string_bytes buf')) bytes law.appends;
-  count = subst (λ n. IfOk reply (λ m. string_len buf' ≡ n + m)) len law.count;
-  fault = law.fault;
-  turns = law.turns;
-  turn = law.turn;
-  metered = law.metered;
-  filling = law.filling;
-  store = law.store;
-}

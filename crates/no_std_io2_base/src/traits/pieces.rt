@@ -116,20 +116,19 @@ pub fn append_line(buf: &mut String, line: &[u8], read: Result<usize>) -> Result
     read
 }
 
-/// Appends a line to a text, where it is UTF-8 and the text has the room or is given it, and answers
-/// whether it did. Else the text is as it was. For a reader with a `read_line` of its own.
+/// Appends a line to a text, where it is UTF-8 and the text has the room, and answers whether it did.
+/// Else the text is as it was. For a reader with a `read_line` of its own.
 pub fn append_text(buf: &mut String, line: &[u8]) -> bool
     ensures appended { OnTrue result (Follows line.now (string_bytes buf.old) (string_bytes buf.new)
         × (string_len buf.new ≡ string_len buf.old + length line.now)) }
-    ensures same { OnFalse result ((string_bytes buf.new ≡ string_bytes buf.old)
-        × (string_len buf.new ≡ string_len buf.old) × (string_capacity buf.new ≡ string_capacity buf.old)) }
+    ensures same { OnFalse result (buf.new ≡ buf.old) }
 {
+    if line.len() > buf.capacity() - buf.len() {
+        return false;
+    }
     let Ok(text) = std::str::from_utf8(line) else {
         return false;
     };
-    if buf.reserve(text.len()).is_err() {
-        return false;
-    }
     // It has the room, so no memory is asked for.
     let _ = buf.push_str(text);
     true

@@ -19,7 +19,7 @@ use no_std_io2_base::traits::{BufRead, Read};
 use std::alloc::{Allocator, Global};
 
 impl<R: Read, const S: usize> BufReader<R, S> {
-    // Appends the line that is held first to the text, where it is held whole and the text takes it: its length. Else nothing changes.
+    // Appends the line that is held first to the text, where it is whole and the text has the room: its length. Else nothing changes.
     #[inline(always)]
     fn take_line(&mut self, buf: &mut String) -> Option<usize>
         ensures line { IfSome result (λ n. (n ≤ length (reader_held self.old))
@@ -30,8 +30,7 @@ impl<R: Read, const S: usize> BufReader<R, S> {
         ensures behind { IfSome result (λ n. reader_behind self.new ≡ reader_behind self.old ++ take n (reader_held self.old)) }
         ensures inner { IfSome result (λ _. reader_inner self.new ≡ reader_inner self.old) }
         ensures sound { StaysSound R.has_store R.position R.content self.old self.new }
-        ensures none { IfNone result ((self.new ≡ self.old) × (string_bytes buf.new ≡ string_bytes buf.old)
-            × (string_len buf.new ≡ string_len buf.old) × (string_capacity buf.new ≡ string_capacity buf.old)) }
+        ensures none { IfNone result ((self.new ≡ self.old) × (buf.new ≡ buf.old)) }
     {
         let held = self.buffer();
         let (len, is_whole) = find_piece(held, b'\n');

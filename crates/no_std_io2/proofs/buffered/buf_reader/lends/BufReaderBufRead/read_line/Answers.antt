@@ -1,10 +1,8 @@
 -- A line that is held whole goes straight to the text; else nothing has changed, and it is read into a vector first.
-use Rattle.std.proofs.Common.{string_len, string_capacity, string_bytes, arith, take, drop, ◌++◌, ◌∙◌, ap, subst, OnOk}
-use Rattle.no_std_io2_base.specs.BufRead.{ReadLineLaw}
-use Rattle.no_std_io2_base.proofs.LineTaken.{line_at_once, line_gathered, line_same}
-use Rattle.no_std_io2.specs.Buffer.{IsEnd}
-use Rattle.no_std_io2.specs.BufReader.{reader_held, reader_behind, TakesHeldLine}
-use Rattle.no_std_io2.proofs.BufReaderLends.{buf_lender, buf_tells}
+use Rattle.std.proofs.Common.{string_len, string_capacity, string_bytes, arith, take, sym}
+use Rattle.no_std_io2_base.proofs.LineTaken.{line_at_once, line_gathered}
+use Rattle.no_std_io2.specs.BufReader.{reader_held, reader_behind}
+use Rattle.no_std_io2.proofs.BufReaderLends.{buf_tells}
 use Rattle.no_std_io2.proofs.BufReaderTrail.{trail_line, trail_given}
 use Rattle.no_std_io2.proofs.HeldPieces.{line_held, line_given}
 use Rattle.no_std_io2.proofs.buffered.buf_reader.lends.BufReaderBufRead.read_line.Goals as goal
@@ -31,39 +29,27 @@ returns-in-Some-clause-behind g c =
 pub returns-in-None-clause-law : goal.returns-in-None-clause-law
 returns-in-None-clause-law g c =
     let same = c.in-None.ensures.none in
-    let reply = c.append_line.result in
-    let text = c.append_line.new.buf in
-    let new = c.read_until-read.new.self in
-    let lender = buf_lender g.R.Stored g.R.Read in
     let answered = c.append_line.ensures in
-    let law : ReadLineLaw lender c.take_line.new.self c.take_line.new.buf reply text new =
-    line_gathered c.new-line.result c.read_until-read.new.buf c.read_until-read.result reply c.new-line.ensures.items
-    c.deref.ensures.value c.read_until-read.ensures.law answered.answers answered.appends answered.read answered.count answered.fault in
-    line_same (subst (λ s. ReadLineLaw lender s c.take_line.new.buf reply text new) same.0 law) same.1 same.2 same.3
+    rw (sym same.0, sym same.1)
+    (line_gathered c.new-line.result c.read_until-read.new.buf c.read_until-read.result c.append_line.result c.new-line.ensures.items
+    c.deref.ensures.value c.read_until-read.ensures.law answered.answers answered.appends answered.read answered.count answered.fault)
 
 pub returns-in-None-clause-behind : goal.returns-in-None-clause-behind
 returns-in-None-clause-behind g c =
     let same = c.in-None.ensures.none in
     let text = c.take_line.new.buf in
-    let after = string_bytes c.append_line.new.buf in
-    let behind = reader_behind c.read_until-read.new.self in
-    let end = trail_line (reader_behind c.take_line.new.self) c.read_until-read.new.buf.items c.deref.result.now c.read_until-read.result
-    c.append_line.result (string_len text) (string_capacity text) (string_bytes text) after
+    rw (sym same.0, sym same.1)
+    (trail_line (reader_behind c.take_line.new.self) c.read_until-read.new.buf.items c.deref.result.now c.read_until-read.result
+    c.append_line.result (string_len text) (string_capacity text) (string_bytes text) (string_bytes c.append_line.new.buf)
     c.new-line.ensures.len (omega (arith, text.bytes.ok.0)) c.deref.ensures.value c.append_line.ensures.answers
-    c.read_until-read.ensures.behind in
-    subst (λ n. OnOk c.append_line.result (IsEnd (reader_behind c.args.self.now ++ drop n after) behind)) same.2
-    (subst (λ s. OnOk c.append_line.result (IsEnd (reader_behind s ++ drop (string_len text) after) behind)) same.0 end)
+    c.read_until-read.ensures.behind)
 
 pub returns-in-None-clause-held : goal.returns-in-None-clause-held
-returns-in-None-clause-held g c = λ line rest is ends.
+returns-in-None-clause-held g c =
     let same = c.in-None.ensures.none in
     let text = c.take_line.new.buf in
-    let reply = c.append_line.result in
-    let after = string_bytes c.append_line.new.buf in
-    let new = c.read_until-read.new.self in
-    let held = line_held line rest c.new-line.result.items c.read_until-read.new.buf.items c.deref.result.now c.take_line.new.self
-    new c.read_until-read.result reply (string_len text) (string_capacity text)
-    (string_bytes text) after c.new-line.ensures.items c.deref.ensures.value
-    (c.read_until-read.ensures.held line rest (ap reader_held same.0 ∙ is) ends) c.append_line.ensures.answers in
-    subst (λ b. TakesHeldLine line rest c.args.self.now b reply after new) same.1
-    (subst (λ s. TakesHeldLine line rest s (string_bytes text) reply after new) same.0 held)
+    rw (sym same.0, sym same.1)
+    (λ line rest is ends. line_held line rest c.new-line.result.items c.read_until-read.new.buf.items c.deref.result.now
+    c.take_line.new.self c.read_until-read.new.self c.read_until-read.result c.append_line.result (string_len text)
+    (string_capacity text) (string_bytes text) (string_bytes c.append_line.new.buf) c.new-line.ensures.items c.deref.ensures.value
+    (c.read_until-read.ensures.held line rest is ends) c.append_line.ensures.answers)
