@@ -172,6 +172,11 @@ calls! {
         let sum = write_all_often(&mut w, &source[..room.len()], calls);
         flushed(&mut w, sum).wrapping_add(w.get_ref().sum())
     }
+    lines_plain(source, room, calls) {
+        let mut w = new_line_writer::<_, 1024>(Counter::default());
+        let sum = write_all_often(&mut w, &source[..room.len() - 1], calls);
+        flushed(&mut w, sum).wrapping_add(w.get_ref().sum())
+    }
     lines_apart(source, room, calls) {
         let mut w = new_line_writer::<_, 1024>(Counter::default());
         for _ in 0..calls {

@@ -1,4 +1,5 @@
-//! The cases of the list, each on up to three sides.
+//! The cases of the list, each on up to four sides.
+use crate::SIDES;
 use crate::list::listed;
 use std::sync::OnceLock;
 
@@ -29,8 +30,8 @@ pub struct Case {
     source: &'static [u8],
     /// How many calls a run makes; where instructions are counted, also twice as many.
     pub calls: u64,
-    /// This library's, std's and the original crate's.
-    sides: [Option<Call>; 3],
+    /// This library's, std's, the original crate's and the toolchain's.
+    sides: [Option<Call>; SIDES],
 }
 
 impl Case {
@@ -45,7 +46,7 @@ impl Case {
 
     /// That all sides give the same sum, and none fails.
     pub fn check(&self) -> Result<(), String> {
-        let sides = (0..3).filter(|side| self.has(*side));
+        let sides = (0..SIDES).filter(|side| self.has(*side));
         let sums: Vec<u64> = sides.map(|side| self.run(side, self.calls)).collect();
         if sums.iter().any(|sum| *sum != sums[0] || *sum == FAILED) {
             return Err(format!("{}: the sums differ or failed: {sums:?}", self.name));
@@ -65,11 +66,11 @@ fn source() -> &'static [u8] {
     })
 }
 
-// As many lines as the longer of two runs reads, each of so many bytes with its newline.
-fn lines_of(len: usize) -> &'static [u8] {
+// So many lines, each of so many bytes with its newline.
+fn lines_of(len: usize, lines: usize) -> &'static [u8] {
     let letter = |at: usize| b'a' + source()[at] % 26;
     let line = |at: usize| (1..len).map(move |of| letter(at + of)).chain([b'\n']);
-    Vec::leak((0..1 << 14).flat_map(line).collect())
+    Vec::leak((0..lines).flat_map(line).collect())
 }
 
 // A number of bytes, as the table shows it.
@@ -81,7 +82,7 @@ fn size_text(size: usize) -> String {
     }
 }
 
-// This library's side: the symbol of each call is its name behind `speed_`.
+// This library's side and the toolchain's: the symbol of each call is its name behind `speed_` and `kit_`.
 macro_rules! declare {
     ($($name:ident: $source:ident $class:ident $text:literal $sizes:tt $(| $missing:ident)?;)*) => {
         mod ours {$(
@@ -93,6 +94,15 @@ macro_rules! declare {
                 unsafe { speed(source.as_ptr(), source.len(), room.as_mut_ptr(), room.len(), calls) }
             }
         )*}
+        mod kit {$(
+            pub fn $name(source: &[u8], room: &mut [u8], calls: u64) -> u64 {
+                unsafe extern "C" {
+                    #[link_name = concat!("kit_", stringify!($name))]
+                    fn kit(source: *const u8, len: usize, room: *mut u8, size: usize, calls: u64) -> u64;
+                }
+                unsafe { kit(source.as_ptr(), source.len(), room.as_mut_ptr(), room.len(), calls) }
+            }
+        )*}
     };
 }
 
@@ -100,13 +110,16 @@ listed!(declare);
 
 macro_rules! sides {
     ($name:ident) => {
-        [Some(ours::$name), Some(crate::std_side::$name), crate::original!($name)]
+        [Some(ours::$name), Some(crate::std_side::$name), crate::original!($name), Some(kit::$name)]
     };
     ($name:ident original) => {
-        [Some(ours::$name), Some(crate::std_side::$name), None]
+        [Some(ours::$name), Some(crate::std_side::$name), None, Some(kit::$name)]
     };
-    ($name:ident std) => {
-        [Some(ours::$name), None, crate::original!($name)]
+    ($name:ident original_kit) => {
+        [Some(ours::$name), Some(crate::std_side::$name), None, None]
+    };
+    ($name:ident std_kit) => {
+        [Some(ours::$name), None, crate::original!($name), None]
     };
 }
 
@@ -117,13 +130,15 @@ pub fn all() -> Vec<Case> {
         ($($name:ident: $source:ident $class:ident $text:literal [$($size:literal)*] $(| $missing:ident)?;)*) => {$(
             for size in [$($size),*] {
                 let lines = stringify!($source) == "lines";
-                let (source, most) = if lines { (lines_of(size), 1 << 13) } else { (source(), 1 << 16) };
+                let calls = (4 * MEBIBYTE / size).clamp(1, if lines { 1 << 13 } else { 1 << 16 });
+                // The longer of two runs makes twice as many calls.
+                let source = if lines { lines_of(size, 2 * calls) } else { source() };
                 cases.push(Case {
                     name: $text.replace("{}", &size_text(size)),
                     class: stringify!($class),
                     size,
                     source,
-                    calls: (4 * MEBIBYTE / size).clamp(1, most) as u64,
+                    calls: calls as u64,
                     sides: sides!($name $($missing)?),
                 });
             }

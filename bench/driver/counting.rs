@@ -1,6 +1,6 @@
 //! Instructions a call, counted by callgrind: the difference of two runs, of which one makes twice
 //! as many calls, so that what is made before and after the calls isn't counted.
-use crate::Measured;
+use crate::{Measured, SIDES};
 use crate::cases::Case;
 use std::arch::asm;
 use std::ffi::CString;
@@ -34,7 +34,7 @@ fn request(code: usize, argument: usize) {
 /// a name of three numbers.
 pub fn count_below_callgrind(cases: &[Case]) {
     for (at, case) in cases.iter().enumerate() {
-        for side in (0..3).filter(|side| case.has(*side)) {
+        for side in (0..SIDES).filter(|side| case.has(*side)) {
             for times in [1, 2] {
                 let name = CString::new(format!("{at} {side} {times}")).unwrap();
                 request(ZERO, 0);
@@ -70,7 +70,7 @@ pub fn count(cases: &[Case], word: &str) -> Result<Measured, String> {
 
 // The two counts of each case and side, by their difference.
 fn read_dumps(folder: &Path, cases: &[Case]) -> std::io::Result<Measured> {
-    let mut totals = vec![[[None::<f64>; 2]; 3]; cases.len()];
+    let mut totals = vec![[[None::<f64>; 2]; SIDES]; cases.len()];
     for entry in fs::read_dir(folder)? {
         if let Some((at, side, times, total)) = read_dump(&entry?.path()) {
             totals[at][side][times - 1] = Some(total);

@@ -1,5 +1,5 @@
 //! The one list of cases. A line: a call's name on all sides, what the source is, its class, the words of the table, of which
-//! `{}` is the size, and the sizes; behind `|` a side that has no such call.
+//! `{}` is the size, and the sizes; behind `|` the sides that have no such call.
 //!
 //! Classes, with the most instructions that a case may take to the better of std and the original crate: `short` 1.00, and 1.25
 //! where more than 32 bytes move; `long` 1.25; `fields` 1.4; `append` 1.75; `whole` has no limit, for its definition asks for more.
@@ -7,21 +7,21 @@
 macro_rules! listed {
     ($read:ident) => {
         $read! {
-            slice_read: bytes short "a slice, `read` of {}" [1 7 16 100];
-            slice_exact: bytes short "a slice, `read_exact` of {}" [1 7 16 100];
-            cursor_read: bytes short "a cursor, `read` of {}" [1 7 16 100];
-            cursor_exact: bytes short "a cursor, `read_exact` of {}" [1 7 16 100];
+            slice_read: bytes short "a slice, `read` of {}" [1 3 7 13 16 33 65 100 900 10000];
+            slice_exact: bytes short "a slice, `read_exact` of {}" [1 3 5 7 13 16 33 65 100 900 10000];
+            cursor_read: bytes short "a cursor, `read` of {}" [1 5 7 16 33 100 900];
+            cursor_exact: bytes short "a cursor, `read_exact` of {}" [1 3 7 13 16 65 100 10000];
             slice_bytes: bytes short "a slice, `bytes`" [1];
             cursor_bytes: bytes short "a cursor, `bytes`" [1];
-            slice_fill: bytes short "a slice, `fill_buf` and `consume` of {}" [7];
-            cursor_fill: bytes short "a cursor, `fill_buf` and `consume` of {}" [7];
-            slice_until: lines short "a slice, `read_until`, lines of {}" [16 80 1000] | original;
+            slice_fill: bytes short "a slice, `fill_buf` and `consume` of {}" [1 7 13];
+            cursor_fill: bytes short "a cursor, `fill_buf` and `consume` of {}" [1 7 13];
+            slice_until: lines short "a slice, `read_until`, lines of {}" [16 80 900 10000] | original;
             slice_lines: lines short "a slice, `lines` of {}" [16 80] | original;
             cursor_lines: lines short "a cursor, `lines` of {}" [16 80] | original;
             cursor_seek: bytes short "a cursor, `seek`" [7];
-            cursor_len: bytes short "a cursor, `stream_len`" [7] | original;
-            over_slice: bytes short "`Cursor<&mut [u8]>`, `write` of {}" [1 7 16 100];
-            over_vec: bytes short "`Cursor<Vec>`, `write_all` of {} over others" [7 16 100];
+            cursor_len: bytes short "a cursor, `stream_len`" [7] | original_kit;
+            over_slice: bytes short "`Cursor<&mut [1 3 7 13 16 33 65 100 900]>`, `write` of {}" [1 7 16 100];
+            over_vec: bytes short "`Cursor<Vec>`, `write_all` of {} over others" [5 7 16 33 65 100 900];
             fields_slice: bytes short "a slice, `read_exact` of a struct's fields" [1];
             fields_cursor: bytes short "a cursor, `read_exact` of a struct's fields" [1];
             fields_over: bytes short "`Cursor<&mut [u8]>`, `write_all` of a struct's fields" [1];
@@ -32,8 +32,8 @@ macro_rules! listed {
             varints_slice: bytes short "a slice, a number in 1 to 5 bytes" [1];
             varints_cursor: bytes short "a cursor, a number in 1 to 5 bytes" [1];
 
-            take_read: bytes long "`Take` over a slice, `read` of {}" [1 7 16 100];
-            chain_read: bytes long "`Chain` of two slices, `read` of {}" [1 7 16 100];
+            take_read: bytes long "`Take` over a slice, `read` of {}" [1 5 7 16 33 100 900];
+            chain_read: bytes long "`Chain` of two slices, `read` of {}" [1 7 13 16 65 100 900];
             records_take: bytes long "`Take` over a slice, `read_exact` of 1 to {} by turns" [32 100];
             records_chain: bytes long "`Chain` of two slices, `read_exact` of 1 to {} by turns" [32 100];
             reference_read: bytes long "a reference to a cursor, `read` of {}" [1 16];
@@ -41,26 +41,27 @@ macro_rules! listed {
             object_read: bytes long "a boxed object, `read` of {}" [1 13 16];
             object_write: bytes long "a boxed object, `write` of {}" [1 16];
 
-            vec_write: bytes append "`Vec`, `write` of {}" [1 7 16 33 100];
-            vec_write_all: bytes append "`Vec`, `write_all` of {}" [1 7 16 33 100];
+            vec_write: bytes append "`Vec`, `write` of {}" [1 3 7 13 16 33 100 900];
+            vec_write_all: bytes append "`Vec`, `write_all` of {}" [1 3 5 7 13 16 33 65 100 900 10000];
             fields_vec: bytes fields "`Vec`, `write_all` of a struct's fields" [1];
             records_vec: bytes append "`Vec`, `write_all` of 1 to {} by turns" [32 100];
-            cursor_grows: bytes append "`Cursor<Vec>`, `write_all` of {}, growing" [1 7 16 100];
-            cursor_gaps: bytes append "`Cursor<Vec>`, `write_all` of {} past the end" [1 7 16 100];
+            cursor_grows: bytes append "`Cursor<Vec>`, `write_all` of {}, growing" [1 3 7 13 16 33 65 100 900];
+            cursor_gaps: bytes append "`Cursor<Vec>`, `write_all` of {} past the end" [1 5 7 16 33 100];
             fields_grow: bytes fields "`Cursor<Vec>`, `write_all` of a struct's fields" [1];
             records_grow: bytes append "`Cursor<Vec>`, `write_all` of 1 to {} by turns" [32 100];
 
-            writer_all_64: bytes short "`BufWriter` 64, `write_all` of {}" [1 7 16 100];
-            writer_all_1024: bytes short "`BufWriter` 1024, `write_all` of {}" [1 7 16 100];
+            writer_all_64: bytes short "`BufWriter` 64, `write_all` of {}" [1 5 7 16 33 65 100 900];
+            writer_all_1024: bytes short "`BufWriter` 1024, `write_all` of {}" [1 3 5 7 13 16 33 65 100 900 10000];
             writer_write_64: bytes short "`BufWriter` 64, `write` of {}" [1 7 16 100];
-            writer_write_1024: bytes short "`BufWriter` 1024, `write` of {}" [1 7 16 100];
+            writer_write_1024: bytes short "`BufWriter` 1024, `write` of {}" [1 7 13 16 65 100 900];
             writer_vec_64: bytes short "`BufWriter` 64 to a `Vec`, `write_all` of {}" [1 7 16 100];
-            writer_vec_1024: bytes short "`BufWriter` 1024 to a `Vec`, `write_all` of {}" [1 7 16 100];
+            writer_vec_1024: bytes short "`BufWriter` 1024 to a `Vec`, `write_all` of {}" [1 5 7 16 33 100 900 10000];
             fields_writer_64: bytes short "`BufWriter` 64, `write_all` of a struct's fields" [1];
             fields_writer_1024: bytes short "`BufWriter` 1024, `write_all` of a struct's fields" [1];
             records_writer_64: bytes short "`BufWriter` 64, `write_all` of 1 to {} by turns" [32 100];
             records_writer_1024: bytes short "`BufWriter` 1024, `write_all` of 1 to {} by turns" [32 100];
-            line_writer: lines short "`LineWriter` 1024, lines of {}" [8 40 80];
+            line_writer: lines short "`LineWriter` 1024, lines of {}" [8 40 80 900 10000];
+            lines_plain: lines short "`LineWriter` 1024, `write_all` of {} less one without a newline" [33 900 10000];
             lines_apart: bytes short "`LineWriter` 1024, a text of {} and its newline apart" [8 40];
             writer_seek: bytes short "`BufWriter` 64 to a cursor, `write_all` of {} and `seek`" [1 16];
             two_writers: bytes short "`BufWriter` 64 over `BufWriter` 1024, `write_all` of {}" [1 7 16 100];
@@ -68,24 +69,27 @@ macro_rules! listed {
             seven_write: bytes short "`BufWriter` 64 over a device of seven bytes, `write` of {}" [1 16];
             made_writer: bytes long "`BufWriter` 1024, made, `write_all` of {} and dropped" [16 100];
 
-            reader_read_64: bytes short "`BufReader` 64, `read` of {}" [1 7 16 100];
-            reader_read_1024: bytes short "`BufReader` 1024, `read` of {}" [1 7 16 100];
-            reader_exact_64: bytes short "`BufReader` 64, `read_exact` of {}" [1 7 16 100];
-            reader_exact_1024: bytes short "`BufReader` 1024, `read_exact` of {}" [1 7 16 100];
+            reader_read_64: bytes short "`BufReader` 64, `read` of {}" [1 7 13 16 33 100 900];
+            reader_read_1024: bytes short "`BufReader` 1024, `read` of {}" [1 3 5 7 16 33 65 100 900 10000];
+            reader_exact_64: bytes short "`BufReader` 64, `read_exact` of {}" [1 7 13 16 65 100 900];
+            reader_exact_1024: bytes short "`BufReader` 1024, `read_exact` of {}" [1 3 5 7 13 16 33 65 100 900 10000];
             reader_bytes_64: bytes short "`BufReader` 64, `bytes`" [1];
             reader_bytes_1024: bytes short "`BufReader` 1024, `bytes`" [1];
             reader_bytes_cursor: bytes short "`BufReader` 1024 over a cursor, `bytes`" [1];
-            reader_fill: bytes short "`BufReader` 1024, `fill_buf` and `consume` of {}" [7];
+            reader_fill: bytes short "`BufReader` 1024, `fill_buf` and `consume` of {}" [1 7 13 10000];
             fields_reader: bytes short "`BufReader` 1024, `read_exact` of a struct's fields" [1];
             records_reader_64: bytes short "`BufReader` 64, `read_exact` of 1 to {} by turns" [32 100];
             records_reader_1024: bytes short "`BufReader` 1024, `read_exact` of 1 to {} by turns" [32 100];
             tlv_reader: bytes short "`BufReader` 1024, tag, length, value" [1];
             tlv_seven: bytes short "`BufReader` 64 over a device of seven bytes, tag, length, value" [1];
             varints_reader: bytes short "`BufReader` 1024, a number in 1 to 5 bytes" [1];
-            reader_until_64: lines short "`BufReader` 64, `read_until`, lines of {}" [16 80 1000] | original;
-            reader_until_1024: lines short "`BufReader` 1024, `read_until`, lines of {}" [16 80 1000] | original;
-            reader_lines_1024: lines short "`BufReader` 1024, `lines` of {}" [16 80] | original;
-            reader_split_1024: lines short "`BufReader` 1024, `split`, lines of {}" [16 80] | original;
+            reader_until_64: lines short "`BufReader` 64, `read_until`, lines of {}" [16 80 900] | original;
+            reader_until_1024: lines short "`BufReader` 1024, `read_until`, lines of {}" [16 80 900 10000] | original;
+            reader_lines_1024: lines short "`BufReader` 1024, `lines` of {}" [16 80 900] | original;
+            slice_line: lines short "a slice, `read_line` of {} into one text" [16 80] | original;
+            cursor_line: lines short "a cursor, `read_line` of {} into one text" [16 80] | original;
+            reader_line_1024: lines short "`BufReader` 1024, `read_line` of {} into one text" [13 16 33 80 900] | original;
+            reader_split_1024: lines short "`BufReader` 1024, `split`, lines of {}" [13 16 80] | original;
             reader_seek: bytes short "`BufReader` 1024, `seek` by 3 and `read_exact` of 8" [8];
             reader_moves: bytes short "`BufReader` 1024, `seek_relative` of 3 and `read_exact` of 8" [8] | original;
             two_readers: bytes short "`BufReader` 64 over `BufReader` 1024, `read` of {}" [1 7 16 100];
@@ -93,11 +97,11 @@ macro_rules! listed {
             made_reader: bytes long "`BufReader` 1024, made, `read_exact` of {} and dropped" [16 100];
 
             reader_position: bytes whole "`BufReader` 1024, `stream_position` and `read_exact` of 8" [8];
-            slice_to_end: bytes whole "a slice, `read_to_end` of {}" [100 4096 16777216];
-            reader_to_end: bytes whole "`BufReader` 1024, `read_to_end` of {}" [100 4096 16777216];
-            chain_to_end: bytes whole "`Chain` of two slices, `read_to_end` of {}" [4096 16777216];
-            take_to_end: bytes whole "`Take` over a slice, `read_to_end` of {}" [4096 16777216];
-            copy_64: bytes whole "`copy` 64 of {}" [16777216] | std;
+            slice_to_end: bytes whole "a slice, `read_to_end` of {}" [100 900 4096 10000 16777216];
+            reader_to_end: bytes whole "`BufReader` 1024, `read_to_end` of {}" [100 900 4096 10000 16777216];
+            chain_to_end: bytes whole "`Chain` of two slices, `read_to_end` of {}" [900 4096 16777216];
+            take_to_end: bytes whole "`Take` over a slice, `read_to_end` of {}" [900 4096 16777216];
+            copy_64: bytes whole "`copy` 64 of {}" [16777216] | std_kit;
             copy_8192: bytes whole "`copy` 8192 of {}" [16777216];
         }
     };

@@ -1,4 +1,4 @@
-//! Times this library's streams, Rust's standard ones and those of the original crate on the same work, and counts their
+//! Times this library's streams, Rust's standard ones, those of the original crate and the toolchain's own on the same work, and counts their
 //! instructions: `driver WORD` prints the cases in whose names it stands, and `driver` those that are far off. With `count` behind
 //! the word it is what it runs below `callgrind`.
 #![feature(seek_stream_len)]
@@ -33,12 +33,15 @@ macro_rules! original {
 }
 pub(crate) use original;
 
+/// How many sides a case has at most: this library's, std's, the original crate's and the toolchain's.
+pub const SIDES: usize = 4;
+
 /// Of each case what was measured on each side.
-pub type Measured = Vec<[Option<f64>; 3]>;
+pub type Measured = Vec<[Option<f64>; SIDES]>;
 
 // Nanoseconds a call: the best of some rounds, in which the sides take turns, so that a busy machine slows them alike.
-fn time(case: &Case) -> [Option<f64>; 3] {
-    let mut best = [None::<f64>; 3];
+fn time(case: &Case) -> [Option<f64>; SIDES] {
+    let mut best = [None::<f64>; SIDES];
     for _ in 0..15 {
         for (side, best) in best.iter_mut().enumerate() {
             if case.has(side) {

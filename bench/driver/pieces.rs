@@ -16,6 +16,19 @@ fn until_often<R: BufRead>(r: &mut R, calls: u64) -> u64 {
     sum
 }
 
+fn line_often<R: BufRead>(r: &mut R, calls: u64) -> u64 {
+    let mut line = String::new();
+    let mut sum = 0u64;
+    for _ in 0..calls {
+        line.clear();
+        match r.read_line(&mut line) {
+            Ok(n) => sum = sum.wrapping_add(n as u64).wrapping_add(first_byte(line.as_bytes())),
+            Err(_) => return FAILED,
+        }
+    }
+    sum
+}
+
 // Sums the lengths and first bytes of so many items.
 fn items_often<T: AsRef<[u8]>>(mut items: impl Iterator<Item = Result<T>>, calls: u64) -> u64 {
     let mut sum = 0u64;
@@ -44,6 +57,9 @@ calls! {
     reader_until_64(source, room, calls) { until_often(&mut buffered_reader::<_, 64>(source), calls) }
     reader_until_1024(source, room, calls) { until_often(&mut buffered_reader::<_, 1024>(source), calls) }
     reader_lines_1024(source, room, calls) { items_often(buffered_reader::<_, 1024>(source).lines(), calls) }
+    slice_line(source, room, calls) { line_often(&mut source, calls) }
+    cursor_line(source, room, calls) { line_often(&mut Cursor::new(source), calls) }
+    reader_line_1024(source, room, calls) { line_often(&mut buffered_reader::<_, 1024>(source), calls) }
     reader_split_1024(source, room, calls) { items_often(buffered_reader::<_, 1024>(source).split(b'\n'), calls) }
     reader_moves(source, room, calls) {
         let mut r = buffered_reader::<_, 1024>(Cursor::new(source));

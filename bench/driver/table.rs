@@ -1,6 +1,6 @@
 //! The tables, as Markdown: the classes, and all cases.
-use crate::Measured;
 use crate::cases::Case;
+use crate::{Measured, SIDES};
 
 // The classes, and the most that a case of one may take, in instructions to the better of the other two.
 const CLASSES: [(&str, &str); 5] = [
@@ -21,9 +21,9 @@ fn most(case: &Case) -> f64 {
     }
 }
 
-// This library to the better of the others.
-fn ratio(values: &[Option<f64>; 3]) -> Option<f64> {
-    let better = values[1..].iter().flatten().copied().reduce(f64::min)?;
+// This library to the better of std and the original crate.
+fn ratio(values: &[Option<f64>; SIDES]) -> Option<f64> {
+    let better = values[1..3].iter().flatten().copied().reduce(f64::min)?;
     Some(values[0]? / better)
 }
 
@@ -50,8 +50,8 @@ pub fn print(cases: &[Case], times: &Measured, counts: &Measured, far_alone: boo
             mean(&nanoseconds),
         );
     }
-    println!("\n| a call | class | ns ours | ns std | ns original | ratio | instr. ours | instr. std | instr. original | ratio | |");
-    println!("|---|---|---:|---:|---:|---:|---:|---:|---:|---:|---|");
+    println!("\n| a call | class | ns ours | std | original | kit | ratio | instr. ours | std | original | kit | ratio | |");
+    println!("|---|---|---:|---:|---:|---:|---:|---:|---:|---:|---:|---:|---|");
     for ((case, times), counts) in cases.iter().zip(times).zip(counts) {
         let is_above = ratio(counts).is_some_and(|it| it > most(case) + 0.005);
         let is_slow = ratio(times).is_some_and(|it| it > 1.25) && case.class != "whole";
@@ -63,7 +63,7 @@ pub fn print(cases: &[Case], times: &Measured, counts: &Measured, far_alone: boo
     }
 }
 
-fn cells(values: &[Option<f64>; 3]) -> String {
+fn cells(values: &[Option<f64>; SIDES]) -> String {
     let mut cells = String::new();
     for value in values {
         cells += &match value {
