@@ -7,7 +7,7 @@ const CLASSES: [(&str, &str); 5] = [
     ("short", "1.00, longer than 32 bytes 1.25"),
     ("long", "1.25"),
     ("fields", "1.40"),
-    ("append", "1.75"),
+    ("append", "1.40, longer than 32 bytes 1.75"),
     ("whole", "none"),
 ];
 
@@ -16,6 +16,7 @@ fn most(case: &Case) -> f64 {
         "short" if case.size <= 32 => 1.0,
         "short" | "long" => 1.25,
         "fields" => 1.4,
+        "append" if case.size <= 32 => 1.4,
         "append" => 1.75,
         _ => f64::INFINITY,
     }
