@@ -61,6 +61,15 @@ pub enum ErrorKind {
     Uncategorized,
 }
 
+/// What it says of itself, as an error of this kind alone does. Follows `std::io::ErrorKind`'s `Display`.
+impl fmt::Display for ErrorKind {
+    ghost output = { λ kind. Some (kind_text kind) };
+
+    fn fmt<W: fmt::Write>(&self, f: &mut fmt::Formatter<W>) -> fmt::Result {
+        write!(f, "{}", self.text())
+    }
+}
+
 impl ErrorKind {
     // One text for each kind: Display, and so each error without a text of its own, stands on it.
     fn text(self) -> &'static str

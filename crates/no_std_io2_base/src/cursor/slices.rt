@@ -75,3 +75,36 @@ impl Write for Cursor<&mut [u8]> {
 
     ghost steady = { λ c h. absurd h };
 }
+
+/// An array is written as a slice of it is. Follows `std::io::Write for Cursor<[u8; N]>`.
+///
+/// # Errors
+/// As of a slice.
+impl<const N: usize> Write for Cursor<[u8; N]> {
+    ghost told = { λ c. told_out (cursor_out (λ a. a) c) };
+
+    fn write(&mut self, buf: &[u8]) -> Result<usize>
+        ensures law { let W = ⟦<Self as Write>⟧ in
+            WriteLaw W.told W.takes_all W.cost W.is_metered W.may self.old buf.now result self.new }
+
+        // What fits, at the position.
+        ensures answer { IsOkAnd result (λ n. n ≡ min (length buf.now) (length (cursor_inner self.old) - cursor_place self.old)) }
+        ensures puts { PutsFitting (cursor_inner self.old) (cursor_place self.old) buf.now
+            (cursor_inner self.new) (cursor_place self.new) }
+    {
+        Ok(write_fitting(&mut self.inner, &mut self.pos, buf))
+    }
+
+    fn flush(&mut self) -> Result<()>
+        ensures law { let W = ⟦<Self as Write>⟧ in
+            FlushLaw W.told W.takes_all W.cost W.is_metered W.may self.old result self.new }
+
+        // It does nothing.
+        ensures ok { IsOk result }
+        ensures same { self.new ≡ self.old }
+    {
+        Ok(())
+    }
+
+    ghost steady = { λ c h. absurd h };
+}

@@ -1,15 +1,17 @@
 ghost use Rattle.std.specs.Prelude.{◌≡◌, ℕ, false, List, ◌++◌, drop, ◌<◌, ◌^◌, length};
 ghost use Rattle.no_std_io2_base.specs.Chain.{chain_first, chain_second, chain_is_done, chain_tells, chain_events};
 ghost use Rattle.no_std_io2_base.specs.Read.{Event, cut, bytes, events_of, ReadLaw, ReadExactLaw, ReadToEndLaw, bytes_reader};
+ghost use Rattle.no_std_io2_base.specs.ReadToString.{ReadToStringLaw};
 ghost use Rattle.no_std_io2_base.specs.Take.{take_inner, take_limit, take_events};
 
 use super::bytes::Bytes;
 use super::chain::Chain;
+use super::pieces::append_line;
 use super::room::{LEAST_ROOM, open_room, reserve_room};
 use super::stored::Stored;
 use super::take::Take;
 use crate::error::{Result, failed_to_fill};
-use std::alloc::Allocator;
+use std::alloc::{Allocator, Global};
 
 /// A source of bytes. Follows Rust's `std::io::Read`.
 ///
@@ -123,6 +125,31 @@ pub trait Read: Stored {
                 }
             }
         }
+    }
+
+    /// Appends what is to come to `buf`, and returns the number of its bytes. It passes over interruptions. The bytes
+    /// are gathered in a vector of their own, by `alloc`. Follows `std::io::Read::read_to_string`.
+    ///
+    /// # Errors
+    /// `InvalidData` where the bytes aren't UTF-8: the text is as it was, and the bytes are taken. The first
+    /// fault: the bytes before it are appended where they are UTF-8, else the text is as it was.
+    /// `OutOfMemory`, a device's own too: the text is as it was, and the bytes taken in the call are lost. Never
+    /// `Interrupted`.
+    ///
+    /// ```rust
+    /// let mut r = Cursor::new(*b"abc");
+    /// let mut text = String::new(rt.alloc());
+    /// assert!(rt; r.read_to_string(rt.alloc(), &mut text)? == 3);
+    /// assert!(rt; text.as_str() == "abc");
+    /// ```
+    final fn read_to_string(&mut self, alloc: Global, buf: &mut String) -> Result<usize>
+    where
+        Self: Sized,
+        ensures law { ReadToStringLaw ⟦<Self as Read>⟧ self.old buf.old result buf.new self.new }
+    {
+        let mut text = Vec::new(alloc);
+        let read = self.read_to_end(&mut text);
+        append_line(buf, &text, read)
     }
 
     /// Lends the reader itself, for an adaptor that would take it by value. Follows

@@ -24,6 +24,7 @@ pub enum SeekFrom {
 
 /// A stream with a position that can be moved. Follows Rust's `std::io::Seek`.
 pub trait Seek: Stored {
+    ghost use Rattle.no_std_io2_base.specs.SeekRelative.{SeekRelativeLaw};
     ghost use Rattle.no_std_io2_base.specs.Seek.{SeekCall, SeekLaw, StreamPositionLaw, RewindLaw, StreamLenLaw};
 
     // What one call, with its answer, may do to it. Left out, anything.
@@ -81,6 +82,28 @@ pub trait Seek: Stored {
             self.seek(SeekFrom::Start(old))?;
         }
         Ok(end)
+    }
+
+    /// Moves by `offset` bytes from the current position: `seek(SeekFrom::Current(offset))` without its number. A
+    /// [`BufReader`] has a call of this name that stays in its buffer where it can. Follows
+    /// `std::io::Seek::seek_relative`.
+    ///
+    /// # Errors
+    /// Those of `seek`: over a told store `InvalidInput` where there is no such place, and it is as it was.
+    ///
+    /// ```rust
+    /// let mut r = Cursor::new(*b"abcde");
+    /// r.seek_relative(3)?;
+    /// assert!(rt; r.position() == 3);
+    /// assert!(rt; r.seek_relative(-4).is_err()); // below 0: it stays
+    /// ```
+    final fn seek_relative(&mut self, offset: i64) -> Result<()>
+    where
+        Self: Sized,
+        ensures law { SeekRelativeLaw ⟦<Self as Seek>⟧ self.old offset result self.new }
+    {
+        self.seek(SeekFrom::Current(offset))?;
+        Ok(())
     }
 
     // A told store fits the numbers that the calls give.

@@ -1,0 +1,34 @@
+-- The law of `read_to_string`.
+use Rattle.std.specs.Prelude.{◌≡◌, ℕ, ◌+◌, ◌≤◌, List, [], Result, IfOk, String, string_len, string_capacity, string_bytes}
+use Rattle.no_std_io2_base.specs.declared.error.Error.{Error}
+use Rattle.no_std_io2_base.specs.Errors.{IsNoInterruption}
+use Rattle.no_std_io2_base.specs.Read.{Event, Reader, ReadsToEnd, GoesOn}
+use Rattle.no_std_io2_base.specs.Write.{IsFront}
+use Rattle.no_std_io2_base.specs.Pieces.{AnswersLine}
+
+-- what is to come was taken as `read_to_end` takes it, and appended, where it is text, to a text of this length and capacity
+pub record TakesText (E : List Event) (len capacity : ℕ) (reply : Result ℕ Error) (old new : List ℕ) (after : List Event) : Type 0 where
+  pub taken : List ℕ
+  pub read : Result ℕ Error
+  pub takes : ReadsToEnd E read [] taken after
+  pub answers : AnswersLine taken read len capacity reply old new
+
+-- `read_to_string(alloc, buf)`
+pub record ReadToStringLaw {S A : Type 0} (R : Reader S) (old : S) (buf : String A) (reply : Result ℕ Error) (buf' : String A) (new : S)
+    : Type 0 where
+  -- what is to come is taken, and appended where it is text
+  pub told : R.tells old → R.tells new × TakesText (R.events old) (string_len buf) (string_capacity buf) reply
+      (string_bytes buf) (string_bytes buf') (R.events new)
+  -- what stood in the text stays
+  pub appends : IsFront (string_bytes buf) (string_bytes buf')
+  -- the answer is how many bytes it grew by
+  pub count : IfOk reply (λ n. string_len buf' ≡ string_len buf + n)
+  -- no interruption is answered
+  pub fault : IsNoInterruption reply
+  -- turns are never won
+  pub turns : R.turns new ≤ R.turns old
+  -- what it claims of itself stays so
+  pub metered : R.is_metered old → R.is_metered new
+  pub filling : R.is_filling old → R.is_filling new
+  -- a told store keeps its content, and the position moves by what was taken
+  pub store : GoesOn R old new
