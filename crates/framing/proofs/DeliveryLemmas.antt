@@ -1,6 +1,6 @@
 -- How tries follow one another.
-use Rattle.std.proofs.Common.{◌≡◌, ℕ, ◌+◌, List, [], ◌∷◌, ◌++◌, length, true, Option, None, Some, Result, Ok}
-use Rattle.std.proofs.Common.{Err, refl, sym, ap, ◌∙◌, subst, arith, append_assoc, count_by}
+use Rattle.std.proofs.Common.{◌≡◌, ℕ, ◌+◌, ◌≤◌, List, [], ◌∷◌, ◌++◌, length, true, Option, None, Some, Result, Ok}
+use Rattle.std.proofs.Common.{Err, refl, sym, ap, ◌∙◌, subst, inl, inr, arith, append_assoc, count_by}
 use Rattle.std.specs.Result.{result_err}
 use Rattle.std.proofs.lemmas.List.Recursion.{is_count_by}
 use Rattle.no_std_io2.specs.declared.io.Error.{Error}
@@ -8,6 +8,7 @@ use Rattle.no_std_io2.specs.declared.io.ErrorKind.{ErrorKind}
 use Rattle.no_std_io2.specs.Write.{Told, Moves, Sends, HasSpent, call_mishap}
 use Rattle.no_std_io2.proofs.MovesLemmas.{Moves-then, Moves-quiet}
 use Rattle.pending.specs.Pending.{SendsRecords}
+use Rattle.framing.specs.Frames.{IsRefusal}
 use Rattle.framing.specs.Delivering.{TriesOnce, Delivers, HasAtMost, HasSpentTries, tried_mishap}
 
 -- the mishap of a flush
@@ -28,6 +29,11 @@ tried_flush {a} {b} {c} {end} shown under_way reply fault f s is none same = rec
       ∙ sym (append_assoc f.sent s.sent (end ++ shown));
   moves = subst (λ k. Moves a (f.sent ++ s.sent) k c) (flushed_mishap reply fault same) (Moves-then f.moves s.moves);
 }
+
+-- where there was less room, the room was too small too
+pub refusal_less : {less room : ℕ} (payload : List ℕ) (e : Error) → less ≤ room → IsRefusal room payload e → IsRefusal less payload e
+refusal_less payload e h (inl long) = inl long
+refusal_less payload e h (inr memory) = inr (memory.0, omega (arith, memory.1, h))
 
 -- what was left out of a list of kinds, counted
 count_all : (xs : List ErrorKind) → length xs ≡ count_by (λ _. true) xs

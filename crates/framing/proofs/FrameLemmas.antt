@@ -1,11 +1,11 @@
 -- How a frame is gathered: its header, and then its payload.
-use Rattle.std.proofs.Common.{◌≡◌, ◌⊎◌, ℕ, ◌+◌, ◌<◌, ◌≤◌, min, Bool, true, false, List, [], ◌++◌, length, take, Ok, Err}
+use Rattle.std.proofs.Common.{◌≡◌, ◌⊎◌, ℕ, ◌+◌, ◌<◌, ◌≤◌, min, Bool, true, false, List, [], ◌++◌, length, take, codes, Result, Ok, Err}
 use Rattle.std.proofs.Common.{refl, sym, ap, ◌∙◌, subst, inl, inr, arith, append-nil}
 use Rattle.std.specs.Int.{w32, to_le_bytes, from_le_bytes}
 use Rattle.std.proofs.Math.Seq.{take-append_seam}
 use Rattle.no_std_io2.specs.declared.io.Error.{Error}
 use Rattle.no_std_io2.specs.declared.io.ErrorKind.TheVariants.{InvalidData, UnexpectedEof}
-use Rattle.no_std_io2.specs.Errors.{error_kind}
+use Rattle.no_std_io2.specs.Errors.{SaysError}
 use Rattle.no_std_io2.specs.Read.{Event, events_of, bytes}
 use Rattle.framing.specs.Frames.{frame, told_length, IsPart}
 use Rattle.no_std_io2.specs.Passing.{Passes, Gathered}
@@ -19,11 +19,11 @@ told_behind header payload four =
     ap (from_le_bytes w32) (ap (λ n. take n (header ++ payload)) (sym four) ∙ take-append_seam header payload)
 
 -- an error came, of the reader's or for want of memory
-pub stopped : (limit want : ℕ) {I mid after : List Event} {was part new : List ℕ} (e : Error)
+pub stopped : (less lacks : Type 0) (limit want : ℕ) (why : less → lacks) {I mid after : List Event} {was part new : List ℕ} (e : Error)
     → Gathered I was part mid
-    → Gathers want mid (Err e) part new after → (length new < want → IsPart new)
-    → TakesNone limit (events_of was ++ I) e (events_of new ++ after)
-stopped limit want {I = I} {after = after} {part = part} {new = new} e g (inl h) short =
+    → Gathers want less mid (Err e) part new after → (length new < want → IsPart new)
+    → TakesNone limit lacks (events_of was ++ I) e (events_of new ++ after)
+stopped less lacks limit want why {I = I} {after = after} {part = part} {new = new} e g (inl h) short =
     inl
     (inl
     (record {
@@ -34,44 +34,58 @@ stopped limit want {I = I} {after = after} {part = part} {new = new} e g (inl h)
       part = short h.1;
       fault = h.2;
     }))
-stopped limit want {I = I} {after = after} {new = new} e g (inr h) short =
-    inr (inr (record { seen = new; rest = after; passes = Gathered-passes (Gathered-then g h.0); kept = refl; memory = h.1 }))
+stopped less lacks limit want why {I = I} {after = after} {new = new} e g (inr h) short = inr (inr (record {
+  seen = new;
+  rest = after;
+  passes = Gathered-passes (Gathered-then g h.0);
+  kept = refl;
+  memory = h.1;
+  short = why h.2;
+}))
+
+-- where there is room for what is gathered, no memory is wanted
+pub with_room : (want : ℕ) (short : Type 0) (reply : Result Bool Error) (E : List Event) (old new : List ℕ) (after : List Event)
+    → Gathers want ⊥ E reply old new after → Gathers want short E reply old new after
+with_room want short (Ok true) E old new after g = g
+with_room want short (Ok false) E old new after g = g
+with_room want short (Err e) E old new after (inl g) = inl g
+with_room want short (Err e) E old new after (inr g) = absurd g.2
 
 -- the bytes ended inside the frame
-pub ended : (limit want : ℕ) {I mid : List Event} (after : List Event) {was part : List ℕ} (new : List ℕ) (b : Bool) (e : Error)
+pub ended : (less lacks : Type 0) (limit want : ℕ) {I mid : List Event} (after : List Event) {was part : List ℕ} (new : List ℕ) (b : Bool) (e : Error)
     → b ≡ false
-    → Gathered I was part mid → Gathers want mid (Ok b) part new after → (length new < want → IsPart new)
+    → Gathered I was part mid → Gathers want less mid (Ok b) part new after → (length new < want → IsPart new)
     → 0 < length new
-    → error_kind e ≡ UnexpectedEof → TakesNone limit (events_of was ++ I) e (events_of new ++ after)
-ended limit want {I = I} after new true e is g h short some kind = let no : ⊥ = cc in absurd no
-ended limit want {I = I} after {was = was} {part = part} new false e is g h short some kind = inl (inr (record {
+    → SaysError UnexpectedEof (codes "the bytes end inside a frame") e → TakesNone limit lacks (events_of was ++ I) e (events_of new ++ after)
+ended less lacks limit want {I = I} after new true e is g h short some says = let no : ⊥ = cc in absurd no
+ended less lacks limit want {I = I} after {was = was} {part = part} new false e is g h short some says = inl (inr (record {
   seen = new;
   passes = subst (λ l. Passes (events_of was ++ I) new l) h.2 (Gathered-passes (Gathered-then g h.0));
   kept = ap (λ l. events_of new ++ l) h.2 ∙ append-nil (events_of new);
   some = some;
   part = short h.1;
-  kind = kind;
+  says = says;
 }))
 
 -- no byte of a frame came, and none will
-pub no_frame : (want : ℕ) (I : List Event) {after : List Event} (was : List ℕ) {new : List ℕ} (b : Bool) → b ≡ false
-    → Gathers want I (Ok b) was new after → new ≡ []
+pub no_frame : (less : Type 0) (want : ℕ) (I : List Event) {after : List Event} (was : List ℕ) {new : List ℕ} (b : Bool) → b ≡ false
+    → Gathers want less I (Ok b) was new after → new ≡ []
     → Passes (events_of was ++ I) [] after × (after ≡ []) × (new ≡ [])
-no_frame want I was true is h none = let no : ⊥ = cc in absurd no
-no_frame want I {after} was false is h none = (subst (λ l. Passes (events_of was ++ I) l after) none (Gathered-passes h.0), h.2, none)
+no_frame less want I was true is h none = let no : ⊥ = cc in absurd no
+no_frame less want I {after} was false is h none = (subst (λ l. Passes (events_of was ++ I) l after) none (Gathered-passes h.0), h.2, none)
 
 -- the part that was asked for is there
-pub whole_part : (want : ℕ) {I after : List Event} {was new : List ℕ} (b : Bool) → b ≡ true
-    → Gathers want I (Ok b) was new after → Gathered I was new after × (want ≤ length new)
-whole_part want {I = I} true is h = h
-whole_part want {I = I} false is h = let no : ⊥ = cc in absurd no
+pub whole_part : (less : Type 0) (want : ℕ) {I after : List Event} {was new : List ℕ} (b : Bool) → b ≡ true
+    → Gathers want less I (Ok b) was new after → Gathered I was new after × (want ≤ length new)
+whole_part less want {I = I} true is h = h
+whole_part less want {I = I} false is h = let no : ⊥ = cc in absurd no
 
 -- the frame is longer than the limit
-pub too_long : (limit : ℕ) {I after : List Event} {was new : List ℕ} (e : Error) → Gathered I was new after
-    → 4 ≤ length new → limit < told_length new → error_kind e ≡ InvalidData
-    → TakesNone limit (events_of was ++ I) e (events_of new ++ after)
-too_long limit {after} {new} e g four above kind =
-    inr (inl (record { seen = new; rest = after; passes = Gathered-passes g; kept = refl; header = four; above = above; kind = kind }))
+pub too_long : (lacks : Type 0) (limit : ℕ) {I after : List Event} {was new : List ℕ} (e : Error) → Gathered I was new after
+    → 4 ≤ length new → limit < told_length new → SaysError InvalidData (codes "a frame is longer than the limit") e
+    → TakesNone limit lacks (events_of was ++ I) e (events_of new ++ after)
+too_long lacks limit {after} {new} e g four above says =
+    inr (inl (record { seen = new; rest = after; passes = Gathered-passes g; kept = refl; header = four; above = above; says = says }))
 
 -- a header and the payload that it tells are a frame
 pub frame_whole : (len : ℕ) (header payload : List ℕ) → to_le_bytes w32 len ≡ header → length payload ≡ len
@@ -106,10 +120,24 @@ pub turn_spent : (was new : ℕ) {old mid after : ℕ} → (was < new) ⊎ (0 < 
 turn_spent was new {old = old} {mid = mid} (inl grew) turn turns later = let less : mid < old = turn grew in omega arith
 turn_spent was new (inr some) turn turns later = omega arith
 
+-- room that is short is short in other words
+pub none_as : (short lacks : Type 0) (limit : ℕ) (why : lacks → short) {E : List Event} {e : Error} {after : List Event}
+    → TakesNone limit lacks E e after → TakesNone limit short E e after
+none_as short lacks limit why (inl h) = inl h
+none_as short lacks limit why (inr (inl h)) = inr (inl h)
+none_as short lacks limit why (inr (inr h)) = inr (inr (record {
+  seen = h.seen;
+  rest = h.rest;
+  passes = h.passes;
+  kept = h.kept;
+  memory = h.memory;
+  short = why h.short;
+}))
+
 -- an error loses no byte
-pub none_lost : (limit : ℕ) (E : List Event) (e : Error) (after : List Event) → TakesNone limit E e after → bytes after ≡ bytes E
-none_lost limit E e after (inl (inl h)) = ap bytes h.kept ∙ bytes-behind h.seen h.rest ∙ sym (Passes-all h.passes)
-none_lost limit E e after (inl (inr h)) =
+pub none_lost : (short : Type 0) (limit : ℕ) (E : List Event) (e : Error) (after : List Event) → TakesNone limit short E e after → bytes after ≡ bytes E
+none_lost short limit E e after (inl (inl h)) = ap bytes h.kept ∙ bytes-behind h.seen h.rest ∙ sym (Passes-all h.passes)
+none_lost short limit E e after (inl (inr h)) =
     ap bytes (h.kept ∙ sym (append-nil (events_of h.seen))) ∙ bytes-behind h.seen [] ∙ sym (Passes-all h.passes)
-none_lost limit E e after (inr (inl h)) = ap bytes h.kept ∙ bytes-behind h.seen h.rest ∙ sym (Passes-all h.passes)
-none_lost limit E e after (inr (inr h)) = ap bytes h.kept ∙ bytes-behind h.seen h.rest ∙ sym (Passes-all h.passes)
+none_lost short limit E e after (inr (inl h)) = ap bytes h.kept ∙ bytes-behind h.seen h.rest ∙ sym (Passes-all h.passes)
+none_lost short limit E e after (inr (inr h)) = ap bytes h.kept ∙ bytes-behind h.seen h.rest ∙ sym (Passes-all h.passes)

@@ -103,10 +103,10 @@ no_long limit seen left (p ∷ ps) small e within four above =
     omega arith
 
 -- Over the bytes of the frames of `sent`, a run gives a front of `sent`, and the others are still to come.
-pub comes_back : (limit : ℕ) (sent : List (List ℕ)) {E : List Event}
-    (reply : Result (Unit {0}) Error) {given : List (List ℕ)} (after : List Event) → limit < 2 ^ 32 → TakesFrames limit E reply given after
-    → bytes E ≡ frames sent → All (λ p. length p ≤ limit) sent → ComesBack sent E reply given (bytes after)
-comes_back limit sent {E = E} (Ok u) {given = given} after small h is within =
+pub comes_back : (short : Type 0) (limit : ℕ) (sent : List (List ℕ)) {E : List Event}
+    (reply : Result (Unit {0}) Error) {given : List (List ℕ)} (after : List Event) → limit < 2 ^ 32 → TakesFrames limit short E reply given after
+    → bytes E ≡ frames sent → All (λ p. length p ≤ limit) sent → ComesBack short sent E reply given (bytes after)
+comes_back short limit sent {E = E} (Ok u) {given = given} after small h is within =
     let m =
     front_frames given sent (bytes after) (sym is ∙ Passes-all h.0.passes)
     (all_within limit (2 ^ 32) small sent within) (all_within limit (2 ^ 32) small given h.0.each) in
@@ -115,16 +115,16 @@ comes_back limit sent {E = E} (Ok u) {given = given} after small h is within =
     no_frames : (more : List (List ℕ)) → frames more ≡ [] → more ≡ []
     no_frames [] e = refl
     no_frames (p ∷ ps) e = absurd (omega (arith, ap length e, long_frame p (frames ps)))
-comes_back limit sent {E = E} (Err e) {given = given} after small (mid, run, none) is within =
+comes_back short limit sent {E = E} (Err e) {given = given} after small (mid, run, none) is within =
     let m =
     front_frames given sent (bytes mid) (sym is ∙ Passes-all run.passes)
     (all_within limit (2 ^ 32) small sent within) (all_within limit (2 ^ 32) small given run.each) in
     let others : All (λ p. length p ≤ limit) m.0 =
     All-right (λ p. length p ≤ limit) given m.0 (subst (All (λ p. length p ≤ limit)) m.1 within) in
-    record { more = m.0; split = m.1; rest = none_lost limit mid e after none ∙ m.2; ok = tt; err = why m.0 m.2 others none }
+    record { more = m.0; split = m.1; rest = none_lost short limit mid e after none ∙ m.2; ok = tt; err = why m.0 m.2 others none }
   where
     why : (more : List (List ℕ)) → bytes mid ≡ frames more → All (λ p. length p ≤ limit) more
-        → TakesNone limit mid e after → IsFirstFault E e ⊎ IsOutOfMemory e
+        → TakesNone limit short mid e after → IsFirstFault E e ⊎ (IsOutOfMemory e × short)
     why more left fit (inl (inl t)) =
         inl
         (record
@@ -135,4 +135,4 @@ comes_back limit sent {E = E} (Err e) {given = given} after small (mid, run, non
         t.part)
     why more left fit (inr (inl t)) =
         absurd (no_long limit t.seen (bytes t.rest) more small (sym (Passes-all t.passes) ∙ left) fit t.header t.above)
-    why more left fit (inr (inr t)) = inr t.memory
+    why more left fit (inr (inr t)) = inr (t.memory, t.short)

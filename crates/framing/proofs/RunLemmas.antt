@@ -13,7 +13,7 @@ use Rattle.no_std_io2.specs.Passing.{Passes}
 use Rattle.framing.specs.Frames.{frame, frames}
 use Rattle.framing.specs.Taking.{PassesFrames, TakesNone, TakesFrames, appended}
 use Rattle.no_std_io2.proofs.EventLemmas.{Passes-none, Passes-then}
-use Rattle.framing.proofs.FrameLemmas.{passes_as}
+use Rattle.framing.proofs.FrameLemmas.{passes_as, none_as}
 
 -- one payload more
 frames_push : (ps : List (List ℕ)) (p : List ℕ) → frames (ps ++ p ∷ []) ≡ frames ps ++ frame p
@@ -54,24 +54,26 @@ pub run_same : {X : Type 0} (f : X → List ℕ) {limit : ℕ} {E after : List E
 run_same f {limit} {E} {after} old new run is = subst (λ l. PassesFrames limit E (map f (appended old l)) after) (sym is) run
 
 -- the end after the frames
-pub run_ends : (limit : ℕ) {E mid after : List Event} {ps : List (List ℕ)} → PassesFrames limit E ps mid
-    → Passes mid [] after × (after ≡ []) → TakesFrames limit E (Ok tt) ps after
-run_ends limit {E = E} {ps = ps} run h =
+pub run_ends : (short : Type 0) (limit : ℕ) {E mid after : List Event} {ps : List (List ℕ)} → PassesFrames limit E ps mid
+    → Passes mid [] after × (after ≡ []) → TakesFrames limit short E (Ok tt) ps after
+run_ends short limit {E = E} {ps = ps} run h =
     (record { passes = passes_as (Passes-then run.passes h.0) (append-nil (frames ps)); each = run.each }, h.1)
 
 -- want of memory after the frames
-pub run_refused : (limit : ℕ) {E after : List Event} {ps : List (List ℕ)} (e : Error) → PassesFrames limit E ps after
-    → IsOutOfMemory e → TakesFrames limit E (Err e) ps after
-run_refused limit {E = E} {after = after} e run memory = (
+pub run_refused : (short : Type 0) (limit : ℕ) {E after : List Event} {ps : List (List ℕ)} (e : Error) → PassesFrames limit E ps after
+    → IsOutOfMemory e → short → TakesFrames limit short E (Err e) ps after
+run_refused short limit {E = E} {after = after} e run memory full = (
   after,
   run,
-  inr (inr (record { seen = []; rest = after; passes = Passes-none after; kept = refl; memory = memory })),
+  inr (inr (record { seen = []; rest = after; passes = Passes-none after; kept = refl; memory = memory; short = full })),
 )
 
 -- no frame after the frames
-pub run_stops : (limit most : ℕ) {E mid after : List Event} {ps : List (List ℕ)} (e : Error)
-    → PassesFrames limit E ps mid → most ≡ limit → TakesNone most mid e after → TakesFrames limit E (Err e) ps after
-run_stops limit most {mid} {after} e run same none = (mid, run, subst (λ n. TakesNone n mid e after) same none)
+pub run_stops : (lacks short : Type 0) (limit most : ℕ) (why : lacks → short) {E mid after : List Event} {ps : List (List ℕ)} (e : Error)
+    → PassesFrames limit E ps mid → most ≡ limit → TakesNone most lacks mid e after
+    → TakesFrames limit short E (Err e) ps after
+run_stops lacks short limit most why {mid} {after} e run same none =
+    (mid, run, subst (λ n. TakesNone n short mid e after) same (none_as short lacks most why none))
 
 -- a frame within the limit
 pub frame_within : {limit : ℕ} (most : ℕ) {mid after : List Event} (p : List ℕ) → most ≡ limit

@@ -44,15 +44,15 @@ all_short most old new t none is = λ k d lt.
     omega arith
 
 -- payloads that are short enough are refused for want of memory alone
-pub only_memory : (old new : List (List ℕ)) (e : Error) → TakesOff old new → All (λ p. length p < 2 ^ 32) old
-    → RefusesFirst IsRefusal new e → IsOutOfMemory e
-only_memory old [] e t short h = absurd h
-only_memory old (p ∷ ps) e t short (inl long) =
+pub only_memory : (room : ℕ) (old new : List (List ℕ)) (e : Error) → TakesOff old new → All (λ p. length p < 2 ^ 32) old
+    → RefusesFirst (IsRefusal room) new e → IsOutOfMemory e
+only_memory room old [] e t short h = absurd h
+only_memory room old (p ∷ ps) e t short (inl long) =
     let others : All (λ q. length q < 2 ^ 32) (p ∷ ps) =
     All-right (λ q. length q < 2 ^ 32) t.front (p ∷ ps) (subst (All (λ q. length q < 2 ^ 32)) t.split short) in
     let fits : length p < 2 ^ 32 = All-head (λ q. length q < 2 ^ 32) p ps others in
     absurd (omega (arith, long.0))
-only_memory old (p ∷ ps) e t short (inr memory) = memory
+only_memory room old (p ∷ ps) e t short (inr memory) = memory.0
 
 -- bytes alone have no fault
 no_fault : (bs : List ℕ) (E front rest : List Event) (e : Error) → E ≡ events_of bs → E ≡ front ++ fails e ∷ rest → ⊥
@@ -65,19 +65,19 @@ no_fault bs E front rest e is split = at bs front (sym is ∙ split)
     at (c ∷ cs) (q ∷ Q) h = at cs Q (let t : events_of cs ≡ Q ++ fails e ∷ rest = cc in t)
 
 -- over bytes alone an error is want of memory
-pub memory_alone : (sent : List (List ℕ)) (bs : List ℕ) {E : List Event} (e : Error) {given : List (List ℕ)} {left : List ℕ}
-    → E ≡ events_of bs → ComesBack sent E (Err e) given left → IsOutOfMemory e
-memory_alone sent bs {E = E} e is back = why back.err
+pub memory_alone : (short : Type 0) (sent : List (List ℕ)) (bs : List ℕ) {E : List Event} (e : Error) {given : List (List ℕ)} {left : List ℕ}
+    → E ≡ events_of bs → ComesBack short sent E (Err e) given left → IsOutOfMemory e
+memory_alone short sent bs {E = E} e is back = why back.err
   where
-    why : IsFirstFault E e ⊎ IsOutOfMemory e → IsOutOfMemory e
+    why : IsFirstFault E e ⊎ (IsOutOfMemory e × short) → IsOutOfMemory e
     why (inl f) = absurd (no_fault bs E f.passes.front f.rest e is f.passes.split)
-    why (inr m) = m
+    why (inr m) = m.0
 
 -- what was given is what was sent
-pub all_given : {X : Type 0} (f : X → List ℕ) (sent : List (List ℕ)) (E : List Event) (left : List ℕ) (old new : List X)
-    → ComesBack sent E (Ok tt) (map f (appended old new)) left → new ≡ old ++ appended old new → old ≡ []
+pub all_given : {X : Type 0} (short : Type 0) (f : X → List ℕ) (sent : List (List ℕ)) (E : List Event) (left : List ℕ) (old new : List X)
+    → ComesBack short sent E (Ok tt) (map f (appended old new)) left → new ≡ old ++ appended old new → old ≡ []
     → map f new ≡ sent
-all_given f sent E left old new back e none =
+all_given short f sent E left old new back e none =
     ap (map f) (e ∙ ap (λ l. l ++ appended old new) none) ∙ sym (append-nil (map f (appended old new)))
     ∙ ap (λ l. map f (appended old new) ++ l) (sym back.ok) ∙ sym back.split
 
@@ -94,7 +94,3 @@ shown_frames a b to_go to_go' payloads left before after d none none' all held h
 pub come_frames : (E : List Event) (bs : List ℕ) (payloads : List (List ℕ)) → E ≡ events_of bs → bs ≡ frames payloads
     → bytes E ≡ frames payloads
 come_frames E bs payloads e is = ap bytes e ∙ bytes-events_of bs ∙ is
-
--- a slice from a place on
-pub slice_from : (n : ℕ) (bs : List ℕ) → take (length bs - n) (drop n bs) ≡ drop n bs
-slice_from n bs = take_all (length bs - n) (drop n bs) (omega (arith, length-drop n bs))

@@ -1,7 +1,7 @@
 -- What a frame is.
-use Rattle.std.specs.Prelude.{◌≡◌, ◌⊎◌, ℕ, ◌+◌, ◌<◌, ◌≤◌, ◌^◌, List, [], ◌++◌, length, take, map}
+use Rattle.std.specs.Prelude.{◌≡◌, ◌⊎◌, ℕ, ◌+◌, ◌<◌, ◌≤◌, ◌^◌, List, [], ◌++◌, length, take, map, codes}
 use Rattle.std.specs.List.{concat}
-use Rattle.no_std_io2.specs.Errors.{error_kind, IsOutOfMemory}
+use Rattle.no_std_io2.specs.Errors.{IsOutOfMemory, SaysError}
 use Rattle.no_std_io2.specs.declared.io.Error.{Error}
 use Rattle.no_std_io2.specs.declared.io.ErrorKind.TheVariants.{InvalidInput}
 use Rattle.std.specs.Int.{w32, to_le_bytes, from_le_bytes}
@@ -28,8 +28,8 @@ IsWithin header payload = (length header ≤ 4) × (length header < 4 → payloa
 
 -- a payload was refused: it is too long for a frame
 abbrev pub IsTooLongToSend : List ℕ → Error → Type 0
-IsTooLongToSend payload e = (2 ^ 32 ≤ length payload) × (error_kind e ≡ InvalidInput)
+IsTooLongToSend payload e = (2 ^ 32 ≤ length payload) × SaysError InvalidInput (codes "a frame has fewer than 2^32 bytes") e
 
--- a payload was refused: it is too long for a frame, or there was no memory for it
-abbrev pub IsRefusal : List ℕ → Error → Type 0
-IsRefusal payload e = IsTooLongToSend payload e ⊎ IsOutOfMemory e
+-- a payload was refused: it is too long for a frame, or there was room for so many bytes, too few, and no memory for more
+abbrev pub IsRefusal : ℕ → List ℕ → Error → Type 0
+IsRefusal room payload e = IsTooLongToSend payload e ⊎ (IsOutOfMemory e × (room < 4 + length payload))

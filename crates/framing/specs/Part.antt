@@ -1,5 +1,6 @@
 -- What a clause reads of a frame that is gathered.
-use Rattle.std.specs.Prelude.{ℕ, List, ◌++◌, length, min, ◌+◌}
+use Rattle.std.specs.Prelude.{◌≡◌, ◌⊎◌, ◌<◌, ◌≤◌, ℕ, List, ◌++◌, length, min, ◌+◌, vec_capacity}
+use Rattle.std.specs.Int.{w32, from_le_bytes}
 use Rattle.no_std_io2.specs.Read.{Event, events_of}
 use Rattle.no_std_io2.specs.BufReader.{reader_inner, reader_events, reader_turns}
 use Rattle.framing.specs.declared.reader.part.Part.{Part}
@@ -17,6 +18,18 @@ part_header p = p.header.items
 abbrev pub part_payload : Part → List ℕ
 part_payload p = p.payload.items
 
+-- the payload's length, as the header tells it
+abbrev pub told_by : Part → ℕ
+told_by p = from_le_bytes w32 p.header.items
+
+-- for how many bytes of a header there is room
+abbrev pub header_room : Part → ℕ
+header_room p = vec_capacity p.header
+
+-- and for how many of a payload
+abbrev pub payload_room : Part → ℕ
+payload_room p = vec_capacity p.payload
+
 -- the reader below
 abbrev pub reads_from : {R : Type 0} {S : ℕ} → FrameReader R S → R
 reads_from r = reader_inner r.inner
@@ -28,6 +41,15 @@ frame_events events r = events_of (part_bytes r.part) ++ reader_events events r.
 -- the most bytes that a payload may have
 abbrev pub most : {R : Type 0} {S : ℕ} → FrameReader R S → ℕ
 most r = r.limit
+
+-- the part of the next frame
+abbrev pub part_of : {R : Type 0} {S : ℕ} → FrameReader R S → Part
+part_of r = r.part
+
+-- there is too little room for a header, or for the payload that the header tells, which is within the limit
+abbrev pub LacksRoom : ℕ → Part → Type 0
+LacksRoom limit p = (header_room p < 4)
+    ⊎ ((length (part_header p) ≡ 4) × (told_by p ≤ limit) × (payload_room p < told_by p))
 
 -- a number that each frame lowers, where the reader below tells `turns`
 abbrev pub frame_turns : {R : Type 0} {S : ℕ} → (R → ℕ) → FrameReader R S → ℕ

@@ -2,13 +2,18 @@
 use Rattle.std.specs.Prelude.{◌<◌, ◌^◌, List, ℕ, length}
 use Rattle.no_std_io2.specs.Write.{Told}
 use Rattle.no_std_io2.specs.BufWriter.{writer_inner, writer_buffer, writer_told}
-use Rattle.pending.specs.Pending.{pending_bytes, pending_rest}
+use Rattle.pending.specs.Pending.{pending_bytes, pending_rest, pending_room}
 use Rattle.pending.specs.Pending as records
+use Rattle.no_std_io2.specs.declared.io.BufWriter.{BufWriter}
 use Rattle.framing.specs.declared.writer.FrameWriter.{FrameWriter}
 
 -- the writer below
 abbrev pub writes_to : {W : Type 0} {S : ℕ} → FrameWriter W S → W
 writes_to w = writer_inner w.inner
+
+-- the same with its buffer
+abbrev pub frame_writer : {W : Type 0} {S : ℕ} → FrameWriter W S → BufWriter W S
+frame_writer w = w.inner
 
 -- what its buffer holds
 abbrev pub frames_held : {W : Type 0} {S : ℕ} → FrameWriter W S → List ℕ
@@ -25,6 +30,10 @@ under_way w = pending_bytes w.pending
 -- what is still to go of it
 abbrev pub still_to_go : {W : Type 0} {S : ℕ} → FrameWriter W S → List ℕ
 still_to_go w = pending_rest w.pending
+
+-- for how many bytes of a frame there is room
+abbrev pub frame_room : {W : Type 0} {S : ℕ} → FrameWriter W S → ℕ
+frame_room w = pending_room w.pending
 
 -- these payloads were taken off the front, and each is short enough for a frame
 abbrev pub TakesOff : List (List ℕ) → List (List ℕ) → Type 0

@@ -1,19 +1,20 @@
 -- What a reader of frames takes of what is to come.
-use Rattle.std.specs.Prelude.{◌≡◌, ◌⊎◌, ℕ, ◌<◌, ◌≤◌, List, [], ◌∷◌, ◌++◌, length, drop, All}
+use Rattle.std.specs.Prelude.{◌≡◌, ◌⊎◌, ℕ, ◌<◌, ◌≤◌, ◌+◌, List, [], ◌∷◌, ◌++◌, length, drop, All, codes, vec_len, vec_capacity}
+use Rattle.std.specs.Global.{Vec}
 use Rattle.std.specs.Prelude.{Bool, true, false, Option, Some, None, Result, Ok, Err, OnOk, IfErr}
-use Rattle.no_std_io2.specs.Errors.{error_kind, IsFault, IsOutOfMemory}
+use Rattle.no_std_io2.specs.Errors.{IsFault, IsOutOfMemory, SaysError}
 use Rattle.no_std_io2.specs.Read.{Event, fails, events_of}
 use Rattle.no_std_io2.specs.Passing.{Passes, Gathered}
 use Rattle.no_std_io2.specs.declared.io.Error.{Error}
 use Rattle.no_std_io2.specs.declared.io.ErrorKind.TheVariants.{InvalidData, UnexpectedEof}
 use Rattle.framing.specs.Frames.{frame, frames, told_length, IsPart}
 
--- A part was gathered up to `want` bytes: it has them; or the end came before, or a fault, or memory was refused.
-abbrev pub Gathers : ℕ → List Event → Result Bool Error → List ℕ → List ℕ → List Event → Type 0
-Gathers want E (Ok true) old new after = Gathered E old new after × (want ≤ length new)
-Gathers want E (Ok false) old new after = Gathered E old new after × (length new < want) × (after ≡ [])
-Gathers want E (Err e) old new after =
-    (Gathered E old new (fails e ∷ after) × (length new < want) × IsFault e) ⊎ (Gathered E old new after × IsOutOfMemory e)
+-- A part was gathered up to `want` bytes: it has them; or the end came before, or a fault, or memory was refused where room is short.
+abbrev pub Gathers : ℕ → Type 0 → List Event → Result Bool Error → List ℕ → List ℕ → List Event → Type 0
+Gathers want short E (Ok true) old new after = Gathered E old new after × (want ≤ length new)
+Gathers want short E (Ok false) old new after = Gathered E old new after × (length new < want) × (after ≡ [])
+Gathers want short E (Err e) old new after =
+    (Gathered E old new (fails e ∷ after) × (length new < want) × IsFault e) ⊎ (Gathered E old new after × IsOutOfMemory e × short)
 
 -- A fault came before the next frame was whole: the fault is gone, and the bytes before it are still to come.
 pub record Stops (limit : ℕ) (E : List Event) (e : Error) (after : List Event) : Type 0 where
@@ -31,7 +32,7 @@ pub record EndsInside (E : List Event) (e : Error) (after : List Event) : Type 0
   pub kept : after ≡ events_of seen
   pub some : 0 < length seen
   pub part : IsPart seen
-  pub kind : error_kind e ≡ UnexpectedEof
+  pub says : SaysError UnexpectedEof (codes "the bytes end inside a frame") e
 
 -- The next frame is longer than the limit: it is still to come.
 pub record IsTooLong (limit : ℕ) (E : List Event) (e : Error) (after : List Event) : Type 0 where
@@ -41,31 +42,33 @@ pub record IsTooLong (limit : ℕ) (E : List Event) (e : Error) (after : List Ev
   pub kept : after ≡ events_of seen ++ rest
   pub header : 4 ≤ length seen
   pub above : limit < told_length seen
-  pub kind : error_kind e ≡ InvalidData
+  pub says : SaysError InvalidData (codes "a frame is longer than the limit") e
 
--- Memory was refused: the next frame is still to come.
-pub record HasNoRoom (E : List Event) (e : Error) (after : List Event) : Type 0 where
+-- Memory was refused where room is short: the next frame is still to come.
+pub record HasNoRoom (lacks : Type 0) (E : List Event) (e : Error) (after : List Event) : Type 0 where
   pub seen : List ℕ
   pub rest : List Event
   pub passes : Passes E seen rest
   pub kept : after ≡ events_of seen ++ rest
   pub memory : IsOutOfMemory e
+  pub short : lacks
 
 -- no frame was taken, and no byte is lost
-abbrev pub TakesNone : ℕ → List Event → Error → List Event → Type 0
-TakesNone limit E e after = (Stops limit E e after ⊎ EndsInside E e after) ⊎ (IsTooLong limit E e after ⊎ HasNoRoom E e after)
+abbrev pub TakesNone : ℕ → Type 0 → List Event → Error → List Event → Type 0
+TakesNone limit short E e after =
+    (Stops limit E e after ⊎ EndsInside E e after) ⊎ (IsTooLong limit E e after ⊎ HasNoRoom short E e after)
 
 -- The next frame was gathered as a whole, with this payload; or there is none; or an error came.
-abbrev pub GathersFrame : ℕ → List Event → Result Bool Error → List ℕ → List ℕ → List Event → Type 0
-GathersFrame limit E (Ok true) part payload after = Passes E (frame payload) after × (length payload ≤ limit)
-GathersFrame limit E (Ok false) part payload after = Passes E [] after × (after ≡ []) × (part ≡ [])
-GathersFrame limit E (Err e) part payload after = TakesNone limit E e (events_of part ++ after)
+abbrev pub GathersFrame : ℕ → Type 0 → List Event → Result Bool Error → List ℕ → List ℕ → List Event → Type 0
+GathersFrame limit short E (Ok true) part payload after = Passes E (frame payload) after × (length payload ≤ limit)
+GathersFrame limit short E (Ok false) part payload after = Passes E [] after × (after ≡ []) × (part ≡ [])
+GathersFrame limit short E (Err e) part payload after = TakesNone limit short E e (events_of part ++ after)
 
 -- `next` gave a payload, with these items; or the end; or an error
-abbrev pub TakesFrame : {X : Type 0} → (X → List ℕ) → ℕ → List Event → Result (Option X) Error → List Event → Type 0
-TakesFrame items limit E (Ok (Some x)) after = Passes E (frame (items x)) after × (length (items x) ≤ limit)
-TakesFrame items limit E (Ok None) after = Passes E [] after × (after ≡ [])
-TakesFrame items limit E (Err e) after = TakesNone limit E e after
+abbrev pub TakesFrame : {X : Type 0} → (X → List ℕ) → ℕ → Type 0 → List Event → Result (Option X) Error → List Event → Type 0
+TakesFrame items limit short E (Ok (Some x)) after = Passes E (frame (items x)) after × (length (items x) ≤ limit)
+TakesFrame items limit short E (Ok None) after = Passes E [] after × (after ≡ [])
+TakesFrame items limit short E (Err e) after = TakesNone limit short E e after
 
 -- the frames of these payloads are gone from the front of E, each within the limit
 pub record PassesFrames (limit : ℕ) (E : List Event) (payloads : List (List ℕ)) (after : List Event) : Type 0 where
@@ -73,9 +76,10 @@ pub record PassesFrames (limit : ℕ) (E : List Event) (payloads : List (List �
   pub each : All (λ p. length p ≤ limit) payloads
 
 -- `read_all` gave these payloads, up to the end or an error
-abbrev pub TakesFrames : ℕ → List Event → Result (Unit {0}) Error → List (List ℕ) → List Event → Type 0
-TakesFrames limit E (Ok u) payloads after = PassesFrames limit E payloads after × (after ≡ [])
-TakesFrames limit E (Err e) payloads after = (mid : List Event) × PassesFrames limit E payloads mid × TakesNone limit mid e after
+abbrev pub TakesFrames : ℕ → Type 0 → List Event → Result (Unit {0}) Error → List (List ℕ) → List Event → Type 0
+TakesFrames limit short E (Ok u) payloads after = PassesFrames limit E payloads after × (after ≡ [])
+TakesFrames limit short E (Err e) payloads after =
+    (mid : List Event) × PassesFrames limit E payloads mid × TakesNone limit short mid e after
 
 -- the first fault of E
 pub record IsFirstFault (E : List Event) (e : Error) : Type 0 where
@@ -85,14 +89,18 @@ pub record IsFirstFault (E : List Event) (e : Error) : Type 0 where
   pub fault : IsFault e
 
 -- Where the frames of `sent` are to come, these were given, and the others are still to come: none at `Ok`,
--- and an error is the first fault or want of memory.
-pub record ComesBack (sent : List (List ℕ)) (E : List Event) (reply : Result (Unit {0}) Error)
+-- and an error is the first fault, or want of memory where room is short.
+pub record ComesBack (short : Type 0) (sent : List (List ℕ)) (E : List Event) (reply : Result (Unit {0}) Error)
     (given : List (List ℕ)) (left : List ℕ) : Type 0 where
   pub more : List (List ℕ)
   pub split : sent ≡ given ++ more
   pub rest : left ≡ frames more
   pub ok : OnOk reply (more ≡ [])
-  pub err : IfErr reply (λ e. IsFirstFault E e ⊎ IsOutOfMemory e)
+  pub err : IfErr reply (λ e. IsFirstFault E e ⊎ (IsOutOfMemory e × short))
+
+-- there is no room for one more
+abbrev pub IsFull : {X : Type 0} → Vec X → Type 0
+IsFull v = vec_capacity v < vec_len v + 1
 
 -- what stands behind the old items
 abbrev pub appended : {X : Type 0} → List X → List X → List X

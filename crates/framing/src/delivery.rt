@@ -1,12 +1,12 @@
 //! Frames that are sent until the device has them all.
-ghost use Rattle.std.specs.Prelude.{◌≡◌, [], ◌++◌, None, map, OnOk, IfOk, IfErr};
+ghost use Rattle.std.specs.Prelude.{◌≡◌, ◌≤◌, ◌⊎◌, [], ◌++◌, None, map, OnOk, IfOk, IfErr, IfSome};
 ghost use Rattle.framing.specs.Frames.{frames, IsRefusal};
-ghost use Rattle.framing.specs.Sending.{writer_tells, under_way, still_to_go, TakesOff};
+ghost use Rattle.framing.specs.Sending.{writer_tells, frame_writer, frame_room, under_way, still_to_go, TakesOff};
 ghost use Rattle.framing.specs.Delivering.{TriesOnce, Delivers, HasAtMost};
-ghost use Rattle.pending.specs.Pending.{RefusesFirst};
+ghost use Rattle.pending.specs.Pending.{RefusesFirst, RestFlushLaw, StopsWith};
 
 use crate::writer::FrameWriter;
-use no_std_io2::io::{Error, Result, Write};
+use no_std_io2::io::{BufWriter, Error, Result, Write};
 
 impl<W: Write + Drop, const S: usize> FrameWriter<W, S> {
     // Sends these payloads and flushes, once. `Ok` has the device's fault, if one came; `Err` is a refusal.
@@ -17,7 +17,10 @@ impl<W: Write + Drop, const S: usize> FrameWriter<W, S> {
         ensures rest { TakesOff (map (λ v. v.items) rest.old.now) (map (λ v. v.items) rest.new.now) }
         ensures done { IfOk result (λ fault. fault ≡ None → (under_way self.new ≡ []) × (still_to_go self.new ≡ [])
             × (rest.new.now ≡ []) × ((writer_tells W.told self.new).held ≡ [])) }
-        ensures refused { IfErr result (RefusesFirst IsRefusal (map (λ v. v.items) rest.new.now)) }
+        ensures refused { IfErr result (RefusesFirst (IsRefusal (frame_room self.old)) (map (λ v. v.items) rest.new.now)) }
+        ensures stopped { IfOk result (λ fault. IfSome fault (λ e. StopsWith (RestFlushLaw ⟦<BufWriter<W, S> as Write>⟧) e
+            (frame_writer self.new) (still_to_go self.new))) }
+        ensures room { frame_room self.old ≤ frame_room self.new }
     {
         match self.send_all(rest) {
             Ok(()) => Ok(self.flush().err()),
@@ -31,7 +34,7 @@ impl<W: Write + Drop, const S: usize> FrameWriter<W, S> {
     /// device that tells at most `tries` mishaps to come it fails by a refusal alone.
     ///
     /// # Errors
-    /// The device's fault after the last try: the same call goes on. `InvalidInput` and `OutOfMemory` as of
+    /// The fault of the last try, with its text: the same call goes on. `InvalidInput` and `OutOfMemory` as of
     /// [`send`](FrameWriter::send), at once, with the refused payload at the front of `rest`.
     ///
     /// ```rust
@@ -48,7 +51,9 @@ impl<W: Write + Drop, const S: usize> FrameWriter<W, S> {
         ensures done { OnOk result ((under_way self.new ≡ []) × (still_to_go self.new ≡ [])
             × (rest.new.now ≡ []) × ((writer_tells W.told self.new).held ≡ [])) }
         ensures enough { HasAtMost tries (writer_tells W.told self.old).mishaps
-            → IfErr result (RefusesFirst IsRefusal (map (λ v. v.items) rest.new.now)) }
+            → IfErr result (RefusesFirst (IsRefusal (frame_room self.old)) (map (λ v. v.items) rest.new.now)) }
+        ensures last { IfErr result (λ e. RefusesFirst (IsRefusal (frame_room self.old)) (map (λ v. v.items) rest.new.now) e
+            ⊎ StopsWith (RestFlushLaw ⟦<BufWriter<W, S> as Write>⟧) e (frame_writer self.new) (still_to_go self.new)) }
     {
         let mut left = tries;
         'tries: loop {

@@ -1,11 +1,12 @@
 //! Frames out of a reader: a fault loses none, and none is given twice.
-ghost use Rattle.std.specs.Prelude.{◌≡◌, ◌<◌, ◌≤◌, ◌^◌, [], ◌++◌, true, map, All, ℕ, List, length, IfOk, IfErr, OnOk, IfSome};
-ghost use Rattle.no_std_io2.specs.Errors.{error_kind, IsFault};
+ghost use Rattle.std.specs.Prelude.{◌≡◌, ◌⊎◌, ◌<◌, ◌≤◌, ◌^◌, [], ◌++◌, true, map, All, ℕ, List, length, codes, IfOk, IfErr, OnOk, OnErr, IfSome};
+ghost use Rattle.no_std_io2.specs.Errors.{IsFault, SaysError};
 ghost use Rattle.no_std_io2.specs.Read.{bytes};
 ghost use Rattle.framing.specs.Frames.{frames};
-ghost use Rattle.framing.specs.Part.{reads_from, frame_events, frame_turns, most, part_bytes, part_payload};
+ghost use Rattle.framing.specs.Part.{reads_from, frame_events, frame_turns, most, part_of, part_bytes, part_payload};
+ghost use Rattle.framing.specs.Part.{told_by, payload_room, LacksRoom};
 ghost use Rattle.no_std_io2.specs.BufReader.{reader_events, reader_turns};
-ghost use Rattle.framing.specs.Taking.{GathersFrame, TakesFrame, TakesFrames, appended, ComesBack};
+ghost use Rattle.framing.specs.Taking.{GathersFrame, TakesFrame, TakesFrames, appended, IsFull, ComesBack};
 
 mod part;
 
@@ -41,6 +42,7 @@ impl<R: Read, const S: usize> FrameReader<R, S> {
         ensures events { frame_events R.events result ≡ R.events inner }
         ensures inner { reads_from result ≡ inner }
         ensures limit { most result ≡ limit }
+        ensures room { payload_room (part_of result) ≡ 0 }
     {
         FrameReader {
             inner: BufReader::new(inner),
@@ -77,8 +79,10 @@ impl<R: Read, const S: usize> FrameReader<R, S> {
     // Gathers the next frame as a whole. `false`: no byte of one is to come.
     fn gather_frame(&mut self) -> Result<bool>
         ensures told { R.tells (reads_from self.old) → R.tells (reads_from self.new)
-            × GathersFrame (most self.old) (frame_events R.events self.old) result (part_bytes self.new.part)
-            (part_payload self.new.part) (reader_events R.events self.new.inner) }
+            × GathersFrame (most self.old) (LacksRoom (most self.old) self.new.part) (frame_events R.events self.old) result
+            (part_bytes self.new.part) (part_payload self.new.part) (reader_events R.events self.new.inner) }
+        ensures unasked { OnErr result (most self.old < told_by self.new.part
+            → payload_room self.new.part ≡ payload_room self.old.part) }
         ensures limit { most self.new ≡ most self.old }
         ensures fault { IfErr result IsFault }
         ensures within { IfOk result (λ b. b ≡ true → length (part_payload self.new.part) ≤ most self.old) }
@@ -107,11 +111,14 @@ impl<R: Read, const S: usize> FrameReader<R, S> {
     /// # Errors
     /// The reader's first fault, which is gone then: the next call goes on behind it. `UnexpectedEof` where
     /// the bytes end inside a frame; `InvalidData` where the next frame is longer than the limit, before any
-    /// of its payload is asked for; `OutOfMemory` where there is no room for its payload, before any of that
-    /// is read. After each the frame is still to come, with every byte of it. Never `Interrupted`.
+    /// room for its payload is asked for; `OutOfMemory` where there is no room for its header or payload, before
+    /// any of it is read. After each the frame is still to come, with every byte of it. Never `Interrupted`.
     pub fn next(&mut self) -> Result<Option<Vec<u8>>>
         ensures told { R.tells (reads_from self.old) → R.tells (reads_from self.new)
-            × TakesFrame (λ v. v.items) (most self.old) (frame_events R.events self.old) result (frame_events R.events self.new) }
+            × TakesFrame (λ v. v.items) (most self.old) (LacksRoom (most self.old) (part_of self.new))
+            (frame_events R.events self.old) result (frame_events R.events self.new) }
+        ensures unasked { OnErr result (most self.old < told_by (part_of self.new)
+            → payload_room (part_of self.new) ≡ payload_room (part_of self.old)) }
         ensures within { IfOk result (λ o. IfSome o (λ payload. length payload.items ≤ most self.old)) }
         ensures kept { R.tells (reads_from self.old)
             → IfErr result (λ _. bytes (frame_events R.events self.new) ≡ bytes (frame_events R.events self.old)) }
@@ -141,11 +148,12 @@ impl<R: Read, const S: usize> FrameReader<R, S> {
     pub fn read_all(&mut self, payloads: &mut Vec<Vec<u8>>) -> Result<()>
         ensures appends { payloads.new.items ≡ payloads.old.items ++ appended payloads.old.items payloads.new.items }
         ensures told { R.tells (reads_from self.old) → R.tells (reads_from self.new)
-            × TakesFrames (most self.old) (frame_events R.events self.old) result
+            × TakesFrames (most self.old) (LacksRoom (most self.old) (part_of self.new) ⊎ IsFull payloads.new)
+            (frame_events R.events self.old) result
             (map (λ v. v.items) (appended payloads.old.items payloads.new.items)) (frame_events R.events self.new) }
         ensures back { (sent : List (List ℕ)) → R.tells (reads_from self.old)
             → bytes (frame_events R.events self.old) ≡ frames sent → All (λ p. length p ≤ most self.old) sent
-            → ComesBack sent (frame_events R.events self.old) result
+            → ComesBack (LacksRoom (most self.old) (part_of self.new) ⊎ IsFull payloads.new) sent (frame_events R.events self.old) result
             (map (λ v. v.items) (appended payloads.old.items payloads.new.items)) (bytes (frame_events R.events self.new)) }
         ensures limit { most self.new ≡ most self.old }
         ensures fault { IfErr result IsFault }
@@ -164,7 +172,7 @@ impl<R: Read, const S: usize> FrameReader<R, S> {
 
 // The bytes end inside a frame.
 fn ended_inside() -> Error
-    ensures { error_kind result ≡ ErrorKind.UnexpectedEof }
+    ensures { SaysError ErrorKind.UnexpectedEof (codes "the bytes end inside a frame") result }
 {
     let text = "the bytes end inside a frame";
     Error::new(ErrorKind::UnexpectedEof, text)

@@ -1,11 +1,11 @@
 //! Frames into a writer: none is torn by a fault, and none goes out twice.
-ghost use Rattle.std.specs.Prelude.{◌≡◌, ◌⊎◌, ◌<◌, ◌^◌, [], ◌∷◌, ◌++◌, map, length, nat_lt, OnOk, OnErr, IfOk, IfErr, IsOk};
-ghost use Rattle.no_std_io2.specs.Errors.{error_kind, IsNoInterruption, IsFault};
-ghost use Rattle.no_std_io2.specs.Write.{Moves, Sends};
-ghost use Rattle.no_std_io2.specs.BufWriter.{writer_told, into_inner_error_writer, into_inner_error_cause};
-ghost use Rattle.pending.specs.Pending.{pending_bytes, pending_rest, SendsRecord, SendsRecords, RefusesFirst};
+ghost use Rattle.std.specs.Prelude.{◌≡◌, ◌<◌, ◌≤◌, ◌^◌, [], ◌++◌, map, length, nat_lt, OnOk, OnErr, IfErr, IsOk};
+ghost use Rattle.no_std_io2.specs.BufWriter.{writer_inner, writer_buffer, Unwraps};
+ghost use Rattle.pending.specs.Pending.{pending_bytes, pending_rest, pending_room, RestLaw, RestFlushLaw, StopsWith};
+ghost use Rattle.pending.specs.Pending.{SendsRecord, SendsRecords, RefusesFirst};
 ghost use Rattle.framing.specs.Frames.{frame, frames, IsRefusal};
-ghost use Rattle.framing.specs.Sending.{writes_to, frames_held, writer_tells, under_way, still_to_go, TakesOff};
+ghost use Rattle.framing.specs.Sending.{writes_to, frames_held, writer_tells, frame_writer, frame_room};
+ghost use Rattle.framing.specs.Sending.{under_way, still_to_go, TakesOff};
 
 use no_std_io2::io::{BufWriter, Error, ErrorKind, IntoInnerError, Result, Write};
 use pending::Pending;
@@ -32,6 +32,7 @@ impl<W: Write + Drop, const S: usize> FrameWriter<W, S> {
         ensures empty { frames_held result ≡ [] }
         ensures idle { under_way result ≡ [] }
         ensures none { still_to_go result ≡ [] }
+        ensures room { frame_room result ≡ 0 }
     {
         FrameWriter {
             inner: BufWriter::new(inner),
@@ -66,14 +67,13 @@ impl<W: Write + Drop, const S: usize> FrameWriter<W, S> {
     /// The device's first fault, or `WriteZero` where it took no byte of some; never `Interrupted`. The
     /// frame is still under way, from the first byte on that was not accepted.
     pub fn retry(&mut self) -> Result<()>
-        ensures sends { Sends (writer_tells W.told self.old) (still_to_go self.old) result
-            (writer_tells W.told self.new) (still_to_go self.new) }
+        ensures law { RestLaw ⟦<BufWriter<W, S> as Write>⟧ (frame_writer self.old) (still_to_go self.old) result
+            (frame_writer self.new) (still_to_go self.new) }
         ensures done { OnOk result (under_way self.new ≡ []) }
-        ensures none { OnOk result (still_to_go self.new ≡ []) }
         ensures err { OnErr result (under_way self.new ≡ under_way self.old) }
         ensures some { OnErr result (0 < length (under_way self.new)) }
         ensures idle { under_way self.old ≡ [] → IsOk result × (self.new ≡ self.old) }
-        ensures fault { IsNoInterruption result }
+        ensures room { frame_room self.new ≡ frame_room self.old }
     {
         if !self.is_under_way() {
             return Ok(());
@@ -91,10 +91,9 @@ impl<W: Write + Drop, const S: usize> FrameWriter<W, S> {
     /// no frame is under way. Else those of `retry`, and the frame is under way.
     pub fn send(&mut self, payload: &[u8]) -> Result<()>
         requires { under_way self.old ≡ [] }
-        ensures sends { SendsRecord (frame payload.now) (IsRefusal payload.now) (writer_tells W.told self.old) result
-            (under_way self.new) (still_to_go self.new) (writer_tells W.told self.new) }
+        ensures sends { SendsRecord (RestLaw ⟦<BufWriter<W, S> as Write>⟧) (frame payload.now) (IsRefusal (frame_room self.old) payload.now)
+            (frame_writer self.old) result (under_way self.new) (still_to_go self.new) (frame_writer self.new) }
         ensures small { OnOk result (length payload.now < 2 ^ 32) }
-        ensures fault { IsNoInterruption result }
     {
         stage(&mut self.pending, payload)?;
         self.retry()
@@ -121,9 +120,12 @@ impl<W: Write + Drop, const S: usize> FrameWriter<W, S> {
             (still_to_go self.old ++ frames (map (λ v. v.items) rest.old.now)) result (under_way self.new)
             (writer_tells W.told self.new) (still_to_go self.new ++ frames (map (λ v. v.items) rest.new.now)) }
         ensures rest { TakesOff (map (λ v. v.items) rest.old.now) (map (λ v. v.items) rest.new.now) }
-        ensures refused { IfErr result (λ e. under_way self.new ≡ [] → RefusesFirst IsRefusal (map (λ v. v.items) rest.new.now) e) }
+        ensures refused { IfErr result (λ e. under_way self.new ≡ []
+            → RefusesFirst (IsRefusal (frame_room self.old)) (map (λ v. v.items) rest.new.now) e) }
+        ensures stopped { IfErr result (λ e. 0 < length (under_way self.new)
+            → StopsWith (RestLaw ⟦<BufWriter<W, S> as Write>⟧) e (frame_writer self.new) (still_to_go self.new)) }
         ensures done { OnOk result ((under_way self.new ≡ []) × (still_to_go self.new ≡ []) × (rest.new.now ≡ [])) }
-        ensures fault { IsNoInterruption result }
+        ensures room { frame_room self.old ≤ frame_room self.new }
     {
         'frames: loop {
             self.retry()?;
@@ -142,16 +144,17 @@ impl<W: Write + Drop, const S: usize> FrameWriter<W, S> {
     /// Those of `retry`, or the device's own. What was not handed on is still held or to go, and a later
     /// call goes on there.
     pub fn flush(&mut self) -> Result<()>
-        ensures sends { Sends (writer_tells W.told self.old) (still_to_go self.old) result
-            (writer_tells W.told self.new) (still_to_go self.new) }
+        ensures calls { RestFlushLaw ⟦<BufWriter<W, S> as Write>⟧ (frame_writer self.old) (still_to_go self.old) result
+            (frame_writer self.new) (still_to_go self.new) }
         ensures done { OnOk result ((under_way self.new ≡ []) × (still_to_go self.new ≡ [])
             × ((writer_tells W.told self.new).held ≡ [])) }
+        ensures room { frame_room self.new ≡ frame_room self.old }
     {
         self.retry()?;
         self.inner.flush()
     }
 
-    /// Sends what is held and returns the writer below, which isn't flushed. No frame may be under way:
+    /// Sends what is held and returns the writer below, which isn't flushed; with nothing held it makes no call. No frame may be under way:
     /// `retry` first where [`is_under_way`](FrameWriter::is_under_way).
     ///
     /// # Errors
@@ -159,10 +162,7 @@ impl<W: Write + Drop, const S: usize> FrameWriter<W, S> {
     /// which holds what was not sent.
     pub fn into_inner(self) -> std::result::Result<W, IntoInnerError<BufWriter<W, S>>>
         requires { under_way self ≡ [] }
-        ensures ok { IfOk result (λ w. Moves (writer_tells W.told self) [] [] (W.told w)) }
-        ensures err { IfErr result (λ e. Moves (writer_tells W.told self) []
-            (error_kind (into_inner_error_cause e) ∷ []) (writer_told W.told (into_inner_error_writer e))) }
-        ensures fault { IfErr result (λ e. IsFault (into_inner_error_cause e)) }
+        ensures law { Unwraps W.Write writer_inner writer_buffer (frame_writer self) result }
     {
         let FrameWriter {
             inner,
@@ -179,7 +179,8 @@ fn stage(pending: &mut Pending, payload: &[u8]) -> Result<()>
     ensures err { OnErr result (pending_bytes pending.new ≡ []) }
     ensures none { OnErr result (pending_rest pending.new ≡ []) }
     ensures small { OnOk result (length payload.now < 2 ^ 32) }
-    ensures refused { IfErr result (IsRefusal payload.now) }
+    ensures refused { IfErr result (IsRefusal (pending_room pending.old) payload.now) }
+    ensures room { pending_room pending.old ≤ pending_room pending.new }
 {
     pending.clear();
     let Ok(len) = u32::try_from(payload.len()) else {

@@ -9,7 +9,7 @@ ghost use Rattle.io_bench.specs.Closed.{given_bytes, flushes, op_calls, op_buffe
 
 use crate::runs::{Op, Reply};
 use crate::tally::Tally;
-use no_std_io2::io::{BufWriter, Error, ErrorKind, Result, Write};
+use no_std_io2::io::{BufWriter, Error, Result, Write};
 use std::alloc::Allocator;
 
 // Makes one call, and says what it costs.
@@ -74,9 +74,7 @@ pub fn run_closed<W: Write + Drop, const S: usize>(
     ensures full { OnErr result (vec_capacity replies.old < vec_len replies.old + length ops.now) }
     ensures err { OnErr result (replies.new.items ≡ replies.old.items) }
 {
-    if replies.reserve(ops.len()).is_err() {
-        return Err(Error::from(ErrorKind::OutOfMemory));
-    }
+    replies.reserve(ops.len())?;
     let mut buffered = BufWriter::<Tally<W>, S>::new(w);
     'calls: for op in ops {
         let reply = make_counted_call(&mut buffered, *op);

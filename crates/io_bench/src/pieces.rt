@@ -7,7 +7,7 @@ ghost use Rattle.no_std_io2_base.specs.Write.{IsFront};
 ghost use Rattle.io_bench.specs.PieceRuns.{GathersPieces};
 ghost use Rattle.io_bench.specs.Runs.{appended};
 
-use no_std_io2::io::{BufRead, Error, ErrorKind, Lines, Result, Split};
+use no_std_io2::io::{BufRead, Lines, Result, Split};
 
 // Makes room for one item more.
 fn make_room<T>(items: &mut Vec<T>) -> Result<()>
@@ -17,10 +17,8 @@ fn make_room<T>(items: &mut Vec<T>) -> Result<()>
     // Nothing is refused where there is room.
     ensures full { OnErr result (vec_capacity items.old < vec_len items.old + 1) }
 {
-    match items.reserve(1) {
-        Ok(()) => Ok(()),
-        Err(_refused) => Err(Error::from(ErrorKind::OutOfMemory)),
-    }
+    items.reserve(1)?;
+    Ok(())
 }
 
 /// Takes the items of a `split` to its end, and appends them to `items`.

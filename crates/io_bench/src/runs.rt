@@ -7,7 +7,7 @@ ghost use Rattle.no_std_io2.specs.declared.io.ErrorKind.{ErrorKind};
 ghost use Rattle.io_bench.specs.Runs.{appended, Answers, Ran, EndsFlushed, failures, failures_of, IsShorterBy};
 ghost use Rattle.io_bench.specs.Runs.{HasFewer, AreWhole, IsWhole, OpCalls, RunCalls};
 
-use no_std_io2::io::{Error, ErrorKind, Result, Write};
+use no_std_io2::io::{Error, Result, Write};
 use std::alloc::Allocator;
 
 /// A call of a writer.
@@ -96,9 +96,7 @@ pub fn run_writes<W: Write>(
     ensures full { OnErr result (vec_capacity replies.old < vec_len replies.old + length ops.now) }
     ensures err { OnErr result ((w.new ≡ w.old) × (replies.new.items ≡ replies.old.items)) }
 {
-    if replies.reserve(ops.len()).is_err() {
-        return Err(Error::from(ErrorKind::OutOfMemory));
-    }
+    replies.reserve(ops.len())?;
     'calls: for op in ops {
         let reply = make_call(w, *op);
         replies.push_reserved(reply);

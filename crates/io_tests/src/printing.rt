@@ -84,6 +84,12 @@ fn errors_print_their_texts(rt: HostRuntime) -> Result<(), Fail> {
     assert!(rt; is_display(alloc, &error, "entity not found")?);
     assert!(rt; is_debug(alloc, &error, "Kind(NotFound)")?);
     assert!(rt; is_debug(alloc, &ErrorKind::UnexpectedEof, "UnexpectedEof")?);
+    let error = Error::new(ErrorKind::TimedOut, "late");
+    let long = format!(in alloc; "{error:#?}")?;
+    assert!(rt; long.as_str() == "Custom {\n    kind: TimedOut,\n    error: \"late\",\n}");
+    let error = Error::from(ErrorKind::NotFound);
+    let long = format!(in alloc; "{error:#?}")?;
+    assert!(rt; long.as_str() == "Kind(\n    NotFound,\n)");
     Ok(())
 }
 
@@ -102,6 +108,8 @@ fn streams_in_memory_print_their_fields(rt: HostRuntime) -> Result<(), Fail> {
     let alloc = rt.alloc();
     assert!(rt; is_debug(alloc, &Cursor::new([1u8]), "Cursor { inner: [1], pos: 0 }")?);
     assert!(rt; is_debug(alloc, &SeekFrom::Current(-3), "Current(-3)")?);
+    assert!(rt; is_debug(alloc, &SeekFrom::Start(3), "Start(3)")?);
+    assert!(rt; is_debug(alloc, &SeekFrom::End(-3), "End(-3)")?);
     let text = b"A".as_slice();
     let chain = text.chain(b"B".as_slice());
     assert!(rt;

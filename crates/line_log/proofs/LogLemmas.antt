@@ -1,16 +1,18 @@
 -- How lines go, piece by piece.
-use Rattle.std.proofs.Common.{◌≡◌, ℕ, ◌+◌, ◌<◌, List, [], ◌∷◌, ◌++◌, length, get_or, Bool, true, nat_lt}
-use Rattle.std.proofs.Common.{Result, Ok, refl, sym, ap, ◌∙◌, subst, arith, append_assoc, append-nil, length-append}
+use Rattle.std.proofs.Common.{◌≡◌, ℕ, ◌+◌, ◌<◌, ◌≤◌, List, [], ◌∷◌, ◌++◌, length, get_or, Result, Ok, refl, sym, ap, ◌∙◌, subst}
+use Rattle.std.proofs.Common.{inl, inr, arith, append_assoc, append-nil, length-append}
 use Rattle.std.proofs.lemmas.List.{get_or-append-add}
-use Rattle.std.proofs.lemmas.Bool.Decides.{nat_tests}
 use Rattle.no_std_io2.specs.declared.io.Error.{Error}
 use Rattle.no_std_io2.specs.Write.{Told, Moves, MovesFront, Sends, call_mishap}
 use Rattle.no_std_io2.specs.BufWriter.{with_buffer}
 use Rattle.no_std_io2.specs.Lines.{HasNoNewline}
-use Rattle.line_log.specs.Lines.{line_of}
+use Rattle.no_std_io2.specs.declared.io.Write.{Ghosts as Writer}
+use Rattle.pending.proofs.RecordLemmas.{sends_ends}
+use Rattle.line_log.specs.Lines.{line_of, IsRefusal}
+use Rattle.line_log.specs.Log.{LineLaw}
 
 -- a write of nothing accepts nothing
-pub wrote_nothing : {a b : Told} (reply : Result (Unit {0}) Error) (x : List ℕ) → x ≡ [] → MovesFront a x reply b
+wrote_nothing : {a b : Told} (reply : Result (Unit {0}) Error) (x : List ℕ) → x ≡ [] → MovesFront a x reply b
     → Moves a [] (call_mishap reply) b
 wrote_nothing {a} {b} reply x none f =
     subst (λ l. Moves a l (call_mishap reply) b) (front_none f.accepted x none f.front.0 f.front.1) f.moves
@@ -18,6 +20,17 @@ wrote_nothing {a} {b} reply x none f =
     front_none : (front whole : List ℕ) → whole ≡ [] → (rest : List ℕ) → whole ≡ front ++ rest → front ≡ []
     front_none [] whole none rest e = refl
     front_none (y ∷ ys) whole none rest e = absurd (omega (arith, ap length (sym none ∙ e), length-append (y ∷ ys) rest))
+
+-- what the calls of a line send
+pub line_sends : {W : Type 0} (I : Writer W) {a b : W} {x left : List ℕ} (reply : Result (Unit {0}) Error) → LineLaw I a x reply b left
+    → Sends (I.told a) x reply (I.told b) left
+line_sends I reply (inl (err, law)) = law.sends
+line_sends I reply (inr (mid, law, last)) = sends_ends reply law.sends (wrote_nothing reply [] refl last.moves)
+
+-- where there was less room, the room was too small too
+pub refusal_less : {less room : ℕ} (text : List ℕ) (e : Error) → less ≤ room → IsRefusal room text e → IsRefusal less text e
+refusal_less text e h (inl newline) = inl newline
+refusal_less text e h (inr (plain, memory, short)) = inr (plain, memory, omega (arith, short, h))
 
 -- a list that ends in a newline has an end without one only if that is empty
 ends_plain : (whole front end : List ℕ) → whole ++ 10 ∷ [] ≡ front ++ end → HasNoNewline end → end ≡ []
@@ -48,7 +61,3 @@ ends_line before text to_go is = ap (λ l. before ++ l) is ∙ sym (append_assoc
 -- a line as it goes out is not empty
 pub some_line : (text line : List ℕ) → line ≡ line_of text → 0 < length line
 some_line text line is = omega (arith, ap length is, length-append text (10 ∷ []))
-
--- where the test says that n is above 0, it is
-pub some_of : (b : Bool) (n : ℕ) → b ≡ nat_lt 0 n → b ≡ true → 0 < n
-some_of b n e t = grind (arith, nat_tests)

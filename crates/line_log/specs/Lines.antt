@@ -1,7 +1,7 @@
 -- What a line of a log is.
-use Rattle.std.specs.Prelude.{◌≡◌, ◌⊎◌, ℕ, List, [], ◌∷◌, ◌++◌, map}
+use Rattle.std.specs.Prelude.{◌⊎◌, ℕ, ◌+◌, ◌<◌, List, [], ◌∷◌, ◌++◌, length, map, codes}
 use Rattle.std.specs.List.{concat}
-use Rattle.no_std_io2.specs.Errors.{error_kind, IsOutOfMemory}
+use Rattle.no_std_io2.specs.Errors.{IsOutOfMemory, SaysError}
 use Rattle.no_std_io2.specs.Lines.{HasNoNewline, HasNewline}
 use Rattle.no_std_io2.specs.declared.io.Error.{Error}
 use Rattle.no_std_io2.specs.declared.io.ErrorKind.TheVariants.{InvalidInput}
@@ -14,6 +14,7 @@ line_of text = text ++ 10 ∷ []
 abbrev pub lines_of : List (List ℕ) → List ℕ
 lines_of texts = concat (map line_of texts)
 
--- a text was refused: a newline stands in it, or none does and there was no memory for it
-abbrev pub IsRefusal : List ℕ → Error → Type 0
-IsRefusal text e = (HasNewline text × (error_kind e ≡ InvalidInput)) ⊎ (HasNoNewline text × IsOutOfMemory e)
+-- a text was refused: a newline stands in it; or none does, there was room for so many bytes, too few, and no memory for more
+abbrev pub IsRefusal : ℕ → List ℕ → Error → Type 0
+IsRefusal room text e = (HasNewline text × SaysError InvalidInput (codes "a newline stands in a line") e)
+    ⊎ (HasNoNewline text × IsOutOfMemory e × (room < length text + 1))

@@ -3,13 +3,19 @@ use Rattle.std.specs.Prelude.{ℕ, List}
 use Rattle.no_std_io2.specs.Write.{Told}
 use Rattle.no_std_io2.specs.Lines.{HasNoNewline}
 use Rattle.no_std_io2.specs.LineWriter.{line_inner, line_told, line_buffer}
-use Rattle.pending.specs.Pending.{pending_bytes, pending_rest}
+use Rattle.pending.specs.Pending.{pending_bytes, pending_rest, pending_room, Law, RestLaw, NoneLaw, Then}
 use Rattle.pending.specs.Pending as records
+use Rattle.no_std_io2.specs.declared.io.LineWriter.{LineWriter}
+use Rattle.no_std_io2.specs.declared.io.Write.{Ghosts as Writer}
 use Rattle.line_log.specs.declared.LineLog.{LineLog}
 
 -- the writer below
 abbrev pub log_inner : {W : Type 0} {S : ℕ} → LineLog W S → W
 log_inner l = line_inner l.lines
+
+-- the same with its buffer
+abbrev pub log_writer : {W : Type 0} {S : ℕ} → LineLog W S → LineWriter W S
+log_writer l = l.lines
 
 -- what is held here
 abbrev pub log_buffer : {W : Type 0} {S : ℕ} → LineLog W S → List ℕ
@@ -26,6 +32,14 @@ under_way l = pending_bytes l.pending
 -- what is still to go of it
 abbrev pub still_to_go : {W : Type 0} {S : ℕ} → LineLog W S → List ℕ
 still_to_go l = pending_rest l.pending
+
+-- for how many bytes of a line there is room
+abbrev pub log_room : {W : Type 0} {S : ℕ} → LineLog W S → ℕ
+log_room l = pending_room l.pending
+
+-- a `write_rest`, and a `write_all` of nothing behind it: what a `LineWriter` holds of a line goes then
+abbrev pub LineLaw : {W : Type 0} → Writer W → Law W
+LineLaw I = Then (RestLaw I) (NoneLaw I)
 
 -- these texts were taken off the front, and no newline stands in any
 abbrev pub TakesOff : List (List ℕ) → List (List ℕ) → Type 0

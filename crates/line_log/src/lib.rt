@@ -7,15 +7,14 @@
 //! ```
 #![tactic(auto)]
 
-ghost use Rattle.std.specs.Prelude.{◌≡◌, ◌<◌, [], ◌∷◌, ◌++◌, ℕ, List, map, length, nat_lt, OnOk, OnErr, IfOk, IfErr, IsOk, string_bytes};
-ghost use Rattle.no_std_io2.specs.Errors.{error_kind, IsNoInterruption, IsFault};
-ghost use Rattle.no_std_io2.specs.Write.{Moves, Sends};
-ghost use Rattle.no_std_io2.specs.BufWriter.{into_inner_error_writer, into_inner_error_cause};
+ghost use Rattle.std.specs.Prelude.{◌≡◌, ◌<◌, ◌≤◌, [], ◌∷◌, ◌++◌, ℕ, List, map, length, nat_lt, OnOk, OnErr, IfErr, IsOk, string_bytes};
+ghost use Rattle.no_std_io2.specs.BufWriter.{Unwraps};
 ghost use Rattle.no_std_io2.specs.Lines.{HasNoNewline};
-ghost use Rattle.no_std_io2.specs.LineWriter.{line_told};
-ghost use Rattle.pending.specs.Pending.{pending_bytes, pending_rest, SendsRecord, SendsRecords, RefusesFirst};
+ghost use Rattle.no_std_io2.specs.LineWriter.{line_inner, line_buffer};
+ghost use Rattle.pending.specs.Pending.{pending_bytes, pending_rest, pending_room, FlushedLaw, Then, StopsWith};
+ghost use Rattle.pending.specs.Pending.{SendsRecord, SendsRecords, RefusesFirst};
 ghost use Rattle.line_log.specs.Lines.{line_of, lines_of, IsRefusal};
-ghost use Rattle.line_log.specs.Log.{log_inner, log_told, log_buffer, under_way, still_to_go, TakesOff};
+ghost use Rattle.line_log.specs.Log.{log_inner, log_writer, log_told, log_buffer, log_room, under_way, still_to_go, LineLaw, TakesOff};
 
 use no_std_io2::io::{Error, ErrorKind, IntoInnerError, LineWriter, Result, Write};
 use pending::Pending;
@@ -42,6 +41,7 @@ impl<W: Write + Drop, const S: usize> LineLog<W, S> {
         ensures empty { log_buffer result ≡ [] }
         ensures idle { under_way result ≡ [] }
         ensures none { still_to_go result ≡ [] }
+        ensures room { log_room result ≡ 0 }
     {
         LineLog {
             lines: LineWriter::new(inner),
@@ -77,8 +77,8 @@ impl<W: Write + Drop, const S: usize> LineLog<W, S> {
     /// The device's first fault, or `WriteZero` where it took no byte of some; never `Interrupted`. The line
     /// is still under way, from the first byte on that was not accepted.
     pub fn retry(&mut self) -> Result<()>
-        ensures sends { Sends (log_told W.told self.old) (still_to_go self.old) result
-            (log_told W.told self.new) (still_to_go self.new) }
+        ensures calls { LineLaw ⟦<LineWriter<W, S> as Write>⟧ (log_writer self.old) (still_to_go self.old) result
+            (log_writer self.new) (still_to_go self.new) }
         ensures done { OnOk result (under_way self.new ≡ []) }
         ensures none { OnOk result (still_to_go self.new ≡ []) }
         ensures passed { (lines : List ℕ) → 0 < length (under_way self.old)
@@ -87,7 +87,7 @@ impl<W: Write + Drop, const S: usize> LineLog<W, S> {
         ensures err { OnErr result (under_way self.new ≡ under_way self.old) }
         ensures some { OnErr result (0 < length (under_way self.new)) }
         ensures idle { under_way self.old ≡ [] → IsOk result × (self.new ≡ self.old) }
-        ensures fault { IsNoInterruption result }
+        ensures room { log_room self.new ≡ log_room self.old }
     {
         if !self.is_under_way() {
             return Ok(());
@@ -108,12 +108,11 @@ impl<W: Write + Drop, const S: usize> LineLog<W, S> {
     /// is under way. Else those of `retry`, and the line is under way.
     pub fn log(&mut self, line: &str) -> Result<()>
         requires { under_way self.old ≡ [] }
-        ensures sends { SendsRecord (line_of line.now) (IsRefusal line.now) (log_told W.told self.old) result
-            (under_way self.new) (still_to_go self.new) (log_told W.told self.new) }
+        ensures sends { SendsRecord (LineLaw ⟦<LineWriter<W, S> as Write>⟧) (line_of line.now) (IsRefusal (log_room self.old) line.now)
+            (log_writer self.old) result (under_way self.new) (still_to_go self.new) (log_writer self.new) }
         ensures passed { OnOk result (log_buffer self.new ≡ []) }
         ensures plain { OnOk result (HasNoNewline line.now) }
         ensures started { 0 < length (under_way self.new) → HasNoNewline line.now }
-        ensures fault { IsNoInterruption result }
     {
         stage(&mut self.pending, line)?;
         self.retry()
@@ -140,9 +139,11 @@ impl<W: Write + Drop, const S: usize> LineLog<W, S> {
             (still_to_go self.old ++ lines_of (map string_bytes rest.old.now)) result (under_way self.new)
             (log_told W.told self.new) (still_to_go self.new ++ lines_of (map string_bytes rest.new.now)) }
         ensures rest { TakesOff (map string_bytes rest.old.now) (map string_bytes rest.new.now) }
-        ensures refused { IfErr result (λ e. under_way self.new ≡ [] → RefusesFirst IsRefusal (map string_bytes rest.new.now) e) }
+        ensures refused { IfErr result (λ e. under_way self.new ≡ []
+            → RefusesFirst (IsRefusal (log_room self.old)) (map string_bytes rest.new.now) e) }
+        ensures stopped { IfErr result (λ e. 0 < length (under_way self.new)
+            → StopsWith (LineLaw ⟦<LineWriter<W, S> as Write>⟧) e (log_writer self.new) (still_to_go self.new)) }
         ensures done { OnOk result ((under_way self.new ≡ []) × (still_to_go self.new ≡ []) × (rest.new.now ≡ [])) }
-        ensures fault { IsNoInterruption result }
     {
         'lines: loop {
             self.retry()?;
@@ -161,8 +162,8 @@ impl<W: Write + Drop, const S: usize> LineLog<W, S> {
     /// Those of `retry`, or the device's own. What was not handed on is still held or to go, and a later
     /// call goes on there.
     pub fn flush(&mut self) -> Result<()>
-        ensures sends { Sends (log_told W.told self.old) (still_to_go self.old) result
-            (log_told W.told self.new) (still_to_go self.new) }
+        ensures calls { let L = ⟦<LineWriter<W, S> as Write>⟧ in Then (LineLaw L) (FlushedLaw L) (log_writer self.old) (still_to_go self.old) result
+            (log_writer self.new) (still_to_go self.new) }
         ensures done { OnOk result ((under_way self.new ≡ []) × (still_to_go self.new ≡ [])
             × ((log_told W.told self.new).held ≡ [])) }
     {
@@ -170,18 +171,15 @@ impl<W: Write + Drop, const S: usize> LineLog<W, S> {
         self.lines.flush()
     }
 
-    /// Sends what is held and returns the writer below, which isn't flushed. No line may be under way: `retry`
-    /// first where [`is_under_way`](LineLog::is_under_way).
+    /// Sends what is held and returns the writer below, which isn't flushed; with nothing held it makes no call. No
+    /// line may be under way: `retry` first where [`is_under_way`](LineLog::is_under_way).
     ///
     /// # Errors
     /// The device's first fault, or `WriteZero`; never `Interrupted`. The error holds the line writer, which
     /// holds what was not sent.
     pub fn into_inner(self) -> std::result::Result<W, IntoInnerError<LineWriter<W, S>>>
         requires { under_way self ≡ [] }
-        ensures ok { IfOk result (λ w. Moves (log_told W.told self) [] [] (W.told w)) }
-        ensures err { IfErr result (λ e. Moves (log_told W.told self) []
-            (error_kind (into_inner_error_cause e) ∷ []) (line_told W.told (into_inner_error_writer e))) }
-        ensures fault { IfErr result (λ e. IsFault (into_inner_error_cause e)) }
+        ensures law { Unwraps W.Write line_inner line_buffer (log_writer self) result }
     {
         let LineLog {
             lines,
@@ -198,7 +196,8 @@ fn stage(pending: &mut Pending, text: &str) -> Result<()>
     ensures err { OnErr result (pending_bytes pending.new ≡ []) }
     ensures none { OnErr result (pending_rest pending.new ≡ []) }
     ensures plain { OnOk result (HasNoNewline text.now) }
-    ensures refused { IfErr result (IsRefusal text.now) }
+    ensures refused { IfErr result (IsRefusal (pending_room pending.old) text.now) }
+    ensures room { pending_room pending.old ≤ pending_room pending.new }
 {
     pending.clear();
     if text.as_bytes().contains(&b'\n') {

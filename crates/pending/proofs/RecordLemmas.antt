@@ -1,12 +1,19 @@
 -- How records go, piece by piece.
-use Rattle.std.proofs.Common.{◌≡◌, ℕ, ◌<◌, List, [], ◌∷◌, ◌++◌, length, map, Result, Ok, Err, refl, sym, ap, ◌∙◌}
-use Rattle.std.proofs.Common.{subst, arith, append_assoc}
+use Rattle.std.proofs.Common.{◌≡◌, ℕ, ◌-◌, ◌<◌, List, [], ◌∷◌, ◌++◌, length, take, drop, map, Result, Ok, Err, OnOk, OnErr, refl, sym}
+use Rattle.std.proofs.Common.{Bool, true, false, nat_lt, Option, IfSome}
+use Rattle.std.specs.Result.{result_err}
+use Rattle.std.proofs.Common.{ap, ◌∙◌, subst, inl, inr, arith, append_assoc, length-append, length-drop}
+use Rattle.std.proofs.Math.Seq.{drop-append_seam, drop-nil}
+use Rattle.std.proofs.lemmas.Bool.Decides.{nat_tests}
+use Rattle.std.proofs.lemmas.List.{take-append-drop, take_all, nil_from_length}
 use Rattle.std.specs.List.{concat}
 use Rattle.std.proofs.lemmas.List.Elements.{All-append, All-push}
 use Rattle.no_std_io2.specs.declared.io.Error.{Error}
-use Rattle.no_std_io2.specs.Write.{Told, Moves, Sends, call_mishap}
+use Rattle.no_std_io2.specs.declared.io.Write.{Ghosts as Writer}
+use Rattle.no_std_io2.specs.Write.{Told, Moves, Sends, call_mishap, none as no_writes}
 use Rattle.no_std_io2.proofs.MovesLemmas.{Moves-refl, Moves-ends, Sends-then}
-use Rattle.pending.specs.Pending.{SendsRecords, TakesOff}
+use Rattle.pending.specs.Pending.{Law, RestLaw, NoneLaw, FlushedLaw, Then, StopsWith, SendsRecord, SendsRecords}
+use Rattle.pending.specs.Pending.{TakesOff, RefusesFirst}
 
 -- at the start nothing went, and all is still to go
 pub sends_none : (a : Told) (to_go : List ℕ) → Sends a to_go (Ok tt) a to_go
@@ -28,6 +35,82 @@ pub sends_ends : {a b c : Told} {to_go left : List ℕ} (reply : Result (Unit {0
     → Sends a to_go (Ok tt) b left → Moves b [] (call_mishap reply) c → Sends a to_go reply c left
 sends_ends reply s m = record { sent = s.sent; split = s.split; moves = Moves-ends s.moves m }
 
+-- a slice from k on has all that lies there
+pub slice_rest : (k : ℕ) (bs : List ℕ) → take (length bs - k) (drop k bs) ≡ drop k bs
+slice_rest k bs = take_all (length bs - k) (drop k bs) (omega (arith, length-drop k bs))
+
+-- what is left behind a front of what was left
+pub rest_left : (n k : ℕ) (bytes sent left : List ℕ) → n ≡ length bytes → drop k bytes ≡ sent ++ left → drop (n - length left) bytes ≡ left
+rest_left n k bytes sent left long e =
+    let front = take k bytes ++ sent in
+    let is : bytes ≡ front ++ left =
+    sym (take-append-drop k bytes) ∙ ap (λ l. take k bytes ++ l) e ∙ sym (append_assoc (take k bytes) sent left) in
+    let count : n - length left ≡ length front = omega (arith, ap length is, length-append front left) in
+    ap (λ m. drop m bytes) count ∙ ap (drop (length front)) is ∙ drop-append_seam front left
+
+-- a `write_rest` of these bytes under other names
+pub rest_as : {W : Type 0} (I : Writer W) {a b : W} {x left : List ℕ} {reply : Result (Unit {0}) Error} (y shown : List ℕ)
+    → RestLaw I a x reply b left → x ≡ y → left ≡ shown → RestLaw I a y reply b shown
+rest_as I {a} {b} {left = left} {reply = reply} y shown law from to =
+    subst (λ l. RestLaw I a y reply b l) to (subst (λ l. RestLaw I a l reply b left) from law)
+
+-- for no bytes there is no call
+pub rest_none : {W : Type 0} (I : Writer W) (w : W) (x : List ℕ) → x ≡ [] → RestLaw I w x (Ok tt) w x
+rest_none I w x is = subst (λ l. RestLaw I w l (Ok tt) w l) (sym is) (record {
+  fault = tt;
+  sends = sends_none (I.told w) [];
+  done = refl;
+  all = λ takes. (takes, refl);
+  counts = λ metered takes. (metered, omega arith);
+  calls = ([], refl, inr no_writes);
+})
+
+-- the same, and a `write_all` of none
+pub all_none : {W : Type 0} (I : Writer W) (w : W) → NoneLaw I w (Ok tt) w
+all_none I w = record {
+  fault = tt;
+  moves = record { accepted = []; front = ([], refl); whole = refl; moves = Moves-refl (I.told w) };
+  all = λ takes. takes;
+  counts = λ metered takes. (metered, omega arith);
+  calls = ([], refl, inr ([], inr no_writes));
+}
+
+-- what such calls send, where there is a flush behind them
+pub flush_sends : {W : Type 0} (I : Writer W) (law : Law W) {a b : W} {x left : List ℕ} (reply : Result (Unit {0}) Error)
+    → ((w : W) (r : Result (Unit {0}) Error) → law a x r w left → Sends (I.told a) x r (I.told w) left)
+    → Then law (FlushedLaw I) a x reply b left → Sends (I.told a) x reply (I.told b) left
+flush_sends I law {b = b} reply sends (inl (err, calls)) = sends b reply calls
+flush_sends I law reply sends (inr (mid, calls, flush)) = sends_ends reply (sends mid (Ok tt) calls) flush.moves
+
+-- what stopped these calls stopped those with one more behind them
+pub then_stops : {W : Type 0} (law : Law W) (last : W → Result (Unit {0}) Error → W → Type 0) {e : Error} {new : W} {left : List ℕ}
+    → StopsWith law e new left → StopsWith (Then law last) e new left
+then_stops law last s = (s.0, s.1, inl (refl, s.2))
+
+-- a fault that these calls answered stopped them
+pub stops_at : {W : Type 0} (law : Law W) {old new : W} (x left : List ℕ) (reply : Result (Unit {0}) Error) (fault : Option Error)
+    → fault ≡ result_err reply → law old x reply new left → IfSome fault (λ e. StopsWith law e new left)
+stops_at law {old} {new} x left (Ok u) fault is calls = subst (λ f. IfSome f (λ e. StopsWith law e new left)) (sym is) tt
+stops_at law {old} {new} x left (Err e) fault is calls =
+    subst (λ f. IfSome f (λ e. StopsWith law e new left)) (sym is) (old, x, calls)
+
+-- what was staged was sent, or is under way
+pub record_sent : {W : Type 0} (law : Law W) (refusal : Error → Type 0) {a b : W} {whole staged to_go left : List ℕ}
+    (under_way : List ℕ) (reply : Result (Unit {0}) Error) → law a to_go reply b left → to_go ≡ whole → staged ≡ whole → OnOk reply (under_way ≡ [])
+    → OnOk reply (left ≡ []) → OnErr reply (under_way ≡ staged) → SendsRecord law whole refusal a reply under_way left b
+record_sent law refusal {a = a} {b = b} {left = left} under_way (Ok u) calls is same done all err =
+    (subst (λ l. law a l (Ok u) b left) is calls, done, all)
+record_sent law refusal {a = a} {b = b} {left = left} under_way (Err e) calls is same done all err =
+    inr (record { is = err ∙ same; calls = subst (λ l. law a l (Err e) b left) is calls })
+
+-- where the test says that some bytes are there, they are
+pub some_of : (b : Bool) (bs : List ℕ) → b ≡ nat_lt 0 (length bs) → b ≡ true → 0 < length bs
+some_of b bs e t = grind (arith, nat_tests)
+
+-- where it says that none is, none is, behind any n too
+pub none_of : (n : ℕ) (b : Bool) (bs : List ℕ) → b ≡ nat_lt 0 (length bs) → b ≡ false → drop n bs ≡ []
+none_of n b bs e t = ap (drop n) (nil_from_length bs (grind (arith, nat_tests))) ∙ drop-nil n
+
 -- what went without a stop, and all did
 pub all_sent : {a b : Told} {to_go left : List ℕ} (under_way : List ℕ) → Sends a to_go (Ok tt) b left
     → SendsRecords a to_go (Ok tt) under_way b left
@@ -44,6 +127,12 @@ pub refused : {a b : Told} {to_go left : List ℕ} (e : Error) (under_way : List
     → under_way ≡ [] → SendsRecords a to_go (Err e) under_way b left
 refused {a} {b} {to_go} {left} e under_way s none =
     subst (λ u. SendsRecords a to_go (Err e) u b left) (sym none) (record { sent = s.sent; split = s.split; moves = s.moves })
+
+-- a refusal of another kind is one too, where each is
+pub refuses_as : (refusal shown : List ℕ → Error → Type 0) (xs : List (List ℕ)) {e : Error} → ((x : List ℕ) → refusal x e → shown x e)
+    → RefusesFirst refusal xs e → RefusesFirst shown xs e
+refuses_as refusal shown [] shows r = r
+refuses_as refusal shown (x ∷ xs) shows r = shows x r
 
 -- nothing was taken off
 pub off_none : {fits : List ℕ → Type 0} (xs : List (List ℕ)) → TakesOff fits xs xs

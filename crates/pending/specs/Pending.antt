@@ -1,7 +1,8 @@
 -- What a clause reads of the record that is under way, and what a client that sends records may say of its calls.
-use Rattle.std.specs.Prelude.{◌≡◌, ◌⊎◌, All, Result, Ok, Err, List, ℕ, [], ◌∷◌, ◌++◌, drop}
+use Rattle.std.specs.Prelude.{◌≡◌, ◌⊎◌, All, Result, Ok, Err, IsErr, List, ℕ, [], ◌∷◌, ◌++◌, drop, vec_capacity}
 use Rattle.no_std_io2.specs.Errors.{error_kind}
-use Rattle.no_std_io2.specs.Write.{Told, Moves, Sends}
+use Rattle.no_std_io2.specs.Write.{Told, Moves, WriteRestLaw, WriteAllLaw, FlushLaw}
+use Rattle.no_std_io2.specs.declared.io.Write.{Ghosts as Writer}
 use Rattle.no_std_io2.specs.declared.io.Error.{Error}
 use Rattle.no_std_io2.specs.declared.io.ErrorKind.{ErrorKind}
 use Rattle.pending.specs.declared.Pending.{Pending}
@@ -14,22 +15,55 @@ pending_bytes p = p.bytes.items
 abbrev pub pending_rest : Pending → List ℕ
 pending_rest p = drop p.sent p.bytes.items
 
--- nothing was accepted, and no record is under way
-pub record IsRefused (old : Told) (refusal : Type 0) (under_way : List ℕ) (new : Told) : Type 0 where
+-- how many bytes there is room for
+abbrev pub pending_room : Pending → ℕ
+pending_room p = vec_capacity p.bytes
+
+-- what a call that sends x does to a writer, what it answers, and what it leaves of x
+abbrev pub Law : Type 0 → Type 1
+Law W = W → List ℕ → Result (Unit {0}) Error → W → List ℕ → Type 0
+
+-- a `write_rest`, by its law
+abbrev pub RestLaw : {W : Type 0} → Writer W → Law W
+RestLaw I old x reply new left = WriteRestLaw I.told I.takes_all I.cost I.is_metered I.may old x reply new left
+
+-- a `write_all` of no bytes, by its law
+abbrev pub NoneLaw : {W : Type 0} → Writer W → W → Result (Unit {0}) Error → W → Type 0
+NoneLaw I old reply new = WriteAllLaw I.told I.takes_all I.cost I.is_metered I.may old [] reply new
+
+-- a `flush`, by its law
+abbrev pub FlushedLaw : {W : Type 0} → Writer W → W → Result (Unit {0}) Error → W → Type 0
+FlushedLaw I old reply new = FlushLaw I.told I.takes_all I.cost I.is_metered I.may old reply new
+
+-- such a call and then, where it answered `Ok`, one more: the answer is that of the last
+abbrev pub Then : {W : Type 0} → Law W → (W → Result (Unit {0}) Error → W → Type 0) → Law W
+Then {W} law last old x reply new left =
+    (IsErr reply × law old x reply new left) ⊎ ((mid : W) × law old x (Ok tt) mid left × last mid reply new)
+
+-- a `write_rest`, and a flush behind it
+abbrev pub RestFlushLaw : {W : Type 0} → Writer W → Law W
+RestFlushLaw I = Then (RestLaw I) (FlushedLaw I)
+
+-- the last of these calls answered this error, and left the writer and what is to go so
+abbrev pub StopsWith : {W : Type 0} → Law W → Error → W → List ℕ → Type 0
+StopsWith {W} law e new left = (old : W) × (x : List ℕ) × law old x (Err e) new left
+
+-- no record is under way, and no call was made
+pub record IsRefused {W : Type 0} (old : W) (refusal : Type 0) (under_way : List ℕ) (new : W) : Type 0 where
   pub same : new ≡ old
   pub none : under_way ≡ []
   pub why : refusal
 
--- the record is under way: what is no longer to go of it was accepted, and a mishap happened
-pub record IsStopped (old : Told) (whole : List ℕ) (e : Error) (under_way to_go : List ℕ) (new : Told) : Type 0 where
+-- the record is under way: an error stopped the calls that send it
+pub record IsStopped {W : Type 0} (law : Law W) (old : W) (whole : List ℕ) (e : Error) (under_way to_go : List ℕ) (new : W) : Type 0 where
   pub is : under_way ≡ whole
-  pub sends : Sends old whole (Err e) new to_go
+  pub calls : law old whole (Err e) new to_go
 
--- A record was sent: it was accepted whole, once; or it was refused; or it is under way.
-abbrev pub SendsRecord : List ℕ → (Error → Type 0) → Told → Result (Unit {0}) Error → List ℕ → List ℕ → Told → Type 0
-SendsRecord whole refusal old (Ok u) under_way to_go new = Moves old whole [] new × (under_way ≡ [])
-SendsRecord whole refusal old (Err e) under_way to_go new =
-    IsRefused old (refusal e) under_way new ⊎ IsStopped old whole e under_way to_go new
+-- A record was sent by these calls, whole; or it was refused; or it is under way.
+abbrev pub SendsRecord : {W : Type 0} → Law W → List ℕ → (Error → Type 0) → W → Result (Unit {0}) Error → List ℕ → List ℕ → W → Type 0
+SendsRecord law whole refusal old (Ok u) under_way to_go new = law old whole (Ok u) new to_go × (under_way ≡ []) × (to_go ≡ [])
+SendsRecord law whole refusal old (Err e) under_way to_go new =
+    IsRefused old (refusal e) under_way new ⊎ IsStopped law old whole e under_way to_go new
 
 -- the mishap that an answer is: an error is one of the device's where a record is under way, else a refusal
 abbrev pub record_mishap : Result (Unit {0}) Error → List ℕ → List ErrorKind

@@ -1,9 +1,8 @@
 //! A record that a writer is to get whole and once: its bytes, and how many of them were accepted. [`Pending`] is all of it.
 #![tactic(auto)]
 
-ghost use Rattle.std.specs.Prelude.{◌≡◌, ◌≤◌, [], ◌++◌, length, vec_len, nat_lt, OnOk, OnErr, IfErr};
-ghost use Rattle.no_std_io2.specs.Errors.{IsNoInterruption, IsOutOfMemory};
-ghost use Rattle.no_std_io2.specs.Write.{Sends};
+ghost use Rattle.std.specs.Prelude.{◌≡◌, ◌≤◌, ◌<◌, ◌+◌, [], ◌++◌, length, vec_len, nat_lt, OnOk, OnErr, IfErr};
+ghost use Rattle.no_std_io2.specs.Errors.{IsOutOfMemory};
 
 use no_std_io2::io::{Result, Write};
 use std::alloc::Global;
@@ -20,12 +19,13 @@ pub struct Pending {
 }
 
 impl Pending {
-    ghost use Rattle.pending.specs.Pending.{pending_bytes, pending_rest};
+    ghost use Rattle.pending.specs.Pending.{pending_bytes, pending_rest, pending_room, RestLaw};
 
     /// No record. Its bytes will be kept by `alloc`.
     pub fn new(alloc: Global) -> Pending
         ensures bytes { pending_bytes result ≡ [] }
         ensures rest { pending_rest result ≡ [] }
+        ensures room { pending_room result ≡ 0 }
     {
         Pending {
             bytes: Vec::new(alloc),
@@ -40,37 +40,37 @@ impl Pending {
         !self.bytes.is_empty()
     }
 
-    /// Puts a record under way, a head and a tail, with none of it gone. One that was under way is cut off.
+    /// Puts a record under way, a head and a tail, with none of it gone. One that was under way is cut off. Where
+    /// the room of earlier records is too small, it becomes what this one needs, in one piece.
     ///
     /// # Errors
-    /// `OutOfMemory`: none is under way then.
+    /// `OutOfMemory`: none is under way then, and the room is what it was.
     pub fn stage(&mut self, head: &[u8], tail: &[u8]) -> Result<()>
         ensures bytes { OnOk result (pending_bytes self.new ≡ head.now ++ tail.now) }
         ensures rest { OnOk result (pending_rest self.new ≡ head.now ++ tail.now) }
-        ensures err { OnErr result (pending_bytes self.new ≡ []) }
-        ensures none { OnErr result (pending_rest self.new ≡ []) }
-        ensures memory { IfErr result IsOutOfMemory }
+        ensures err { OnErr result ((pending_bytes self.new ≡ []) × (pending_rest self.new ≡ [])
+            × (pending_room self.new ≡ pending_room self.old)) }
+        ensures memory { IfErr result (λ e. IsOutOfMemory e × (pending_room self.old < length head.now + length tail.now)) }
+        ensures room { pending_room self.old ≤ pending_room self.new }
     {
         self.clear();
-        self.bytes.extend_from_slice(head)?;
-        if let Err(refused) = self.bytes.extend_from_slice(tail) {
-            self.clear();
-            return Err(refused.into());
-        }
+        self.bytes.reserve_exact(head.len() + tail.len())?;
+        // There is room, so no memory is asked for.
+        let _ = self.bytes.extend_from_slice(head);
+        let _ = self.bytes.extend_from_slice(tail);
         Ok(())
     }
 
-    /// Sends what is still to go, which passes over interruptions. After `Ok` nothing is, and the record is under
-    /// way until `clear`: a writer may have to be asked for more before its bytes count as sent.
+    /// Sends what is still to go, by one `write_rest`. After `Ok` nothing is, and the record is under way until
+    /// `clear`: a writer may have to be asked for more before its bytes count as sent.
     ///
     /// # Errors
     /// The writer's first fault, or `WriteZero` where it took no byte of some; never `Interrupted`. What was not
     /// accepted is still to go.
     pub fn send_to<W: Write>(&mut self, writer: &mut W) -> Result<()>
-        ensures sends { Sends (W.told writer.old) (pending_rest self.old) result (W.told writer.new) (pending_rest self.new) }
-        ensures done { OnOk result (pending_rest self.new ≡ []) }
+        ensures law { RestLaw W.Write writer.old (pending_rest self.old) result writer.new (pending_rest self.new) }
         ensures bytes { pending_bytes self.new ≡ pending_bytes self.old }
-        ensures fault { IsNoInterruption result }
+        ensures room { pending_room self.new ≡ pending_room self.old }
     {
         let mut rest = &self.bytes[self.sent..];
         let reply = writer.write_rest(&mut rest);
@@ -83,6 +83,7 @@ impl Pending {
     pub fn clear(&mut self)
         ensures bytes { pending_bytes self.new ≡ [] }
         ensures rest { pending_rest self.new ≡ [] }
+        ensures room { pending_room self.new ≡ pending_room self.old }
     {
         self.sent = 0;
         self.bytes.clear();

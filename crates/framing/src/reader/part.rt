@@ -1,5 +1,5 @@
 //! The part of the next frame that was gathered.
-ghost use Rattle.std.specs.Prelude.{◌≡◌, ◌⊎◌, ◌+◌, ◌≤◌, ◌<◌, [], ◌++◌, true, ◌==◌, length, vec_len, IfOk, IfErr};
+ghost use Rattle.std.specs.Prelude.{◌≡◌, ◌⊎◌, ◌+◌, ◌≤◌, ◌<◌, [], ◌++◌, true, ◌==◌, length, vec_len, vec_capacity, IfOk, IfErr};
 ghost use Rattle.std.specs.Int.{w32, to_le_bytes, from_le_bytes};
 ghost use Rattle.no_std_io2.specs.Errors.{IsFault};
 ghost use Rattle.framing.specs.Frames.{IsWithin};
@@ -12,11 +12,12 @@ use std::mem;
 // How many bytes tell a frame's length.
 const HEADER: usize = 4;
 
-// Reads until `part` has `want` bytes. `false`: the end came first.
+// Reads until `part` has `want` bytes, for which it has room. `false`: the end came first.
 fn gather<B: BufRead>(from: &mut B, part: &mut Vec<u8>, want: usize) -> Result<bool>
-    requires { vec_len part.old ≤ want }
+    requires within { vec_len part.old ≤ want }
+    requires room { want ≤ vec_capacity part.old }
     ensures told { B.tells from.old → B.tells from.new
-        × Gathers want (B.events from.old) result part.old.items part.new.items (B.events from.new) }
+        × Gathers want ⊥ (B.events from.old) result part.old.items part.new.items (B.events from.new) }
     ensures len { vec_len part.new ≤ want }
     ensures whole { IfOk result (λ b. b ≡ true → vec_len part.new ≡ want) }
     ensures fault { IfErr result IsFault }
@@ -30,7 +31,7 @@ fn gather<B: BufRead>(from: &mut B, part: &mut Vec<u8>, want: usize) -> Result<b
                     return Ok(false);
                 }
                 let len = lent.len().min(want - part.len());
-                part.extend_from_slice(&lent[..len])?;
+                let _ = part.extend_from_slice(&lent[..len]); // there is room
                 from.consume(len);
             }
             Err(e) if e.is_interrupted() => {}
@@ -57,11 +58,12 @@ pub struct Part {
 }
 
 impl Part {
-    ghost use Rattle.framing.specs.Part.{part_bytes, part_header, part_payload};
+    ghost use Rattle.framing.specs.Part.{part_bytes, part_header, part_payload, header_room, payload_room};
 
     /// Nothing was gathered.
     pub fn new(alloc: Global) -> Part
-        ensures { part_bytes result ≡ [] }
+        ensures none { part_bytes result ≡ [] }
+        ensures room { payload_room result ≡ 0 }
     {
         Part {
             header: Vec::new(alloc),
@@ -82,7 +84,8 @@ impl Part {
     /// The reader's first fault, and `OutOfMemory`.
     pub fn fill_header<B: BufRead>(&mut self, from: &mut B) -> Result<bool>
         ensures told { B.tells from.old → B.tells from.new
-            × Gathers 4 (B.events from.old) result (part_bytes self.old) (part_bytes self.new) (B.events from.new) }
+            × Gathers 4 (header_room self.new < 4) (B.events from.old) result (part_bytes self.old) (part_bytes self.new) (B.events from.new) }
+        ensures room { payload_room self.new ≡ payload_room self.old }
         ensures whole { IfOk result (λ b. b ≡ true → length (part_header self.new) ≡ 4) }
         ensures fault { IfErr result IsFault }
         ensures turns { B.turns from.new ≤ B.turns from.old }
@@ -93,6 +96,7 @@ impl Part {
         if self.header.len() == HEADER {
             return Ok(true);
         }
+        self.header.reserve_exact(HEADER - self.header.len())?;
         gather(from, &mut self.header, HEADER)
     }
 
@@ -108,7 +112,7 @@ impl Part {
     }
 
     /// Gathers the payload, of the length that the header tells. `false`: the end came first. Room for
-    /// all of it is made before anything is read.
+    /// all of it, and for no more, is made before anything is read.
     ///
     /// # Errors
     /// The reader's first fault, and `OutOfMemory`.
@@ -116,13 +120,13 @@ impl Part {
         requires header { length (part_header self.old) ≡ 4 }
         requires len { len ≡ from_le_bytes w32 (part_header self.old) }
         ensures told { B.tells from.old → B.tells from.new
-            × Gathers (4 + len) (B.events from.old) result (part_bytes self.old) (part_bytes self.new) (B.events from.new) }
+            × Gathers (4 + len) (payload_room self.new < len) (B.events from.old) result (part_bytes self.old) (part_bytes self.new) (B.events from.new) }
         ensures header { part_header self.new ≡ part_header self.old }
         ensures whole { IfOk result (λ b. b ≡ true → length (part_payload self.new) ≡ len) }
         ensures fault { IfErr result IsFault }
         ensures turns { B.turns from.new ≤ B.turns from.old }
     {
-        self.payload.reserve(len - self.payload.len())?;
+        self.payload.reserve_exact(len - self.payload.len())?;
         gather(from, &mut self.payload, len)
     }
 

@@ -1,6 +1,5 @@
 ghost use Rattle.std.specs.Prelude.{◌≡◌, ℕ, ◌+◌, ◌-◌, nat_lt, ◌≤◌, ◌<◌, ◌^◌, ◌++◌, [], Ok, IsOk, OnOk, OnErr, IfOk, IfErr};
 ghost use Rattle.std.specs.Prelude.{length, replicate, vec_len, vec_capacity, is_ok, if◌then◌else◌};
-ghost use Rattle.std.specs.Bool.{OnFalse};
 ghost use Rattle.no_std_io2_base.specs.Cursor.{cursor_place, cursor_inner, cursor_out, put_at, IsPut, PutsWhole, PutsAll};
 ghost use Rattle.no_std_io2_base.specs.Errors.{IsNoInterruption};
 ghost use Rattle.no_std_io2_base.specs.Write.{WriteLaw, FlushLaw, WriteAllLaw};
@@ -10,18 +9,18 @@ use super::Cursor;
 use crate::error::{Error, ErrorKind, Result};
 use crate::impls::{append, copy_bytes};
 use crate::traits::Write;
-use std::alloc::Allocator;
+use std::alloc::{AllocError, Allocator};
 
-// Lengthens the vector to `end` by zeros, and answers whether there was the memory for that.
+// Lengthens the vector to `end` by zeros. Where it was refused nothing changes.
 #[cold]
 #[inline(never)]
-fn lengthen<A: Allocator>(content: &mut Vec<u8, A>, end: usize) -> bool
+fn lengthen<A: Allocator>(content: &mut Vec<u8, A>, end: usize) -> std::result::Result<(), AllocError>
     requires { vec_len content.old ≤ end }
     ensures items { content.new.items
-        ≡ (if result then content.old.items ++ replicate (end - vec_len content.old) 0 else content.old.items) }
-    ensures full { OnFalse result (vec_capacity content.old < end) }
+        ≡ (if is_ok result then content.old.items ++ replicate (end - vec_len content.old) 0 else content.old.items) }
+    ensures full { OnErr result (vec_capacity content.old < end) }
 {
-    content.resize(end, 0).is_ok()
+    content.resize(end, 0)
 }
 
 // Puts `buf` at `start`, over what stands there and on behind the end, with zeros before it where `start` is past that.
@@ -36,8 +35,8 @@ fn put<A: Allocator>(content: &mut Vec<u8, A>, start: usize, buf: &[u8]) -> Resu
         let message = "vector position past the greatest usize";
         return Err(Error::new(ErrorKind::InvalidInput, message));
     };
-    if end > content.len() && !lengthen(content, end) {
-        return Err(Error::from(ErrorKind::OutOfMemory));
+    if end > content.len() {
+        lengthen(content, end)?;
     }
     copy_bytes(buf, &mut content[start..end]);
     Ok(())

@@ -110,9 +110,7 @@ pub fn append_line(buf: &mut String, line: &[u8], read: Result<usize>) -> Result
     let Ok(text) = std::str::from_utf8(line) else {
         return Err(read.err().unwrap_or_else(invalid_text));
     };
-    if buf.push_str(text).is_err() {
-        return Err(Error::from(ErrorKind::OutOfMemory));
-    }
+    buf.push_str(text)?;
     read
 }
 

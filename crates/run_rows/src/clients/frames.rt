@@ -1,7 +1,7 @@
 // Frames, and lines of a log, over devices that note their calls, through a buffer of 4 bytes.
 //
 // A row of what sends is a call; then its answer, whether a frame or a line is under way, the bytes out and the calls that
-// reached the device. A row of a reader is a call; then its answer and the calls.
+// reached the device; `drop` and `into_inner` end what sends. A row of a reader is a call; then its answer and the calls.
 use framing::{FrameReader, FrameWriter};
 use io_rows::calls::{Call, new_journal, show_calls, show_out};
 use io_rows::fault::{Fault, Made};
@@ -23,10 +23,10 @@ fn show_sent(is_under_way: bool, journal: &RefCell<Journal>, line: &mut Line) {
     show_calls(journal, line);
 }
 
-// A writer of frames, and its device's journal.
+// A writer of frames, until it is dropped or taken off, and its device's journal.
 #[derive(Drop)]
 struct Sending {
-    writer: FrameWriter<Recorder, 4>,
+    writer: Option<FrameWriter<Recorder, 4>>,
     journal: Rc<RefCell<Journal>>,
 }
 
@@ -38,15 +38,49 @@ fn send(to: &mut FrameWriter<Recorder, 4>, payload: &[u8], line: &mut Line) {
     }
 }
 
+fn send_by(to: &mut FrameWriter<Recorder, 4>, call: &Call<'_>, line: &mut Line) {
+    match call.word {
+        "send" => send(to, &call.bytes, line),
+        "retry" => line.done(&to.retry()),
+        "flush" => line.done(&to.flush()),
+        _ => line.malformed("no such call"),
+    }
+}
+
+// Takes the writer off, and shows the calls of that alone: what an error holds is dropped behind them.
+fn unwrap(w: FrameWriter<Recorder, 4>, journal: &RefCell<Journal>, line: &mut Line) {
+    if w.is_under_way() {
+        line.malformed("a frame is under way");
+        return;
+    }
+    match w.into_inner() {
+        Ok(_device) => {
+            line.word("ok");
+            show_sent(false, journal, line);
+        }
+        Err(e) => {
+            line.error(e.error());
+            show_sent(false, journal, line);
+        }
+    }
+}
+
 impl Stream for Sending {
     fn play(&mut self, _alloc: Global, call: &Call<'_>, line: &mut Line) {
-        match call.word {
-            "send" => send(&mut self.writer, &call.bytes, line),
-            "retry" => line.done(&self.writer.retry()),
-            "flush" => line.done(&self.writer.flush()),
-            _ => line.malformed("no such call"),
+        match (call.word, self.writer.take()) {
+            ("drop", Some(w)) => {
+                drop(w);
+                line.word("-");
+                show_sent(false, &self.journal, line);
+            }
+            ("into_inner", Some(w)) => unwrap(w, &self.journal, line),
+            (_, Some(mut w)) => {
+                send_by(&mut w, call, line);
+                show_sent(w.is_under_way(), &self.journal, line);
+                self.writer = Some(w);
+            }
+            (_, None) => line.malformed("nothing is left"),
         }
-        show_sent(self.writer.is_under_way(), &self.journal, line);
     }
 }
 
@@ -82,10 +116,10 @@ impl Stream for Receiving {
     }
 }
 
-// A log of lines, and its device's journal.
+// A log of lines, until it is dropped or taken off, and its device's journal.
 #[derive(Drop)]
 struct Logging {
-    log: LineLog<Recorder, 4>,
+    log: Option<LineLog<Recorder, 4>>,
     journal: Rc<RefCell<Journal>>,
 }
 
@@ -97,15 +131,49 @@ fn log(to: &mut LineLog<Recorder, 4>, bytes: &[u8], line: &mut Line) {
     }
 }
 
+fn log_by(to: &mut LineLog<Recorder, 4>, call: &Call<'_>, line: &mut Line) {
+    match call.word {
+        "log" => log(to, &call.bytes, line),
+        "retry" => line.done(&to.retry()),
+        "flush" => line.done(&to.flush()),
+        _ => line.malformed("no such call"),
+    }
+}
+
+// Takes the log off, as `unwrap` does a writer of frames.
+fn unwrap_log(log: LineLog<Recorder, 4>, journal: &RefCell<Journal>, line: &mut Line) {
+    if log.is_under_way() {
+        line.malformed("a line is under way");
+        return;
+    }
+    match log.into_inner() {
+        Ok(_device) => {
+            line.word("ok");
+            show_sent(false, journal, line);
+        }
+        Err(e) => {
+            line.error(e.error());
+            show_sent(false, journal, line);
+        }
+    }
+}
+
 impl Stream for Logging {
     fn play(&mut self, _alloc: Global, call: &Call<'_>, line: &mut Line) {
-        match call.word {
-            "log" => log(&mut self.log, &call.bytes, line),
-            "retry" => line.done(&self.log.retry()),
-            "flush" => line.done(&self.log.flush()),
-            _ => line.malformed("no such call"),
+        match (call.word, self.log.take()) {
+            ("drop", Some(log)) => {
+                drop(log);
+                line.word("-");
+                show_sent(false, &self.journal, line);
+            }
+            ("into_inner", Some(log)) => unwrap_log(log, &self.journal, line),
+            (_, Some(mut log)) => {
+                log_by(&mut log, call, line);
+                show_sent(log.is_under_way(), &self.journal, line);
+                self.log = Some(log);
+            }
+            (_, None) => line.malformed("nothing is left"),
         }
-        show_sent(self.log.is_under_way(), &self.journal, line);
     }
 }
 
@@ -115,7 +183,7 @@ pub fn lend(name: &str, words: &str, player: &mut Player<'_, '_>) -> Made<()> {
     let device = Recorder::new(alloc, journal.clone()?, Name::Only);
     match name {
         "FrameWriter" => {
-            let writer = FrameWriter::new(alloc, device);
+            let writer = Some(FrameWriter::new(alloc, device));
             player.play(&mut Sending { writer, journal });
         }
         "FrameReader" => {
@@ -123,7 +191,7 @@ pub fn lend(name: &str, words: &str, player: &mut Player<'_, '_>) -> Made<()> {
             player.play(&mut Receiving { reader, journal });
         }
         "LineLog" => {
-            let log = LineLog::new(alloc, device);
+            let log = Some(LineLog::new(alloc, device));
             player.play(&mut Logging { log, journal });
         }
         _ => return Err(Fault::Malformed("no such stream")),

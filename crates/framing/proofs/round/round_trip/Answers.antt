@@ -3,14 +3,15 @@ use Rattle.std.proofs.lemmas.Result.{err_from_is_err_and}
 use Rattle.no_std_io2.specs.Read.{events_of}
 use Rattle.framing.specs.Part.{most}
 use Rattle.framing.specs.Sending.{writer_tells, still_to_go}
-use Rattle.framing.proofs.WentOut.{drop_none, shown_frames, come_frames, all_short, only_memory, memory_alone, all_given, slice_from}
+use Rattle.framing.proofs.WentOut.{drop_none, shown_frames, come_frames, all_short, only_memory, memory_alone, all_given}
+use Rattle.pending.proofs.RecordLemmas.{slice_rest}
 use Rattle.framing.proofs.round.round_trip.Goals as goal
 
 pub returns-in_err-deliver-clause-enough : goal.returns-in_err-deliver-clause-enough
 returns-in_err-deliver-clause-enough g c = λ few short.
     let p = err_from_is_err_and c.from_residual.result c.from_residual.ensures.1 in
     let said = c.in_err-deliver.ensures in
-    rw (p.1, p.2) (only_memory _ _ c.in_err-deliver.field-0.0 said.rest short (said.enough few))
+    rw (p.1, p.2) (only_memory _ _ _ c.in_err-deliver.field-0.0 said.rest short (said.enough few))
 
 pub returns-in_err-read_all-clause-enough : goal.returns-in_err-read_all-clause-enough
 returns-in_err-read_all-clause-enough g c = λ few short.
@@ -29,9 +30,9 @@ returns-in_err-read_all-clause-enough g c = λ few short.
     (c.shown-before.ensures ∙ ap (λ w. (told w).out) c.get_ref.ensures) (c.shown.ensures ∙ ap (λ w. (told w).out) c.get_ref-2.ensures) in
     let within : All (λ p. length p ≤ most c.new-reader.result) payloads =
     all_short (most c.new-reader.result) payloads left said.rest none c.new-reader.ensures.limit in
-    let events = c.new-reader.ensures.events ∙ ap events_of (slice_from (length before) after) in
+    let events = c.new-reader.ensures.events ∙ ap events_of (slice_rest (length before) after) in
     let back = c.in_err-read_all.ensures.back payloads tt (come_frames _ (drop (length before) after) payloads events out) within in
-    rw (p.1, p.2) (memory_alone payloads (drop (length before) after) c.in_err-read_all.field-0.0 events back)
+    rw (p.1, p.2) (memory_alone _ payloads (drop (length before) after) c.in_err-read_all.field-0.0 events back)
 
 pub returns-clause-came : goal.returns-clause-came
 returns-clause-came g c =
@@ -49,7 +50,7 @@ returns-clause-came g c =
     (c.shown-before.ensures ∙ ap (λ w. (told w).out) c.get_ref.ensures) (c.shown.ensures ∙ ap (λ w. (told w).out) c.get_ref-2.ensures) in
     let within : All (λ p. length p ≤ most c.new-reader.result) payloads =
     all_short (most c.new-reader.result) payloads left said.rest none c.new-reader.ensures.limit in
-    let events = c.new-reader.ensures.events ∙ ap events_of (slice_from (length before) after) in
+    let events = c.new-reader.ensures.events ∙ ap events_of (slice_rest (length before) after) in
     let back = c.in_ok-read_all.ensures.back payloads tt (come_frames _ (drop (length before) after) payloads events out) within in
-    all_given (λ v. v.items) payloads _ _ c.new-given.result.items c.read_all.new.payloads.items back
+    all_given _ (λ v. v.items) payloads _ _ c.new-given.result.items c.read_all.new.payloads.items back
     c.in_ok-read_all.ensures.appends c.new-given.ensures.items

@@ -1,7 +1,14 @@
 use Rattle.std.proofs.Common.{◌++◌}
-use Rattle.line_log.specs.Log.{log_told}
+use Rattle.line_log.specs.Log.{log_told, LineLaw}
+use Rattle.pending.proofs.RecordLemmas.{record_sent}
 use Rattle.line_log.proofs.LogLemmas.{ends_line, some_line}
 use Rattle.line_log.proofs.LineLog.log.Goals as goal
+
+pub returns-clause-sends : goal.returns-clause-sends
+returns-clause-sends g c =
+    let retried = c.retry.ensures in
+    record_sent (LineLaw _) _ _ c.retry.result retried.calls c.in_ok-stage.ensures.rest c.in_ok-stage.ensures.line retried.done
+    retried.none retried.err
 
 pub returns-clause-passed : goal.returns-clause-passed
 returns-clause-passed g c =

@@ -1,25 +1,33 @@
-use Rattle.std.proofs.Common.{◌≡◌, ◌++◌, ◌∷◌, length, map, string_bytes, sym, ap, ◌∙◌, subst}
+use Rattle.std.proofs.Common.{◌≡◌, ◌≤◌, ◌++◌, ◌∷◌, length, map, string_bytes, Ok, sym, ap, ◌∙◌, subst, arith}
 use Rattle.std.proofs.lemmas.List.{nil_from_length}
 use Rattle.std.proofs.lemmas.Result.{err_from_is_err_and}
 use Rattle.no_std_io2.specs.Lines.{HasNoNewline}
-use Rattle.line_log.specs.Lines.{line_of, lines_of}
+use Rattle.line_log.specs.Lines.{line_of, lines_of, IsRefusal}
+use Rattle.line_log.specs.Log.{log_room}
+use Rattle.line_log.proofs.LogLemmas.{line_sends, refusal_less}
+use Rattle.pending.specs.Pending.{RefusesFirst}
 use Rattle.pending.proofs.RecordLemmas.{sends_none, sends_on, sends_shown, all_sent, stopped, refused, off_none, off_more, staged}
 use Rattle.line_log.proofs.LineLog.log_all.Goals as goal
 
 pub lines-init : goal.lines-init
-lines-init g c = record { goes = sends_none _ _; off = off_none _ }
+lines-init g c = record { goes = sends_none _ _; off = off_none _; room = omega arith }
 
 pub returns-in_err-retry-clause-sends : goal.returns-in_err-retry-clause-sends
 returns-in_err-retry-clause-sends g c =
     let p = err_from_is_err_and c.from_residual.result c.from_residual.ensures.1 in
     let said = c.in_err-retry.ensures in
     rw (p.1, p.2)
-    (stopped c.in_err-retry.field-0.0 _ (sends_on (lines_of (map string_bytes c.lines.rest.now)) c.lines.invariant.goes said.sends)
-    said.some)
+    (stopped c.in_err-retry.field-0.0 _
+    (sends_on (lines_of (map string_bytes c.lines.rest.now)) c.lines.invariant.goes (line_sends _ _ said.calls)) said.some)
+
+pub returns-in_err-retry-clause-stopped : goal.returns-in_err-retry-clause-stopped
+returns-in_err-retry-clause-stopped g c =
+    let p = err_from_is_err_and c.from_residual.result c.from_residual.ensures.1 in
+    rw (p.1, p.2) (λ some. (_, _, c.in_err-retry.ensures.calls))
 
 pub returns-in_default-clause-sends : goal.returns-in_default-clause-sends
 returns-in_default-clause-sends g c =
-    all_sent _ (sends_on (lines_of (map string_bytes c.lines.rest.now)) c.lines.invariant.goes c.in_ok-retry.ensures.sends)
+    all_sent _ (sends_on (lines_of (map string_bytes c.lines.rest.now)) c.lines.invariant.goes (line_sends _ (Ok tt) c.in_ok-retry.ensures.calls))
 
 pub returns-in_default-clause-done : goal.returns-in_default-clause-done
 returns-in_default-clause-done g c =
@@ -33,8 +41,26 @@ returns-in_err-stage-clause-sends g c =
     let more = lines_of (map string_bytes c.lines.rest.now) in
     rw (p.1, p.2)
     (refused c.in_err-stage.field-0.0 _
-    (sends_shown _ (sends_on more c.lines.invariant.goes c.in_ok-retry.ensures.sends)
+    (sends_shown _ (sends_on more c.lines.invariant.goes (line_sends _ (Ok tt) c.in_ok-retry.ensures.calls))
     (ap (λ l. l ++ more) (c.in_ok-retry.ensures.none ∙ sym said.none))) said.err)
+
+pub returns-in_err-stage-clause-refused : goal.returns-in_err-stage-clause-refused
+returns-in_err-stage-clause-refused g c =
+    let p = err_from_is_err_and c.from_residual-in_err-stage.result c.from_residual-in_err-stage.ensures.1 in
+    let line = c.in-Some.line.now in
+    let others = c.in-Some.others.now in
+    let first : map string_bytes (line ∷ others) ≡ map string_bytes c.lines.rest.now =
+    ap (map string_bytes) (sym c.in-Some.ensures.cases.0) in
+    let less : log_room c.args.self.now ≤ log_room c.retry.new.self =
+    omega (arith, c.lines.invariant.room, c.in_ok-retry.ensures.room) in
+    rw (p.1, p.2)
+    (λ none. subst (λ l. RefusesFirst (IsRefusal (log_room c.args.self.now)) l c.in_err-stage.field-0.0) first
+    (refusal_less (string_bytes line) _ less (subst (λ l. IsRefusal (log_room c.retry.new.self) l c.in_err-stage.field-0.0) c.as_str.ensures.value c.in_err-stage.ensures.refused)))
+
+pub returns-in_err-stage-clause-stopped : goal.returns-in_err-stage-clause-stopped
+returns-in_err-stage-clause-stopped g c =
+    let p = err_from_is_err_and c.from_residual-in_err-stage.result c.from_residual-in_err-stage.ensures.1 in
+    rw (p.1, p.2) (λ some. absurd (omega (arith, some, ap length c.in_err-stage.ensures.err)))
 
 pub lines-preserved : goal.lines-preserved
 lines-preserved g c =
@@ -46,7 +72,9 @@ lines-preserved g c =
     let same = c.as_str.ensures.value in
     let plain : HasNoNewline (string_bytes line) = subst HasNoNewline same said.plain in
     record {
-      goes = sends_shown _ (sends_on (lines_of (map string_bytes rest)) c.lines.invariant.goes c.in_ok-retry.ensures.sends)
+      room = omega (arith, c.lines.invariant.room, c.in_ok-retry.ensures.room, said.room);
+      goes = sends_shown _
+          (sends_on (lines_of (map string_bytes rest)) c.lines.invariant.goes (line_sends _ (Ok tt) c.in_ok-retry.ensures.calls))
           (staged line_of string_bytes rest line others _ _ c.as_str.result.now first c.in_ok-retry.ensures.none same said.rest);
       off = off_more (string_bytes line) (map string_bytes others) _ c.lines.invariant.off (ap (map string_bytes) first) plain;
     }

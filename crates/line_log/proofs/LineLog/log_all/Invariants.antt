@@ -1,8 +1,8 @@
 -- What is no longer to go was accepted, and no newline stands in the texts that were taken off.
-use Rattle.std.proofs.Common.{◌++◌, map, length, Ok, string_bytes}
+use Rattle.std.proofs.Common.{◌++◌, ◌≤◌, map, length, Ok, string_bytes}
 use Rattle.no_std_io2.specs.Write.{Sends}
 use Rattle.line_log.specs.Lines.{lines_of}
-use Rattle.line_log.specs.Log.{log_told, still_to_go, TakesOff}
+use Rattle.line_log.specs.Log.{log_told, log_room, still_to_go, TakesOff}
 use Rattle.line_log.proofs.LineLog.log_all.Given as goal
 
 abbrev pub invariant-lines : goal.invariant-lines
@@ -12,6 +12,7 @@ invariant-lines g l =
       goes : Sends (log_told told l.initial.self)
           (still_to_go l.initial.self ++ lines_of (map string_bytes l.initial.rest.now)) (Ok tt) (log_told told l.self)
           (still_to_go l.self ++ lines_of (map string_bytes l.rest.now));
+      room : log_room l.initial.self ≤ log_room l.self;
       off : TakesOff (map string_bytes l.initial.rest.now) (map string_bytes l.rest.now);
     }
 

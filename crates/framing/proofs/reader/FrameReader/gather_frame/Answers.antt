@@ -1,7 +1,7 @@
-use Rattle.std.proofs.Common.{◌≡◌, ◌+◌, ◌<◌, [], length, sym, ap, ◌∙◌, inl, arith, length-append}
+use Rattle.std.proofs.Common.{◌≡◌, ◌+◌, ◌<◌, [], length, sym, ap, ◌∙◌, inl, inr, arith, length-append}
 use Rattle.std.proofs.lemmas.Result.{err_from_is_err_and}
 use Rattle.std.specs.Int.{w32, from_le_bytes}
-use Rattle.framing.specs.Part.{part_bytes, part_header, part_payload, most}
+use Rattle.framing.specs.Part.{part_bytes, part_header, part_payload, header_room, payload_room, most}
 use Rattle.no_std_io2.proofs.EventLemmas.{Gathered-none, Gathered-then, Gathered-passes}
 use Rattle.no_std_io2.proofs.EventLemmas.{not_empty, is_empty}
 use Rattle.framing.proofs.FrameLemmas.{told_behind, stopped, ended, no_frame, whole_part, too_long, frame_whole}
@@ -14,7 +14,7 @@ returns-in_err-fill_header-clause-told g c = λ t.
     let said = c.in_err-fill_header.ensures.told t in (
       said.0,
       rw (p.1, p.2)
-          (stopped (most c.args.self.now) 4 c.in_err-fill_header.field-0.0 (Gathered-none _ _) said.1
+          (stopped (header_room c.fill_header.new.self < 4) _ (most c.args.self.now) 4 (λ h. inl h) c.in_err-fill_header.field-0.0 (Gathered-none _ _) said.1
           (λ h. inl h)),
     )
 
@@ -22,14 +22,14 @@ pub returns-then-is_empty-clause-told : goal.returns-then-is_empty-clause-told
 returns-then-is_empty-clause-told g c = λ t.
     let said = c.in_ok-fill_header.ensures.told t in
     let none : part_bytes c.fill_header.new.self ≡ [] = is_empty _ _ c.is_empty.ensures c.if-is_empty.true in
-    (said.0, no_frame 4 _ _ c.in_ok-fill_header.field-0 c.if-not-branch.true said.1 none)
+    (said.0, no_frame (header_room c.fill_header.new.self < 4) 4 _ _ c.in_ok-fill_header.field-0 c.if-not-branch.true said.1 none)
 
 pub returns-then-not-branch-clause-told : goal.returns-then-not-branch-clause-told
 returns-then-not-branch-clause-told g c = λ t.
     let said = c.in_ok-fill_header.ensures.told t in
     let some : 0 < length (part_bytes c.fill_header.new.self) = not_empty _ _ c.is_empty.ensures c.if-is_empty.false in (
       said.0,
-      ended (most c.args.self.now) 4 _ _ c.in_ok-fill_header.field-0 c.ended_inside.result c.if-not-branch.true
+      ended (header_room c.fill_header.new.self < 4) _ (most c.args.self.now) 4 _ _ c.in_ok-fill_header.field-0 c.ended_inside.result c.if-not-branch.true
           (Gathered-none _ _) said.1 (λ h. inl h) some c.ended_inside.ensures,
     )
 
@@ -40,12 +40,12 @@ pub returns-then-len-self-clause-told : goal.returns-then-len-self-clause-told
 returns-then-len-self-clause-told g c = λ t.
     let said = c.in_ok-fill_header.ensures.told t in
     let b = c.if-not-branch.false in
-    let whole = whole_part 4 c.in_ok-fill_header.field-0 b said.1 in
+    let whole = whole_part (header_room c.fill_header.new.self < 4) 4 c.in_ok-fill_header.field-0 b said.1 in
     let part = c.fill_header.new.self in
     let told = told_behind (part_header part) (part_payload part) (c.in_ok-fill_header.ensures.whole b) in (
       said.0,
-      too_long (most c.args.self.now) c.new.result whole.0 whole.1
-          (omega (arith, told, c.told_len-len.ensures.value, c.if-len-self.true)) c.new.ensures.kind,
+      too_long _ (most c.args.self.now) c.new.result whole.0 whole.1
+          (omega (arith, told, c.told_len-len.ensures.value, c.if-len-self.true)) (c.new.ensures.kind, c.new.ensures.text),
     )
 
 pub returns-in_err-fill_payload-clause-told : goal.returns-in_err-fill_payload-clause-told
@@ -54,7 +54,7 @@ returns-in_err-fill_payload-clause-told g c = λ t.
     let header = c.in_ok-fill_header.ensures.told t in
     let said = c.in_err-fill_payload.ensures.told header.0 in
     let b = c.if-not-branch.false in
-    let whole = whole_part 4 c.in_ok-fill_header.field-0 b header.1 in
+    let whole = whole_part (header_room c.fill_header.new.self < 4) 4 c.in_ok-fill_header.field-0 b header.1 in
     let len = c.told_len-len.result in
     let part = c.fill_payload.new.self in
     let same = c.in_err-fill_payload.ensures.header in
@@ -62,7 +62,9 @@ returns-in_err-fill_payload-clause-told g c = λ t.
     let told = c.told_len-len.ensures.value ∙ ap (from_le_bytes w32) (sym same) in (
       said.0,
       rw (p.1, p.2)
-          (stopped (most c.args.self.now) (4 + len) c.in_err-fill_payload.field-0.0 whole.0 said.1
+          (stopped (payload_room c.fill_payload.new.self < c.told_len-len.result) _ (most c.args.self.now) (4 + len)
+          (λ less. inr (four, omega (arith, told, c.if-len-self.false), omega (arith, told, less)))
+          c.in_err-fill_payload.field-0.0 whole.0 said.1
           (part_short (part_header part) (part_payload part) len four told)),
     )
 
@@ -71,7 +73,7 @@ returns-then-not-branch-2-clause-told g c = λ t.
     let header = c.in_ok-fill_header.ensures.told t in
     let said = c.in_ok-fill_payload.ensures.told header.0 in
     let b = c.if-not-branch.false in
-    let whole = whole_part 4 c.in_ok-fill_header.field-0 b header.1 in
+    let whole = whole_part (header_room c.fill_header.new.self < 4) 4 c.in_ok-fill_header.field-0 b header.1 in
     let len = c.told_len-len.result in
     let part = c.fill_payload.new.self in
     let same = c.in_ok-fill_payload.ensures.header in
@@ -79,7 +81,7 @@ returns-then-not-branch-2-clause-told g c = λ t.
     let told = c.told_len-len.ensures.value ∙ ap (from_le_bytes w32) (sym same) in
     let some : 0 < length (part_bytes part) = omega (arith, four, length-append (part_header part) (part_payload part)) in (
       said.0,
-      ended (most c.args.self.now) (4 + len) _ _ c.in_ok-fill_payload.field-0
+      ended (payload_room c.fill_payload.new.self < c.told_len-len.result) _ (most c.args.self.now) (4 + len) _ _ c.in_ok-fill_payload.field-0
           c.ended_inside-then-not-branch-2.result c.if-not-branch-2.true whole.0 said.1
           (part_short (part_header part) (part_payload part) len four told) some c.ended_inside-then-not-branch-2.ensures,
     )
@@ -90,8 +92,8 @@ returns-clause-told g c = λ t.
     let said = c.in_ok-fill_payload.ensures.told header.0 in
     let b = c.if-not-branch.false in
     let b2 = c.if-not-branch-2.false in
-    let first = whole_part 4 c.in_ok-fill_header.field-0 b header.1 in
-    let whole = whole_part (4 + c.told_len-len.result) c.in_ok-fill_payload.field-0 b2 said.1 in
+    let first = whole_part (header_room c.fill_header.new.self < 4) 4 c.in_ok-fill_header.field-0 b header.1 in
+    let whole = whole_part (payload_room c.fill_payload.new.self < c.told_len-len.result) (4 + c.told_len-len.result) c.in_ok-fill_payload.field-0 b2 said.1 in
     let part = c.fill_payload.new.self in
     let long = c.in_ok-fill_payload.ensures.whole b2 in
     let is =

@@ -8,7 +8,7 @@ pub returns-in_err-gather_frame-clause-kept : goal.returns-in_err-gather_frame-c
 returns-in_err-gather_frame-clause-kept g c = λ t.
     let p = err_from_is_err_and c.from_residual.result c.from_residual.ensures.1 in
     let said = c.in_err-gather_frame.ensures.told t in
-    rw p.1 (none_lost (most c.args.self.now) _ _ _ said.1)
+    rw p.1 (none_lost _ (most c.args.self.now) _ _ _ said.1)
 
 pub returns-then-not-branch-clause-told : goal.returns-then-not-branch-clause-told
 returns-then-not-branch-clause-told g c = λ t.

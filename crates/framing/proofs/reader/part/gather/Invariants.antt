@@ -1,5 +1,5 @@
 -- What was gathered so far is what is gone from what was to come, and has no fault.
-use Rattle.std.proofs.Common.{◌≤◌, ◌<◌, vec_len}
+use Rattle.std.proofs.Common.{◌≤◌, ◌<◌, vec_len, vec_capacity}
 use Rattle.no_std_io2.specs.Passing.{Gathered}
 use Rattle.framing.proofs.reader.part.gather.Given as goal
 
@@ -11,6 +11,7 @@ invariant-pieces g l =
           → R.tells l.from × Gathered (R.events l.initial.from) l.initial.part.items l.part.items (R.events l.from);
       grows : vec_len l.initial.part ≤ vec_len l.part;
       len : vec_len l.part ≤ l.want;
+      room : l.want ≤ vec_capacity l.part;
       turns : R.turns l.from ≤ R.turns l.initial.from;
       turn : vec_len l.initial.part < vec_len l.part → R.turns l.from < R.turns l.initial.from;
     }

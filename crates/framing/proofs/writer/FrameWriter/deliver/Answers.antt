@@ -1,16 +1,28 @@
-use Rattle.std.proofs.Common.{arith}
-use Rattle.framing.proofs.DeliveryLemmas.{delivers_more, spent_none, spent_more, spent_all}
-use Rattle.pending.proofs.RecordLemmas.{sends_none, off_none, off_then}
+use Rattle.std.proofs.Common.{inl, inr, arith}
+use Rattle.std.proofs.lemmas.Result.{err_from_is_err_and}
+use Rattle.framing.specs.Frames.{IsRefusal}
+use Rattle.framing.proofs.DeliveryLemmas.{delivers_more, spent_none, spent_more, spent_all, refusal_less}
+use Rattle.pending.proofs.RecordLemmas.{sends_none, off_none, off_then, refuses_as}
 use Rattle.framing.proofs.writer.FrameWriter.deliver.Goals as goal
 
 pub tries-init : goal.tries-init
-tries-init g c = record { goes = sends_none _ _; off = off_none _; spent = spent_none _ _ }
+tries-init g c = record { goes = sends_none _ _; off = off_none _; spent = spent_none _ _; room = omega arith }
 
 pub returns-in_err-try_once-clause-sends : goal.returns-in_err-try_once-clause-sends
 returns-in_err-try_once-clause-sends g c = delivers_more c.try_once.result c.tries.invariant.goes c.try_once.ensures.sends
 
 pub returns-in_err-try_once-clause-rest : goal.returns-in_err-try_once-clause-rest
 returns-in_err-try_once-clause-rest g c = off_then c.tries.invariant.off c.try_once.ensures.rest
+
+pub returns-in_err-try_once-clause-enough : goal.returns-in_err-try_once-clause-enough
+returns-in_err-try_once-clause-enough g c = λ few.
+    let p = err_from_is_err_and c.from_residual.result c.from_residual.ensures.1 in
+    rw (p.1, p.2) (refuses_as (IsRefusal _) (IsRefusal _) _ (λ x r. refusal_less x _ c.tries.invariant.room r) c.in_err-try_once.ensures.refused)
+
+pub returns-in_err-try_once-clause-last : goal.returns-in_err-try_once-clause-last
+returns-in_err-try_once-clause-last g c =
+    let p = err_from_is_err_and c.from_residual.result c.from_residual.ensures.1 in
+    rw (p.1, p.2) (inl (refuses_as (IsRefusal _) (IsRefusal _) _ (λ x r. refusal_less x _ c.tries.invariant.room r) c.in_err-try_once.ensures.refused))
 
 pub returns-in-None-clause-sends : goal.returns-in-None-clause-sends
 returns-in-None-clause-sends g c = delivers_more c.try_once.result c.tries.invariant.goes c.try_once.ensures.sends
@@ -27,6 +39,9 @@ returns-in-Some-clause-sends g c = delivers_more c.try_once.result c.tries.invar
 pub returns-in-Some-clause-rest : goal.returns-in-Some-clause-rest
 returns-in-Some-clause-rest g c = off_then c.tries.invariant.off c.try_once.ensures.rest
 
+pub returns-in-Some-clause-last : goal.returns-in-Some-clause-last
+returns-in-Some-clause-last g c = inr (rw c.in-Some.is at c.in_ok-try_once.ensures.stopped)
+
 pub returns-in-Some-clause-enough : goal.returns-in-Some-clause-enough
 returns-in-Some-clause-enough g c = λ most.
     let tried = rw c.in-Some.is at c.in_ok-try_once.ensures.sends in
@@ -38,6 +53,7 @@ tries-preserved g c =
     let tried = rw c.in-Some-2.is at c.in_ok-try_once.ensures.sends in
     record {
       goes = delivers_more c.try_once.result c.tries.invariant.goes c.try_once.ensures.sends;
+      room = omega (arith, c.tries.invariant.room, c.try_once.ensures.room);
       off = off_then c.tries.invariant.off c.try_once.ensures.rest;
       spent = spent_more c.args.tries c.tries.left _ _ _ _ _ c.tries.invariant.spent tried.moves.mishaps (omega arith);
     }

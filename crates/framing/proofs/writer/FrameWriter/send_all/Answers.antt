@@ -1,29 +1,37 @@
-use Rattle.std.proofs.Common.{◌≡◌, ◌<◌, ◌^◌, ◌++◌, ◌∷◌, length, map, sym, ap, ◌∙◌, subst}
+use Rattle.std.proofs.Common.{◌≡◌, ◌<◌, ◌≤◌, ◌^◌, ◌++◌, ◌∷◌, length, map, sym, ap, ◌∙◌, subst, arith}
 use Rattle.std.proofs.lemmas.List.{nil_from_length}
 use Rattle.std.proofs.lemmas.Result.{err_from_is_err_and}
-use Rattle.framing.specs.Frames.{frame, frames}
+use Rattle.framing.specs.Frames.{frame, frames, IsRefusal}
+use Rattle.framing.specs.Sending.{frame_room}
+use Rattle.framing.proofs.DeliveryLemmas.{refusal_less}
+use Rattle.pending.specs.Pending.{RefusesFirst}
 use Rattle.pending.proofs.RecordLemmas.{sends_none, sends_on, sends_shown, all_sent, stopped, refused, off_none, off_more, staged}
 use Rattle.framing.proofs.writer.FrameWriter.send_all.Goals as goal
 
 pub frames-init : goal.frames-init
-frames-init g c = record { goes = sends_none _ _; off = off_none _ }
+frames-init g c = record { goes = sends_none _ _; off = off_none _; room = omega arith }
 
 pub returns-in_err-retry-clause-sends : goal.returns-in_err-retry-clause-sends
 returns-in_err-retry-clause-sends g c =
     let p = err_from_is_err_and c.from_residual.result c.from_residual.ensures.1 in
     let said = c.in_err-retry.ensures in
     rw (p.1, p.2)
-    (stopped c.in_err-retry.field-0.0 _ (sends_on (frames (map (λ v. v.items) c.frames.rest.now)) c.frames.invariant.goes said.sends)
-    said.some)
+    (stopped c.in_err-retry.field-0.0 _
+    (sends_on (frames (map (λ v. v.items) c.frames.rest.now)) c.frames.invariant.goes said.law.sends) said.some)
+
+pub returns-in_err-retry-clause-stopped : goal.returns-in_err-retry-clause-stopped
+returns-in_err-retry-clause-stopped g c =
+    let p = err_from_is_err_and c.from_residual.result c.from_residual.ensures.1 in
+    rw (p.1, p.2) (λ some. (_, _, c.in_err-retry.ensures.law))
 
 pub returns-in_default-clause-sends : goal.returns-in_default-clause-sends
 returns-in_default-clause-sends g c =
-    all_sent _ (sends_on (frames (map (λ v. v.items) c.frames.rest.now)) c.frames.invariant.goes c.in_ok-retry.ensures.sends)
+    all_sent _ (sends_on (frames (map (λ v. v.items) c.frames.rest.now)) c.frames.invariant.goes c.in_ok-retry.ensures.law.sends)
 
 pub returns-in_default-clause-done : goal.returns-in_default-clause-done
 returns-in_default-clause-done g c =
     let none : length c.frames.rest.now ≡ 0 = rw c.in_default.is at c.split_first.ensures.cases in
-    (c.in_ok-retry.ensures.done, c.in_ok-retry.ensures.none, nil_from_length c.frames.rest.now none)
+    (c.in_ok-retry.ensures.done, c.in_ok-retry.ensures.law.done, nil_from_length c.frames.rest.now none)
 
 pub returns-in_err-stage-clause-sends : goal.returns-in_err-stage-clause-sends
 returns-in_err-stage-clause-sends g c =
@@ -32,8 +40,26 @@ returns-in_err-stage-clause-sends g c =
     let more = frames (map (λ v. v.items) c.frames.rest.now) in
     rw (p.1, p.2)
     (refused c.in_err-stage.field-0.0 _
-    (sends_shown _ (sends_on more c.frames.invariant.goes c.in_ok-retry.ensures.sends)
-    (ap (λ l. l ++ more) (c.in_ok-retry.ensures.none ∙ sym said.none))) said.err)
+    (sends_shown _ (sends_on more c.frames.invariant.goes c.in_ok-retry.ensures.law.sends)
+    (ap (λ l. l ++ more) (c.in_ok-retry.ensures.law.done ∙ sym said.none))) said.err)
+
+pub returns-in_err-stage-clause-refused : goal.returns-in_err-stage-clause-refused
+returns-in_err-stage-clause-refused g c =
+    let p = err_from_is_err_and c.from_residual-in_err-stage.result c.from_residual-in_err-stage.ensures.1 in
+    let payload = c.in-Some.payload.now in
+    let others = c.in-Some.others.now in
+    let first : map (λ v. v.items) (payload ∷ others) ≡ map (λ v. v.items) c.frames.rest.now =
+    ap (map (λ v. v.items)) (sym c.in-Some.ensures.cases.0) in
+    let less : frame_room c.args.self.now ≤ frame_room c.retry.new.self =
+    omega (arith, c.frames.invariant.room, c.in_ok-retry.ensures.room) in
+    rw (p.1, p.2)
+    (λ none. subst (λ l. RefusesFirst (IsRefusal (frame_room c.args.self.now)) l c.in_err-stage.field-0.0) first
+    (refusal_less payload.items _ less (subst (λ l. IsRefusal (frame_room c.retry.new.self) l c.in_err-stage.field-0.0) c.as_slice.ensures.value c.in_err-stage.ensures.refused)))
+
+pub returns-in_err-stage-clause-stopped : goal.returns-in_err-stage-clause-stopped
+returns-in_err-stage-clause-stopped g c =
+    let p = err_from_is_err_and c.from_residual-in_err-stage.result c.from_residual-in_err-stage.ensures.1 in
+    rw (p.1, p.2) (λ some. absurd (omega (arith, some, ap length c.in_err-stage.ensures.err)))
 
 pub frames-preserved : goal.frames-preserved
 frames-preserved g c =
@@ -45,7 +71,8 @@ frames-preserved g c =
     let same = c.as_slice.ensures.value in
     let short : length payload.items < 2 ^ 32 = subst (λ l. length l < 2 ^ 32) same said.small in
     record {
-      goes = sends_shown _ (sends_on (frames (map (λ v. v.items) rest)) c.frames.invariant.goes c.in_ok-retry.ensures.sends)
-          (staged frame (λ v. v.items) rest payload others _ _ c.as_slice.result.now first c.in_ok-retry.ensures.none same said.rest);
+      room = omega (arith, c.frames.invariant.room, c.in_ok-retry.ensures.room, said.room);
+      goes = sends_shown _ (sends_on (frames (map (λ v. v.items) rest)) c.frames.invariant.goes c.in_ok-retry.ensures.law.sends)
+          (staged frame (λ v. v.items) rest payload others _ _ c.as_slice.result.now first c.in_ok-retry.ensures.law.done same said.rest);
       off = off_more payload.items (map (λ v. v.items) others) _ c.frames.invariant.off (ap (map (λ v. v.items)) first) short;
     }

@@ -1,8 +1,8 @@
 -- What is no longer to go was accepted, and the payloads that were taken off are short enough for a frame.
-use Rattle.std.proofs.Common.{◌++◌, map, length, Ok}
+use Rattle.std.proofs.Common.{◌++◌, ◌≤◌, map, length, Ok}
 use Rattle.no_std_io2.specs.Write.{Sends}
 use Rattle.framing.specs.Frames.{frames}
-use Rattle.framing.specs.Sending.{writer_tells, still_to_go, TakesOff}
+use Rattle.framing.specs.Sending.{writer_tells, frame_room, still_to_go, TakesOff}
 use Rattle.framing.proofs.writer.FrameWriter.send_all.Given as goal
 
 abbrev pub invariant-frames : goal.invariant-frames
@@ -12,6 +12,7 @@ invariant-frames g l =
       goes : Sends (writer_tells told l.initial.self)
           (still_to_go l.initial.self ++ frames (map (λ v. v.items) l.initial.rest.now)) (Ok tt) (writer_tells told l.self)
           (still_to_go l.self ++ frames (map (λ v. v.items) l.rest.now));
+      room : frame_room l.initial.self ≤ frame_room l.self;
       off : TakesOff (map (λ v. v.items) l.initial.rest.now) (map (λ v. v.items) l.rest.now);
     }
 

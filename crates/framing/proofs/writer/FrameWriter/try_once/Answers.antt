@@ -1,10 +1,20 @@
 use Rattle.std.proofs.Common.{map, refl, ap}
 use Rattle.framing.specs.Frames.{frames}
 use Rattle.framing.proofs.DeliveryLemmas.{tried_flush}
+use Rattle.pending.specs.Pending.{RestLaw, FlushedLaw, RestFlushLaw}
+use Rattle.pending.proofs.RecordLemmas.{flush_sends, stops_at, then_stops, some_of}
 use Rattle.framing.proofs.writer.FrameWriter.try_once.Goals as goal
 
 pub returns-in-Ok-clause-sends : goal.returns-in-Ok-clause-sends
 returns-in-Ok-clause-sends g c =
     let none = ap (λ l. frames (map (λ v. v.items) l)) c.in-Ok.ensures.done.2 in
+    let flushed = flush_sends _ (RestLaw _) c.flush.result (λ w r law. law.sends) c.flush.ensures.calls in
     tried_flush (frames (map (λ v. v.items) c.send_all.new.rest.now)) _ c.flush.result c.err.result
-    c.in-Ok.ensures.sends c.flush.ensures.sends refl none c.err.ensures.value
+    c.in-Ok.ensures.sends flushed refl none c.err.ensures.value
+
+pub returns-in-Ok-clause-stopped : goal.returns-in-Ok-clause-stopped
+returns-in-Ok-clause-stopped g c = stops_at (RestFlushLaw _) _ _ c.flush.result c.err.result c.err.ensures.value c.flush.ensures.calls
+
+pub returns-in-Err-clause-stopped : goal.returns-in-Err-clause-stopped
+returns-in-Err-clause-stopped g c =
+    then_stops (RestLaw _) (FlushedLaw _) (c.in-Err.ensures.stopped (some_of _ _ c.is_under_way.ensures c.if-is_under_way.true))

@@ -5,7 +5,7 @@ use borrow.Rule.Slice.PartMut.{put_mid}
 use Rattle.no_std_io2_base.specs.Cursor.{put_at}
 use Rattle.no_std_io2_base.proofs.CursorLemmas.{left_after, IsLengthened, lengthened_reaches, put_lengthened}
 use Rattle.no_std_io2_base.proofs.cursor.vectors.put.Goals as goal
-use Rattle.no_std_io2_base.proofs.cursor.vectors.put.Goals.{else-end-len-via-then-end-len+else-not-lengthen, else-end-len-via-else-end-len}
+use Rattle.no_std_io2_base.proofs.cursor.vectors.put.Goals.{then-end-len+in_ok-lengthen, else-end-len}
 
 pub returns : goal.returns
 returns g c =
@@ -13,19 +13,19 @@ returns g c =
     let x = c.args.buf.now in
     let start = c.args.start in
     let end = c.in-Some.end in
-    let now = c.else-end-len.content in
+    let now = c.if-end-len.content in
     let shown = c.deref_mut.result.now in
     let k = end - start in
     let at : end ≡ start + length x = omega arith in
     let part = put_mid start k shown c.copy_bytes.new.to in
     let was = c.args.content.now.ok.0 in
-    let grown : IsLengthened end bs now.items = elim c.else-end-len.branch [
-      | else-end-len-via-then-end-len+else-not-lengthen w ↦
+    let grown : IsLengthened end bs now.items = elim c.if-end-len.branch [
+      | then-end-len+in_ok-lengthen w ↦
           inr (
             omega (arith, w.if-end-len.true, c.len-2.ensures, was),
-            ap (λ v. v.items) w.content-is ∙ w.if-not-lengthen.ensures.items ∙ ap (λ n. bs ++ replicate (end - n) 0) was,
+            ap (λ v. v.items) w.content-is ∙ w.in_ok-lengthen.ensures.items ∙ ap (λ n. bs ++ replicate (end - n) 0) was,
           )
-      | else-end-len-via-else-end-len w ↦
+      | else-end-len w ↦
           inl (omega (arith, w.if-end-len.false, c.len-2.ensures, was), ap (λ v. v.items) w.content-is)
     ] in
     let back : start + k ≡ end = omega (arith, at) in

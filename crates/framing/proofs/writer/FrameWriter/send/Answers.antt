@@ -1,0 +1,9 @@
+use Rattle.pending.specs.Pending.{RestLaw}
+use Rattle.pending.proofs.RecordLemmas.{record_sent}
+use Rattle.framing.proofs.writer.FrameWriter.send.Goals as goal
+
+pub returns-clause-sends : goal.returns-clause-sends
+returns-clause-sends g c =
+    let retried = c.retry.ensures in
+    record_sent (RestLaw _) _ _ c.retry.result retried.law c.in_ok-stage.ensures.rest c.in_ok-stage.ensures.frame retried.done
+    retried.law.done retried.err
