@@ -1,5 +1,5 @@
 -- How tries follow one another.
-use Rattle.std.proofs.Common.{◌≡◌, ℕ, ◌+◌, ◌≤◌, List, [], ◌∷◌, ◌++◌, length, true, Option, None, Some, Result, Ok}
+use Rattle.std.proofs.Common.{◌≡◌, ℕ, ◌+◌, ◌≤◌, List, [], ◌∷◌, ◌++◌, length, true, Option, None, Some, Result, Ok, OnOk}
 use Rattle.std.proofs.Common.{Err, refl, sym, ap, ◌∙◌, subst, inl, inr, arith, append_assoc, count_by}
 use Rattle.std.specs.Result.{result_err}
 use Rattle.std.proofs.lemmas.List.Recursion.{is_count_by}
@@ -29,6 +29,12 @@ tried_flush {a} {b} {c} {end} shown under_way reply fault f s is none same = rec
       ∙ sym (append_assoc f.sent s.sent (end ++ shown));
   moves = subst (λ k. Moves a (f.sent ++ s.sent) k c) (flushed_mishap reply fault same) (Moves-then f.moves s.moves);
 }
+
+-- what holds at `Ok` holds where no fault was found
+pub flushed_done : {P : Type 0} (reply : Result (Unit {0}) Error) (fault : Option Error) → fault ≡ result_err reply → fault ≡ None
+    → OnOk reply P → P
+flushed_done (Ok u) fault is none done = done
+flushed_done (Err e) fault is none done = let no : ⊥ = cc in absurd no
 
 -- where there was less room, the room was too small too
 pub refusal_less : {less room : ℕ} (payload : List ℕ) (e : Error) → less ≤ room → IsRefusal room payload e → IsRefusal less payload e

@@ -1,8 +1,8 @@
 //! Frames into a writer: none is torn by a fault, and none goes out twice.
 ghost use Rattle.std.specs.Prelude.{◌≡◌, ◌<◌, ◌≤◌, ◌^◌, [], ◌++◌, map, length, nat_lt, OnOk, OnErr, IfErr, IsOk};
 ghost use Rattle.no_std_io2.specs.BufWriter.{writer_inner, writer_buffer, Unwraps};
-ghost use Rattle.pending.specs.Pending.{pending_bytes, pending_rest, pending_room, RestLaw, RestFlushLaw, StopsWith};
-ghost use Rattle.pending.specs.Pending.{SendsRecord, SendsRecords, RefusesFirst};
+ghost use Rattle.pending.specs.Pending.{pending_bytes, pending_rest, pending_room, RestLaw, RestFlushLaw};
+ghost use Rattle.pending.specs.Pending.{SendsRecord, SendsRecords, SendsAll, RefusesFirst};
 ghost use Rattle.framing.specs.Frames.{frame, frames, IsRefusal};
 ghost use Rattle.framing.specs.Sending.{writes_to, frames_held, writer_tells, frame_writer, frame_room};
 ghost use Rattle.framing.specs.Sending.{under_way, still_to_go, TakesOff};
@@ -122,8 +122,9 @@ impl<W: Write + Drop, const S: usize> FrameWriter<W, S> {
         ensures rest { TakesOff (map (λ v. v.items) rest.old.now) (map (λ v. v.items) rest.new.now) }
         ensures refused { IfErr result (λ e. under_way self.new ≡ []
             → RefusesFirst (IsRefusal (frame_room self.old)) (map (λ v. v.items) rest.new.now) e) }
-        ensures stopped { IfErr result (λ e. 0 < length (under_way self.new)
-            → StopsWith (RestLaw ⟦<BufWriter<W, S> as Write>⟧) e (frame_writer self.new) (still_to_go self.new)) }
+        ensures calls { SendsAll (RestLaw ⟦<BufWriter<W, S> as Write>⟧) frame (frame_writer self.old) (still_to_go self.old)
+            (map (λ v. v.items) rest.old.now) result (under_way self.new) (still_to_go self.new) (frame_writer self.new)
+            (map (λ v. v.items) rest.new.now) }
         ensures done { OnOk result ((under_way self.new ≡ []) × (still_to_go self.new ≡ []) × (rest.new.now ≡ [])) }
         ensures room { frame_room self.old ≤ frame_room self.new }
     {

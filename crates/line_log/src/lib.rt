@@ -11,8 +11,8 @@ ghost use Rattle.std.specs.Prelude.{◌≡◌, ◌<◌, ◌≤◌, [], ◌∷◌
 ghost use Rattle.no_std_io2.specs.BufWriter.{Unwraps};
 ghost use Rattle.no_std_io2.specs.Lines.{HasNoNewline};
 ghost use Rattle.no_std_io2.specs.LineWriter.{line_inner, line_buffer};
-ghost use Rattle.pending.specs.Pending.{pending_bytes, pending_rest, pending_room, FlushedLaw, Then, StopsWith};
-ghost use Rattle.pending.specs.Pending.{SendsRecord, SendsRecords, RefusesFirst};
+ghost use Rattle.pending.specs.Pending.{pending_bytes, pending_rest, pending_room, FlushedLaw, Then};
+ghost use Rattle.pending.specs.Pending.{SendsRecord, SendsRecords, SendsAll, RefusesFirst};
 ghost use Rattle.line_log.specs.Lines.{line_of, lines_of, IsRefusal};
 ghost use Rattle.line_log.specs.Log.{log_inner, log_writer, log_told, log_buffer, log_room, under_way, still_to_go, LineLaw, TakesOff};
 
@@ -141,8 +141,9 @@ impl<W: Write + Drop, const S: usize> LineLog<W, S> {
         ensures rest { TakesOff (map string_bytes rest.old.now) (map string_bytes rest.new.now) }
         ensures refused { IfErr result (λ e. under_way self.new ≡ []
             → RefusesFirst (IsRefusal (log_room self.old)) (map string_bytes rest.new.now) e) }
-        ensures stopped { IfErr result (λ e. 0 < length (under_way self.new)
-            → StopsWith (LineLaw ⟦<LineWriter<W, S> as Write>⟧) e (log_writer self.new) (still_to_go self.new)) }
+        ensures calls { SendsAll (LineLaw ⟦<LineWriter<W, S> as Write>⟧) line_of (log_writer self.old) (still_to_go self.old)
+            (map string_bytes rest.old.now) result (under_way self.new) (still_to_go self.new) (log_writer self.new)
+            (map string_bytes rest.new.now) }
         ensures done { OnOk result ((under_way self.new ≡ []) × (still_to_go self.new ≡ []) × (rest.new.now ≡ [])) }
     {
         'lines: loop {

@@ -5,15 +5,15 @@ use Rattle.std.specs.Result.{result_err}
 use Rattle.std.proofs.Common.{ap, ◌∙◌, subst, inl, inr, arith, append_assoc, length-append, length-drop}
 use Rattle.std.proofs.Math.Seq.{drop-append_seam, drop-nil}
 use Rattle.std.proofs.lemmas.Bool.Decides.{nat_tests}
-use Rattle.std.proofs.lemmas.List.{take-append-drop, take_all, nil_from_length}
+use Rattle.std.proofs.lemmas.List.{map-append, take-append-drop, take_all, nil_from_length}
 use Rattle.std.specs.List.{concat}
 use Rattle.std.proofs.lemmas.List.Elements.{All-append, All-push}
 use Rattle.no_std_io2.specs.declared.io.Error.{Error}
 use Rattle.no_std_io2.specs.declared.io.Write.{Ghosts as Writer}
 use Rattle.no_std_io2.specs.Write.{Told, Moves, Sends, call_mishap, none as no_writes}
 use Rattle.no_std_io2.proofs.MovesLemmas.{Moves-refl, Moves-ends, Sends-then}
-use Rattle.pending.specs.Pending.{Law, RestLaw, NoneLaw, FlushedLaw, Then, StopsWith, SendsRecord, SendsRecords}
-use Rattle.pending.specs.Pending.{TakesOff, RefusesFirst}
+use Rattle.pending.specs.Pending.{Law, RestLaw, NoneLaw, FlushedLaw, Then, StopsWith, SendsEach, ComesTo, SendsAll, SendsRecord}
+use Rattle.pending.specs.Pending.{SendsRecords, TakesOff, RefusesFirst}
 
 -- at the start nothing went, and all is still to go
 pub sends_none : (a : Told) (to_go : List ℕ) → Sends a to_go (Ok tt) a to_go
@@ -93,6 +93,43 @@ pub stops_at : {W : Type 0} (law : Law W) {old new : W} (x left : List ℕ) (rep
 stops_at law {old} {new} x left (Ok u) fault is calls = subst (λ f. IfSome f (λ e. StopsWith law e new left)) (sym is) tt
 stops_at law {old} {new} x left (Err e) fault is calls =
     subst (λ f. IfSome f (λ e. StopsWith law e new left)) (sym is) (old, x, calls)
+
+-- what is left under another name
+pub left_as : {W : Type 0} (law : Law W) {a b : W} {x left : List ℕ} {reply : Result (Unit {0}) Error} (shown : List ℕ)
+    → law a x reply b left → left ≡ shown → law a x reply b shown
+left_as law {a} {b} {x} {reply = reply} shown calls is = subst (λ l. law a x reply b l) is calls
+
+-- one more was sent
+each_push : {W : Type 0} (law : Law W) (a : W) {b c : W} (xs : List (List ℕ)) (x : List ℕ) → SendsEach law a xs b → law b x (Ok tt) c []
+    → SendsEach law a (xs ++ x ∷ []) c
+each_push law a {c = c} [] x same calls = (c, subst (λ w. law w x (Ok tt) c []) same calls, refl)
+each_push law a (y ∷ ys) x (mid, first, rest) calls = (mid, first, each_push law mid ys x rest calls)
+
+-- at the start nothing was sent
+pub comes_first : {W : Type 0} (law : Law W) (record_of : List ℕ → List ℕ) (w : W) (first : List ℕ) (texts : List (List ℕ))
+    → ComesTo law record_of w first texts w first texts
+comes_first law record_of w first texts = record { front = []; split = refl; earlier = []; records = refl; each = refl }
+
+-- what was next was sent, and the record of the first text that was left is next
+pub comes_next : {W : Type 0} (law : Law W) (record_of : List ℕ → List ℕ) {old mid new : W} {first next : List ℕ}
+    {texts left : List (List ℕ)} (text then to_go : List ℕ) (others : List (List ℕ)) → ComesTo law record_of old first texts mid next left
+    → law mid next (Ok tt) new to_go → to_go ≡ [] → left ≡ text ∷ others → then ≡ record_of text
+    → ComesTo law record_of old first texts new then others
+comes_next law record_of {mid = mid} {new} {first} {next} text then to_go others c calls all is same = record {
+  front = c.front ++ text ∷ [];
+  split = c.split ∙ ap (λ l. c.front ++ l) is ∙ sym (append_assoc c.front (text ∷ []) others);
+  earlier = c.earlier ++ next ∷ [];
+  records = ap (λ l. first ∷ l) (map-append record_of c.front (text ∷ [])) ∙ ap (λ l. l ++ record_of text ∷ []) c.records
+      ∙ ap (λ r. (c.earlier ++ next ∷ []) ++ r ∷ []) (sym same);
+  each = each_push law _ c.earlier next c.each (subst (λ l. law mid next (Ok tt) new l) all calls);
+}
+
+-- where a record is under way, the error is that of the last calls
+pub all_stops : {W : Type 0} (law : Law W) (record_of : List ℕ → List ℕ) {old new : W} {first to_go : List ℕ} {texts left : List (List ℕ)}
+    (under_way : List ℕ) (e : Error) → SendsAll law record_of old first texts (Err e) under_way to_go new left → 0 < length under_way
+    → StopsWith law e new to_go
+all_stops law record_of under_way e (mid, next, c, inl calls) some = (mid, next, calls)
+all_stops law record_of under_way e (mid, next, c, inr (none, calls)) some = absurd (omega (arith, ap length none, some))
 
 -- what was staged was sent, or is under way
 pub record_sent : {W : Type 0} (law : Law W) (refusal : Error → Type 0) {a b : W} {whole staged to_go left : List ℕ}

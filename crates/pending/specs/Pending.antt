@@ -1,5 +1,5 @@
 -- What a clause reads of the record that is under way, and what a client that sends records may say of its calls.
-use Rattle.std.specs.Prelude.{◌≡◌, ◌⊎◌, All, Result, Ok, Err, IsErr, List, ℕ, [], ◌∷◌, ◌++◌, drop, vec_capacity}
+use Rattle.std.specs.Prelude.{◌≡◌, ◌⊎◌, All, Result, Ok, Err, IsErr, List, ℕ, [], ◌∷◌, ◌++◌, map, drop, vec_capacity}
 use Rattle.no_std_io2.specs.Errors.{error_kind}
 use Rattle.no_std_io2.specs.Write.{Told, Moves, WriteRestLaw, WriteAllLaw, FlushLaw}
 use Rattle.no_std_io2.specs.declared.io.Write.{Ghosts as Writer}
@@ -47,6 +47,29 @@ RestFlushLaw I = Then (RestLaw I) (FlushedLaw I)
 -- the last of these calls answered this error, and left the writer and what is to go so
 abbrev pub StopsWith : {W : Type 0} → Law W → Error → W → List ℕ → Type 0
 StopsWith {W} law e new left = (old : W) × (x : List ℕ) × law old x (Err e) new left
+
+-- these were sent whole, one after another, each by such calls
+abbrev pub SendsEach : {W : Type 0} → Law W → W → List (List ℕ) → W → Type 0
+SendsEach law old [] new = new ≡ old
+SendsEach {W} law old (x ∷ xs) new = (mid : W) × law old x (Ok tt) mid [] × SendsEach law mid xs new
+
+-- What was to go first and then the records of some texts were sent, but for the last of these, which is next to go, and for the texts
+-- that are left.
+pub record ComesTo {W : Type 0} (law : Law W) (record_of : List ℕ → List ℕ) (old : W) (first : List ℕ) (texts : List (List ℕ))
+    (mid : W) (next : List ℕ) (left : List (List ℕ)) : Type 0 where
+  pub front : List (List ℕ)
+  pub split : texts ≡ front ++ left
+  pub earlier : List (List ℕ)
+  pub records : first ∷ map record_of front ≡ earlier ++ next ∷ []
+  pub each : SendsEach law old earlier mid
+
+-- Records were sent, one after another and each by such calls, up to the end or to the error that is answered; or up to a text that
+-- was refused, with no call made for it.
+abbrev pub SendsAll : {W : Type 0} → Law W → (List ℕ → List ℕ) → W → List ℕ → List (List ℕ) → Result (Unit {0}) Error
+    → List ℕ → List ℕ → W → List (List ℕ) → Type 0
+SendsAll {W} law record_of old first texts reply under_way to_go new left = (mid : W) × (next : List ℕ)
+    × ComesTo law record_of old first texts mid next left
+    × (law mid next reply new to_go ⊎ ((under_way ≡ []) × law mid next (Ok tt) new to_go))
 
 -- no record is under way, and no call was made
 pub record IsRefused {W : Type 0} (old : W) (refusal : Type 0) (under_way : List ℕ) (new : W) : Type 0 where

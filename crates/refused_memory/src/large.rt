@@ -54,5 +54,7 @@ pub fn by_gap(alloc: Global, len: usize) -> Outcome {
         return first.if_full(to.get_ref().len(), len.saturating_add(1));
     }
     let is_same = to.get_ref().is_empty() && to.position() == len as u64;
-    first.if_right(is_same).and(Outcome::of(&to.write_all(b"x")))
+    first
+        .if_right(is_same)
+        .and(Outcome::of(&to.write_all(b"x")))
 }

@@ -1,16 +1,17 @@
-use Rattle.std.proofs.Common.{◌≡◌, ◌≤◌, ◌++◌, ◌∷◌, length, map, string_bytes, Ok, sym, ap, ◌∙◌, subst, arith}
+use Rattle.std.proofs.Common.{◌≡◌, ◌≤◌, ◌++◌, ◌∷◌, length, map, string_bytes, Ok, sym, ap, ◌∙◌, subst, inl, inr, arith}
 use Rattle.std.proofs.lemmas.List.{nil_from_length}
 use Rattle.std.proofs.lemmas.Result.{err_from_is_err_and}
 use Rattle.no_std_io2.specs.Lines.{HasNoNewline}
 use Rattle.line_log.specs.Lines.{line_of, lines_of, IsRefusal}
-use Rattle.line_log.specs.Log.{log_room}
+use Rattle.line_log.specs.Log.{log_room, LineLaw}
 use Rattle.line_log.proofs.LogLemmas.{line_sends, refusal_less}
 use Rattle.pending.specs.Pending.{RefusesFirst}
 use Rattle.pending.proofs.RecordLemmas.{sends_none, sends_on, sends_shown, all_sent, stopped, refused, off_none, off_more, staged}
+use Rattle.pending.proofs.RecordLemmas.{left_as, comes_first, comes_next}
 use Rattle.line_log.proofs.LineLog.log_all.Goals as goal
 
 pub lines-init : goal.lines-init
-lines-init g c = record { goes = sends_none _ _; off = off_none _; room = omega arith }
+lines-init g c = record { goes = sends_none _ _; off = off_none _; room = omega arith; comes = comes_first (LineLaw _) line_of _ _ _ }
 
 pub returns-in_err-retry-clause-sends : goal.returns-in_err-retry-clause-sends
 returns-in_err-retry-clause-sends g c =
@@ -20,14 +21,17 @@ returns-in_err-retry-clause-sends g c =
     (stopped c.in_err-retry.field-0.0 _
     (sends_on (lines_of (map string_bytes c.lines.rest.now)) c.lines.invariant.goes (line_sends _ _ said.calls)) said.some)
 
-pub returns-in_err-retry-clause-stopped : goal.returns-in_err-retry-clause-stopped
-returns-in_err-retry-clause-stopped g c =
+pub returns-in_err-retry-clause-calls : goal.returns-in_err-retry-clause-calls
+returns-in_err-retry-clause-calls g c =
     let p = err_from_is_err_and c.from_residual.result c.from_residual.ensures.1 in
-    rw (p.1, p.2) (λ some. (_, _, c.in_err-retry.ensures.calls))
+    rw (p.1, p.2) (_, _, c.lines.invariant.comes, inl c.in_err-retry.ensures.calls)
 
 pub returns-in_default-clause-sends : goal.returns-in_default-clause-sends
 returns-in_default-clause-sends g c =
     all_sent _ (sends_on (lines_of (map string_bytes c.lines.rest.now)) c.lines.invariant.goes (line_sends _ (Ok tt) c.in_ok-retry.ensures.calls))
+
+pub returns-in_default-clause-calls : goal.returns-in_default-clause-calls
+returns-in_default-clause-calls g c = (_, _, c.lines.invariant.comes, inl c.in_ok-retry.ensures.calls)
 
 pub returns-in_default-clause-done : goal.returns-in_default-clause-done
 returns-in_default-clause-done g c =
@@ -57,10 +61,13 @@ returns-in_err-stage-clause-refused g c =
     (λ none. subst (λ l. RefusesFirst (IsRefusal (log_room c.args.self.now)) l c.in_err-stage.field-0.0) first
     (refusal_less (string_bytes line) _ less (subst (λ l. IsRefusal (log_room c.retry.new.self) l c.in_err-stage.field-0.0) c.as_str.ensures.value c.in_err-stage.ensures.refused)))
 
-pub returns-in_err-stage-clause-stopped : goal.returns-in_err-stage-clause-stopped
-returns-in_err-stage-clause-stopped g c =
+pub returns-in_err-stage-clause-calls : goal.returns-in_err-stage-clause-calls
+returns-in_err-stage-clause-calls g c =
     let p = err_from_is_err_and c.from_residual-in_err-stage.result c.from_residual-in_err-stage.ensures.1 in
-    rw (p.1, p.2) (λ some. absurd (omega (arith, some, ap length c.in_err-stage.ensures.err)))
+    let retried = c.in_ok-retry.ensures in
+    let said = c.in_err-stage.ensures in
+    rw (p.1, p.2)
+    (_, _, c.lines.invariant.comes, inr (said.err, left_as (LineLaw _) _ retried.calls (retried.none ∙ sym said.none)))
 
 pub lines-preserved : goal.lines-preserved
 lines-preserved g c =
@@ -72,6 +79,8 @@ lines-preserved g c =
     let same = c.as_str.ensures.value in
     let plain : HasNoNewline (string_bytes line) = subst HasNoNewline same said.plain in
     record {
+      comes = comes_next (LineLaw _) line_of (string_bytes line) _ _ (map string_bytes others) c.lines.invariant.comes c.in_ok-retry.ensures.calls
+          c.in_ok-retry.ensures.none (ap (map string_bytes) first) (said.rest ∙ ap line_of same);
       room = omega (arith, c.lines.invariant.room, c.in_ok-retry.ensures.room, said.room);
       goes = sends_shown _
           (sends_on (lines_of (map string_bytes rest)) c.lines.invariant.goes (line_sends _ (Ok tt) c.in_ok-retry.ensures.calls))

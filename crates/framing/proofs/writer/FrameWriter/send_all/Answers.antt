@@ -1,15 +1,16 @@
-use Rattle.std.proofs.Common.{◌≡◌, ◌<◌, ◌≤◌, ◌^◌, ◌++◌, ◌∷◌, length, map, sym, ap, ◌∙◌, subst, arith}
+use Rattle.std.proofs.Common.{◌≡◌, ◌<◌, ◌≤◌, ◌^◌, ◌++◌, ◌∷◌, length, map, sym, ap, ◌∙◌, subst, inl, inr, arith}
 use Rattle.std.proofs.lemmas.List.{nil_from_length}
 use Rattle.std.proofs.lemmas.Result.{err_from_is_err_and}
 use Rattle.framing.specs.Frames.{frame, frames, IsRefusal}
 use Rattle.framing.specs.Sending.{frame_room}
 use Rattle.framing.proofs.DeliveryLemmas.{refusal_less}
-use Rattle.pending.specs.Pending.{RefusesFirst}
+use Rattle.pending.specs.Pending.{RestLaw, RefusesFirst}
 use Rattle.pending.proofs.RecordLemmas.{sends_none, sends_on, sends_shown, all_sent, stopped, refused, off_none, off_more, staged}
+use Rattle.pending.proofs.RecordLemmas.{left_as, comes_first, comes_next}
 use Rattle.framing.proofs.writer.FrameWriter.send_all.Goals as goal
 
 pub frames-init : goal.frames-init
-frames-init g c = record { goes = sends_none _ _; off = off_none _; room = omega arith }
+frames-init g c = record { goes = sends_none _ _; off = off_none _; room = omega arith; comes = comes_first (RestLaw _) frame _ _ _ }
 
 pub returns-in_err-retry-clause-sends : goal.returns-in_err-retry-clause-sends
 returns-in_err-retry-clause-sends g c =
@@ -19,14 +20,17 @@ returns-in_err-retry-clause-sends g c =
     (stopped c.in_err-retry.field-0.0 _
     (sends_on (frames (map (λ v. v.items) c.frames.rest.now)) c.frames.invariant.goes said.law.sends) said.some)
 
-pub returns-in_err-retry-clause-stopped : goal.returns-in_err-retry-clause-stopped
-returns-in_err-retry-clause-stopped g c =
+pub returns-in_err-retry-clause-calls : goal.returns-in_err-retry-clause-calls
+returns-in_err-retry-clause-calls g c =
     let p = err_from_is_err_and c.from_residual.result c.from_residual.ensures.1 in
-    rw (p.1, p.2) (λ some. (_, _, c.in_err-retry.ensures.law))
+    rw (p.1, p.2) (_, _, c.frames.invariant.comes, inl c.in_err-retry.ensures.law)
 
 pub returns-in_default-clause-sends : goal.returns-in_default-clause-sends
 returns-in_default-clause-sends g c =
     all_sent _ (sends_on (frames (map (λ v. v.items) c.frames.rest.now)) c.frames.invariant.goes c.in_ok-retry.ensures.law.sends)
+
+pub returns-in_default-clause-calls : goal.returns-in_default-clause-calls
+returns-in_default-clause-calls g c = (_, _, c.frames.invariant.comes, inl c.in_ok-retry.ensures.law)
 
 pub returns-in_default-clause-done : goal.returns-in_default-clause-done
 returns-in_default-clause-done g c =
@@ -56,10 +60,13 @@ returns-in_err-stage-clause-refused g c =
     (λ none. subst (λ l. RefusesFirst (IsRefusal (frame_room c.args.self.now)) l c.in_err-stage.field-0.0) first
     (refusal_less payload.items _ less (subst (λ l. IsRefusal (frame_room c.retry.new.self) l c.in_err-stage.field-0.0) c.as_slice.ensures.value c.in_err-stage.ensures.refused)))
 
-pub returns-in_err-stage-clause-stopped : goal.returns-in_err-stage-clause-stopped
-returns-in_err-stage-clause-stopped g c =
+pub returns-in_err-stage-clause-calls : goal.returns-in_err-stage-clause-calls
+returns-in_err-stage-clause-calls g c =
     let p = err_from_is_err_and c.from_residual-in_err-stage.result c.from_residual-in_err-stage.ensures.1 in
-    rw (p.1, p.2) (λ some. absurd (omega (arith, some, ap length c.in_err-stage.ensures.err)))
+    let retried = c.in_ok-retry.ensures in
+    let said = c.in_err-stage.ensures in
+    rw (p.1, p.2)
+    (_, _, c.frames.invariant.comes, inr (said.err, left_as (RestLaw _) _ retried.law (retried.law.done ∙ sym said.none)))
 
 pub frames-preserved : goal.frames-preserved
 frames-preserved g c =
@@ -71,6 +78,8 @@ frames-preserved g c =
     let same = c.as_slice.ensures.value in
     let short : length payload.items < 2 ^ 32 = subst (λ l. length l < 2 ^ 32) same said.small in
     record {
+      comes = comes_next (RestLaw _) frame payload.items _ _ (map (λ v. v.items) others) c.frames.invariant.comes c.in_ok-retry.ensures.law
+          c.in_ok-retry.ensures.law.done (ap (map (λ v. v.items)) first) (said.rest ∙ ap frame same);
       room = omega (arith, c.frames.invariant.room, c.in_ok-retry.ensures.room, said.room);
       goes = sends_shown _ (sends_on (frames (map (λ v. v.items) rest)) c.frames.invariant.goes c.in_ok-retry.ensures.law.sends)
           (staged frame (λ v. v.items) rest payload others _ _ c.as_slice.result.now first c.in_ok-retry.ensures.law.done same said.rest);
