@@ -7,8 +7,10 @@ use Rattle.no_std_io2.specs.declared.io.Error.{Error}
 use Rattle.no_std_io2.specs.declared.io.ErrorKind.{ErrorKind}
 use Rattle.no_std_io2.specs.Write.{Told, Moves, Sends, HasSpent, call_mishap}
 use Rattle.no_std_io2.proofs.MovesLemmas.{Moves-then, Moves-quiet}
-use Rattle.pending.specs.Pending.{SendsRecords}
-use Rattle.framing.specs.Frames.{IsRefusal}
+use Rattle.no_std_io2.specs.declared.io.Write.{Ghosts as Writer}
+use Rattle.pending.specs.Pending.{RestLaw, SendsAll, SendsRecords}
+use Rattle.pending.proofs.RecordLemmas.{all_sends}
+use Rattle.framing.specs.Frames.{frame, frames, IsRefusal}
 use Rattle.framing.specs.Delivering.{TriesOnce, Delivers, HasAtMost, HasSpentTries, tried_mishap}
 
 -- the mishap of a flush
@@ -16,6 +18,12 @@ flushed_mishap : (reply : Result (Unit {0}) Error) (fault : Option Error) → fa
     → call_mishap reply ≡ tried_mishap (Ok fault)
 flushed_mishap (Ok u) fault is = ap (λ f. tried_mishap (Ok f)) (sym is)
 flushed_mishap (Err e) fault is = ap (λ f. tried_mishap (Ok f)) (sym is)
+
+-- what was sent of frames was accepted
+pub frames_sends : {W : Type 0} (I : Writer W) {old new : W} {first to_go : List ℕ} {payloads left : List (List ℕ)}
+    (reply : Result (Unit {0}) Error) (under_way : List ℕ) → SendsAll (RestLaw I) frame old first payloads reply under_way to_go new left
+    → SendsRecords (I.told old) (first ++ frames payloads) reply under_way (I.told new) (to_go ++ frames left)
+frames_sends I reply under_way all = all_sends I (RestLaw I) (λ a b x left r law. law.sends) frame reply under_way all
 
 -- all frames were sent, and then a flush
 pub tried_flush : {a b c : Told} {to_go mid_go left end : List ℕ} (shown under_way : List ℕ) (reply : Result (Unit {0}) Error)

@@ -43,20 +43,13 @@ stopped less lacks limit want why {I = I} {after = after} {new = new} e g (inr h
   short = why h.2;
 }))
 
--- where there is room for what is gathered, no memory is wanted
-pub with_room : (want : ℕ) (short : Type 0) (reply : Result Bool Error) (E : List Event) (old new : List ℕ) (after : List Event)
-    → Gathers want ⊥ E reply old new after → Gathers want short E reply old new after
-with_room want short (Ok true) E old new after g = g
-with_room want short (Ok false) E old new after g = g
-with_room want short (Err e) E old new after (inl g) = inl g
-with_room want short (Err e) E old new after (inr g) = absurd g.2
-
 -- the bytes ended inside the frame
-pub ended : (less lacks : Type 0) (limit want : ℕ) {I mid : List Event} (after : List Event) {was part : List ℕ} (new : List ℕ) (b : Bool) (e : Error)
-    → b ≡ false
+pub ended : (less lacks : Type 0) (limit want : ℕ) {I mid : List Event} (after : List Event) {was part : List ℕ}
+    (new : List ℕ) (b : Bool) (e : Error) → b ≡ false
     → Gathered I was part mid → Gathers want less mid (Ok b) part new after → (length new < want → IsPart new)
     → 0 < length new
-    → SaysError UnexpectedEof (codes "the bytes end inside a frame") e → TakesNone limit lacks (events_of was ++ I) e (events_of new ++ after)
+    → SaysError UnexpectedEof (codes "the bytes end inside a frame") e
+    → TakesNone limit lacks (events_of was ++ I) e (events_of new ++ after)
 ended less lacks limit want {I = I} after new true e is g h short some says = let no : ⊥ = cc in absurd no
 ended less lacks limit want {I = I} after {was = was} {part = part} new false e is g h short some says = inl (inr (record {
   seen = new;
@@ -135,7 +128,8 @@ none_as short lacks limit why (inr (inr h)) = inr (inr (record {
 }))
 
 -- an error loses no byte
-pub none_lost : (short : Type 0) (limit : ℕ) (E : List Event) (e : Error) (after : List Event) → TakesNone limit short E e after → bytes after ≡ bytes E
+pub none_lost : (short : Type 0) (limit : ℕ) (E : List Event) (e : Error) (after : List Event) → TakesNone limit short E e after
+    → bytes after ≡ bytes E
 none_lost short limit E e after (inl (inl h)) = ap bytes h.kept ∙ bytes-behind h.seen h.rest ∙ sym (Passes-all h.passes)
 none_lost short limit E e after (inl (inr h)) =
     ap bytes (h.kept ∙ sym (append-nil (events_of h.seen))) ∙ bytes-behind h.seen [] ∙ sym (Passes-all h.passes)

@@ -104,7 +104,8 @@ no_long limit seen left (p ∷ ps) small e within four above =
 
 -- Over the bytes of the frames of `sent`, a run gives a front of `sent`, and the others are still to come.
 pub comes_back : (short : Type 0) (limit : ℕ) (sent : List (List ℕ)) {E : List Event}
-    (reply : Result (Unit {0}) Error) {given : List (List ℕ)} (after : List Event) → limit < 2 ^ 32 → TakesFrames limit short E reply given after
+    (reply : Result (Unit {0}) Error) {given : List (List ℕ)} (after : List Event) → limit < 2 ^ 32
+    → TakesFrames limit short E reply given after
     → bytes E ≡ frames sent → All (λ p. length p ≤ limit) sent → ComesBack short sent E reply given (bytes after)
 comes_back short limit sent {E = E} (Ok u) {given = given} after small h is within =
     let m =

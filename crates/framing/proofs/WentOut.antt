@@ -65,8 +65,8 @@ no_fault bs E front rest e is split = at bs front (sym is ∙ split)
     at (c ∷ cs) (q ∷ Q) h = at cs Q (let t : events_of cs ≡ Q ++ fails e ∷ rest = cc in t)
 
 -- over bytes alone an error is want of memory
-pub memory_alone : (short : Type 0) (sent : List (List ℕ)) (bs : List ℕ) {E : List Event} (e : Error) {given : List (List ℕ)} {left : List ℕ}
-    → E ≡ events_of bs → ComesBack short sent E (Err e) given left → IsOutOfMemory e
+pub memory_alone : (short : Type 0) (sent : List (List ℕ)) (bs : List ℕ) {E : List Event} (e : Error)
+    {given : List (List ℕ)} {left : List ℕ} → E ≡ events_of bs → ComesBack short sent E (Err e) given left → IsOutOfMemory e
 memory_alone short sent bs {E = E} e is back = why back.err
   where
     why : IsFirstFault E e ⊎ (IsOutOfMemory e × short) → IsOutOfMemory e

@@ -1,5 +1,6 @@
 //! Frames out of a reader: a fault loses none, and none is given twice.
-ghost use Rattle.std.specs.Prelude.{◌≡◌, ◌⊎◌, ◌<◌, ◌≤◌, ◌^◌, [], ◌++◌, true, map, All, ℕ, List, length, codes, IfOk, IfErr, OnOk, OnErr, IfSome};
+ghost use Rattle.std.specs.Prelude.{◌≡◌, ◌⊎◌, ◌<◌, ◌≤◌, ◌^◌, [], ◌++◌, true, map, All, ℕ, List, length, codes};
+ghost use Rattle.std.specs.Prelude.{IfOk, IfErr, OnOk, OnErr, IfSome};
 ghost use Rattle.no_std_io2.specs.Errors.{IsFault, SaysError};
 ghost use Rattle.no_std_io2.specs.Read.{bytes};
 ghost use Rattle.framing.specs.Frames.{frames};

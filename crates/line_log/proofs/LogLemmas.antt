@@ -7,8 +7,9 @@ use Rattle.no_std_io2.specs.Write.{Told, Moves, MovesFront, Sends, call_mishap}
 use Rattle.no_std_io2.specs.BufWriter.{with_buffer}
 use Rattle.no_std_io2.specs.Lines.{HasNoNewline}
 use Rattle.no_std_io2.specs.declared.io.Write.{Ghosts as Writer}
-use Rattle.pending.proofs.RecordLemmas.{sends_ends}
-use Rattle.line_log.specs.Lines.{line_of, IsRefusal}
+use Rattle.pending.proofs.RecordLemmas.{sends_ends, all_sends}
+use Rattle.pending.specs.Pending.{SendsAll, SendsRecords}
+use Rattle.line_log.specs.Lines.{line_of, lines_of, IsRefusal}
 use Rattle.line_log.specs.Log.{LineLaw}
 
 -- a write of nothing accepts nothing
@@ -26,6 +27,12 @@ pub line_sends : {W : Type 0} (I : Writer W) {a b : W} {x left : List ℕ} (repl
     → Sends (I.told a) x reply (I.told b) left
 line_sends I reply (inl (err, law)) = law.sends
 line_sends I reply (inr (mid, law, last)) = sends_ends reply law.sends (wrote_nothing reply [] refl last.moves)
+
+-- what was sent of lines was accepted
+pub lines_send : {W : Type 0} (I : Writer W) {old new : W} {first to_go : List ℕ} {texts left : List (List ℕ)}
+    (reply : Result (Unit {0}) Error) (under_way : List ℕ) → SendsAll (LineLaw I) line_of old first texts reply under_way to_go new left
+    → SendsRecords (I.told old) (first ++ lines_of texts) reply under_way (I.told new) (to_go ++ lines_of left)
+lines_send I reply under_way all = all_sends I (LineLaw I) (λ a b x left r calls. line_sends I r calls) line_of reply under_way all
 
 -- where there was less room, the room was too small too
 pub refusal_less : {less room : ℕ} (text : List ℕ) (e : Error) → less ≤ room → IsRefusal room text e → IsRefusal less text e

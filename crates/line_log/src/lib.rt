@@ -163,8 +163,8 @@ impl<W: Write + Drop, const S: usize> LineLog<W, S> {
     /// Those of `retry`, or the device's own. What was not handed on is still held or to go, and a later
     /// call goes on there.
     pub fn flush(&mut self) -> Result<()>
-        ensures calls { let L = ⟦<LineWriter<W, S> as Write>⟧ in Then (LineLaw L) (FlushedLaw L) (log_writer self.old) (still_to_go self.old) result
-            (log_writer self.new) (still_to_go self.new) }
+        ensures calls { let L = ⟦<LineWriter<W, S> as Write>⟧ in Then (LineLaw L) (FlushedLaw L) (log_writer self.old)
+            (still_to_go self.old) result (log_writer self.new) (still_to_go self.new) }
         ensures done { OnOk result ((under_way self.new ≡ []) × (still_to_go self.new ≡ [])
             × ((log_told W.told self.new).held ≡ [])) }
     {

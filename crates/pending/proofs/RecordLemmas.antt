@@ -1,34 +1,25 @@
 -- How records go, piece by piece.
-use Rattle.std.proofs.Common.{◌≡◌, ℕ, ◌-◌, ◌<◌, List, [], ◌∷◌, ◌++◌, length, take, drop, map, Result, Ok, Err, OnOk, OnErr, refl, sym}
+use Rattle.std.proofs.Common.{◌≡◌, ◌⊎◌, ℕ, ◌-◌, ◌<◌, List, [], ◌∷◌, ◌++◌, length, take, drop, map, Result, Ok, Err, OnOk, OnErr, refl, sym}
 use Rattle.std.proofs.Common.{Bool, true, false, nat_lt, Option, IfSome}
 use Rattle.std.specs.Result.{result_err}
-use Rattle.std.proofs.Common.{ap, ◌∙◌, subst, inl, inr, arith, append_assoc, length-append, length-drop}
+use Rattle.std.proofs.Common.{ap, ◌∙◌, subst, inl, inr, arith, append_assoc, append-nil, length-append, length-drop}
 use Rattle.std.proofs.Math.Seq.{drop-append_seam, drop-nil}
 use Rattle.std.proofs.lemmas.Bool.Decides.{nat_tests}
 use Rattle.std.proofs.lemmas.List.{map-append, take-append-drop, take_all, nil_from_length}
 use Rattle.std.specs.List.{concat}
+use Rattle.std.proofs.lemmas.List.Folds.{concat-append}
 use Rattle.std.proofs.lemmas.List.Elements.{All-append, All-push}
 use Rattle.no_std_io2.specs.declared.io.Error.{Error}
+use Rattle.no_std_io2.specs.declared.io.ErrorKind.{ErrorKind}
 use Rattle.no_std_io2.specs.declared.io.Write.{Ghosts as Writer}
 use Rattle.no_std_io2.specs.Write.{Told, Moves, Sends, call_mishap, none as no_writes}
-use Rattle.no_std_io2.proofs.MovesLemmas.{Moves-refl, Moves-ends, Sends-then}
+use Rattle.no_std_io2.proofs.MovesLemmas.{Moves-refl, Moves-ends, Moves-then, Moves-quiet}
 use Rattle.pending.specs.Pending.{Law, RestLaw, NoneLaw, FlushedLaw, Then, StopsWith, SendsEach, ComesTo, SendsAll, SendsRecord}
-use Rattle.pending.specs.Pending.{SendsRecords, TakesOff, RefusesFirst}
+use Rattle.pending.specs.Pending.{record_mishap, SendsRecords, TakesOff, RefusesFirst}
 
 -- at the start nothing went, and all is still to go
 pub sends_none : (a : Told) (to_go : List ℕ) → Sends a to_go (Ok tt) a to_go
 sends_none a to_go = record { sent = []; split = refl; moves = Moves-refl a }
-
--- what is left under another name
-pub sends_shown : {a b : Told} {rest left : List ℕ} {reply : Result (Unit {0}) Error} (shown : List ℕ)
-    → Sends a rest reply b left → left ≡ shown → Sends a rest reply b shown
-sends_shown {a} {b} {rest} {left} {reply} shown s is = subst (λ l. Sends a rest reply b l) is s
-
--- the front of what is to go went on
-pub sends_on : {a b c : Told} {whole to_go left : List ℕ} {reply : Result (Unit {0}) Error} (more : List ℕ)
-    → Sends a whole (Ok tt) b (to_go ++ more) → Sends b to_go reply c left → Sends a whole reply c (left ++ more)
-sends_on {left = left} more f s =
-    Sends-then f (record { sent = s.sent; split = ap (λ l. l ++ more) s.split ∙ append_assoc s.sent left more; moves = s.moves })
 
 -- a call that accepts nothing, behind what went
 pub sends_ends : {a b c : Told} {to_go left : List ℕ} (reply : Result (Unit {0}) Error)
@@ -105,6 +96,78 @@ each_push : {W : Type 0} (law : Law W) (a : W) {b c : W} (xs : List (List ℕ)) 
 each_push law a {c = c} [] x same calls = (c, subst (λ w. law w x (Ok tt) c []) same calls, refl)
 each_push law a (y ∷ ys) x (mid, first, rest) calls = (mid, first, each_push law mid ys x rest calls)
 
+-- such calls send what they are given
+abbrev pub SendsBy : {W : Type 0} → Writer W → Law W → Type 0
+SendsBy {W} I law =
+    (a b : W) (x left : List ℕ) (reply : Result (Unit {0}) Error) → law a x reply b left → Sends (I.told a) x reply (I.told b) left
+
+-- what was sent one after another was accepted, in order
+each_moves : {W : Type 0} (I : Writer W) (law : Law W) → SendsBy I law → (old new : W) (xs : List (List ℕ)) → SendsEach law old xs new
+    → Moves (I.told old) (concat xs) [] (I.told new)
+each_moves I law sends old new [] same = subst (λ w. Moves (I.told old) [] [] (I.told w)) (sym same) (Moves-refl (I.told old))
+each_moves I law sends old new (x ∷ xs) (mid, first, rest) =
+    let s = sends old mid x [] (Ok tt) first in
+    subst (λ l. Moves (I.told old) (l ++ concat xs) [] (I.told new)) (sym (append-nil s.sent) ∙ sym s.split)
+    (Moves-then s.moves (each_moves I law sends mid new xs rest))
+
+-- the mishap of the last call is that of the whole
+as_record : {a b : Told} {x : List ℕ} (reply : Result (Unit {0}) Error) (under_way : List ℕ) → Moves a x (call_mishap reply) b
+    → Moves a x (record_mishap reply under_way) b
+as_record (Ok u) under_way m = m
+as_record (Err e) [] m = Moves-quiet m
+as_record (Err e) (b ∷ bs) m = m
+
+-- with no record under way there is none
+no_record : {a b : Told} {x : List ℕ} (reply : Result (Unit {0}) Error) (under_way : List ℕ) → under_way ≡ [] → Moves a x [] b
+    → Moves a x (record_mishap reply under_way) b
+no_record (Ok u) under_way is m = m
+no_record {a} {b} {x} (Err e) under_way is m = subst (λ u. Moves a x (record_mishap (Err e) u) b) (sym is) m
+
+-- Of records that were sent, what is no longer to go was accepted, each byte once, in order.
+pub all_sends : {W : Type 0} (I : Writer W) (law : Law W) → SendsBy I law → (record_of : List ℕ → List ℕ) {old new : W}
+    {first to_go : List ℕ} {texts left : List (List ℕ)} (reply : Result (Unit {0}) Error) (under_way : List ℕ)
+    → SendsAll law record_of old first texts reply under_way to_go new left
+    → SendsRecords (I.told old) (first ++ concat (map record_of texts)) reply under_way (I.told new) (to_go ++ concat (map record_of left))
+all_sends {W} I law sends record_of {old} {new} {first} {to_go} {texts} {left} reply under_way (mid, next, c, how) = goes how
+  where
+    more : List ℕ
+    more = concat (map record_of left)
+
+    gone : List ℕ
+    gone = concat c.earlier
+
+    before : Moves (I.told old) gone [] (I.told mid)
+    before = each_moves I law sends old mid c.earlier c.each
+
+    whole : first ++ concat (map record_of texts) ≡ gone ++ (next ++ more)
+    whole =
+        ap (λ l. first ++ concat (map record_of l)) c.split ∙ ap (λ l. first ++ concat l) (map-append record_of c.front left)
+        ∙ ap (λ l. first ++ l) (concat-append (map record_of c.front) (map record_of left))
+        ∙ sym (append_assoc first (concat (map record_of c.front)) more) ∙ ap (λ l. concat l ++ more) c.records
+        ∙ ap (λ l. l ++ more) (concat-append c.earlier (next ∷ [])) ∙ ap (λ l. (gone ++ l) ++ more) (append-nil next)
+        ∙ append_assoc gone next more
+
+    sent : (r : Result (Unit {0}) Error) (happened : List ErrorKind) → law mid next r new to_go
+        → ((x : List ℕ) → Moves (I.told old) x (call_mishap r) (I.told new) → Moves (I.told old) x happened (I.told new))
+        → (bytes : List ℕ) × (first ++ concat (map record_of texts) ≡ bytes ++ (to_go ++ more))
+        × Moves (I.told old) bytes happened (I.told new)
+    sent r happened calls shows =
+        let s = sends mid new next to_go r calls in (
+          gone ++ s.sent,
+          whole ∙ ap (λ l. gone ++ (l ++ more)) s.split ∙ ap (λ l. gone ++ l) (append_assoc s.sent to_go more)
+              ∙ sym (append_assoc gone s.sent (to_go ++ more)),
+          shows (gone ++ s.sent) (Moves-then before s.moves),
+        )
+
+    goes : law mid next reply new to_go ⊎ ((under_way ≡ []) × law mid next (Ok tt) new to_go)
+        → SendsRecords (I.told old) (first ++ concat (map record_of texts)) reply under_way (I.told new) (to_go ++ more)
+    goes (inl calls) =
+        let s = sent reply (record_mishap reply under_way) calls (λ x m. as_record reply under_way m) in
+        record { sent = s.0; split = s.1; moves = s.2 }
+    goes (inr (is, calls)) =
+        let s = sent (Ok tt) (record_mishap reply under_way) calls (λ x m. no_record reply under_way is m) in
+        record { sent = s.0; split = s.1; moves = s.2 }
+
 -- at the start nothing was sent
 pub comes_first : {W : Type 0} (law : Law W) (record_of : List ℕ → List ℕ) (w : W) (first : List ℕ) (texts : List (List ℕ))
     → ComesTo law record_of w first texts w first texts
@@ -133,8 +196,9 @@ all_stops law record_of under_way e (mid, next, c, inr (none, calls)) some = abs
 
 -- what was staged was sent, or is under way
 pub record_sent : {W : Type 0} (law : Law W) (refusal : Error → Type 0) {a b : W} {whole staged to_go left : List ℕ}
-    (under_way : List ℕ) (reply : Result (Unit {0}) Error) → law a to_go reply b left → to_go ≡ whole → staged ≡ whole → OnOk reply (under_way ≡ [])
-    → OnOk reply (left ≡ []) → OnErr reply (under_way ≡ staged) → SendsRecord law whole refusal a reply under_way left b
+    (under_way : List ℕ) (reply : Result (Unit {0}) Error) → law a to_go reply b left → to_go ≡ whole → staged ≡ whole
+    → OnOk reply (under_way ≡ []) → OnOk reply (left ≡ []) → OnErr reply (under_way ≡ staged)
+    → SendsRecord law whole refusal a reply under_way left b
 record_sent law refusal {a = a} {b = b} {left = left} under_way (Ok u) calls is same done all err =
     (subst (λ l. law a l (Ok u) b left) is calls, done, all)
 record_sent law refusal {a = a} {b = b} {left = left} under_way (Err e) calls is same done all err =
@@ -147,23 +211,6 @@ some_of b bs e t = grind (arith, nat_tests)
 -- where it says that none is, none is, behind any n too
 pub none_of : (n : ℕ) (b : Bool) (bs : List ℕ) → b ≡ nat_lt 0 (length bs) → b ≡ false → drop n bs ≡ []
 none_of n b bs e t = ap (drop n) (nil_from_length bs (grind (arith, nat_tests))) ∙ drop-nil n
-
--- what went without a stop, and all did
-pub all_sent : {a b : Told} {to_go left : List ℕ} (under_way : List ℕ) → Sends a to_go (Ok tt) b left
-    → SendsRecords a to_go (Ok tt) under_way b left
-all_sent under_way s = record { sent = s.sent; split = s.split; moves = s.moves }
-
--- it stopped, with a record under way
-pub stopped : {a b : Told} {to_go left : List ℕ} (e : Error) (under_way : List ℕ) → Sends a to_go (Err e) b left
-    → 0 < length under_way → SendsRecords a to_go (Err e) under_way b left
-stopped e [] s some = absurd (omega arith)
-stopped e (b ∷ bs) s some = record { sent = s.sent; split = s.split; moves = s.moves }
-
--- it went no further, since a record was refused
-pub refused : {a b : Told} {to_go left : List ℕ} (e : Error) (under_way : List ℕ) → Sends a to_go (Ok tt) b left
-    → under_way ≡ [] → SendsRecords a to_go (Err e) under_way b left
-refused {a} {b} {to_go} {left} e under_way s none =
-    subst (λ u. SendsRecords a to_go (Err e) u b left) (sym none) (record { sent = s.sent; split = s.split; moves = s.moves })
 
 -- a refusal of another kind is one too, where each is
 pub refuses_as : (refusal shown : List ℕ → Error → Type 0) (xs : List (List ℕ)) {e : Error} → ((x : List ℕ) → refusal x e → shown x e)
@@ -191,12 +238,3 @@ off_then {fits} {zs = zs} f g = record {
   split = f.split ∙ ap (λ l. f.front ++ l) g.split ∙ sym (append_assoc f.front g.front zs);
   each = All-append fits f.front g.front f.each g.each;
 }
-
--- a record that was staged is still to go in front of the others
-pub staged : {X : Type 0} (record_of : List ℕ → List ℕ) (f : X → List ℕ) (xs : List X) (x : X) (others : List X) (left to_go text : List ℕ)
-    → xs ≡ x ∷ others → left ≡ [] → text ≡ f x → to_go ≡ record_of text
-    → left ++ concat (map record_of (map f xs)) ≡ to_go ++ concat (map record_of (map f others))
-staged record_of f xs x others left to_go text first none same is =
-    ap (λ l. l ++ concat (map record_of (map f xs))) none ∙ ap (λ l. concat (map record_of (map f l))) first
-    ∙ ap (λ l. record_of l ++ concat (map record_of (map f others))) (sym same)
-    ∙ ap (λ l. l ++ concat (map record_of (map f others))) (sym is)

@@ -84,7 +84,8 @@ impl Part {
     /// The reader's first fault, and `OutOfMemory`.
     pub fn fill_header<B: BufRead>(&mut self, from: &mut B) -> Result<bool>
         ensures told { B.tells from.old → B.tells from.new
-            × Gathers 4 (header_room self.new < 4) (B.events from.old) result (part_bytes self.old) (part_bytes self.new) (B.events from.new) }
+            × Gathers 4 (header_room self.new < 4) (B.events from.old) result
+            (part_bytes self.old) (part_bytes self.new) (B.events from.new) }
         ensures room { payload_room self.new ≡ payload_room self.old }
         ensures whole { IfOk result (λ b. b ≡ true → length (part_header self.new) ≡ 4) }
         ensures fault { IfErr result IsFault }
@@ -120,7 +121,8 @@ impl Part {
         requires header { length (part_header self.old) ≡ 4 }
         requires len { len ≡ from_le_bytes w32 (part_header self.old) }
         ensures told { B.tells from.old → B.tells from.new
-            × Gathers (4 + len) (payload_room self.new < len) (B.events from.old) result (part_bytes self.old) (part_bytes self.new) (B.events from.new) }
+            × Gathers (4 + len) (payload_room self.new < len) (B.events from.old) result
+            (part_bytes self.old) (part_bytes self.new) (B.events from.new) }
         ensures header { part_header self.new ≡ part_header self.old }
         ensures whole { IfOk result (λ b. b ≡ true → length (part_payload self.new) ≡ len) }
         ensures fault { IfErr result IsFault }

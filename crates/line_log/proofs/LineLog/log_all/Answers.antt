@@ -1,52 +1,36 @@
-use Rattle.std.proofs.Common.{◌≡◌, ◌≤◌, ◌++◌, ◌∷◌, length, map, string_bytes, Ok, sym, ap, ◌∙◌, subst, inl, inr, arith}
+use Rattle.std.proofs.Common.{◌≡◌, ◌≤◌, ◌++◌, ◌∷◌, length, map, string_bytes, sym, ap, ◌∙◌, subst, inl, inr, arith}
 use Rattle.std.proofs.lemmas.List.{nil_from_length}
 use Rattle.std.proofs.lemmas.Result.{err_from_is_err_and}
 use Rattle.no_std_io2.specs.Lines.{HasNoNewline}
-use Rattle.line_log.specs.Lines.{line_of, lines_of, IsRefusal}
+use Rattle.line_log.specs.Lines.{line_of, IsRefusal}
 use Rattle.line_log.specs.Log.{log_room, LineLaw}
-use Rattle.line_log.proofs.LogLemmas.{line_sends, refusal_less}
+use Rattle.line_log.proofs.LogLemmas.{lines_send, refusal_less}
 use Rattle.pending.specs.Pending.{RefusesFirst}
-use Rattle.pending.proofs.RecordLemmas.{sends_none, sends_on, sends_shown, all_sent, stopped, refused, off_none, off_more, staged}
+use Rattle.pending.proofs.RecordLemmas.{off_none, off_more}
 use Rattle.pending.proofs.RecordLemmas.{left_as, comes_first, comes_next}
 use Rattle.line_log.proofs.LineLog.log_all.Goals as goal
 
 pub lines-init : goal.lines-init
-lines-init g c = record { goes = sends_none _ _; off = off_none _; room = omega arith; comes = comes_first (LineLaw _) line_of _ _ _ }
-
-pub returns-in_err-retry-clause-sends : goal.returns-in_err-retry-clause-sends
-returns-in_err-retry-clause-sends g c =
-    let p = err_from_is_err_and c.from_residual.result c.from_residual.ensures.1 in
-    let said = c.in_err-retry.ensures in
-    rw (p.1, p.2)
-    (stopped c.in_err-retry.field-0.0 _
-    (sends_on (lines_of (map string_bytes c.lines.rest.now)) c.lines.invariant.goes (line_sends _ _ said.calls)) said.some)
+lines-init g c = record { off = off_none _; room = omega arith; comes = comes_first (LineLaw _) line_of _ _ _ }
 
 pub returns-in_err-retry-clause-calls : goal.returns-in_err-retry-clause-calls
 returns-in_err-retry-clause-calls g c =
     let p = err_from_is_err_and c.from_residual.result c.from_residual.ensures.1 in
     rw (p.1, p.2) (_, _, c.lines.invariant.comes, inl c.in_err-retry.ensures.calls)
 
-pub returns-in_default-clause-sends : goal.returns-in_default-clause-sends
-returns-in_default-clause-sends g c =
-    all_sent _ (sends_on (lines_of (map string_bytes c.lines.rest.now)) c.lines.invariant.goes (line_sends _ (Ok tt) c.in_ok-retry.ensures.calls))
+pub returns-in_err-retry-clause-sends : goal.returns-in_err-retry-clause-sends
+returns-in_err-retry-clause-sends g c = lines_send _ _ _ (returns-in_err-retry-clause-calls g c)
 
 pub returns-in_default-clause-calls : goal.returns-in_default-clause-calls
 returns-in_default-clause-calls g c = (_, _, c.lines.invariant.comes, inl c.in_ok-retry.ensures.calls)
+
+pub returns-in_default-clause-sends : goal.returns-in_default-clause-sends
+returns-in_default-clause-sends g c = lines_send _ _ _ (returns-in_default-clause-calls g c)
 
 pub returns-in_default-clause-done : goal.returns-in_default-clause-done
 returns-in_default-clause-done g c =
     let none : length c.lines.rest.now ≡ 0 = rw c.in_default.is at c.split_first.ensures.cases in
     (c.in_ok-retry.ensures.done, c.in_ok-retry.ensures.none, nil_from_length c.lines.rest.now none)
-
-pub returns-in_err-stage-clause-sends : goal.returns-in_err-stage-clause-sends
-returns-in_err-stage-clause-sends g c =
-    let p = err_from_is_err_and c.from_residual-in_err-stage.result c.from_residual-in_err-stage.ensures.1 in
-    let said = c.in_err-stage.ensures in
-    let more = lines_of (map string_bytes c.lines.rest.now) in
-    rw (p.1, p.2)
-    (refused c.in_err-stage.field-0.0 _
-    (sends_shown _ (sends_on more c.lines.invariant.goes (line_sends _ (Ok tt) c.in_ok-retry.ensures.calls))
-    (ap (λ l. l ++ more) (c.in_ok-retry.ensures.none ∙ sym said.none))) said.err)
 
 pub returns-in_err-stage-clause-refused : goal.returns-in_err-stage-clause-refused
 returns-in_err-stage-clause-refused g c =
@@ -57,9 +41,11 @@ returns-in_err-stage-clause-refused g c =
     ap (map string_bytes) (sym c.in-Some.ensures.cases.0) in
     let less : log_room c.args.self.now ≤ log_room c.retry.new.self =
     omega (arith, c.lines.invariant.room, c.in_ok-retry.ensures.room) in
+    let e = c.in_err-stage.field-0.0 in
+    let why : IsRefusal (log_room c.retry.new.self) (string_bytes line) e =
+    subst (λ l. IsRefusal (log_room c.retry.new.self) l e) c.as_str.ensures.value c.in_err-stage.ensures.refused in
     rw (p.1, p.2)
-    (λ none. subst (λ l. RefusesFirst (IsRefusal (log_room c.args.self.now)) l c.in_err-stage.field-0.0) first
-    (refusal_less (string_bytes line) _ less (subst (λ l. IsRefusal (log_room c.retry.new.self) l c.in_err-stage.field-0.0) c.as_str.ensures.value c.in_err-stage.ensures.refused)))
+    (λ none. subst (λ l. RefusesFirst (IsRefusal (log_room c.args.self.now)) l e) first (refusal_less (string_bytes line) e less why))
 
 pub returns-in_err-stage-clause-calls : goal.returns-in_err-stage-clause-calls
 returns-in_err-stage-clause-calls g c =
@@ -68,6 +54,9 @@ returns-in_err-stage-clause-calls g c =
     let said = c.in_err-stage.ensures in
     rw (p.1, p.2)
     (_, _, c.lines.invariant.comes, inr (said.err, left_as (LineLaw _) _ retried.calls (retried.none ∙ sym said.none)))
+
+pub returns-in_err-stage-clause-sends : goal.returns-in_err-stage-clause-sends
+returns-in_err-stage-clause-sends g c = lines_send _ _ _ (returns-in_err-stage-clause-calls g c)
 
 pub lines-preserved : goal.lines-preserved
 lines-preserved g c =
@@ -79,11 +68,8 @@ lines-preserved g c =
     let same = c.as_str.ensures.value in
     let plain : HasNoNewline (string_bytes line) = subst HasNoNewline same said.plain in
     record {
-      comes = comes_next (LineLaw _) line_of (string_bytes line) _ _ (map string_bytes others) c.lines.invariant.comes c.in_ok-retry.ensures.calls
-          c.in_ok-retry.ensures.none (ap (map string_bytes) first) (said.rest ∙ ap line_of same);
+      comes = comes_next (LineLaw _) line_of (string_bytes line) _ _ (map string_bytes others) c.lines.invariant.comes
+          c.in_ok-retry.ensures.calls c.in_ok-retry.ensures.none (ap (map string_bytes) first) (said.rest ∙ ap line_of same);
       room = omega (arith, c.lines.invariant.room, c.in_ok-retry.ensures.room, said.room);
-      goes = sends_shown _
-          (sends_on (lines_of (map string_bytes rest)) c.lines.invariant.goes (line_sends _ (Ok tt) c.in_ok-retry.ensures.calls))
-          (staged line_of string_bytes rest line others _ _ c.as_str.result.now first c.in_ok-retry.ensures.none same said.rest);
       off = off_more (string_bytes line) (map string_bytes others) _ c.lines.invariant.off (ap (map string_bytes) first) plain;
     }

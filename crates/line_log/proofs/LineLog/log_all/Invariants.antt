@@ -1,21 +1,16 @@
--- What is no longer to go was accepted, and no newline stands in the texts that were taken off.
-use Rattle.std.proofs.Common.{◌++◌, ◌≤◌, map, length, Ok, string_bytes}
-use Rattle.no_std_io2.specs.Write.{Sends}
+-- Records were sent, one after another, and no newline stands in the texts that were taken off.
+use Rattle.std.proofs.Common.{◌≤◌, map, length, string_bytes}
 use denote.Param.{number}
 use Rattle.no_std_io2.specs.contracts.buffered.line_writer.LineWriterWrite.TheImpl as Lined
 use Rattle.pending.specs.Pending.{ComesTo}
-use Rattle.line_log.specs.Lines.{line_of, lines_of}
-use Rattle.line_log.specs.Log.{log_told, log_writer, log_room, still_to_go, LineLaw, TakesOff}
+use Rattle.line_log.specs.Lines.{line_of}
+use Rattle.line_log.specs.Log.{log_writer, log_room, still_to_go, LineLaw, TakesOff}
 use Rattle.line_log.proofs.LineLog.log_all.Given as goal
 
 abbrev pub invariant-lines : goal.invariant-lines
 invariant-lines g l =
-    let told = g.W.Write.told in
     let B = Lined.ghosts g.row.W (number g.row.S) g.W.Write g.W.Write-dict g.W.Destruct-dict in
     record {
-      goes : Sends (log_told told l.initial.self)
-          (still_to_go l.initial.self ++ lines_of (map string_bytes l.initial.rest.now)) (Ok tt) (log_told told l.self)
-          (still_to_go l.self ++ lines_of (map string_bytes l.rest.now));
       room : log_room l.initial.self ≤ log_room l.self;
       comes : ComesTo (LineLaw B) line_of (log_writer l.initial.self) (still_to_go l.initial.self)
           (map string_bytes l.initial.rest.now) (log_writer l.self) (still_to_go l.self) (map string_bytes l.rest.now);

@@ -14,7 +14,8 @@ returns-in_err-fill_header-clause-told g c = λ t.
     let said = c.in_err-fill_header.ensures.told t in (
       said.0,
       rw (p.1, p.2)
-          (stopped (header_room c.fill_header.new.self < 4) _ (most c.args.self.now) 4 (λ h. inl h) c.in_err-fill_header.field-0.0 (Gathered-none _ _) said.1
+          (stopped (header_room c.fill_header.new.self < 4) _ (most c.args.self.now) 4 (λ h. inl h) c.in_err-fill_header.field-0.0
+          (Gathered-none _ _) said.1
           (λ h. inl h)),
     )
 
@@ -29,7 +30,8 @@ returns-then-not-branch-clause-told g c = λ t.
     let said = c.in_ok-fill_header.ensures.told t in
     let some : 0 < length (part_bytes c.fill_header.new.self) = not_empty _ _ c.is_empty.ensures c.if-is_empty.false in (
       said.0,
-      ended (header_room c.fill_header.new.self < 4) _ (most c.args.self.now) 4 _ _ c.in_ok-fill_header.field-0 c.ended_inside.result c.if-not-branch.true
+      ended (header_room c.fill_header.new.self < 4) _ (most c.args.self.now) 4 _ _ c.in_ok-fill_header.field-0 c.ended_inside.result
+          c.if-not-branch.true
           (Gathered-none _ _) said.1 (λ h. inl h) some c.ended_inside.ensures,
     )
 
@@ -81,7 +83,8 @@ returns-then-not-branch-2-clause-told g c = λ t.
     let told = c.told_len-len.ensures.value ∙ ap (from_le_bytes w32) (sym same) in
     let some : 0 < length (part_bytes part) = omega (arith, four, length-append (part_header part) (part_payload part)) in (
       said.0,
-      ended (payload_room c.fill_payload.new.self < c.told_len-len.result) _ (most c.args.self.now) (4 + len) _ _ c.in_ok-fill_payload.field-0
+      ended (payload_room c.fill_payload.new.self < c.told_len-len.result) _ (most c.args.self.now) (4 + len) _ _
+          c.in_ok-fill_payload.field-0
           c.ended_inside-then-not-branch-2.result c.if-not-branch-2.true whole.0 said.1
           (part_short (part_header part) (part_payload part) len four told) some c.ended_inside-then-not-branch-2.ensures,
     )
@@ -93,7 +96,8 @@ returns-clause-told g c = λ t.
     let b = c.if-not-branch.false in
     let b2 = c.if-not-branch-2.false in
     let first = whole_part (header_room c.fill_header.new.self < 4) 4 c.in_ok-fill_header.field-0 b header.1 in
-    let whole = whole_part (payload_room c.fill_payload.new.self < c.told_len-len.result) (4 + c.told_len-len.result) c.in_ok-fill_payload.field-0 b2 said.1 in
+    let len = c.told_len-len.result in
+    let whole = whole_part (payload_room c.fill_payload.new.self < len) (4 + len) c.in_ok-fill_payload.field-0 b2 said.1 in
     let part = c.fill_payload.new.self in
     let long = c.in_ok-fill_payload.ensures.whole b2 in
     let is =

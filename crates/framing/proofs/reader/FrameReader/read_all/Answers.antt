@@ -34,7 +34,8 @@ returns-in_err-next-clause-told g c = λ t.
     let said = c.in_err-next.ensures.told run.0 in (
       said.0,
       rw (p.1, p.2)
-          (run_stops _ _ (most c.args.self.now) (most c.frames.self) (lacks_as (part_of c.next.new.self) (IsFull c.reserve.new.self) c.frames.invariant.limit) c.in_err-next.field-0.0 same
+          (run_stops _ _ (most c.args.self.now) (most c.frames.self)
+          (lacks_as (part_of c.next.new.self) (IsFull c.reserve.new.self) c.frames.invariant.limit) c.in_err-next.field-0.0 same
           c.frames.invariant.limit said.1),
     )
 

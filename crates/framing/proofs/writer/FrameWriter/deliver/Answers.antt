@@ -1,4 +1,4 @@
-use Rattle.std.proofs.Common.{inl, inr, arith}
+use Rattle.std.proofs.Common.{ℕ, List, inl, inr, arith}
 use Rattle.std.proofs.lemmas.Result.{err_from_is_err_and}
 use Rattle.framing.specs.Frames.{IsRefusal}
 use Rattle.framing.proofs.DeliveryLemmas.{delivers_more, spent_none, spent_more, spent_all, refusal_less}
@@ -17,12 +17,14 @@ returns-in_err-try_once-clause-rest g c = off_then c.tries.invariant.off c.try_o
 pub returns-in_err-try_once-clause-enough : goal.returns-in_err-try_once-clause-enough
 returns-in_err-try_once-clause-enough g c = λ few.
     let p = err_from_is_err_and c.from_residual.result c.from_residual.ensures.1 in
-    rw (p.1, p.2) (refuses_as (IsRefusal _) (IsRefusal _) _ (λ x r. refusal_less x _ c.tries.invariant.room r) c.in_err-try_once.ensures.refused)
+    let less = λ (x : List ℕ). refusal_less x c.in_err-try_once.field-0.0 c.tries.invariant.room in
+    rw (p.1, p.2) (refuses_as (IsRefusal _) (IsRefusal _) _ less c.in_err-try_once.ensures.refused)
 
 pub returns-in_err-try_once-clause-last : goal.returns-in_err-try_once-clause-last
 returns-in_err-try_once-clause-last g c =
     let p = err_from_is_err_and c.from_residual.result c.from_residual.ensures.1 in
-    rw (p.1, p.2) (inl (refuses_as (IsRefusal _) (IsRefusal _) _ (λ x r. refusal_less x _ c.tries.invariant.room r) c.in_err-try_once.ensures.refused))
+    let less = λ (x : List ℕ). refusal_less x c.in_err-try_once.field-0.0 c.tries.invariant.room in
+    rw (p.1, p.2) (inl (refuses_as (IsRefusal _) (IsRefusal _) _ less c.in_err-try_once.ensures.refused))
 
 pub returns-in-None-clause-sends : goal.returns-in-None-clause-sends
 returns-in-None-clause-sends g c = delivers_more c.try_once.result c.tries.invariant.goes c.try_once.ensures.sends

@@ -1,21 +1,16 @@
--- What is no longer to go was accepted, and the payloads that were taken off are short enough for a frame.
-use Rattle.std.proofs.Common.{◌++◌, ◌≤◌, map, length, Ok}
-use Rattle.no_std_io2.specs.Write.{Sends}
+-- Records were sent, one after another, and the payloads that were taken off are short enough for a frame.
+use Rattle.std.proofs.Common.{◌≤◌, map, length}
 use denote.Param.{number}
 use Rattle.no_std_io2.specs.contracts.buffered.buf_writer.BufWriterWrite.TheImpl as Buffered
 use Rattle.pending.specs.Pending.{RestLaw, ComesTo}
-use Rattle.framing.specs.Frames.{frame, frames}
-use Rattle.framing.specs.Sending.{writer_tells, frame_writer, frame_room, still_to_go, TakesOff}
+use Rattle.framing.specs.Frames.{frame}
+use Rattle.framing.specs.Sending.{frame_writer, frame_room, still_to_go, TakesOff}
 use Rattle.framing.proofs.writer.FrameWriter.send_all.Given as goal
 
 abbrev pub invariant-frames : goal.invariant-frames
 invariant-frames g l =
-    let told = g.W.Write.told in
     let B = Buffered.ghosts g.row.W (number g.row.S) g.W.Write g.W.Write-dict g.W.Destruct-dict in
     record {
-      goes : Sends (writer_tells told l.initial.self)
-          (still_to_go l.initial.self ++ frames (map (λ v. v.items) l.initial.rest.now)) (Ok tt) (writer_tells told l.self)
-          (still_to_go l.self ++ frames (map (λ v. v.items) l.rest.now));
       room : frame_room l.initial.self ≤ frame_room l.self;
       comes : ComesTo (RestLaw B) frame (frame_writer l.initial.self) (still_to_go l.initial.self)
           (map (λ v. v.items) l.initial.rest.now) (frame_writer l.self) (still_to_go l.self) (map (λ v. v.items) l.rest.now);

@@ -1,7 +1,5 @@
-use Rattle.std.proofs.Common.{inr, arith, length-append}
-use Rattle.std.proofs.lemmas.Result.{err_from_is_err_and}
+use Rattle.std.proofs.Common.{arith, length-append}
 use Rattle.no_std_io2.proofs.EventLemmas.{Gathered-none}
-use Rattle.framing.proofs.FrameLemmas.{with_room}
 use Rattle.framing.proofs.reader.part.Part.fill_header.Goals as goal
 
 pub returns-then-len-eq-HEADER-clause-told : goal.returns-then-len-eq-HEADER-clause-told
