@@ -1,16 +1,16 @@
 -- Answers that are `Ok`.
-use Rattle.std.proofs.Common.{◌≡◌, ℕ, Result, Ok, Err, refl}
-use Rattle.std.specs.Result.{IsOk, IsOkAnd, IfOk, IfErr}
+use Rattle.std.proofs.Common.{ℕ, Result, Ok, Err}
+use Rattle.std.specs.Result.{OnOk, IfOk, IfErr}
 
--- an answer that equals `Ok` of some value is `Ok`
-pub IsOk-from_value : {A E : Type 0} (r : Result A E) (x : A) → r ≡ Ok x → IsOk r
-IsOk-from_value (Ok y) x e = refl
-IsOk-from_value (Err err) x e = absurd (let no : ⊥ = cc in no)
+-- what holds in any case holds where the answer is `Ok`
+pub onok : {T E : Type 0} (r : Result T E) (P : Type 0) → P → OnOk r P
+onok (Ok t) P p = p
+onok (Err e) P p = tt
 
--- an answer that is `Ok`, with a value of which P holds, is `Ok`
-pub IsOk-from_and : {A E : Type 0} (r : Result A E) (P : A → Type 0) → IsOkAnd r P → IsOk r
-IsOk-from_and (Ok y) P h = refl
-IsOk-from_and (Err err) P h = absurd h
+-- where P holds at `Ok` and Q follows from P, Q holds at `Ok`
+pub onok_map : {T E : Type 0} (r : Result T E) (P Q : Type 0) → (P → Q) → OnOk r P → OnOk r Q
+onok_map (Ok t) P Q f p = f p
+onok_map (Err e) P Q f p = tt
 
 -- what holds of each value holds of the answer's
 pub ifok_map : {E : Type 0} (r : Result ℕ E) {P Q : ℕ → Type 0} → ((n : ℕ) → P n → Q n) → IfOk r P → IfOk r Q

@@ -1,373 +1,393 @@
--- The three ends of a write through a buffer: what was held could not be sent, the bytes go past it, or they are held.
-use Rattle.std.proofs.Common.{◌≡◌, false, true, ℕ, ◌+◌, ◌<◌, ◌≤◌, ◌∙◌, List, [], ◌++◌, length, Result, Ok, Err, Some}
-use Rattle.std.proofs.Common.{IfOk, IfErr, OnOk, refl, sym, ap, subst, inl, inr, arith, le_refl, take_all, append-nil, ⊎_elim}
+-- What the steps of a buffered writer leave, tell and count, and what follows for its calls.
+use Rattle.std.proofs.Common.{◌≡◌, ◌+◌, ℕ, ◌<◌, ◌≤◌, ◌∙◌, List, [], ◌∷◌, ◌++◌, length, Result, Ok, Err, Some, OnOk, IsOk, IfOk}
+use Rattle.std.proofs.Common.{refl, sym, ap, subst, arith, le_refl, take_all, append-nil, if◌then◌else◌, nat_le, nat_lt, ⊎_elim, inl, inr}
 use Rattle.std.proofs.lemmas.Bool.{cases_lt}
 use Rattle.std.proofs.lemmas.Bool.Decides.{nat_tests}
 use Rattle.no_std_io2_base.specs.declared.error.Error.{Error}
+use Rattle.no_std_io2_base.specs.Errors.{IsNoInterruption}
 use Rattle.no_std_io2_base.specs.declared.traits.write.Write.{Ghosts as Writer}
-use Rattle.no_std_io2_base.specs.Write.{Made, Wrote, Flushed, none as no_write, Moves, WriteLaw, WriteAllLaw, FlushLaw, calls_for}
-use Rattle.no_std_io2_base.proofs.CallsLemmas.{made_more, made_then}
-use Rattle.std.proofs.Common.{◌∷◌}
-use Rattle.no_std_io2.specs.BufWriter.{CallOf, SendCalls, WayCalls, WriteCalls, WriteAllCalls}
-use Rattle.no_std_io2.specs.BufWriter.{write_refused, write_holds, write_passes, all_refused, all_holds, all_passes}
-use Rattle.no_std_io2_base.proofs.MovesLemmas.{IsFront-refl, Moves-then, Moves-ends, zero_write-whole}
+use Rattle.no_std_io2_base.specs.Write.{Told, Moves, MovesFront, WriteCall, Wrote, Flushed, Made}
+use Rattle.no_std_io2_base.specs.Write.{taken, write_mishap, call_mishap, calls_for}
+use Rattle.no_std_io2_base.specs.Write.{none as no_write}
+use Rattle.no_std_io2_base.proofs.MovesLemmas.{IsFront-refl, Moves-then, zero_write-whole}
+use Rattle.no_std_io2_base.proofs.CallsLemmas.{made_split, writes_whole}
+use Rattle.no_std_io2_base.proofs.WritesFacts.{writes_fault, writes_sends, writes_all}
+use Rattle.no_std_io2_base.proofs.AllFacts.{all_calls, call_steady}
 use Rattle.no_std_io2.specs.declared.buffered.sender.Sender.{Sender}
-use Rattle.no_std_io2.specs.declared.buffered.buf_writer.BufWriter.{BufWriter}
-use Rattle.no_std_io2.specs.BufWriter.{sender_inner, sender_buffer, sender_told, sender_with_inner, way_calls, writer_inner, writer_buffer}
-use Rattle.no_std_io2.specs.BufWriter.{writing_calls, buffer_after, Sent, MakesWay, Buffers, BuffersAll, Flushes, SendsFirst, SendsAll}
-use Rattle.no_std_io2.proofs.BufWriterLemmas.{Moves-kept, Moves-passed, Moves-sent, Moves-sent_part, Moves-out}
-use Rattle.no_std_io2.proofs.BufWriterLemmas.{none_of_length, IsEnd-none, IsEnd-held, call_steady, sending_some}
-use Rattle.no_std_io2.proofs.BufWriterCounts.{calls_for-le}
-use Rattle.no_std_io2.proofs.AnswerLemmas.{iferr}
-use Rattle.no_std_io2.proofs.LineWriterLemmas.{MovesFront-then, MovesFront-passed, onok, onok_map}
+use Rattle.no_std_io2.specs.BufWriter.{CallOf, stops, goes_on, with_buffer, Takes, sender_inner, sender_buffer, sender_with_inner}
+use Rattle.no_std_io2.specs.BufWriter.{SendCalls, WayCalls, PutCalls, Buffered, WriteCalls, WriteAllCalls, FlushCalls}
+use Rattle.no_std_io2.specs.BufWriter.{PastEmpty, OneWrite, OneWriteAll, OneFlush}
+use Rattle.no_std_io2.specs.BufWriter.{way_calls, writing_calls, buffer_after, Buffers, BuffersAll, Flushes}
+use Rattle.no_std_io2.proofs.BufWriterLemmas.{Moves-kept, Moves-sent_part, Moves-emptied, MovesFront-emptied, none_of_length}
+use Rattle.no_std_io2.proofs.AnswerLemmas.{onok, onok_map}
+use Rattle.no_std_io2.proofs.StepLemmas.{no_ok, Stepped, Leaves, Tells, Sending, Counts, Counted, then_goes_on, then_leaves, then_tells, then_counts}
 
--- the buffer after a write, case by case
-after_fits : (S : ℕ) (held x : List ℕ) → length x < S → length held + length x ≤ S → buffer_after S held x ≡ held ++ x
-after_fits S held x h g = grind (arith, nat_tests)
-
--- a short text that doesn't fit beside what is held is held alone
-after_over : (S : ℕ) (held x : List ℕ) → length x < S → S < length held + length x → buffer_after S held x ≡ x
-after_over S held x h g = grind (arith, nat_tests)
-
--- behind a text of S bytes and more nothing is held
-after_long : (S : ℕ) (held x : List ℕ) → S ≤ length x → buffer_after S held x ≡ []
-after_long S held x h = grind (arith, nat_tests)
-
--- the inner calls of a write, case by case
-pub calls_short : (S : ℕ) (held x : List ℕ) → length x < S → writing_calls S held x ≡ way_calls S held (length x)
-calls_short S held x h = grind (arith, nat_tests)
-
--- a write of S bytes and more takes one inner call more than it takes to make way
-pub calls_long : (S : ℕ) (held x : List ℕ) → S ≤ length x → writing_calls S held x ≡ way_calls S held (length x) + 1
-calls_long S held x h = grind (arith, nat_tests)
-
--- to make way takes at most one inner call, and none where nothing is held
-way_calls-le : (S n : ℕ) (held : List ℕ) → way_calls S held n ≤ calls_for held
-way_calls-le S n held = grind (arith, nat_tests)
-
--- to make way takes no inner call where n more bytes fit beside what is held
-pub way_calls-none : (S n : ℕ) (held : List ℕ) → length held + n ≤ S → way_calls S held n ≡ 0
+-- to make way takes no inner call where n more bytes fit beside what is held,
+way_calls-none : (S n : ℕ) (held : List ℕ) → length held + n ≤ S → way_calls S held n ≡ 0
 way_calls-none S n held h = grind (arith, nat_tests)
 
--- to make way takes no inner call where nothing is held
-way_calls-empty : (S n : ℕ) (held : List ℕ) → length held ≡ 0 → way_calls S held n ≡ 0
-way_calls-empty S n held h = grind (arith, nat_tests)
-
--- to make way takes one inner call where n more bytes don't fit and some are held, and none where none are
-pub way_calls-over : (S n : ℕ) (held : List ℕ) → S < length held + n → way_calls S held n ≡ calls_for held
+-- and as many as a sending where they don't
+way_calls-over : (S n : ℕ) (held : List ℕ) → S < length held + n → way_calls S held n ≡ calls_for held
 way_calls-over S n held h = grind (arith, nat_tests)
 
--- an error is not `Ok`
-pub no_ok : {T : Type 0} → false ≡ true → T
-no_ok h = absurd (let no : ⊥ = cc in no)
+-- what is left once n more bytes have room,
+abbrev pub way_left : ℕ → ℕ → List ℕ → List ℕ
+way_left S n held = if nat_le (length held + n) S then held else []
 
--- what follows from something that holds at `Ok` holds at `Ok` too
-onok_both : (r : Result (Unit {0}) Error) (P Q : Type 0) → OnOk r P → (P → Q) → OnOk r Q
-onok_both (Ok u) P Q p f = f p
-onok_both (Err e) P Q p f = tt
+-- and once x was put behind that
+abbrev pub put_left : ℕ → List ℕ → List ℕ → List ℕ
+put_left S x held = if nat_lt (length x) S then held ++ x else []
 
--- what holds of every number holds of the one that an `Ok` answers
-ifok : {P : ℕ → Type 0} (r : Result ℕ Error) → ((n : ℕ) → P n) → IfOk r P
-ifok (Ok n) f = f n
-ifok (Err e) f = tt
+way_left-fits : (S n : ℕ) (held : List ℕ) → length held + n ≤ S → way_left S n held ≡ held
+way_left-fits S n held h = grind (arith, nat_tests)
 
--- there is room beside what is held: nothing has to be sent
-pub way_kept : {W : Type 0} {S : ℕ} {I : Writer W} {old : Sender W S} {more : ℕ}
-    → length (sender_buffer old) + more ≤ S → MakesWay I old more (Ok tt) old
-way_kept {I} {old} room = record {
-  fault = tt;
-  moves = Moves-kept I.told _ _ (sender_buffer old) (sender_buffer old) [] refl (sym (append-nil _));
-  rest = ([], refl);
-  room = λ _. room;
-  empty = λ long. none_of_length _ (omega (arith, long, room));
-  fits = λ _. (refl, refl, refl);
-  sent = λ over. absurd (omega (arith, over, room));
-  all = λ t. (t, refl);
-  calls = λ m t. (m, omega (arith, way_calls-none _ _ (sender_buffer old) room));
-  made = ([], refl, inl (room, refl, refl, refl));
-}
+way_left-over : (S n : ℕ) (held : List ℕ) → S < length held + n → way_left S n held ≡ []
+way_left-over S n held h = grind (arith, nat_tests)
 
--- where nothing is held no call makes way
-way_idle : (S : ℕ) (held : List ℕ) (n : ℕ) → held ≡ [] → WayCalls S held n [] (Ok tt) held
-way_idle S held n empty = ⊎_elim
-    (λ over. inr (over, subst (λ l. SendCalls l [] (Ok tt) l) (sym empty) no_write))
-    (λ room. inl (room, refl, refl, refl))
-    (cases_lt S (length held + n))
+put_left-short : (S : ℕ) (x held : List ℕ) → length x < S → put_left S x held ≡ held ++ x
+put_left-short S x held h = grind (arith, nat_tests)
 
--- nothing is held: nothing has to be sent
-pub way_empty : {W : Type 0} {S : ℕ} {I : Writer W} {old mid : Sender W S} {more : ℕ}
-    → mid ≡ old → sender_buffer mid ≡ [] → MakesWay I old more (Ok tt) mid
-way_empty {S} {I} {mid} {more} same none =
-    subst (λ w. MakesWay I w more (Ok tt) mid) same (record {
-      fault = tt;
-      moves = Moves-kept I.told _ _ (sender_buffer mid) (sender_buffer mid) [] refl (sym (append-nil _));
-      rest = ([], refl);
-      room = λ short. omega (arith, short, ap length none);
-      empty = λ _. none;
-      fits = λ _. (refl, refl, refl);
-      sent = λ _. none;
-      all = λ t. (t, refl);
-      calls = λ m t. (m, omega (arith, way_calls-empty S more (sender_buffer mid) (ap length none)));
-      made = ([], refl, way_idle S (sender_buffer mid) more none);
-    })
+put_left-long : (S : ℕ) (x held : List ℕ) → S ≤ length x → put_left S x held ≡ []
+put_left-long S x held h = grind (arith, nat_tests)
 
--- they don't, and what was held was sent
-pub way_sent : {W : Type 0} {S : ℕ} {I : Writer W} {r : Result (Unit {0}) Error} {old new : Sender W S} {more : ℕ}
-    → Sent I old r new → S < length (sender_buffer old) + more → MakesWay I old more r new
-way_sent {S} {I} {r} {old} {more} sent over =
-    let sends = sent.sends in
-    record {
-      fault = sent.fault;
-      moves = Moves-sent_part sends.sent _ _ sends.split sends.moves;
-      rest = (sends.sent, sends.split);
-      room = onok_map r _ _ (λ none short. omega (arith, short, ap length none)) sent.empty;
-      empty = onok_map r _ _ (λ none _. none) sent.empty;
-      fits = λ room. absurd (omega (arith, over, room));
-      sent = λ _. sent.empty;
-      all = sent.all;
-      calls = λ m t.
-          let spent = sent.calls m t in
-          (spent.0, spent.1 ∙ ap (λ n. I.cost (sender_inner old) + n) (sym (way_calls-over S more (sender_buffer old) over)));
-      made = (sent.made.0, sent.made.1, inr (over, sent.made.2));
-    }
+-- that is the buffer after a write
+buffer_after-fits : (S : ℕ) (held x : List ℕ) → length held + length x ≤ S → put_left S x held ≡ buffer_after S held x
+buffer_after-fits S held x h = grind (arith, nat_tests)
 
--- all that was held was sent, and the buffer is gone
-pub all_sent : {W : Type 0} {S : ℕ} {I : Writer W} {old mid : Sender W S} {inner : W} {u : Unit {0}}
-    → Sent I old (Ok u) mid → inner ≡ sender_inner mid → Moves (sender_told I.told old) [] [] (I.told inner)
-all_sent {I} {old} sent same =
-    subst (λ w. Moves (sender_told I.told old) [] [] (I.told w)) (sym same)
-    (Moves-out {k = []} _ sent.sends.sent _ sent.sends.split sent.empty sent.sends.moves)
+buffer_after-over : (S : ℕ) (held x : List ℕ) → S < length held + length x → put_left S x [] ≡ buffer_after S held x
+buffer_after-over S held x h = grind (arith, nat_tests)
 
--- `write`: sending failed, and nothing was accepted
-pub refused : {W : Type 0} {S : ℕ} {I : Writer W} {old mid : Sender W S} {x : List ℕ} {e : Error}
-    → MakesWay I old (length x) (Err e) mid → Buffers I S sender_inner sender_buffer old x (Err e) mid
-refused {old} way = record {
-  bound = tt;
-  moves = way.moves;
-  rest = rw (append-nil (sender_buffer old)) way.rest;
-  fits = λ _ room. no_ok (way.fits room).0;
-  sent = λ _. tt;
-  whole = λ _. tt;
-  calm = λ _. way.fault;
-  all = λ t. no_ok (way.all t).1;
-  after = tt;
-  calls = λ _ t. no_ok (way.all t).1;
-  made = (way.made.0, way.made.1, write_refused way.made.2);
-}
+buffer_after-is : (S : ℕ) (held x : List ℕ) → put_left S x (way_left S (length x) held) ≡ buffer_after S held x
+buffer_after-is S held x = ⊎_elim
+    (λ over. ap (put_left S x) (way_left-over S (length x) held over) ∙ buffer_after-over S held x over)
+    (λ room. ap (put_left S x) (way_left-fits S (length x) held room) ∙ buffer_after-fits S held x room)
+    (cases_lt S (length held + length x))
 
--- `write`: one inner write, past the empty buffer
-pub passed : {W : Type 0} {S : ℕ} {I : Writer W} {old mid : Sender W S} {x : List ℕ} {r : Result ℕ Error} {inner : W}
-    → MakesWay I old (length x) (Ok tt) mid → S ≤ length x → WriteLaw I.told I.takes_all I.cost I.is_metered I.may (sender_inner mid) x r inner
-    → Buffers I S sender_inner sender_buffer old x r (sender_with_inner mid inner)
-passed {S} {I} {old} {mid} {x} {r} way long wrote =
-    let none = way.empty long in
-    record {
-      bound = wrote.bound;
-      moves = Moves-then {k = []} way.moves (Moves-passed (sender_buffer mid) none wrote.moves);
-      rest = IsEnd-none _ (sender_buffer mid) none;
-      fits = λ short. absurd (omega (arith, short, long));
-      sent = λ _. ifok r (λ n. IsEnd-none _ (sender_buffer mid) none);
-      whole = λ short. absurd (omega (arith, short, long));
-      calm = λ short. absurd (omega (arith, short, long));
-      all = λ t. wrote.all (way.all t).0;
-      after = onok r _ (none ∙ sym (after_long S (sender_buffer old) x long));
-      calls = λ m t.
-          let first = way.calls m t in
-          let then = wrote.counts first.0 (way.all t).0 in
-          (then.0, omega (arith, first.1, then.1, calls_long S (sender_buffer old) x long));
-      made =
-          let before = way.made in
-          let empty = subst (λ l. WayCalls S (sender_buffer old) (length x) before.0 (Ok tt) l) none before.2 in (
-            before.0 ++ Wrote x r ∷ [],
-            made_more (CallOf I) before.0 (sender_inner old) before.1 wrote,
-            subst (λ l. WriteCalls S (sender_buffer old) x (before.0 ++ Wrote x r ∷ []) r l) (sym none) (write_passes long empty),
-          );
-    }
+-- what is put behind what is held asks for no call, and what goes past it for n
+abbrev pub past_calls : ℕ → ℕ → ℕ → ℕ
+past_calls S len n = if nat_le S len then n else 0
 
--- what is held in the end, where x was put behind what was left
-held_after : {W : Type 0} {S : ℕ} {I : Writer W} {old mid : Sender W S} (new : Sender W S) (x : List ℕ)
-    → MakesWay I old (length x) (Ok tt) mid → length x < S → sender_buffer new ≡ sender_buffer mid ++ x
-    → sender_buffer new ≡ buffer_after S (sender_buffer old) x
-held_after {S} {old} new x way short put = ⊎_elim
-    (λ over. put ∙ ap (λ l. l ++ x) (way.sent over) ∙ sym (after_over S (sender_buffer old) x short over))
-    (λ room. put ∙ ap (λ l. l ++ x) (way.fits room).2 ∙ sym (after_fits S (sender_buffer old) x short room))
-    (cases_lt S (length (sender_buffer old) + length x))
+past_calls-none : (S len n : ℕ) → len < S → past_calls S len n ≡ 0
+past_calls-none S len n h = grind (arith, nat_tests)
 
--- `write`: x is held behind what was left
-pub held : {W : Type 0} {S : ℕ} {I : Writer W} {old mid new : Sender W S} {x : List ℕ}
-    → MakesWay I old (length x) (Ok tt) mid → length x < S
-    → sender_inner new ≡ sender_inner mid → sender_buffer new ≡ sender_buffer mid ++ x
-    → Buffers I S sender_inner sender_buffer old x (Ok (length x)) new
-held {S} {I} {old} {mid} {new} {x} way short same put =
-    let whole = take_all _ x (le_refl (length x)) in
-    record {
-      bound = le_refl _;
-      moves =
-          rw (whole, zero_write-whole x)
-          (Moves-then {k = []} way.moves (Moves-kept I.told _ _ (sender_buffer mid) (sender_buffer new) x same put));
-      rest = rw whole (IsEnd-held _ (sender_buffer mid) _ x way.rest put);
-      fits = λ _ room. let kept = way.fits room in (refl, same ∙ kept.1, put ∙ ap (λ l. l ++ x) kept.2);
-      sent = λ over. rw whole ([], sym (put ∙ ap (λ l. l ++ x) (way.sent over)));
-      whole = λ _. refl;
-      calm = λ _. tt;
-      all = λ t. (subst I.takes_all (sym same) (way.all t).0, refl);
-      after = held_after new x way short put;
-      calls = λ m t.
-          let first = way.calls m t in
-          (subst I.is_metered (sym same) first.0, omega (arith, first.1, ap I.cost same, calls_short S (sender_buffer old) x short));
-      made =
-          let before = way.made in (
-            before.0,
-            subst (λ w. Made (CallOf I) (sender_inner old) before.0 w) (sym same) before.1,
-            subst (λ l. WriteCalls S (sender_buffer old) x before.0 (Ok (length x)) l) (sym put) (write_holds short before.2),
-          );
-    }
+past_calls-all : (S len n : ℕ) → S ≤ len → past_calls S len n ≡ n
+past_calls-all S len n h = grind (arith, nat_tests)
 
--- `write_all`: sending failed, and nothing was accepted
-pub refused_all : {W : Type 0} {S : ℕ} {I : Writer W} {old mid : Sender W S} {x : List ℕ} {e : Error}
-    → MakesWay I old (length x) (Err e) mid → BuffersAll I S sender_inner sender_buffer old x (Err e) mid
-refused_all {x} way = record {
-  fault = way.fault;
-  moves = record { accepted = []; front = (x, refl); whole = tt; moves = way.moves };
-  rest = inr way.rest;
-  fits = λ _ room. no_ok (way.fits room).0;
-  sent = λ _. tt;
-  none = λ _. (way.rest, way.moves);
-  all = λ t. no_ok (way.all t).1;
-  after = tt;
-  calls = λ _ _ t. no_ok (way.all t).1;
-  few = λ _ t. no_ok (way.all t).1;
-  made = (way.made.0, way.made.1, all_refused way.made.2);
-}
+-- how many inner calls a `write_all` makes, over an inner writer that takes all
+abbrev pub writing_all_calls : ℕ → List ℕ → List ℕ → ℕ
+writing_all_calls S x held = way_calls S held (length x) + past_calls S (length x) (calls_for x)
 
--- `write_all`: one inner `write_all`, past the empty buffer
-pub passed_all : {W : Type 0} {S : ℕ} {I : Writer W} {old mid : Sender W S} {x : List ℕ} {r : Result (Unit {0}) Error} {inner : W}
-    → ((w : W) → I.takes_all w → (I.told w).mishaps ≡ Some []) → MakesWay I old (length x) (Ok tt) mid → S ≤ length x
-    → WriteAllLaw I.told I.takes_all I.cost I.is_metered I.may (sender_inner mid) x r inner
-    → BuffersAll I S sender_inner sender_buffer old x r (sender_with_inner mid inner)
-passed_all {S} {I} {old} {mid} {x} {r} {inner} steady way long wrote =
-    let none = way.empty long in
-    record {
-      fault = wrote.fault;
-      moves = MovesFront-then x r way.moves (MovesFront-passed x r (sender_buffer mid) (sender_buffer mid) none refl wrote.moves);
-      rest = inl (IsEnd-none _ (sender_buffer mid) none);
-      fits = λ short. absurd (omega (arith, short, long));
-      sent = λ _. onok r _ (IsEnd-none _ (sender_buffer mid) none);
-      none = λ short. absurd (omega (arith, short, long));
-      all = λ t. let mid_all = (way.all t).0 in (wrote.all mid_all, call_steady r (steady _ mid_all) wrote.moves.moves);
-      after = onok r _ (none ∙ sym (after_long S (sender_buffer old) x long));
-      calls = λ some m t.
-          let first = way.calls m t in
-          let then = wrote.counts first.0 (way.all t).0 in
-          (then.0, omega (arith, first.1, then.1, calls_long S (sender_buffer old) x long, sending_some x (omega (arith, some, long))));
-      few = λ m t.
-          let first = way.calls m t in
-          let then = wrote.counts first.0 (way.all t).0 in
-          (then.0, omega (arith, first.1, then.1, way_calls-le S (length x) (sender_buffer old), calls_for-le x));
-      made =
-          let before = way.made in
-          let empty = subst (λ l. WayCalls S (sender_buffer old) (length x) before.0 (Ok tt) l) none before.2 in
-          let last = wrote.calls in (
-            before.0 ++ last.0,
-            made_then (CallOf I) before.0 (sender_inner old) last.0 (sender_inner mid) inner before.1 last.1,
-            subst (λ l. WriteAllCalls S (sender_buffer old) x (before.0 ++ last.0) r l) (sym none) (all_passes long empty last.2),
-          );
-    }
+writing_all-is : (S : ℕ) (x held : List ℕ) → 0 < S → writing_all_calls S x held ≡ writing_calls S held x
+writing_all-is S x held some = grind (arith, nat_tests)
 
--- `write_all`: x is held behind what was left
-pub held_all : {W : Type 0} {S : ℕ} {I : Writer W} {old mid new : Sender W S} {x : List ℕ}
-    → MakesWay I old (length x) (Ok tt) mid → length x < S
-    → sender_inner new ≡ sender_inner mid → sender_buffer new ≡ sender_buffer mid ++ x
-    → BuffersAll I S sender_inner sender_buffer old x (Ok tt) new
-held_all {S} {I} {old} {mid} {new} {x} way short same put = record {
-  fault = tt;
-  moves = record {
-    accepted = x;
-    front = IsFront-refl x;
-    whole = refl;
-    moves = Moves-then {k = []} way.moves (Moves-kept I.told _ _ (sender_buffer mid) (sender_buffer new) x same put);
-  };
-  rest = inl (IsEnd-held _ (sender_buffer mid) _ x way.rest put);
-  fits = λ _ room. let kept = way.fits room in (refl, same ∙ kept.1, put ∙ ap (λ l. l ++ x) kept.2);
-  sent = λ over. ([], sym (put ∙ ap (λ l. l ++ x) (way.sent over)));
-  none = λ _. tt;
-  all = λ t. (subst I.takes_all (sym same) (way.all t).0, refl);
-  after = held_after new x way short put;
-  calls = λ _ m t.
-      let first = way.calls m t in
-      (subst I.is_metered (sym same) first.0, omega (arith, first.1, ap I.cost same, calls_short S (sender_buffer old) x short));
-  few = λ m t.
-      let first = way.calls m t in
-      (subst I.is_metered (sym same) first.0, omega (arith, first.1, ap I.cost same, way_calls-le S (length x) (sender_buffer old)));
-  made =
-      let before = way.made in (
-        before.0,
-        subst (λ w. Made (CallOf I) (sender_inner old) before.0 w) (sym same) before.1,
-        subst (λ l. WriteAllCalls S (sender_buffer old) x before.0 (Ok tt) l) (sym put) (all_holds short before.2),
-      );
-}
+-- in front of fewer than S bytes there is room then,
+pub way_room : (S n : ℕ) {held left : List ℕ} {C : List WriteCall} → n < S → WayCalls S n held C (Ok tt) left → length left + n ≤ S
+way_room S n short way = elim way [
+  | inl kept ↦ omega (arith, kept.0, ap length kept.3)
+  | inr sent ↦ omega (arith, short, ap length (writes_whole sent.1))
+]
 
--- `flush`: all was sent, and then the inner writer was flushed
-pub flushed : {W : Type 0} {S : ℕ} {I : Writer W} {old mid : Sender W S} {r : Result (Unit {0}) Error} {inner : W}
-    → ((w : W) → I.takes_all w → (I.told w).mishaps ≡ Some []) → Sent I old (Ok tt) mid
-    → FlushLaw I.told I.takes_all I.cost I.is_metered I.may (sender_inner mid) r inner
-    → Flushes I sender_inner sender_buffer old r (sender_with_inner mid inner)
-flushed {I} {old} {mid} {r} {inner} steady sent done =
-    let none = sent.empty in
-    record {
-      empty = onok_both r _ _ done.empty (λ e. ap (λ l. (I.told inner).held ++ l) none ∙ append-nil _ ∙ e);
-      moves =
-          Moves-ends {k = []}
-          (Moves-sent _ (sender_buffer mid) none
-          (subst (λ l. Moves _ l [] _) (sym (sent.sends.split ∙ ap (λ l. sent.sends.sent ++ l) none ∙ append-nil _))
-          sent.sends.moves))
-          (Moves-passed (sender_buffer mid) none done.moves);
-      sent = onok r _ none;
-      rest = IsEnd-none _ (sender_buffer mid) none;
-      all = λ t. let mid_all = (sent.all t).0 in (done.all mid_all, call_steady r (steady _ mid_all) done.moves);
-      calls = λ m t.
-          let first = sent.calls m t in
-          let then = done.counts first.0 (sent.all t).0 in
-          (then.0, omega (arith, first.1, then.1));
-      made =
-          let before = sent.made in (
-            before.0 ++ Flushed r ∷ [],
-            made_more (CallOf I) before.0 (sender_inner old) before.1 done,
-            inl (before.0, subst (λ l. SendCalls (sender_buffer old) before.0 (Ok tt) l) refl before.2, refl),
-          );
-    }
+-- and in front of S bytes and more nothing is held
+pub way_none : (S n : ℕ) {held left : List ℕ} {C : List WriteCall} → S ≤ n → WayCalls S n held C (Ok tt) left → left ≡ []
+way_none S n {held = held} long way = elim way [
+  | inl kept ↦ kept.3 ∙ none_of_length held (omega (arith, long, kept.0))
+  | inr sent ↦ writes_whole sent.1
+]
 
--- a call that sends first: the sending failed
-pub sending_failed : {W A : Type 0} {S : ℕ} {I : Writer W} {old new : BufWriter W S} {e : Error}
-    → Sent I old.core (Err e) new.core → SendsFirst {A = A} I writer_inner writer_buffer old (Err e) new
-sending_failed sent =
-    let sends = sent.sends in
-    record {
-      empty = tt;
-      rest = (sends.sent, sends.split);
-      fault = λ _. sent.fault;
-      refused = λ _. Moves-sent_part sends.sent _ _ sends.split sends.moves;
-    }
+-- where n bytes fit, no way is made, so it does not fail
+way_fits : (S n : ℕ) {held left : List ℕ} {C : List WriteCall} {reply : Result (Unit {0}) Error} → WayCalls S n held C reply left
+    → length held + n ≤ S → (C ≡ []) × (reply ≡ Ok tt) × (left ≡ held)
+way_fits S n way room = elim way [
+  | inl kept ↦ (kept.1, kept.2, kept.3)
+  | inr sent ↦ absurd (omega (arith, sent.0, room))
+]
 
--- or all was sent, whatever came then
-pub sending_done : {W A : Type 0} {S : ℕ} {I : Writer W} {old new : BufWriter W S} (r : Result A Error)
-    → writer_buffer new ≡ [] → SendsFirst I writer_inner writer_buffer old r new
-sending_done r none = record {
-  empty = onok r _ none;
-  rest = IsEnd-none _ _ none;
-  fault = iferr r (λ e some. absurd (omega (arith, some, ap length none)));
-  refused = iferr r (λ e some. absurd (omega (arith, some, ap length none)));
-}
+module _ {W : Type 0} {I : Writer W} (S : ℕ) where
+  -- way is made: there is room beside what is held, or nothing is held, or it was sent
+  pub way_kept : (n : ℕ) {held : List ℕ} {a : W} → length held + n ≤ S → Stepped I (WayCalls S n) a held (Ok tt) held a
+  way_kept n room = ([], refl, inl (room, refl, refl, refl))
 
--- all was sent
-pub sends_all : {W : Type 0} {S : ℕ} {I : Writer W} {old new : Sender W S} → Sent I old (Ok tt) new
-    → SendsAll I (sender_inner old) (sender_buffer old) (sender_inner new)
-sends_all {old = old} s = record {
-  moves = Moves-out {k = []} _ s.sends.sent _ s.sends.split s.empty s.sends.moves;
-  made = (s.made.0, s.made.1, subst (SendCalls (sender_buffer old) s.made.0 (Ok tt)) s.empty s.made.2);
-}
+  way_empty : (n : ℕ) {held : List ℕ} {a : W} → held ≡ [] → Stepped I (WayCalls S n) a held (Ok tt) held a
+  way_empty n {held} empty = ⊎_elim
+      (λ over. ([], refl, inr (over, subst (λ l. SendCalls l [] (Ok tt) l) (sym empty) no_write)))
+      (λ room. way_kept n room)
+      (cases_lt S (length held + n))
 
--- with nothing left no sending failed
-pub none_refused : {A : Type 0} (r : Result A Error) {left : List ℕ} (P : Error → Type 0) → left ≡ [] → IfErr r (λ e. 0 < length left → P e)
-none_refused (Ok n) P none = tt
-none_refused (Err e) P none = λ some. absurd (omega (arith, some, ap length none))
+  pub way_sent : (n : ℕ) {held left : List ℕ} {reply : Result (Unit {0}) Error} {a b : W} → S < length held + n
+      → Stepped I SendCalls a held reply left b → Stepped I (WayCalls S n) a held reply left b
+  way_sent n over sent = (sent.0, sent.1, inr (over, sent.2))
+
+  module _ {A : Type 0} (x : List ℕ) (v : A) (past : List WriteCall → Result A Error → Type 0) where
+    -- x is put behind what is held,
+    pub puts : {held left : List ℕ} {a b : W} → length x < S → b ≡ a → left ≡ held ++ x
+        → Stepped I (PutCalls S x v past) a held (Ok v) left b
+    puts short same put = ([], same, inl (short, refl, refl, put))
+
+    -- or goes past it
+    pub passes : {held left : List ℕ} {reply : Result A Error} {a b : W} → S ≤ length x → held ≡ [] → left ≡ []
+        → (C : List WriteCall) × Made (CallOf I) a C b × past C reply → Stepped I (PutCalls S x v past) a held reply left b
+    passes long none empty calls = (calls.0, calls.1, inr (long, (none, empty, calls.2)))
+
+-- past a buffer with nothing held
+pub buffered_past : {W A : Type 0} {S : ℕ} {I : Writer W} {old mid : Sender W S} {inner : W} (x : List ℕ) (v : A)
+    (past : List WriteCall → Result A Error → Type 0) {reply : Result A Error} → mid ≡ old → sender_buffer mid ≡ [] → S ≤ length x
+    → (C : List WriteCall) × Made (CallOf I) (sender_inner mid) C inner × past C reply
+    → Takes I sender_inner sender_buffer (Buffered S x v past) old reply (sender_with_inner mid inner)
+buffered_past {S} {I} {mid = mid} {inner = inner} x v past {reply = reply} same none long calls =
+    subst (λ w. Takes I sender_inner sender_buffer (Buffered S x v past) w reply (sender_with_inner mid inner)) same
+    (then_goes_on _ _ _ _ (way_empty S (length x) none) (passes S x v past long none none calls))
+
+-- one call
+pub one_made : {W : Type 0} {I : Writer W} (call : WriteCall) {a b : W} → CallOf I a call b
+    → (C : List WriteCall) × Made (CallOf I) a C b × (C ≡ call ∷ [])
+one_made call {b = b} law = (call ∷ [], (b, law, refl), refl)
+
+-- what each step leaves
+pub send_leaves : Leaves SendCalls (λ _. [])
+send_leaves = λ held C reply left writes. writes_whole writes
+
+way_leaves : (S n : ℕ) → Leaves (WayCalls S n) (way_left S n)
+way_leaves S n = λ held C reply left way. elim way [
+  | inl kept ↦ onok reply _ (kept.3 ∙ sym (way_left-fits S n held kept.0))
+  | inr sent ↦ onok_map reply _ _ (λ e. e ∙ sym (way_left-over S n held sent.0)) (writes_whole sent.1)
+]
+
+module _ {A : Type 0} (S : ℕ) (x : List ℕ) (v : A) (past : List WriteCall → Result A Error → Type 0) where
+  put_leaves : Leaves (PutCalls S x v past) (put_left S x)
+  put_leaves = λ held C reply left put. elim put [
+    | inl kept ↦ onok reply _ (kept.3 ∙ sym (put_left-short S x held kept.0))
+    | inr gone ↦ onok reply _ (gone.1.1 ∙ sym (put_left-long S x held gone.0))
+  ]
+
+  pub buffered_leaves : Leaves (Buffered S x v past) (λ held. buffer_after S held x)
+  buffered_leaves = λ held C reply left write.
+      subst (λ l. OnOk reply (left ≡ l)) (buffer_after-is S held x)
+      (then_leaves (WayCalls S (length x)) (PutCalls S x v past) (way_left S (length x)) (put_left S x) (way_leaves S (length x)) put_leaves
+      write)
+
+  -- where both fit, x is held and there is no inner call
+  pub buffered_fits : {held left : List ℕ} {C : List WriteCall} {reply : Result A Error} → Buffered S x v past held C reply left
+      → length x < S → length held + length x ≤ S → (C ≡ []) × (reply ≡ Ok v) × (left ≡ held ++ x)
+  buffered_fits (stops way) short room = absurd (let never = (way_fits S (length x) way room).1 in cc)
+  buffered_fits (goes_on {D = D} way put) short room =
+      let kept = way_fits S (length x) way room in
+      elim put [
+        | inl held ↦ (ap (λ C. C ++ D) kept.0 ∙ held.1, held.2, held.3 ∙ ap (λ l. l ++ x) kept.2)
+        | inr gone ↦ absurd (omega (arith, short, gone.0))
+      ]
+
+-- what is shorter than the buffer is taken whole, or an error is answered
+pub write_whole : (S : ℕ) {x held left : List ℕ} {C : List WriteCall} {reply : Result ℕ Error} → WriteCalls S x held C reply left
+    → length x < S → IfOk reply (λ n. n ≡ length x)
+write_whole S (stops way) short = tt
+write_whole S {x = x} (goes_on {reply = reply} way put) short = elim put [
+  | inl held ↦ subst (λ r. IfOk r (λ n. n ≡ length x)) (sym held.2) refl
+  | inr gone ↦ absurd (omega (arith, short, gone.0))
+]
+
+module _ {W : Type 0} (I : Writer W) where
+  -- the one call that was made
+  pub one_call : {call : WriteCall} {C : List WriteCall} (a b : W) → C ≡ call ∷ [] → Made (CallOf I) a C b → CallOf I a call b
+  one_call {call} a b is made =
+      let one = subst (λ K. Made (CallOf I) a K b) is made in subst (λ w. CallOf I a call w) (sym one.2) one.1
+
+  -- no call was made, and x is held behind what was
+  pub idle_tells : (held left x : List ℕ) {C : List WriteCall} (a b : W) → C ≡ [] → left ≡ held ++ x → Made (CallOf I) a C b
+      → Moves (with_buffer (I.told a) held) x [] (with_buffer (I.told b) left)
+  idle_tells held left x a b is put made = Moves-kept I.told a b held left x (subst (λ K. Made (CallOf I) a K b) is made) put
+
+  -- what each step tells
+  pub send_tells : Tells I SendCalls (Sending I)
+  send_tells = λ held C reply left writes a b made.
+      let sends = writes_sends I.told I.takes_all I.cost I.is_metered I.may writes a b made in
+      Moves-sent_part sends.sent _ _ sends.split sends.moves
+
+  -- a sending, or no call
+  pub kept_tells : (held left : List ℕ) (C : List WriteCall) (reply : Result (Unit {0}) Error) (a b : W) → C ≡ [] → reply ≡ Ok tt → left ≡ held
+      → Made (CallOf I) a C b → Sending I (with_buffer (I.told a) held) reply (with_buffer (I.told b) left)
+  kept_tells held left C reply a b is ok same made =
+      subst (λ r. Moves (with_buffer (I.told a) held) [] (call_mishap r) (with_buffer (I.told b) left)) (sym ok)
+      (idle_tells held left [] a b is (same ∙ sym (append-nil held)) made)
+
+  way_tells : (S n : ℕ) → Tells I (WayCalls S n) (Sending I)
+  way_tells S n = λ held C reply left way a b made. elim way [
+    | inl kept ↦ kept_tells held left C reply a b kept.1 kept.2 kept.3 made
+    | inr sent ↦ send_tells _ _ _ _ sent.1 a b made
+  ]
+
+  -- what each step counts, over an inner writer that takes all
+  pub send_counts : Counts I SendCalls calls_for
+  send_counts = λ held C reply left writes a b made takes.
+      let all = writes_all I.told I.takes_all I.cost I.is_metered I.may writes a b made takes in
+      (all.0, all.1, all.3)
+
+  -- no call was made
+  pub idle_counts : {A : Type 0} {C : List WriteCall} {reply : Result A Error} (v : A) (a b : W) (n : ℕ) → C ≡ [] → reply ≡ Ok v
+      → n ≡ 0 → Made (CallOf I) a C b → I.takes_all a → Counted I reply a n b
+  idle_counts v a b n is ok zero made takes =
+      let same = subst (λ K. Made (CallOf I) a K b) is made in
+      (subst I.takes_all (sym same) takes, subst IsOk (sym ok) refl, λ m. (subst I.is_metered (sym same) m, omega (arith, ap I.cost same, zero)))
+
+  way_counts : (S n : ℕ) → Counts I (WayCalls S n) (λ held. way_calls S held n)
+  way_counts S n = λ held C reply left way a b made takes. elim way [
+    | inl kept ↦ idle_counts tt a b (way_calls S held n) kept.1 kept.2 (way_calls-none S n held kept.0) made takes
+    | inr sent ↦
+      let spent = send_counts _ _ _ _ sent.1 a b made takes in
+      (spent.0, spent.1, λ m. let one = spent.2 m in (one.0, omega (arith, one.1, way_calls-over S n held sent.0)))
+  ]
+
+  module _ {A : Type 0} (S : ℕ) (x : List ℕ) (v : A) (past : List WriteCall → Result A Error → Type 0) where
+    -- what goes through a buffer tells what it tells held, and past it
+    pub buffered_tells : (R : Told → Result A Error → Told → Type 0)
+        → ((s t : Told) (e : Error) → Moves s [] (call_mishap (Err e)) t → R s (Err e) t)
+        → ((s m t : Told) (reply : Result A Error) → Moves s [] [] m → R m reply t → R s reply t)
+        → ((s t : Told) → Moves s x [] t → R s (Ok v) t) → Tells I (PastEmpty past) R → Tells I (Buffered S x v past) R
+    buffered_tells R fail join hold pass = λ held C reply left write.
+        then_tells I (WayCalls S (length x)) (PutCalls S x v past) R fail join (way_tells S (length x)) put_tells write
+      where
+        put_tells : Tells I (PutCalls S x v past) R
+        put_tells = λ held C reply left put a b made. elim put [
+          | inl kept ↦
+            subst (λ r. R (with_buffer (I.told a) held) r (with_buffer (I.told b) left)) (sym kept.2)
+            (hold _ _ (idle_tells held left x a b kept.1 kept.3 made))
+          | inr gone ↦ pass held C reply left gone.1 a b made
+        ]
+
+    -- and counts what way takes, and what goes past
+    pub buffered_counts : (n : ℕ) → Counts I (PastEmpty past) (λ _. n)
+        → Counts I (Buffered S x v past) (λ held. way_calls S held (length x) + past_calls S (length x) n)
+    buffered_counts n pass = λ held C reply left write.
+        then_counts I (WayCalls S (length x)) (PutCalls S x v past) (way_left S (length x)) (λ held. way_calls S held (length x))
+        (λ _. past_calls S (length x) n) (way_leaves S (length x)) (way_counts S (length x)) put_counts write
+      where
+        put_counts : Counts I (PutCalls S x v past) (λ _. past_calls S (length x) n)
+        put_counts = λ held C reply left put a b made takes. elim put [
+          | inl kept ↦ idle_counts v a b (past_calls S (length x) n) kept.1 kept.2 (past_calls-none S (length x) n kept.0) made takes
+          | inr gone ↦
+            let one = pass held C reply left gone.1 a b made takes in
+            (one.0, one.1, λ m. let spent = one.2 m in (spent.0, omega (arith, spent.1, past_calls-all S (length x) n gone.0)))
+        ]
+
+  -- a `write` accepts what its answer says
+  abbrev pub Writing : List ℕ → Told → Result ℕ Error → Told → Type 0
+  Writing x old reply new = Moves old (taken reply x) (write_mishap reply x) new
+
+  pub write_tells : (S : ℕ) (x : List ℕ) → Tells I (WriteCalls S x) (Writing x)
+  write_tells S x = buffered_tells S x (length x) (OneWrite x) (Writing x) (λ s t e m. m)
+      (λ s m t r f g. Moves-then {k = []} f g) (λ s t m. rw (take_all _ x (le_refl (length x)), zero_write-whole x) m)
+      (λ held C reply left gone a b made. Moves-emptied gone.0 gone.1 (one_call a b gone.2 made).moves)
+
+  pub write_counts : (S : ℕ) (x : List ℕ) → Counts I (WriteCalls S x) (λ held. writing_calls S held x)
+  write_counts S x = buffered_counts S x (length x) (OneWrite x) 1
+      (λ held C reply left gone a b made takes.
+      let law = one_call a b gone.2 made in
+      let all = law.all takes in (all.0, subst IsOk (sym all.1) refl, λ m. law.counts m takes))
+
+  pub flush_tells : Tells I FlushCalls (Sending I)
+  flush_tells = λ held C reply left flush.
+      then_tells I SendCalls (PastEmpty OneFlush) (Sending I) (λ s t e m. m)
+      (λ s m t r f g. Moves-then {k = []} f g) send_tells
+      (λ held C reply left gone a b made. Moves-emptied gone.0 gone.1 (one_call a b gone.2 made).moves) flush
+
+  -- a `write` takes no more than it is given,
+  pub write_bound : (S : ℕ) {x held left : List ℕ} {C : List WriteCall} {reply : Result ℕ Error} → WriteCalls S x held C reply left
+      → (a b : W) → Made (CallOf I) a C b → IfOk reply (λ n. n ≤ length x)
+  write_bound S (stops way) a b made = tt
+  write_bound S {x = x} (goes_on {C = C} {D = D} {reply = reply} way put) a b made = elim put [
+    | inl held ↦ subst (λ r. IfOk r (λ n. n ≤ length x)) (sym held.2) (le_refl (length x))
+    | inr gone ↦ let parts = made_split (CallOf I) C a D b made in (one_call parts.0 b gone.1.2 parts.2).bound
+  ]
+
+  -- and all of it, over an inner writer that takes all
+  pub write_takes : (S : ℕ) {x held left : List ℕ} {C : List WriteCall} {reply : Result ℕ Error} → WriteCalls S x held C reply left
+      → (a b : W) → Made (CallOf I) a C b → I.takes_all a → reply ≡ Ok (length x)
+  write_takes S {x} (stops way) a b made takes = no_ok (way_counts S (length x) _ _ _ _ way a b made takes).1
+  write_takes S {x} (goes_on {C = C} {D = D} way put) a b made takes = elim put [
+    | inl held ↦ held.2
+    | inr gone ↦
+      let parts = made_split (CallOf I) C a D b made in
+      ((one_call parts.0 b gone.1.2 parts.2).all (way_counts S (length x) _ _ _ _ way a parts.0 parts.1 takes).0).1
+  ]
+
+  -- `flush` leaves nothing held, here or further in
+  pub flush_empty : {held left : List ℕ} {C : List WriteCall} {reply : Result (Unit {0}) Error} → FlushCalls held C reply left
+      → (a b : W) → Made (CallOf I) a C b → OnOk reply ((I.told b).held ++ left ≡ [])
+  flush_empty (stops sent) a b made = tt
+  flush_empty (goes_on {C = C} {D = D} {reply = reply} sent gone) a b made =
+      let parts = made_split (CallOf I) C a D b made in
+      onok_map reply _ _ (λ e. ap (λ l. (I.told b).held ++ l) gone.1 ∙ append-nil _ ∙ e) (one_call parts.0 b gone.2 parts.2).empty
+
+module _ {W : Type 0} (I : Writer W) (steady : (w : W) → I.takes_all w → (I.told w).mishaps ≡ Some []) where
+  -- a `write_all` accepts some front, all of it at `Ok`, and answers no interruption
+  abbrev pub WritingAll : List ℕ → Told → Result (Unit {0}) Error → Told → Type 0
+  WritingAll x old reply new = MovesFront old x reply new
+
+  pub write_all_tells : (S : ℕ) (x : List ℕ) → Tells I (WriteAllCalls S x) (WritingAll x)
+  write_all_tells S x = buffered_tells I S x tt (OneWriteAll x) (WritingAll x)
+      (λ s t e m. record { accepted = []; front = (x, refl); whole = tt; moves = m })
+      (λ s m t r f g. record { accepted = g.accepted; front = g.front; whole = g.whole; moves = Moves-then {k = []} f g.moves })
+      (λ s t m. record { accepted = x; front = IsFront-refl x; whole = refl; moves = m })
+      (λ held C reply left gone a b made.
+      MovesFront-emptied gone.0 gone.1 (all_calls I.told I.takes_all I.cost I.is_metered I.may steady gone.2 a b made).1)
+
+  pub write_all_counts : (S : ℕ) (x : List ℕ) → Counts I (WriteAllCalls S x) (writing_all_calls S x)
+  write_all_counts S x = buffered_counts I S x tt (OneWriteAll x) (calls_for x)
+      (λ held C reply left gone a b made takes. (all_calls I.told I.takes_all I.cost I.is_metered I.may steady gone.2 a b made).2 takes)
+
+  pub write_all_fault : (S : ℕ) {x held left : List ℕ} {C : List WriteCall} {reply : Result (Unit {0}) Error}
+      → WriteAllCalls S x held C reply left → (a b : W) → Made (CallOf I) a C b → IsNoInterruption reply
+  write_all_fault S (stops way) a b made = elim way [
+    | inl kept ↦ absurd (let no : ⊥ = cc in no)
+    | inr sent ↦ writes_fault sent.1
+  ]
+  write_all_fault S (goes_on {C = C} {D = D} {reply = reply} way put) a b made = elim put [
+    | inl held ↦ subst IsNoInterruption (sym held.2) tt
+    | inr gone ↦
+      let parts = made_split (CallOf I) C a D b made in
+      (all_calls I.told I.takes_all I.cost I.is_metered I.may steady gone.1.2 parts.0 b parts.2).0
+  ]
+
+  pub flush_counts : Counts I FlushCalls calls_for
+  flush_counts = λ held C reply left flush a b made takes.
+      let all = then_counts I SendCalls (PastEmpty OneFlush) (λ _. []) calls_for (λ _. 0) send_leaves
+      (send_counts I) past_counts flush a b made takes in
+      (all.0, all.1, λ m. let spent = all.2 m in (spent.0, omega (arith, spent.1)))
+    where
+      past_counts : Counts I (PastEmpty OneFlush) (λ _. 0)
+      past_counts = λ held C reply left gone a b made takes.
+          let law = one_call I a b gone.2 made in
+          (law.all takes, call_steady reply (steady a takes) law.moves, λ m. let one = law.counts m takes in (one.0, omega (arith, one.1)))
+
+  module _ {B : Type 0} (inner : B → W) (buffer : B → List ℕ) (S : ℕ) {old new : B} where
+    -- what follows for `write`, `write_all` and `flush`
+    pub buffers_of : {x : List ℕ} {reply : Result ℕ Error} → Takes I inner buffer (WriteCalls S x) old reply new
+        → Buffers I S inner buffer old x reply new
+    buffers_of {x} calls =
+        record {
+          calls = calls;
+          fits = λ short room.
+              let kept = buffered_fits S x (length x) (OneWrite x) calls.2 short room in
+              (kept.1, subst (λ K. Made (CallOf I) (inner old) K (inner new)) kept.0 calls.1, kept.2);
+          whole = write_whole S calls.2;
+          after = buffered_leaves S x (length x) (OneWrite x) _ _ _ _ calls.2;
+          counts = λ m t. (write_counts I S x _ _ _ _ calls.2 (inner old) (inner new) calls.1 t).2 m;
+        }
+
+    pub buffers_all_of : {x : List ℕ} {reply : Result (Unit {0}) Error} → Takes I inner buffer (WriteAllCalls S x) old reply new
+        → BuffersAll I S inner buffer old x reply new
+    buffers_all_of {x} calls =
+        record {
+          calls = calls;
+          fits = λ short room.
+              let kept = buffered_fits S x tt (OneWriteAll x) calls.2 short room in
+              (subst IsOk (sym kept.1) refl, subst (λ K. Made (CallOf I) (inner old) K (inner new)) kept.0 calls.1, kept.2);
+          after = buffered_leaves S x tt (OneWriteAll x) _ _ _ _ calls.2;
+          counts = λ some m t.
+              let spent = (write_all_counts S x _ _ _ _ calls.2 (inner old) (inner new) calls.1 t).2 m in
+              (spent.0, omega (arith, spent.1, writing_all-is S x (buffer old) some));
+        }
+
+    pub flushes_of : {reply : Result (Unit {0}) Error} → Takes I inner buffer FlushCalls old reply new
+        → Flushes I inner buffer old reply new
+    flushes_of calls =
+        record { calls = calls; counts = λ m t. (flush_counts _ _ _ _ calls.2 (inner old) (inner new) calls.1 t).2 m }

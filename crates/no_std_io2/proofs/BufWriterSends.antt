@@ -1,43 +1,17 @@
 -- The turns of a sending and its ends: all was sent, or a fault came.
 use Rattle.std.proofs.Common.{◌≡◌, true, ℕ, ◌+◌, ◌<◌, ◌≤◌, ◌∙◌, List, [], ◌∷◌, length, length-drop, drop, codes}
-use Rattle.std.proofs.Common.{count_by, Result, Ok, Err, OnOk, OnErr, IsOk, refl, sym, ap, subst, arith}
+use Rattle.std.proofs.Common.{count_by, Result, Ok, Err, refl, sym, ap, subst, arith}
 use Rattle.std.proofs.lemmas.Bool.Decides.{nat_tests}
 use Rattle.no_std_io2_base.specs.declared.error.Error.{Error}
 use Rattle.no_std_io2_base.specs.declared.error.ErrorKind.{ErrorKind}
 use Rattle.no_std_io2_base.specs.declared.error.ErrorKind.TheVariants.{WriteZero}
-use Rattle.no_std_io2_base.specs.Errors.{error_kind, is_interruption, IsFault, IsInterruption, IsNoInterruption, SaysError}
+use Rattle.no_std_io2_base.specs.Errors.{error_kind, is_interruption, IsFault, IsInterruption, SaysError}
 use Rattle.no_std_io2_base.specs.declared.traits.write.Write.{Ghosts as Writer}
-use Rattle.no_std_io2_base.specs.Write.{Told, Moves, Sends, calls_for, WriteCall, Wrote, Made}
+use Rattle.no_std_io2_base.specs.Write.{Told, Moves, Wrote}
 use Rattle.no_std_io2_base.specs.Write.{none as no_write, took, again as goes_again, stuck, fault as fails}
-use Rattle.no_std_io2_base.proofs.CallsLemmas.{CallsSoFar, calls_none, calls_more, calls_end, writes_whole}
-use Rattle.no_std_io2_base.proofs.WritesFacts.{writes_fault, writes_left, writes_idle, writes_sends, writes_all}
+use Rattle.no_std_io2_base.proofs.CallsLemmas.{CallsSoFar, calls_none, calls_more, calls_end}
 use Rattle.no_std_io2.specs.declared.buffered.sender.Sender.{Sender}
-use Rattle.no_std_io2.specs.BufWriter.{sender_inner, sender_buffer, sender_with_inner, Sent, SendCalls, CallOf, CallsExactly}
-
--- what follows from the calls of a sending
-pub sent_of : {W : Type 0} {S : ℕ} {I : Writer W} {old : Sender W S} {reply : Result (Unit {0}) Error} {new : Sender W S}
-    → new.buffer.bytes ≡ old.buffer.bytes
-    → (C : List WriteCall) × Made (CallOf I) (sender_inner old) C (sender_inner new)
-    × SendCalls (sender_buffer old) C reply (sender_buffer new)
-    → Sent I old reply new
-sent_of {I} {old} {reply} {new} unmoved calls =
-    let made = calls.1 in
-    let writes = calls.2 in
-    let a = sender_inner old in
-    let b = sender_inner new in
-    record {
-      fault = writes_fault writes;
-      empty = writes_whole writes;
-      left = writes_left writes;
-      sends = writes_sends I.told I.takes_all I.cost I.is_metered I.may writes a b made;
-      idle = λ none.
-          let idle = writes_idle writes none in
-          (subst (λ K. Made (CallOf I) a K b) idle.0 made, idle.1);
-      all = λ t. let all = writes_all I.told I.takes_all I.cost I.is_metered I.may writes a b made t in (all.0, all.1);
-      calls = λ m t. (writes_all I.told I.takes_all I.cost I.is_metered I.may writes a b made t).3 m;
-      made = calls;
-      unmoved = unmoved;
-    }
+use Rattle.no_std_io2.specs.BufWriter.{sender_inner, sender_buffer, sender_with_inner, Takes, SendCalls, CallOf}
 
 -- the inner calls so far
 pub record Sending {W : Type 0} {S : ℕ} (I : Writer W) (old new : Sender W S) : Type 0 where
@@ -73,31 +47,31 @@ sending_again {I} {mid} {inner} {e = e} before some given interrupted wrote = re
 -- a fault came
 pub sending_fails : {W : Type 0} {S : ℕ} {I : Writer W} {old mid : Sender W S} {inner : W} {x : List ℕ} {e : Error}
     → Sending I old mid → 0 < length (sender_buffer mid) → x ≡ sender_buffer mid → IsFault e
-    → CallOf I (sender_inner mid) (Wrote x (Err e)) inner → Sent I old (Err e) (sender_with_inner mid inner)
+    → CallOf I (sender_inner mid) (Wrote x (Err e)) inner
+    → Takes I sender_inner sender_buffer SendCalls old (Err e) (sender_with_inner mid inner)
 sending_fails {I} {mid} {inner} {e = e} before some given fault wrote =
     let held = sender_buffer mid in
     let last = subst (λ y. CallOf I (sender_inner mid) (Wrote y (Err e)) inner) given wrote in
-    sent_of before.unmoved
-    (calls_end before.made (Err e) held (Wrote held (Err e) ∷ []) (inner, last, refl) (fails some fault))
+    calls_end before.made (Err e) held (Wrote held (Err e) ∷ []) (inner, last, refl) (fails some fault)
 
 -- the inner writer took no byte of some
 pub sending_stuck : {W : Type 0} {S : ℕ} {I : Writer W} {old mid : Sender W S} {inner : W} {x : List ℕ}
     {r : Result ℕ Error} {n : ℕ} {e : Error}
     → Sending I old mid → 0 < length (sender_buffer mid) → x ≡ sender_buffer mid → r ≡ Ok n → n ≡ 0
     → SaysError WriteZero (codes "failed to write the buffered data") e
-    → CallOf I (sender_inner mid) (Wrote x r) inner → Sent I old (Err e) (sender_with_inner mid inner)
+    → CallOf I (sender_inner mid) (Wrote x r) inner
+    → Takes I sender_inner sender_buffer SendCalls old (Err e) (sender_with_inner mid inner)
 sending_stuck {I} {mid} {inner} {x} {e = e} before some given is zero says wrote =
     let held = sender_buffer mid in
     let answered = subst (λ a. CallOf I (sender_inner mid) (Wrote x a) inner) (is ∙ ap Ok zero) wrote in
     let last = subst (λ y. CallOf I (sender_inner mid) (Wrote y (Ok 0)) inner) given answered in
-    sent_of before.unmoved
-    (calls_end before.made (Err e) held (Wrote held (Ok 0) ∷ []) (inner, last, refl) (stuck some says))
+    calls_end before.made (Err e) held (Wrote held (Ok 0) ∷ []) (inner, last, refl) (stuck some says)
 
 -- all was sent
 pub sending_done : {W : Type 0} {S : ℕ} {I : Writer W} {old new : Sender W S} → Sending I old new → sender_buffer new ≡ []
-    → Sent I old (Ok tt) new
-sending_done {new} before empty = sent_of before.unmoved
-    (calls_end before.made (Ok tt) (sender_buffer new) [] refl (subst (λ l. SendCalls l [] (Ok tt) l) (sym empty) no_write))
+    → Takes I sender_inner sender_buffer SendCalls old (Ok tt) new
+sending_done {new} before empty =
+    calls_end before.made (Ok tt) (sender_buffer new) [] refl (subst (λ l. SendCalls l [] (Ok tt) l) (sym empty) no_write)
 
 -- fewer turns and bytes are left after a write that took some
 pub fewer_left : {a b : Told} {y : List ℕ} {k : List ErrorKind} (x : List ℕ) {held next : List ℕ} {n : ℕ}

@@ -1,17 +1,15 @@
 -- The lines of a list of bytes, and what follows them.
-use Rattle.std.proofs.Common.{◌≡◌, ◌≢◌, ℕ, ◌+◌, ◌-◌, ◌<◌, ◌≤◌, ◌==◌, not, true, false, List, [], ◌++◌, length, take}
-use Rattle.std.proofs.Common.{drop, get_or, slice_index, sym, ap, ◌∙◌, subst, append-nil, arith, min, length-drop}
-use Rattle.std.proofs.Common.{length-take}
+use Rattle.std.proofs.Common.{◌≡◌, ◌≢◌, ℕ, zero, suc, ◌+◌, ◌-◌, ◌<◌, ◌≤◌, ◌==◌, not, true, false, List, [], ◌++◌, length, take}
+use Rattle.std.proofs.Common.{drop, get_or, slice_index, refl, sym, ap, ◌∙◌, subst, arith, min, length-drop, length-take, ⊎_elim}
+use Rattle.std.proofs.lemmas.Bool.{cases_lt}
+use lib.Seq.{take-add}
 use Rattle.std.proofs.lemmas.Bool.Decides.{nat_tests}
 use Rattle.std.proofs.lemmas.List.{get_or-drop, get_or-take, drop_all, take_min, take-take, get_or_default}
 use Rattle.std.proofs.lemmas.List.Sums.{suffix_len_is}
-use Rattle.no_std_io2.specs.Lines.{HasNoNewline, IsLineState, HasNewline, IsLinesLen, unfinished_line, lines_len, lines_or_all, held_tail}
-use Rattle.no_std_io2.specs.LineWriter.{WritesLines}
+use Rattle.no_std_io2.specs.Lines.{HasNoNewline, IsLineState, HasNewline, IsLinesLen, unfinished_line, lines_of, lines_len, lines_or_all, held_tail}
 use Rattle.std.specs.List.{slice_range}
-use Rattle.no_std_io2_base.specs.declared.error.ErrorKind.{ErrorKind}
-use Rattle.no_std_io2_base.specs.Write.{Told, Moves}
-use Rattle.no_std_io2_base.proofs.MovesLemmas.{Moves-then, Moves-quiet}
-use Rattle.no_std_io2.proofs.LineWriterLemmas.{IsLineState-plain, HasNoNewline-take}
+use Rattle.no_std_io2_base.specs.Write.{zero_write}
+use Rattle.no_std_io2.proofs.LineWriterLemmas.{IsLineState-plain, HasNoNewline-take, HasNoNewline-none, zero_write-lines, zero_write-some}
 
 -- how a search from the end tests a byte: it passes over each that is no newline,
 is_not_ten : (b : ℕ) → b ≢ 10 → not (b == 10) ≡ true
@@ -38,6 +36,33 @@ unfinished_line-is xs n h =
 -- the length of the lines
 pub lines_len-is : (xs : List ℕ) (n : ℕ) → IsLinesLen xs n → lines_len xs ≡ n
 lines_len-is xs n h = omega (arith, ap length (unfinished_line-is xs n h), length-drop n xs, h.within)
+
+-- each list has such lines: from its end on one comes to its last newline, or to its front
+lines_down : (xs : List ℕ) (n : ℕ) → n ≤ length xs → HasNoNewline (drop n xs) → (m : ℕ) × IsLinesLen xs m
+lines_down xs zero h none = (0, record { within = h; ends = λ some. absurd (omega arith); none_after = none })
+lines_down xs (suc n) h none =
+    let before : get_or xs n 0 ≢ 10 → (m : ℕ) × IsLinesLen xs m = λ other. lines_down xs n (omega arith) (none_before other) in
+    ⊎_elim
+    (λ less. before (λ is. omega (arith, less, is)))
+    (λ most. ⊎_elim
+    (λ more. before (λ is. omega (arith, more, is)))
+    (λ least. (suc n, record { within = h; ends = λ _. ap (λ i. get_or xs i 0) (let same : suc n - 1 ≡ n = omega arith in same) ∙ ten most least; none_after = none }))
+    (cases_lt 10 (get_or xs n 0)))
+    (cases_lt (get_or xs n 0) 10)
+  where
+    ten : 10 ≤ get_or xs n 0 → get_or xs n 0 ≤ 10 → get_or xs n 0 ≡ 10
+    ten most least = omega (arith, most, least)
+
+    none_before : get_or xs n 0 ≢ 10 → HasNoNewline (drop n xs)
+    none_before other k lt is = ⊎_elim
+        (λ first. other (ap (λ i. get_or xs i 0) (omega (arith, first)) ∙ sym (get_or-drop n xs k 0) ∙ is))
+        (λ later. none_from xs (suc n) (n + k) none (omega (arith, later)) (omega (arith, lt, length-drop n xs)) (sym (get_or-drop n xs k 0) ∙ is))
+        (cases_lt k 1)
+
+pub lines_are : (xs : List ℕ) → IsLinesLen xs (lines_len xs)
+lines_are xs =
+    let found = lines_down xs (length xs) (omega arith) (λ k lt. absurd (omega (arith, lt, length-drop (length xs) xs))) in
+    subst (IsLinesLen xs) (sym (lines_len-is xs found.0 found.1)) found.1
 
 -- where there is no newline, the lines have no byte
 pub IsLinesLen-none : (xs : List ℕ) → HasNoNewline xs → IsLinesLen xs 0
@@ -79,19 +104,69 @@ lines_or_all-none xs h = grind (arith, nat_tests)
 pub lines_or_all-some : (xs : List ℕ) (n : ℕ) → 0 < n → lines_len xs ≡ n → lines_or_all xs ≡ take n xs
 lines_or_all-some xs n some h = grind (arith, nat_tests)
 
--- the tail that is held once n bytes went out: where all lines did, what follows them, up to a buffer;
-pub held_tail-all : (S : ℕ) (x : List ℕ) (len n : ℕ) → lines_len x ≡ len → len ≤ n → held_tail S x n ≡ take S (drop n x)
-held_tail-all S x len n e h = grind (arith, nat_tests)
+-- the tail that is held once some n bytes went out: where all lines did, what follows them, up to a buffer;
+pub held_tail-all : (S : ℕ) (x : List ℕ) (len n : ℕ) → lines_len x ≡ len → 0 < n → len ≤ n → held_tail S x n ≡ take S (drop n x)
+held_tail-all S x len n e some h = grind (arith, nat_tests)
 
 -- where some of the lines are left and fit, those;
-pub held_tail-rest : (S : ℕ) (x : List ℕ) (len n : ℕ) → lines_len x ≡ len → n < len → len - n ≤ S
+pub held_tail-rest : (S : ℕ) (x : List ℕ) (len n : ℕ) → lines_len x ≡ len → 0 < n → n < len → len - n ≤ S
     → held_tail S x n ≡ take (len - n) (drop n x)
-held_tail-rest S x len n e h g = grind (arith, nat_tests)
+held_tail-rest S x len n e some h g = grind (arith, nat_tests)
 
 -- and where they don't fit, as many whole lines as do, or a buffer of one
-pub held_tail-part : (S : ℕ) (x : List ℕ) (len n : ℕ) → lines_len x ≡ len → n < len → S < len - n
+pub held_tail-part : (S : ℕ) (x : List ℕ) (len n : ℕ) → lines_len x ≡ len → 0 < n → n < len → S < len - n
     → held_tail S x n ≡ lines_or_all (take S (drop n x))
-held_tail-part S x len n e h g = grind (arith, nat_tests)
+held_tail-part S x len n e some h g = grind (arith, nat_tests)
+
+-- in any case some first bytes of what follows
+part_front : (S : ℕ) (l : List ℕ) → (m : ℕ) × (lines_or_all (take S l) ≡ take m l)
+part_front S l = ⊎_elim
+    (λ some.
+    let n = lines_len (take S l) in
+    (n, lines_or_all-some (take S l) n some refl ∙ take-take n S l (omega (arith, length-take S l))))
+    (λ none. (S, lines_or_all-none (take S l) (omega (arith, none))))
+    (cases_lt 0 (lines_len (take S l)))
+
+tail_front : (S : ℕ) (x : List ℕ) (n : ℕ) → (m : ℕ) × (held_tail S x n ≡ take m (drop n x))
+tail_front S x n =
+    let len = lines_len x in
+    ⊎_elim
+    (λ some. ⊎_elim
+    (λ left. ⊎_elim
+    (λ over. let part = part_front S (drop n x) in (part.0, held_tail-part S x len n refl some left over ∙ part.1))
+    (λ fits. (len - n, held_tail-rest S x len n refl some left fits))
+    (cases_lt S (len - n)))
+    (λ all. (S, held_tail-all S x len n refl some all))
+    (cases_lt n len))
+    (λ none. (0, ap (held_tail S x) (let zero : n ≡ 0 = omega (arith, none) in zero)))
+    (cases_lt 0 n)
+
+-- the first n bytes and that tail are the first ones of x
+pub took_tail : (S : ℕ) (x : List ℕ) (n : ℕ) → take (n + length (held_tail S x n)) x ≡ take n x ++ held_tail S x n
+took_tail S x n =
+    let front = tail_front S x n in
+    let l = drop n x in
+    take-add n (length (held_tail S x n)) x
+    ∙ ap (λ k. take n x ++ take k l) (ap length front.1 ∙ length-take front.0 l)
+    ∙ ap (λ t. take n x ++ t) (take_min front.0 l ∙ sym front.1)
+
+-- and no more than x has
+pub took_tail-le : (S : ℕ) (x : List ℕ) (n : ℕ) → n ≤ length x → n + length (held_tail S x n) ≤ length x
+took_tail-le S x n within =
+    let front = tail_front S x n in
+    omega (arith, ap length front.1, length-take front.0 (drop n x), length-drop n x, within)
+
+-- none of some is the same mishap, of lines and of all
+pub tail_mishap : (S : ℕ) (x : List ℕ) (n : ℕ) → 0 < lines_len x
+    → zero_write n (lines_of x) ≡ zero_write (n + length (held_tail S x n)) x
+tail_mishap S x n lines = ⊎_elim
+    (λ some. zero_write-some (lines_of x) n some ∙ sym (zero_write-some x (n + length (held_tail S x n)) (omega (arith, some))))
+    (λ none.
+    let zero : n ≡ 0 = omega (arith, none) in
+    let sum : n + length (held_tail S x n) ≡ 0 = omega (arith, zero, ap length (ap (held_tail S x) zero)) in
+    ap (λ k. zero_write k (lines_of x)) zero ∙ zero_write-lines x (lines_len x) lines (lines_are x).within
+    ∙ sym (ap (λ k. zero_write k x) sum))
+    (cases_lt 0 n)
 
 -- windows of x behind its first n bytes
 pub window_all : (x : List ℕ) (n S m : ℕ) → m ≡ min (length x - n) S → slice_range x n (n + m) ≡ take S (drop n x)
@@ -103,98 +178,73 @@ window_all x n S m e =
 pub window_some : (x : List ℕ) (n m : ℕ) → slice_range x n (n + m) ≡ take m (drop n x)
 window_some x n m = ap (λ i. take i (drop n x)) (let same : (n + m) - n ≡ m = omega arith in same)
 
--- what is held so has no newline, or ends in one: behind all lines,
-pub IsLineState-all : (x : List ℕ) (len n end : ℕ) → IsLinesLen x len → n ≡ len → IsLineState (slice_range x n end)
-IsLineState-all x len n end h e =
-    IsLineState-plain _ (HasNoNewline-take (end - n) (drop n x) (subst (λ k. HasNoNewline (drop k x)) (sym e) h.none_after))
-
--- of the lines that are left,
-pub IsLineState-rest : (x : List ℕ) (len n : ℕ) → IsLinesLen x len → n < len → IsLineState (slice_range x n len)
-IsLineState-rest x len n h lt =
-    IsLineState-lines (drop n x) (len - n) (omega (arith, length-drop n x, h.within))
-    (λ some. get_or-drop n x (len - n - 1) 0
-    ∙ ap (λ i. get_or x i 0) (let same : n + (len - n - 1) ≡ len - 1 = omega arith in same) ∙ h.ends (omega arith))
-
 -- the part of the tail that ends in a newline, or all of it where it has none
-pub tail_part : (S : ℕ) (x : List ℕ) (len n part : ℕ) → IsLinesLen x len → n < len → S < len - n
+pub tail_part : (S : ℕ) (x : List ℕ) (len n part : ℕ) → IsLinesLen x len → 0 < n → n < len → S < len - n
     → IsLinesLen (slice_range x n (n + S)) part
     → (part ≡ 0 → slice_range x n (n + S) ≡ held_tail S x n) × (0 < part → slice_range x n (n + part) ≡ held_tail S x n)
-tail_part S x len n part h lt more p =
+tail_part S x len n part h sent lt more p =
     let here : IsLinesLen (take S (drop n x)) part = subst (λ l. IsLinesLen l part) (window_some x n S) p in
-    let whole = held_tail-part S x len n (lines_len-is x len h) lt more in (
+    let whole = held_tail-part S x len n (lines_len-is x len h) sent lt more in (
       λ e. window_some x n S ∙ sym (lines_or_all-none _ (lines_len-is _ part here ∙ e)) ∙ sym whole,
       λ some. window_some x n part ∙ sym (take-take part S (drop n x) (omega (arith, here.within, length-take S (drop n x))))
           ∙ sym (lines_or_all-some _ part some (lines_len-is _ part here)) ∙ sym whole,
     )
 
--- and of as many of them as fit
-pub IsLineState-part : (S : ℕ) (x : List ℕ) (n part : ℕ) → IsLinesLen (slice_range x n (n + S)) part → 0 < part
-    → IsLineState (slice_range x n (n + part))
-IsLineState-part S x n part p some =
-    let here : IsLinesLen (take S (drop n x)) part = subst (λ l. IsLinesLen l part) (window_some x n S) p in
-    subst IsLineState
-    (take-take part S (drop n x) (omega (arith, here.within, length-take S (drop n x))) ∙ sym (window_some x n part))
-    (IsLineState-lines _ part here.within here.ends)
+-- what follows the lines
+pub unfinished_line-drop : (xs : List ℕ) → unfinished_line xs ≡ drop (lines_len xs) xs
+unfinished_line-drop xs = unfinished_line-is xs (lines_len xs) (lines_are xs)
 
--- what a write of lines leaves, where the inner writer got what was held and took n bytes of the lines
-pub writes_lines : {a b c : Told} {k : List ErrorKind} (S : ℕ) (old x : List ℕ) (len n end : ℕ)
-    (sent mid passed new : List ℕ)
-    → IsLinesLen x len → 0 < n → Moves a sent [] b → old ≡ sent ++ mid → mid ≡ [] → n ≤ length (take len x)
-    → Moves b (take n (take len x)) k c → passed ≡ mid → new ≡ passed ++ slice_range x n end
-    → slice_range x n end ≡ held_tail S x n → n ≤ end → end ≤ length x → WritesLines S a old x end c new
-writes_lines {a} {b} {c} S old x len n end sent mid passed new h some first gone none bound through same held tail le within =
-    let front = length-take len x in
-    let is_held : new ≡ slice_range x n end = held ∙ ap (λ l. l ++ slice_range x n end) (same ∙ none) in
-    let is_sent : sent ≡ old = sym (append-nil sent) ∙ ap (λ l. sent ++ l) (sym none) ∙ sym gone in
-    record {
-      sent = n;
-      within = omega (arith, lines_len-is x len h);
-      moves =
-          subst (λ l. Moves a l [] c)
-          (ap (λ l. l ++ take n (take len x)) is_sent ∙ ap (λ l. old ++ l) (take-take n len x (omega arith)))
-          (Moves-then first (Moves-quiet through));
-      none = λ e. absurd (omega arith);
-      some = λ _. is_held ∙ tail;
-      count = omega (arith, ap length is_held, length-take (end - n) (drop n x), length-drop n x);
-    }
+-- has no newline
+pub unfinished_line-plain : (xs : List ℕ) → HasNoNewline (unfinished_line xs)
+unfinished_line-plain xs = subst HasNoNewline (sym (unfinished_line-drop xs)) (lines_are xs).none_after
 
--- where it took all of the lines
-pub lines_taken : (S : ℕ) (x : List ℕ) (len n end : ℕ) (new : List ℕ) → IsLinesLen x len → n ≡ length (take len x)
-    → new ≡ slice_range x n end → slice_range x n end ≡ held_tail S x n → n ≤ end → end ≤ length x
-    → (new ≡ take S (unfinished_line x)) × (end + (length (unfinished_line x) - S) ≡ length x)
-lines_taken S x len n end new h e held tail le within =
-    let front = length-take len x in
-    let all : n ≡ len = omega (arith, h.within) in
-    let rest = unfinished_line-is x len h in
-    let is : new ≡ take S (unfinished_line x) = held ∙ tail ∙ held_tail-all S x len n (lines_len-is x len h) (omega arith)
-    ∙ ap (take S) (ap (λ m. drop m x) all ∙ sym rest) in
-    let count = length-take (end - n) (drop n x) in (
-      is,
-      omega (
-        arith,
-        ap length held,
-        length-drop n x,
-        ap length is,
-        length-take S (unfinished_line x),
-        ap length rest,
-        length-drop len x,
-        h.within,
-      ),
-    )
+-- the lines are not empty where there is a newline,
+pub lines_len-some : (xs : List ℕ) → HasNewline xs → 0 < lines_len xs
+lines_len-some xs has = ⊎_elim
+    (λ some. some)
+    (λ none.
+    let no_line : lines_len xs ≡ 0 = omega (arith, none) in
+    absurd (none_or_some xs (subst (λ n. HasNoNewline (drop n xs)) no_line (lines_are xs).none_after) has))
+    (cases_lt 0 (lines_len xs))
 
--- where it took nothing of the lines
-pub writes_none : {a b c : Told} {k : List ErrorKind} (S : ℕ) (old x y : List ℕ) (n : ℕ) (sent mid new : List ℕ) → n ≡ 0
-    → Moves a sent [] b → old ≡ sent ++ mid → mid ≡ [] → Moves b (take n y) k c → new ≡ mid
-    → WritesLines S a old x 0 c new
-writes_none {a} {b} {c} S old x y n sent mid new e first gone none through same =
-    let is_sent : sent ≡ old = sym (append-nil sent) ∙ ap (λ l. sent ++ l) (sym none) ∙ sym gone in
-    record {
-      sent = 0;
-      within = omega arith;
-      moves =
-          subst (λ l. Moves a l [] c) (ap (λ l. l ++ take n y) is_sent ∙ ap (λ m. old ++ take m y) e)
-          (Moves-then first (Moves-quiet through));
-      none = λ h. same ∙ none;
-      some = λ h. absurd (omega arith);
-      count = omega (arith, ap length (same ∙ none));
-    }
+-- and are, where there is none
+pub lines_len-none : (xs : List ℕ) → HasNoNewline xs → lines_len xs ≡ 0
+lines_len-none xs h = lines_len-is xs 0 (IsLinesLen-none xs h)
+
+-- lines are a newline at least
+pub HasNewline-lines : (xs : List ℕ) (n : ℕ) → IsLinesLen xs n → 0 < n → HasNewline xs
+HasNewline-lines xs n h some = (n - 1, omega (arith, h.within, some), get_or_default xs (n - 1) 10 0 (omega (arith, h.within, some)) ∙ h.ends some)
+
+-- that tail has no newline, or ends in one
+part_line : (S : ℕ) (l : List ℕ) → IsLineState (lines_or_all (take S l))
+part_line S l =
+    let lines = lines_are (take S l) in
+    let n = lines_len (take S l) in
+    ⊎_elim
+    (λ some. subst IsLineState (sym (lines_or_all-some (take S l) n some refl)) (IsLineState-lines (take S l) n lines.within lines.ends))
+    (λ none.
+    let zero : n ≡ 0 = omega (arith, none) in
+    subst IsLineState (sym (lines_or_all-none (take S l) zero))
+    (IsLineState-plain (take S l) (subst (λ k. HasNoNewline (drop k (take S l))) zero lines.none_after)))
+    (cases_lt 0 n)
+
+pub tail_line : (S : ℕ) (x : List ℕ) (n : ℕ) → IsLineState (held_tail S x n)
+tail_line S x n =
+    let len = lines_len x in
+    let lines = lines_are x in
+    let l = drop n x in
+    ⊎_elim
+    (λ some. ⊎_elim
+    (λ left. ⊎_elim
+    (λ over. subst IsLineState (sym (held_tail-part S x len n refl some left over)) (part_line S l))
+    (λ fits. subst IsLineState (sym (held_tail-rest S x len n refl some left fits))
+    (IsLineState-lines l (len - n) (omega (arith, length-drop n x, lines.within))
+    (λ _. get_or-drop n x (len - n - 1) 0
+    ∙ ap (λ i. get_or x i 0) (let same : n + (len - n - 1) ≡ len - 1 = omega (arith, left) in same) ∙ lines.ends (omega (arith, left)))))
+    (cases_lt S (len - n)))
+    (λ all. subst IsLineState (sym (held_tail-all S x len n refl some all))
+    (IsLineState-plain _ (HasNoNewline-take S l (λ k lt is.
+    none_from x len (n + k) lines.none_after (omega (arith, all)) (omega (arith, lt, length-drop n x)) (sym (get_or-drop n x k 0) ∙ is)))))
+    (cases_lt n len))
+    (λ none. IsLineState-plain _ (HasNoNewline-none _ (ap (held_tail S x) (let zero : n ≡ 0 = omega (arith, none) in zero))))
+    (cases_lt 0 n)

@@ -1,14 +1,18 @@
 -- What a clause reads of a `LineWriter`, and of what it stands on.
-use Rattle.std.specs.Prelude.{ℕ, List, ◌≡◌, ◌+◌, ◌<◌, ◌≤◌, [], ◌++◌, length, take}
+use Rattle.std.specs.Prelude.{ℕ, List, ◌≡◌, ◌+◌, ◌<◌, ◌≤◌, ◌==◌, ◌⊎◌, [], ◌∷◌, ◌++◌, length, take, if◌then◌else◌}
+use Rattle.std.specs.Prelude.{Result, Ok, Err, IsOk}
 use Rattle.no_std_io2.specs.declared.buffered.line_writer.state.LineSender.{LineSender}
-use Rattle.no_std_io2_base.specs.Write.{Told, Moves}
+use Rattle.no_std_io2_base.specs.declared.error.Error.{Error}
+use Rattle.no_std_io2_base.specs.declared.traits.write.Write.{Ghosts as Writer}
+use Rattle.no_std_io2_base.specs.Write.{Told, WriteCall, Wrote, WroteAll, WroteRest, Flushed, Made}
 use Rattle.no_std_io2.specs.declared.buffered.line_writer.LineWriter.{LineWriter}
 use denote.Param.{param, number}
 use denote.RattleType.{RattleType}
 use Rattle.std.specs.Mem.{FitsInMemory}
 use Rattle.no_std_io2.specs.contracts.buffered.line_writer.LineWriter.{the_row as lines-row}
-use Rattle.no_std_io2.specs.Lines.{lines_len, held_tail}
-use Rattle.no_std_io2.specs.BufWriter.{sender_with_inner, sender_inner, sender_buffer, sender_told}
+use Rattle.no_std_io2.specs.Lines.{HasNoNewline, HasNewline, lines_of, lines_len, unfinished_line, held_tail}
+use Rattle.no_std_io2.specs.BufWriter.{sender_with_inner, sender_inner, sender_buffer, sender_told, buffer_after}
+use Rattle.no_std_io2.specs.BufWriter.{Step, Then, PastEmpty, OneWriteAll, CallOf, SendCalls, WriteCalls, WriteAllCalls, FlushCalls}
 
 -- w with another inner writer
 abbrev pub line_sender_with_inner : {W : Type 0} {S : ℕ} → LineSender W S → W → LineSender W S
@@ -30,16 +34,65 @@ line_told told w = sender_told told w.core.buffered
 abbrev pub line_with_inner : {W : Type 0} {S : ℕ} → LineWriter W S → W → LineWriter W S
 line_with_inner w x = record { core = line_sender_with_inner w.core x }
 
--- A write of x, which has a newline, answered Ok(n) and left this buffer. The inner writer got the old buffer and, in
--- one write of the lines,
--- took `sent` bytes of x. Where it took none, nothing is held and n is 0, else the tail is held.
-pub record WritesLines (S : ℕ) (told_old : Told) (old x : List ℕ) (n : ℕ) (told_new : Told) (new : List ℕ) : Type 0 where
-  pub sent : ℕ
-  pub within : sent ≤ lines_len x
-  pub moves : Moves told_old (old ++ take sent x) [] told_new
-  pub none : sent ≡ 0 → new ≡ []
-  pub some : 0 < sent → new ≡ held_tail S x sent
-  pub count : n ≡ sent + length new
+-- what is held, a line state, is sent where it ends in a newline; else there is no call
+abbrev pub SendLineCalls : Step (Unit {0})
+SendLineCalls held C reply left = (HasNoNewline held × (C ≡ []) × (reply ≡ Ok tt) × (left ≡ held))
+    ⊎ (HasNewline held × SendCalls held C reply left)
+
+-- what one write of the lines of x makes of the answer to it: of what it left the tail is held, and counts as taken
+abbrev pub HoldsTail : ℕ → List ℕ → Result ℕ Error → Result ℕ Error → List ℕ → Type 0
+HoldsTail S x (Ok n) reply left = (left ≡ held_tail S x n) × (reply ≡ Ok (n + length left))
+HoldsTail S x (Err e) reply left = (left ≡ []) × (reply ≡ Err e)
+
+-- one write of the lines of x, with nothing held before it
+abbrev pub LinesCalls : ℕ → List ℕ → Step ℕ
+LinesCalls S x held C reply left =
+    (held ≡ []) × (answer : Result ℕ Error) × (C ≡ Wrote (lines_of x) answer ∷ []) × HoldsTail S x answer reply left
+
+-- lines y are handed on by one `write_all` where nothing is held, else behind what is held, which is then sent
+abbrev pub SendLinesCalls : ℕ → List ℕ → Step (Unit {0})
+SendLinesCalls S y held C reply left = PastEmpty (OneWriteAll y) held C reply left
+    ⊎ ((0 < length held) × Then (WriteAllCalls S y) SendCalls held C reply left)
+
+-- `write(x)`: a text without a newline goes the way of a `BufWriter`, once a line that is held was sent; with one, what is held is
+-- sent, and then come the lines
+abbrev pub LineWriteCalls : ℕ → List ℕ → Step ℕ
+LineWriteCalls S x held C reply left = (HasNoNewline x × Then SendLineCalls (WriteCalls S x) held C reply left)
+    ⊎ (HasNewline x × Then SendCalls (LinesCalls S x) held C reply left)
+
+-- `write_all(x)`: the same, where the lines go out whole, and then what follows them goes the way of a `BufWriter`
+abbrev pub LineWriteAllCalls : ℕ → List ℕ → Step (Unit {0})
+LineWriteAllCalls S x held C reply left = (HasNoNewline x × Then SendLineCalls (WriteAllCalls S x) held C reply left)
+    ⊎ (HasNewline x × Then (SendLinesCalls S (lines_of x)) (WriteAllCalls S (unfinished_line x)) held C reply left)
+
+-- the inner calls of a call of a writer with a line buffer of S bytes
+abbrev pub LineCalls : ℕ → List ℕ → WriteCall → List WriteCall → List ℕ → Type 0
+LineCalls S held (Wrote x reply) C left = LineWriteCalls S x held C reply left
+LineCalls S held (WroteAll x reply) C left = LineWriteAllCalls S x held C reply left
+LineCalls S held (WroteRest x reply rest) C left = ⊥
+LineCalls S held (Flushed reply) C left = FlushCalls held C reply left
+
+-- what a call may do to such a writer: these calls of its inner writer
+abbrev pub LineMay : {W B : Type 0} → Writer W → ℕ → (B → W) → (B → List ℕ) → B → WriteCall → B → Type 0
+LineMay I S inner buffer old call new = (C : List WriteCall) × Made (CallOf I) (inner old) C (inner new)
+    × LineCalls S (buffer old) call C (buffer new)
+
+-- the buffer after a `write_all(x)` that answered `Ok`: the unfinished line, where it is shorter than S
+abbrev pub line_buffer_after : ℕ → List ℕ → List ℕ → List ℕ
+line_buffer_after S held x = buffer_after S (if lines_len x == 0 then unfinished_line held else []) (unfinished_line x)
+
+-- the buffer after a `write(x)` to an inner writer that takes all: behind lines, the first S bytes of the unfinished line
+abbrev pub line_buffer_filled : ℕ → List ℕ → List ℕ → List ℕ
+line_buffer_filled S held x = if lines_len x == 0 then buffer_after S (unfinished_line held) x else take S (unfinished_line x)
+
+-- x has no newline and is shorter than S
+abbrev pub IsShortText : ℕ → List ℕ → Type 0
+IsShortText S x = HasNoNewline x × (length x < S)
+
+-- an inner writer that takes all still does, there was no error, and where its calls are counted it got three at most
+abbrev pub KeepsTaking : {W A : Type 0} → Writer W → W → Result A Error → W → Type 0
+KeepsTaking I old reply new = I.takes_all old
+    → I.takes_all new × IsOk reply × (I.is_metered old → I.is_metered new × (I.cost new ≤ I.cost old + 3))
 
 -- a `LineWriter<W, S>` fits in memory
 abbrev pub LineWriterFits : RattleType → ℕ → Type 0

@@ -29,17 +29,19 @@ pub record IsLinesLen (xs : List ℕ) (n : ℕ) : Type 0 where
 abbrev pub lines_len : List ℕ → ℕ
 lines_len xs = length xs - length (unfinished_line xs)
 
+-- the lines of xs: it up to and with its last newline
+abbrev pub lines_of : List ℕ → List ℕ
+lines_of xs = take (lines_len xs) xs
+
 -- xs up to and with its last newline, all where there is none
 abbrev pub lines_or_all : List ℕ → List ℕ
 lines_or_all xs = if nat_lt 0 (lines_len xs) then take (lines_len xs) xs else xs
 
--- what is held of x, where at most S bytes may be and the inner writer took the first n of x: of what follows the lines where all lines
--- are sent, else the rest of the lines where it fits, else the lines among the next S bytes, or all S where they have no newline
+-- what is held of x, where at most S bytes may be and the inner writer took the first n of x: nothing where it took none; of what follows
+-- the lines where it took all lines, else the rest of the lines where it fits, else the lines among the next S bytes, or all S where they
+-- have no newline
 abbrev pub held_tail : ℕ → List ℕ → ℕ → List ℕ
 held_tail S x n =
-    if nat_le (lines_len x) n then take S (drop n x)
-    else (if nat_le (lines_len x - n) S then take (lines_len x - n) (drop n x) else lines_or_all (take S (drop n x)))
-
--- xs where it is shorter than S, else nothing
-abbrev pub whole_if_short : ℕ → List ℕ → List ℕ
-whole_if_short S xs = if nat_lt (length xs) S then xs else []
+    if n == 0 then []
+    else (if nat_le (lines_len x) n then take S (drop n x)
+    else (if nat_le (lines_len x - n) S then take (lines_len x - n) (drop n x) else lines_or_all (take S (drop n x))))

@@ -3,14 +3,13 @@ ghost use Rattle.std.specs.Prelude.{◌≡◌, ◌+◌, ◌-◌, ◌<◌, ◌≤
 ghost use Rattle.std.specs.Prelude.{IsOkAnd};
 ghost use Rattle.no_std_io2_base.specs.Read.{events_of};
 ghost use Rattle.no_std_io2_base.specs.BufRead.{BeginsWith};
-ghost use Rattle.no_std_io2_base.specs.Write.{Told};
+ghost use Rattle.no_std_io2_base.specs.Write.{Told, WriteCall};
 ghost use Rattle.no_std_io2.specs.Buffer.{IsInBuffer, MovesEvents, IsSound};
 ghost use Rattle.no_std_io2_base.specs.Seek.{SeekCall};
-ghost use Rattle.no_std_io2.specs.BufWriter.{writer_inner, writer_buffer, writer_told, with_buffer, buffer_after, WriterMaySeek};
+ghost use Rattle.no_std_io2.specs.BufWriter.{writer_inner, writer_buffer, with_buffer, BufferMay, WriterMaySeek};
 ghost use Rattle.no_std_io2.specs.BufReader.{reader_held, reader_behind, reader_inner, reader_is_sound, ReaderMaySeek};
-ghost use Rattle.no_std_io2.specs.LineWriter.{line_inner, line_buffer};
+ghost use Rattle.no_std_io2.specs.LineWriter.{line_inner, line_buffer, LineMay};
 ghost use Rattle.no_std_io2.specs.Sink.{sink_taken};
-ghost use Rattle.no_std_io2.specs.Lines.{HasNoNewline, HasNewline, unfinished_line, whole_if_short};
 
 use crate::buffered::{BufReader, BufWriter, LineWriter};
 use crate::util::Sink;
@@ -23,6 +22,12 @@ fn buffered_writer_tells<W: Write + Drop, const S: usize>(w: &BufWriter<W, S>)
     ensures all { W.takes_all (writer_inner w.now) → ⟦<BufWriter<W, S> as Write>⟧.takes_all w.now }
     ensures cost { ⟦<BufWriter<W, S> as Write>⟧.cost w.now ≡ W.cost (writer_inner w.now) }
     ensures unmetered { ¬ ⟦<BufWriter<W, S> as Write>⟧.is_metered w.now }
+{}
+
+// Each of its calls is so many of its inner writer.
+fn buffered_writer_calls<W: Write + Drop, const S: usize>(old: &BufWriter<W, S>, new: &BufWriter<W, S>)
+    ensures { (call : WriteCall) → ⟦<BufWriter<W, S> as Write>⟧.may old.now call new.now
+        → BufferMay W.Write S writer_inner writer_buffer old.now call new.now }
 {}
 
 // A store behind an empty buffer.
@@ -57,23 +62,10 @@ fn line_writer_tells<W: Write + Drop, const S: usize>(w: &LineWriter<W, S>)
     ensures metered { ⟦<LineWriter<W, S> as Write>⟧.is_metered w.now → ⊥ }
 {}
 
-// A log's line and the start of its next one. Over an inner writer that takes all both calls succeed.
-fn write_line_and_start<W: Write + Drop, const S: usize>(
-    w: &mut LineWriter<W, S>,
-    line: &[u8],
-    start: &[u8],
-) -> Result<()>
-    requires line { HasNewline line.now }
-    requires start { HasNoNewline start.now }
-    ensures lasts { W.takes_all (line_inner w.old) → W.takes_all (line_inner w.new) × IsOk result }
-    ensures buffer { OnOk result (line_buffer w.new
-        ≡ buffer_after S (unfinished_line (whole_if_short S (unfinished_line line.now))) start.now) }
-    ensures calls { W.is_metered (line_inner w.old) → W.takes_all (line_inner w.old)
-        → W.cost (line_inner w.new) ≤ W.cost (line_inner w.old) + 6 }
-{
-    w.write_all(line)?;
-    w.write_all(start)
-}
+fn line_writer_calls<W: Write + Drop, const S: usize>(old: &LineWriter<W, S>, new: &LineWriter<W, S>)
+    ensures { (call : WriteCall) → ⟦<LineWriter<W, S> as Write>⟧.may old.now call new.now
+        → LineMay W.Write S line_inner line_buffer old.now call new.now }
+{}
 
 // Its events are the held bytes, then the inner reader's.
 fn reader_tells<R: Read, const S: usize>(r: &BufReader<R, S>)

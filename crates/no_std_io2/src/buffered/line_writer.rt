@@ -1,15 +1,13 @@
 // A buffer that is sent at the end of each line.
-ghost use Rattle.std.specs.Prelude.{◌≡◌, ◌+◌, ◌-◌, ◌<◌, ◌≤◌, [], ◌++◌, length, take, Some, Ok, IsOk, IfOk, IfErr};
-ghost use Rattle.std.specs.Prelude.{IsOkAnd, OnOk, OnErr};
+ghost use Rattle.std.specs.Prelude.{◌≡◌, ◌+◌, ◌≤◌, [], ◌++◌, length, IsOk, IfOk, IfErr, OnOk};
 ghost use Rattle.std.specs.Borrow.{Lends, sem};
 ghost use Rattle.no_std_io2.specs.contracts.buffered.line_writer.LineWriter.{the_row as line-row};
-ghost use Rattle.no_std_io2.specs.Lines.{IsLineState, HasNoNewline, HasNewline, unfinished_line, whole_if_short};
-ghost use Rattle.no_std_io2.specs.LineWriter.{line_inner, line_buffer, line_told, line_with_inner, WritesLines};
-ghost use Rattle.no_std_io2.specs.Buffer.{IsEnd};
-ghost use Rattle.no_std_io2.specs.BufWriter.{HoldsEnd, Unwraps, Flushes, CallsAtMost, buffer_after, into_inner_error_writer};
+ghost use Rattle.no_std_io2.specs.Lines.{IsLineState, HasNoNewline};
+ghost use Rattle.no_std_io2.specs.LineWriter.{line_inner, line_buffer, line_told, line_with_inner, LineMay};
+ghost use Rattle.no_std_io2.specs.LineWriter.{LineWriteCalls, LineWriteAllCalls, line_buffer_after, line_buffer_filled};
+ghost use Rattle.no_std_io2.specs.LineWriter.{IsShortText, KeepsTaking};
+ghost use Rattle.no_std_io2.specs.BufWriter.{Takes, Unwraps, Flushes, into_inner_error_writer};
 ghost use Rattle.no_std_io2_base.specs.Write.{WriteLaw, FlushLaw, WriteAllLaw};
-ghost use Rattle.no_std_io2_base.specs.Errors.{IsNoInterruption};
-ghost use Rattle.no_std_io2_base.specs.Write.{Moves, taken, call_mishap};
 
 mod state;
 mod steps;
@@ -141,6 +139,8 @@ impl<W: Write + Drop, const S: usize> Write for LineWriter<W, S> {
 
     ghost cost = { λ w. W.cost (line_inner w) };
 
+    ghost may = { LineMay W.Write S line_inner line_buffer };
+
     /// Writes some front of `buf`. Held complete lines are sent first. Without a newline in `buf`, it is
     /// held where it fits behind what is held, else that is sent first, and a `buf` of at least `S`
     /// bytes is then one inner write. With a newline in `buf`, what is held is sent, one inner write
@@ -153,25 +153,19 @@ impl<W: Write + Drop, const S: usize> Write for LineWriter<W, S> {
     fn write(&mut self, buf: &[u8]) -> Result<usize>
         ensures law { let B = ⟦<Self as Write>⟧ in
             WriteLaw B.told B.takes_all B.cost B.is_metered B.may self.old buf.now result self.new }
-        ensures fits { HasNoNewline buf.now → HasNoNewline (line_buffer self.old)
-            → length buf.now < S → length (line_buffer self.old) + length buf.now ≤ S
+        ensures calls { Takes W.Write line_inner line_buffer (LineWriteCalls S buf.now) self.old result self.new }
+
+        // A short text without a newline is taken whole or not at all, and held where it fits.
+        ensures short { IsShortText S buf.now → IfOk result (λ n. n ≡ length buf.now) }
+        ensures fits { IsShortText S buf.now → HasNoNewline (line_buffer self.old)
+            → length (line_buffer self.old) + length buf.now ≤ S
             → IsOk result × (line_inner self.new ≡ line_inner self.old)
             × (line_buffer self.new ≡ line_buffer self.old ++ buf.now) }
-        ensures whole { HasNoNewline buf.now → length buf.now < S → IfOk result (λ n. n ≡ length buf.now) }
-        ensures calm { HasNoNewline buf.now → length buf.now < S → IsNoInterruption result }
-        ensures rest { IsEnd (line_buffer self.old ++ taken result buf.now) (line_buffer self.new) }
-        ensures after { HasNoNewline buf.now → OnOk result (line_buffer self.new
-            ≡ buffer_after S (unfinished_line (line_buffer self.old)) buf.now) }
-        ensures tail { HasNewline buf.now → IfOk result (λ n. WritesLines S (W.told (line_inner self.old))
-            (line_buffer self.old) buf.now n (W.told (line_inner self.new)) (line_buffer self.new)) }
-        ensures lasts { W.takes_all (line_inner self.old)
-            → W.takes_all (line_inner self.new) × IsOk result }
-        ensures plain { W.takes_all (line_inner self.old) → HasNoNewline buf.now
-            → result ≡ Ok (length buf.now) }
-        ensures lines { W.takes_all (line_inner self.old) → HasNewline buf.now
-            → IsOkAnd result (λ n. n + (length (unfinished_line buf.now) - S) ≡ length buf.now)
-            × (line_buffer self.new ≡ take S (unfinished_line buf.now)) }
-        ensures calls { CallsAtMost W.Write (line_inner self.old) 3 (line_inner self.new) }
+
+        // Over an inner writer that takes all.
+        ensures held { W.takes_all (line_inner self.old)
+            → line_buffer self.new ≡ line_buffer_filled S (line_buffer self.old) buf.now }
+        ensures inner { KeepsTaking W.Write (line_inner self.old) result (line_inner self.new) }
     {
         let len = lines_len(buf);
         if len == 0 {
@@ -205,22 +199,16 @@ impl<W: Write + Drop, const S: usize> Write for LineWriter<W, S> {
     fn write_all(&mut self, buf: &[u8]) -> Result<()>
         ensures law { let B = ⟦<Self as Write>⟧ in
             WriteAllLaw B.told B.takes_all B.cost B.is_metered B.may self.old buf.now result self.new }
-        ensures open { OnOk result (HasNoNewline (line_buffer self.new)) }
-        ensures fits { HasNoNewline buf.now → HasNoNewline (line_buffer self.old)
-            → length buf.now < S → length (line_buffer self.old) + length buf.now ≤ S
+        ensures calls { Takes W.Write line_inner line_buffer (LineWriteAllCalls S buf.now) self.old result self.new }
+
+        // After `Ok` only the unfinished line is held.
+        ensures no_newline_held { OnOk result (HasNoNewline (line_buffer self.new)) }
+        ensures held { OnOk result (line_buffer self.new ≡ line_buffer_after S (line_buffer self.old) buf.now) }
+        ensures fits { IsShortText S buf.now → HasNoNewline (line_buffer self.old)
+            → length (line_buffer self.old) + length buf.now ≤ S
             → IsOk result × (line_inner self.new ≡ line_inner self.old)
             × (line_buffer self.new ≡ line_buffer self.old ++ buf.now) }
-        ensures lasts { W.takes_all (line_inner self.old)
-            → W.takes_all (line_inner self.new) × IsOk result }
-        ensures plain { HasNoNewline buf.now → OnOk result (line_buffer self.new
-            ≡ buffer_after S (unfinished_line (line_buffer self.old)) buf.now) }
-        ensures lines { HasNewline buf.now → OnOk result (line_buffer self.new
-            ≡ whole_if_short S (unfinished_line buf.now)) }
-        ensures rest { HoldsEnd (line_buffer self.old) buf.now (line_buffer self.new) }
-        ensures none { HasNoNewline buf.now → length buf.now < S → OnErr result (IsEnd
-            (line_buffer self.old) (line_buffer self.new)
-            × Moves (line_told W.told self.old) [] (call_mishap result) (line_told W.told self.new)) }
-        ensures calls { CallsAtMost W.Write (line_inner self.old) 3 (line_inner self.new) }
+        ensures inner { KeepsTaking W.Write (line_inner self.old) result (line_inner self.new) }
     {
         let len = lines_len(buf);
         if len == 0 {

@@ -3,8 +3,8 @@ ghost use Rattle.std.specs.Prelude.{◌≡◌, ◌+◌, ◌<◌, ◌≤◌, [], 
 ghost use Rattle.std.specs.Bool.{OnTrue, OnFalse};
 ghost use Rattle.std.specs.Borrow.{Lends, sem};
 ghost use Rattle.no_std_io2.specs.contracts.buffered.sender.Sender.{the_row as sender-row};
-ghost use Rattle.no_std_io2.specs.BufWriter.{sender_inner, sender_buffer, sender_with_inner, Sent, MakesWay, Buffers};
-ghost use Rattle.no_std_io2.specs.BufWriter.{BuffersAll, Flushes, Unwraps};
+ghost use Rattle.no_std_io2.specs.BufWriter.{sender_inner, sender_buffer, sender_with_inner, Takes, SendCalls, WayCalls};
+ghost use Rattle.no_std_io2.specs.BufWriter.{WriteCalls, WriteAllCalls, FlushCalls, Unwraps};
 
 use super::buffer::Buffer;
 use super::into_inner_error::IntoInnerError;
@@ -64,7 +64,8 @@ impl<W: Write + Drop, const S: usize> Sender<W, S> {
     /// # Errors
     /// `WriteZero` where the inner writer took no byte of some, else its first fault.
     pub(crate) fn send(&mut self) -> Result<()>
-        ensures { Sent W.Write self.old result self.new }
+        ensures calls { Takes W.Write sender_inner sender_buffer SendCalls self.old result self.new }
+        ensures unmoved { self.new.buffer.bytes ≡ self.old.buffer.bytes }
     {
         self.send_held()
     }
@@ -72,7 +73,8 @@ impl<W: Write + Drop, const S: usize> Sender<W, S> {
     // The whole of `send`, which the cold functions inline.
     #[inline(always)]
     fn send_held(&mut self) -> Result<()>
-        ensures { Sent W.Write self.old result self.new }
+        ensures calls { Takes W.Write sender_inner sender_buffer SendCalls self.old result self.new }
+        ensures unmoved { self.new.buffer.bytes ≡ self.old.buffer.bytes }
     {
         'sends: while self.buffer.len() > 0 {
             match self.inner.write(self.buffer.as_slice()) {
@@ -103,7 +105,7 @@ impl<W: Write + Drop, const S: usize> Sender<W, S> {
     /// As `send`.
     #[inline(always)]
     fn make_way(&mut self, more: usize) -> Result<()>
-        ensures { MakesWay W.Write self.old more result self.new }
+        ensures { Takes W.Write sender_inner sender_buffer (WayCalls S more) self.old result self.new }
     {
         if more > S - self.buffer.len() {
             return self.send_held();
@@ -130,7 +132,7 @@ impl<W: Write + Drop, const S: usize> Sender<W, S> {
     /// As `send`, or the inner `write`'s. Nothing of `buf` was accepted then.
     #[inline(always)]
     pub(crate) fn write(&mut self, buf: &[u8]) -> Result<usize>
-        ensures { Buffers W.Write S sender_inner sender_buffer self.old buf.now result self.new }
+        ensures { Takes W.Write sender_inner sender_buffer (WriteCalls S buf.now) self.old result self.new }
     {
         if self.hold_if_room(buf) {
             return Ok(buf.len());
@@ -145,7 +147,7 @@ impl<W: Write + Drop, const S: usize> Sender<W, S> {
     // that is held costs four instructions less so.
     #[inline(always)]
     fn write_slowly(&mut self, buf: &[u8]) -> Result<usize>
-        ensures { Buffers W.Write S sender_inner sender_buffer self.old buf.now result self.new }
+        ensures { Takes W.Write sender_inner sender_buffer (WriteCalls S buf.now) self.old result self.new }
     {
         self.write_cold(buf)
     }
@@ -154,7 +156,7 @@ impl<W: Write + Drop, const S: usize> Sender<W, S> {
     #[cold]
     #[inline(never)]
     fn write_cold(&mut self, buf: &[u8]) -> Result<usize>
-        ensures { Buffers W.Write S sender_inner sender_buffer self.old buf.now result self.new }
+        ensures { Takes W.Write sender_inner sender_buffer (WriteCalls S buf.now) self.old result self.new }
     {
         self.make_way(buf.len())?;
         if buf.len() >= S {
@@ -171,7 +173,7 @@ impl<W: Write + Drop, const S: usize> Sender<W, S> {
     /// As `send`, or the inner `write_all`'s.
     #[inline(always)]
     pub(crate) fn write_all(&mut self, buf: &[u8]) -> Result<()>
-        ensures { BuffersAll W.Write S sender_inner sender_buffer self.old buf.now result self.new }
+        ensures { Takes W.Write sender_inner sender_buffer (WriteAllCalls S buf.now) self.old result self.new }
     {
         if self.hold_if_room(buf) {
             return Ok(());
@@ -185,7 +187,7 @@ impl<W: Write + Drop, const S: usize> Sender<W, S> {
     // As `write_slowly`.
     #[inline(always)]
     fn write_all_slowly(&mut self, buf: &[u8]) -> Result<()>
-        ensures { BuffersAll W.Write S sender_inner sender_buffer self.old buf.now result self.new }
+        ensures { Takes W.Write sender_inner sender_buffer (WriteAllCalls S buf.now) self.old result self.new }
     {
         self.write_all_cold(buf)
     }
@@ -194,7 +196,7 @@ impl<W: Write + Drop, const S: usize> Sender<W, S> {
     #[cold]
     #[inline(never)]
     fn write_all_cold(&mut self, buf: &[u8]) -> Result<()>
-        ensures { BuffersAll W.Write S sender_inner sender_buffer self.old buf.now result self.new }
+        ensures { Takes W.Write sender_inner sender_buffer (WriteAllCalls S buf.now) self.old result self.new }
     {
         self.make_way(buf.len())?;
         if buf.len() >= S {
@@ -209,7 +211,7 @@ impl<W: Write + Drop, const S: usize> Sender<W, S> {
     /// # Errors
     /// As `send`, with the inner writer not flushed, or the inner `flush`'s.
     pub(crate) fn flush(&mut self) -> Result<()>
-        ensures { Flushes W.Write sender_inner sender_buffer self.old result self.new }
+        ensures { Takes W.Write sender_inner sender_buffer FlushCalls self.old result self.new }
     {
         self.send()?;
         self.inner.flush()

@@ -10,7 +10,7 @@ returns-in-Ok-clause-all g c =
     rw c.in-Write.is (all.0, ok_same all.1)
 
 pub returns-in-Ok-clause-calls : goal.returns-in-Ok-clause-calls
-returns-in-Ok-clause-calls g c = rw c.in-Write.is (c.in-Ok.ensures.buffer.calls tt c.requires.all).1
+returns-in-Ok-clause-calls g c = rw c.in-Write.is (c.in-Ok.ensures.buffer.counts tt c.requires.all).1
 
 pub returns-in-Err-clause-all : goal.returns-in-Err-clause-all
 returns-in-Err-clause-all g c = absurd (Moves-steady (g.met.W.Write.steady _ c.requires.all) c.in-Err.ensures.law.moves)
@@ -24,7 +24,7 @@ returns-in-Ok-write_all-clause-answers g c =
 
 pub returns-in-Ok-write_all-clause-calls : goal.returns-in-Ok-write_all-clause-calls
 returns-in-Ok-write_all-clause-calls g c =
-    rw c.in-WriteAll.is (c.in-Ok-write_all.ensures.buffer.calls c.requires.some tt c.requires.all).1
+    rw c.in-WriteAll.is (c.in-Ok-write_all.ensures.buffer.counts c.requires.some tt c.requires.all).1
 
 pub returns-in-Err-write_all-clause-answers : goal.returns-in-Err-write_all-clause-answers
 returns-in-Err-write_all-clause-answers g c =
@@ -43,7 +43,7 @@ returns-in-Err-write_all-clause-buffer g c =
     absurd (Moves-steady (g.met.W.Write.steady _ c.requires.all) c.in-Err-write_all.ensures.law.moves.moves)
 
 pub returns-in-Ok-flush-clause-calls : goal.returns-in-Ok-flush-clause-calls
-returns-in-Ok-flush-clause-calls g c = rw c.in-Flush.is (c.in-Ok-flush.ensures.buffer.calls tt c.requires.all).1
+returns-in-Ok-flush-clause-calls g c = rw c.in-Flush.is (c.in-Ok-flush.ensures.buffer.counts tt c.requires.all).1
 
 pub returns-in-Err-flush-clause-all : goal.returns-in-Err-flush-clause-all
 returns-in-Err-flush-clause-all g c = absurd (Moves-steady (g.met.W.Write.steady _ c.requires.all) c.in-Err-flush.ensures.law.moves)

@@ -58,7 +58,7 @@ returns-in-Ok-clause-bytes g c =
 pub returns-in-Ok-clause-bound : goal.returns-in-Ok-clause-bound
 returns-in-Ok-clause-bound g c =
     let before = c.calls.invariant in
-    let last = c.in-Ok.ensures.law.calls tt before.all in
+    let last = c.in-Ok.ensures.law.counts tt before.all in
     let bound = Paid-all g.row.S before.paid.0 c.args.ops.now c.calls.op-index _ (omega arith) before.paid.2 in
     paid_bound _ last.1 before.paid.1 (ap tally_writes c.new-buffered.ensures.inner)
     (calls_for-min (writer_buffer c.calls.buffered)) bound

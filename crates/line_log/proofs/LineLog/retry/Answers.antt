@@ -36,4 +36,4 @@ returns-clause-passed g c = λ lines some e.
     let told = g.W.Write.told in
     let new = c.write_all.new.self in
     none_waits (log_told told c.args.self.now) (told (line_inner new)) _ (still_to_go c.args.self.now) _ lines
-    (line_sends _ (Ok tt) (returns-clause-calls g c)) c.clear.ensures.rest e c.in_ok-write_all.ensures.open
+    (line_sends _ (Ok tt) (returns-clause-calls g c)) c.clear.ensures.rest e c.in_ok-write_all.ensures.no_newline_held

@@ -1,21 +1,22 @@
+use Rattle.no_std_io2.specs.BufWriter.{sender_inner, writer_inner, writer_buffer}
+use Rattle.no_std_io2.proofs.BufWriterCalls.{write_bound, write_tells, write_counts, write_takes, buffers_of}
 use Rattle.no_std_io2.proofs.buffered.buf_writer.BufWriterWrite.write.Goals as goal
 
 pub returns : goal.returns
 returns g c =
-    let core = c.write.ensures in
+    let I = g.W.Write in
+    let S = g.row.S in
+    let x = c.args.buf.now in
+    let a = writer_inner c.args.self.now in
+    let b = sender_inner c.write.new.self in
+    let calls = c.write.ensures in
     record {
-      law = record { bound = core.bound; moves = core.moves; all = core.all; counts = λ no. absurd no; call = core.made };
-      buffer = record {
-        bound = core.bound;
-        moves = core.moves;
-        rest = core.rest;
-        fits = core.fits;
-        sent = core.sent;
-        whole = core.whole;
-        calm = core.calm;
-        all = core.all;
-        after = core.after;
-        calls = core.calls;
-        made = core.made;
+      law = record {
+        bound = write_bound I S calls.2 a b calls.1;
+        moves = write_tells I S x _ _ _ _ calls.2 a b calls.1;
+        all = λ t. ((write_counts I S x _ _ _ _ calls.2 a b calls.1 t).0, write_takes I S calls.2 a b calls.1 t);
+        counts = λ no. absurd no;
+        call = calls;
       };
+      buffer = buffers_of I g.met.W.Write.steady writer_inner writer_buffer S calls;
     }

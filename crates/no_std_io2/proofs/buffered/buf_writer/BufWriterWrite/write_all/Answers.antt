@@ -1,22 +1,27 @@
+use Rattle.no_std_io2.specs.BufWriter.{sender_inner, writer_inner, writer_buffer}
 use Rattle.no_std_io2_base.proofs.CallsLemmas.{all_own}
+use Rattle.no_std_io2.proofs.BufWriterCalls.{write_all_fault, write_all_tells, write_all_counts, buffers_all_of}
 use Rattle.no_std_io2.proofs.buffered.buf_writer.BufWriterWrite.write_all.Goals as goal
 
 pub returns : goal.returns
 returns g c =
-    let core = c.write_all.ensures in
+    let I = g.W.Write in
+    let steady = g.met.W.Write.steady in
+    let S = g.row.S in
+    let x = c.args.buf.now in
+    let a = writer_inner c.args.self.now in
+    let b = sender_inner c.write_all.new.self in
+    let calls = c.write_all.ensures in
+    let fault = write_all_fault I steady S calls.2 a b calls.1 in
+    let moves = write_all_tells I steady S x _ _ _ _ calls.2 a b calls.1 in
+    let all : I.takes_all a → I.takes_all b = λ t. (write_all_counts I steady S x _ _ _ _ calls.2 a b calls.1 t).0 in
     record {
-      law = record { fault = core.fault; moves = core.moves; all = λ takes. (core.all takes).0; counts = λ no. absurd no; calls = all_own _ _ _ (core.made, core.fault, core.moves, (λ takes. (core.all takes).0), λ no. absurd no) };
-      buffer = record {
-        fault = core.fault;
-        moves = core.moves;
-        rest = core.rest;
-        fits = core.fits;
-        sent = core.sent;
-        none = core.none;
-        all = core.all;
-        after = core.after;
-        calls = core.calls;
-        few = core.few;
-        made = core.made;
+      law = record {
+        fault = fault;
+        moves = moves;
+        all = all;
+        counts = λ no. absurd no;
+        calls = all_own _ _ _ (calls, fault, moves, all, λ no. absurd no);
       };
+      buffer = buffers_all_of I steady writer_inner writer_buffer S calls;
     }

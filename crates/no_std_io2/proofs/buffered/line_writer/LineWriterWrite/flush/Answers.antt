@@ -1,19 +1,24 @@
-use Rattle.no_std_io2.proofs.LineWriterLemmas.{IsLineState-end}
+use Rattle.no_std_io2.specs.BufWriter.{sender_inner}
+use Rattle.no_std_io2.specs.LineWriter.{line_inner, line_buffer}
+use Rattle.no_std_io2.proofs.BufWriterCalls.{flush_empty, flush_tells, flushes_of}
+use Rattle.no_std_io2.proofs.LineWriterStates.{flush_state}
 use Rattle.no_std_io2.proofs.buffered.line_writer.LineWriterWrite.flush.Goals as goal
 
 pub invariant_of-self : goal.invariant_of-self
-invariant_of-self g c = record { line = IsLineState-end _ _ c.flush.ensures.rest c.args.self.now.core.line }
+invariant_of-self g c = record { line = flush_state c.flush.ensures.2 c.args.self.now.core.line }
 
 pub returns-clause-law : goal.returns-clause-law
-returns-clause-law g c = record {
-  empty = c.flush.ensures.empty;
-  moves = c.flush.ensures.moves;
-  all = λ no. absurd no;
-  counts = λ no. absurd no;
-  call = tt;
-}
+returns-clause-law g c =
+    let a = line_inner c.args.self.now in
+    let b = sender_inner c.flush.new.self in
+    let calls = c.flush.ensures in
+    record {
+      empty = flush_empty g.W.Write calls.2 a b calls.1;
+      moves = flush_tells g.W.Write _ _ _ _ calls.2 a b calls.1;
+      all = λ no. absurd no;
+      counts = λ no. absurd no;
+      call = calls;
+    }
 
 pub returns-clause-buffer : goal.returns-clause-buffer
-returns-clause-buffer g c =
-    let core = c.flush.ensures in
-    record { empty = core.empty; moves = core.moves; sent = core.sent; rest = core.rest; all = core.all; calls = core.calls; made = core.made }
+returns-clause-buffer g c = flushes_of g.W.Write g.met.W.Write.steady line_inner line_buffer g.row.S c.flush.ensures

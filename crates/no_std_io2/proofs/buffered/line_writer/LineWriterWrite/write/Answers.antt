@@ -1,56 +1,61 @@
-use Rattle.std.proofs.Common.{arith}
-use Rattle.no_std_io2.proofs.AnswerLemmas.{IsOk-from_value, IsOk-from_and}
-use Rattle.no_std_io2.proofs.LinesLast.{none_or_some, none_or_lines}
+use Rattle.std.proofs.Common.{◌≡◌, ◌<◌, arith, rules, subst}
+use Rattle.no_std_io2_base.specs.Write.{Made}
+use Rattle.no_std_io2.specs.BufWriter.{sender_inner, CallOf}
+use Rattle.no_std_io2.specs.LineWriter.{line_inner}
+use Rattle.no_std_io2.proofs.LineWriterStates.{line_write_state, line_write_short, line_write_fits}
+use Rattle.no_std_io2.proofs.LineWriterCalls.{line_write_bound, line_write_tells, line_write_keeps, line_write_filled}
 use Rattle.no_std_io2.proofs.buffered.line_writer.LineWriterWrite.write.Goals as goal
 
-pub returns-then-len-eq0-clause-law : goal.returns-then-len-eq0-clause-law
-returns-then-len-eq0-clause-law g c = record {
-  bound = c.write_plain.ensures.bound;
-  moves = c.write_plain.ensures.moves;
-  all = λ no. absurd no;
-  counts = λ no. absurd no;
-  call = tt;
-}
+pub invariant_of-self : goal.invariant_of-self
+invariant_of-self g c = record { line = line_write_state g.row.S c.write_plain.ensures.2 c.args.self.now.core.line }
 
-pub returns-then-len-eq0-clause-tail : goal.returns-then-len-eq0-clause-tail
-returns-then-len-eq0-clause-tail g c = λ has. absurd (none_or_some _ (c.lines_len-len.ensures.plain c.if-len-eq0.true) has)
+pub invariant_of-self-2 : goal.invariant_of-self-2
+invariant_of-self-2 g c = record { line = line_write_state g.row.S c.write_lines.ensures.2 c.args.self.now.core.line }
 
-pub returns-then-len-eq0-clause-lasts : goal.returns-then-len-eq0-clause-lasts
-returns-then-len-eq0-clause-lasts g c = λ t.
-    let all = c.write_plain.ensures.all t in (all.0, IsOk-from_value c.write_plain.result _ all.1)
+pub returns-then-len-eq0 : goal.returns-then-len-eq0
+returns-then-len-eq0 g c =
+    let I = g.W.Write in
+    let S = g.row.S in
+    let a = line_inner c.args.self.now in
+    let b = sender_inner c.write_plain.new.w in
+    let calls = c.write_plain.ensures in
+    record {
+      law = record {
+        bound = line_write_bound I S calls.2 a b calls.1;
+        moves = line_write_tells I S c.args.buf.now _ _ _ _ calls.2 a b calls.1;
+        all = λ no. absurd no;
+        counts = λ no. absurd no;
+        call = calls;
+      };
+      calls = calls;
+      short = line_write_short S calls.2;
+      fits = λ short plain room.
+          let fits = line_write_fits S calls.2 short plain room in
+          (fits.1, subst (λ C. Made (CallOf I) a C b) fits.0 calls.1, fits.2);
+      held = line_write_filled I S calls.2 c.args.self.now.core.line a b calls.1;
+      inner = line_write_keeps I S calls.2 a b calls.1;
+    }
 
-pub returns-then-len-eq0-clause-lines : goal.returns-then-len-eq0-clause-lines
-returns-then-len-eq0-clause-lines g c = λ t has. absurd (none_or_some _ (c.lines_len-len.ensures.plain c.if-len-eq0.true) has)
-
-pub returns-clause-law : goal.returns-clause-law
-returns-clause-law g c = record {
-  bound = c.write_lines.ensures.bound;
-  moves = c.write_lines.ensures.moves;
-  all = λ no. absurd no;
-  counts = λ no. absurd no;
-  call = tt;
-}
-
-pub returns-clause-fits : goal.returns-clause-fits
-returns-clause-fits g c = λ none.
-    absurd (none_or_lines _ _ c.lines_len-len.ensures.lines (omega (arith, c.if-len-eq0.false)) none)
-
-pub returns-clause-whole : goal.returns-clause-whole
-returns-clause-whole g c = λ none.
-    absurd (none_or_lines _ _ c.lines_len-len.ensures.lines (omega (arith, c.if-len-eq0.false)) none)
-
-pub returns-clause-lasts : goal.returns-clause-lasts
-returns-clause-lasts g c = λ t.
-    let all = c.write_lines.ensures.all t in (all.0, IsOk-from_and c.write_lines.result _ all.1)
-
-pub returns-clause-plain : goal.returns-clause-plain
-returns-clause-plain g c = λ t none.
-    absurd (none_or_lines _ _ c.lines_len-len.ensures.lines (omega (arith, c.if-len-eq0.false)) none)
-
-pub returns-clause-calm : goal.returns-clause-calm
-returns-clause-calm g c = λ none.
-    absurd (none_or_lines _ _ c.lines_len-len.ensures.lines (omega (arith, c.if-len-eq0.false)) none)
-
-pub returns-clause-after : goal.returns-clause-after
-returns-clause-after g c = λ none.
-    absurd (none_or_lines _ _ c.lines_len-len.ensures.lines (omega (arith, c.if-len-eq0.false)) none)
+pub returns : goal.returns
+returns g c =
+    let I = g.W.Write in
+    let S = g.row.S in
+    let a = line_inner c.args.self.now in
+    let b = sender_inner c.write_lines.new.w in
+    let calls = c.write_lines.ensures in
+    record {
+      law = record {
+        bound = line_write_bound I S calls.2 a b calls.1;
+        moves = line_write_tells I S c.args.buf.now _ _ _ _ calls.2 a b calls.1;
+        all = λ no. absurd no;
+        counts = λ no. absurd no;
+        call = calls;
+      };
+      calls = calls;
+      short = line_write_short S calls.2;
+      fits = λ short plain room.
+          let fits = line_write_fits S calls.2 short plain room in
+          (fits.1, subst (λ C. Made (CallOf I) a C b) fits.0 calls.1, fits.2);
+      held = line_write_filled I S calls.2 c.args.self.now.core.line a b calls.1;
+      inner = line_write_keeps I S calls.2 a b calls.1;
+    }

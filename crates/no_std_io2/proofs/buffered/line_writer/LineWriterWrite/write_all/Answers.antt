@@ -1,50 +1,64 @@
+use Rattle.std.proofs.Common.{◌≡◌, ◌<◌, arith, rules, subst}
+use Rattle.no_std_io2_base.specs.Write.{Made}
 use Rattle.no_std_io2_base.proofs.CallsLemmas.{all_own}
-use Rattle.std.proofs.Common.{arith, rules}
-use Rattle.no_std_io2.proofs.BufWriterLemmas.{HoldsEnd-whole}
-use Rattle.no_std_io2.proofs.LinesLast.{none_or_some, none_or_lines}
+use Rattle.no_std_io2.specs.BufWriter.{sender_inner, CallOf}
+use Rattle.no_std_io2.specs.LineWriter.{line_inner}
+use Rattle.no_std_io2.proofs.LineWriterStates.{line_write_all_state, line_write_all_fits, line_write_all_leaves}
+use Rattle.no_std_io2.proofs.LineWriterCalls.{line_write_all_tells, line_write_all_keeps}
 use Rattle.no_std_io2.proofs.buffered.line_writer.LineWriterWrite.write_all.Goals as goal
 
-pub returns-then-len-eq0-clause-law : goal.returns-then-len-eq0-clause-law
-returns-then-len-eq0-clause-law g c = record {
-  fault = c.write_all_plain.ensures.fault;
-  moves = c.write_all_plain.ensures.moves;
-  all = λ no. absurd no;
-  counts = λ no. absurd no;
-  calls = all_own _ _ _ (tt, c.write_all_plain.ensures.fault, c.write_all_plain.ensures.moves, (λ no. no), λ no. absurd no);
-}
+pub invariant_of-self : goal.invariant_of-self
+invariant_of-self g c = record { line = (line_write_all_state g.row.S c.write_all_plain.ensures.2 c.args.self.now.core.line).0 }
 
-pub returns-then-len-eq0-clause-lines : goal.returns-then-len-eq0-clause-lines
-returns-then-len-eq0-clause-lines g c = λ has. absurd (none_or_some _ (c.lines_len-len.ensures.plain c.if-len-eq0.true) has)
+pub invariant_of-self-2 : goal.invariant_of-self-2
+invariant_of-self-2 g c = record { line = (line_write_all_state g.row.S c.write_all_lines.ensures.2 c.args.self.now.core.line).0 }
 
-pub returns-clause-law : goal.returns-clause-law
-returns-clause-law g c = record {
-  fault = c.write_all_lines.ensures.fault;
-  moves = c.write_all_lines.ensures.moves;
-  all = λ no. absurd no;
-  counts = λ no. absurd no;
-  calls = all_own _ _ _ (tt, c.write_all_lines.ensures.fault, c.write_all_lines.ensures.moves, (λ no. no), λ no. absurd no);
-}
+pub returns-then-len-eq0 : goal.returns-then-len-eq0
+returns-then-len-eq0 g c =
+    let I = g.W.Write in
+    let S = g.row.S in
+    let a = line_inner c.args.self.now in
+    let b = sender_inner c.write_all_plain.new.w in
+    let calls = c.write_all_plain.ensures in
+    let said = line_write_all_tells I g.met.W.Write.steady S calls.2 a b calls.1 in
+    record {
+      law = record {
+        fault = said.1;
+        moves = said.0;
+        all = λ no. absurd no;
+        counts = λ no. absurd no;
+        calls = all_own _ _ _ (calls, said.1, said.0, λ no. no, λ no. absurd no);
+      };
+      calls = calls;
+      no_newline_held = (line_write_all_state S calls.2 c.args.self.now.core.line).1;
+      held = line_write_all_leaves S calls.2 c.args.self.now.core.line;
+      fits = λ short plain room.
+          let fits = line_write_all_fits S calls.2 short plain room in
+          (fits.1, subst (λ C. Made (CallOf I) a C b) fits.0 calls.1, fits.2);
+      inner = line_write_all_keeps I g.met.W.Write.steady S calls.2 a b calls.1;
+    }
 
-pub returns-clause-fits : goal.returns-clause-fits
-returns-clause-fits g c = λ none.
-    absurd (none_or_lines _ _ c.lines_len-len.ensures.lines (omega (arith, c.if-len-eq0.false)) none)
-
-pub returns-clause-plain : goal.returns-clause-plain
-returns-clause-plain g c = λ none.
-    absurd (none_or_lines _ _ c.lines_len-len.ensures.lines (omega (arith, c.if-len-eq0.false)) none)
-
-pub write_all_lines-requires : goal.write_all_lines-requires
-write_all_lines-requires g c = (
-  search rules,
-  (
-    c.args.self.now.core.line,
-    (omega (arith, c.if-len-eq0.false), c.lines_len-len.ensures.lines),
-  ),
-)
-
-pub returns-then-len-eq0-clause-rest : goal.returns-then-len-eq0-clause-rest
-returns-then-len-eq0-clause-rest g c = HoldsEnd-whole _ c.args.buf.now _ c.write_all_plain.ensures.rest
-
-pub returns-clause-none : goal.returns-clause-none
-returns-clause-none g c = λ none.
-    absurd (none_or_lines _ _ c.lines_len-len.ensures.lines (omega (arith, c.if-len-eq0.false)) none)
+pub returns : goal.returns
+returns g c =
+    let I = g.W.Write in
+    let S = g.row.S in
+    let a = line_inner c.args.self.now in
+    let b = sender_inner c.write_all_lines.new.w in
+    let calls = c.write_all_lines.ensures in
+    let said = line_write_all_tells I g.met.W.Write.steady S calls.2 a b calls.1 in
+    record {
+      law = record {
+        fault = said.1;
+        moves = said.0;
+        all = λ no. absurd no;
+        counts = λ no. absurd no;
+        calls = all_own _ _ _ (calls, said.1, said.0, λ no. no, λ no. absurd no);
+      };
+      calls = calls;
+      no_newline_held = (line_write_all_state S calls.2 c.args.self.now.core.line).1;
+      held = line_write_all_leaves S calls.2 c.args.self.now.core.line;
+      fits = λ short plain room.
+          let fits = line_write_all_fits S calls.2 short plain room in
+          (fits.1, subst (λ C. Made (CallOf I) a C b) fits.0 calls.1, fits.2);
+      inner = line_write_all_keeps I g.met.W.Write.steady S calls.2 a b calls.1;
+    }

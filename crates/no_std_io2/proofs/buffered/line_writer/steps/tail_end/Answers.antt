@@ -1,37 +1,24 @@
 use Rattle.std.proofs.Common.{sym, ◌∙◌, arith}
 use Rattle.no_std_io2.proofs.LinesLast.{lines_len-is, held_tail-all, held_tail-rest, window_all, tail_part}
-use Rattle.no_std_io2.proofs.LinesLast.{IsLineState-all, IsLineState-rest, IsLineState-part}
 use Rattle.no_std_io2.proofs.buffered.line_writer.steps.tail_end.Goals as goal
 
 pub returns-then-sent-len-clause-tail : goal.returns-then-sent-len-clause-tail
 returns-then-sent-len-clause-tail c =
     window_all c.args.x.now c.args.sent c.args.room _ c.min.ensures
-    ∙ sym (held_tail-all c.args.room c.args.x.now c.args.len c.args.sent (lines_len-is _ _ c.requires.lines) c.if-sent-len.true)
-
-pub returns-then-sent-len-clause-line : goal.returns-then-sent-len-clause-line
-returns-then-sent-len-clause-line c =
-    IsLineState-all c.args.x.now c.args.len c.args.sent _ c.requires.lines (omega arith)
+    ∙ sym (held_tail-all c.args.room c.args.x.now c.args.len c.args.sent (lines_len-is _ _ c.requires.lines) c.requires.some c.if-sent-len.true)
 
 pub returns-then-len-sent-clause-tail : goal.returns-then-len-sent-clause-tail
 returns-then-len-sent-clause-tail c =
-    sym (held_tail-rest c.args.room c.args.x.now c.args.len c.args.sent (lines_len-is _ _ c.requires.lines) (omega arith) (omega arith))
-
-pub returns-then-len-sent-clause-line : goal.returns-then-len-sent-clause-line
-returns-then-len-sent-clause-line c =
-    IsLineState-rest c.args.x.now c.args.len c.args.sent c.requires.lines (omega arith)
+    sym (held_tail-rest c.args.room c.args.x.now c.args.len c.args.sent (lines_len-is _ _ c.requires.lines) c.requires.some (omega arith) (omega arith))
 
 pub returns-then-part-eq0-clause-tail : goal.returns-then-part-eq0-clause-tail
 returns-then-part-eq0-clause-tail c =
-    (tail_part c.args.room c.args.x.now c.args.len c.args.sent _ c.requires.lines (omega arith) (omega arith)
+    (tail_part c.args.room c.args.x.now c.args.len c.args.sent _ c.requires.lines c.requires.some (omega arith) (omega arith)
     c.lines_len-part.ensures.lines).0
     c.if-part-eq0.true
 
 pub returns-else-part-eq0-clause-tail : goal.returns-else-part-eq0-clause-tail
 returns-else-part-eq0-clause-tail c =
-    (tail_part c.args.room c.args.x.now c.args.len c.args.sent _ c.requires.lines (omega arith) (omega arith)
+    (tail_part c.args.room c.args.x.now c.args.len c.args.sent _ c.requires.lines c.requires.some (omega arith) (omega arith)
     c.lines_len-part.ensures.lines).1
     (omega arith)
-
-pub returns-else-part-eq0-clause-line : goal.returns-else-part-eq0-clause-line
-returns-else-part-eq0-clause-line c =
-    IsLineState-part c.args.room c.args.x.now c.args.sent _ c.lines_len-part.ensures.lines (omega arith)

@@ -4,7 +4,7 @@ use Rattle.no_std_io2.proofs.BufWriterCalls.{way_kept, way_sent}
 use Rattle.no_std_io2.proofs.buffered.sender.Sender.make_way.Goals as goal
 
 pub returns-then-more-len : goal.returns-then-more-len
-returns-then-more-len g c = way_sent c.send_held.ensures (omega (arith, c.if-more-len.true, c.len.ensures.len))
+returns-then-more-len g c = way_sent _ _ (omega (arith, c.if-more-len.true, c.len.ensures.len)) c.send_held.ensures.calls
 
 pub returns : goal.returns
-returns g c = way_kept (omega (arith, c.if-more-len.false, c.len.ensures.len, c.len.ensures.bound))
+returns g c = way_kept _ _ (omega (arith, c.if-more-len.false, c.len.ensures.len, c.len.ensures.bound))

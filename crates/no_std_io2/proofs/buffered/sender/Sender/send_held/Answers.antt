@@ -23,15 +23,15 @@ pub sends-preserved : goal.sends-preserved
 sends-preserved g c = sending_again c.sends.invariant (omega arith) c.as_slice.ensures.value
     (sym c.is_interrupted.ensures ∙ c.if-is_interrupted.true) c.in-Err.ensures.law
 
-pub returns-in-Ok-eq0 : goal.returns-in-Ok-eq0
-returns-in-Ok-eq0 g c =
+pub returns-in-Ok-eq0-clause-calls : goal.returns-in-Ok-eq0-clause-calls
+returns-in-Ok-eq0-clause-calls g c =
     sending_stuck c.sends.invariant (omega arith) c.as_slice.ensures.value c.in-Ok-eq0.is c.in-Ok-eq0.field-0-test
     (c.new.ensures.kind, c.new.ensures.text) c.write.ensures.law
 
-pub returns-in-Err-2 : goal.returns-in-Err-2
-returns-in-Err-2 g c =
+pub returns-in-Err-2-clause-calls : goal.returns-in-Err-2-clause-calls
+returns-in-Err-2-clause-calls g c =
     let fault = sym c.is_interrupted.ensures ∙ c.if-is_interrupted.false in
     sending_fails c.sends.invariant (omega arith) c.as_slice.ensures.value fault c.in-Err.ensures.law
 
-pub returns : goal.returns
-returns g c = sending_done c.sends.invariant (none_of_length (sender_buffer c.sends.self) (omega arith))
+pub returns-clause-calls : goal.returns-clause-calls
+returns-clause-calls g c = sending_done c.sends.invariant (none_of_length (sender_buffer c.sends.self) (omega arith))

@@ -1,16 +1,24 @@
--- A `write_all` past the hot path, by its three ends.
-use Rattle.std.proofs.Common.{refl, arith}
+-- A `write_all` past the hot path: way is made, and then the bytes go past what is held or behind it.
+use Rattle.std.proofs.Common.{refl, arith, rules}
 use Rattle.std.proofs.lemmas.Result.{err_from_is_err_and}
-use Rattle.no_std_io2.proofs.BufWriterCalls.{refused_all, passed_all, held_all}
+use Rattle.no_std_io2.specs.BufWriter.{OneWriteAll}
+use Rattle.no_std_io2.proofs.StepLemmas.{then_stops, then_goes_on}
+use Rattle.no_std_io2.proofs.BufWriterCalls.{way_none, way_room, puts, passes}
 use Rattle.no_std_io2.proofs.buffered.sender.Sender.write_all_cold.Goals as goal
 
 pub returns-in_err-make_way : goal.returns-in_err-make_way
 returns-in_err-make_way g c =
     let p = err_from_is_err_and c.from_residual.result c.from_residual.ensures.1 in
-    rw (p.1, p.2) (refused_all c.in_err-make_way.ensures)
+    rw (p.1, p.2) (then_stops _ _ c.in_err-make_way.ensures)
 
 pub returns-then-buf : goal.returns-then-buf
-returns-then-buf g c = passed_all g.met.W.Write.steady c.in_ok-make_way.ensures c.if-buf.true c.write_all.ensures.law
+returns-then-buf g c =
+    let way = c.in_ok-make_way.ensures in
+    let none = way_none _ _ c.if-buf.true way.2 in
+    then_goes_on _ _ _ _ way (passes _ _ _ (OneWriteAll c.args.buf.now) c.if-buf.true none none c.write_all.ensures.law.calls)
+
+pub push-requires : goal.push-requires
+push-requires g c = (search rules, way_room _ _ (omega (arith, c.if-buf.false)) c.in_ok-make_way.ensures.2)
 
 pub returns : goal.returns
-returns g c = held_all c.in_ok-make_way.ensures (omega (arith, c.if-buf.false)) refl c.push.ensures.held
+returns g c = then_goes_on _ _ _ _ c.in_ok-make_way.ensures (puts _ _ _ (OneWriteAll c.args.buf.now) (omega (arith, c.if-buf.false)) refl c.push.ensures.held)

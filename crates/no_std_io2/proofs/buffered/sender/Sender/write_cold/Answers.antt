@@ -1,16 +1,25 @@
--- A write past the hot path, by its three ends.
-use Rattle.std.proofs.Common.{refl, arith}
+-- A `write` past the hot path: way is made, and then the bytes go past what is held or behind it.
+use Rattle.std.proofs.Common.{refl, arith, rules}
 use Rattle.std.proofs.lemmas.Result.{err_from_is_err_and}
-use Rattle.no_std_io2.proofs.BufWriterCalls.{refused, passed, held}
+use Rattle.no_std_io2_base.specs.Write.{Wrote}
+use Rattle.no_std_io2.specs.BufWriter.{OneWrite}
+use Rattle.no_std_io2.proofs.StepLemmas.{then_stops, then_goes_on}
+use Rattle.no_std_io2.proofs.BufWriterCalls.{way_none, way_room, puts, passes, one_made}
 use Rattle.no_std_io2.proofs.buffered.sender.Sender.write_cold.Goals as goal
 
 pub returns-in_err-make_way : goal.returns-in_err-make_way
 returns-in_err-make_way g c =
     let p = err_from_is_err_and c.from_residual.result c.from_residual.ensures.1 in
-    rw (p.1, p.2) (refused c.in_err-make_way.ensures)
+    rw (p.1, p.2) (then_stops _ _ c.in_err-make_way.ensures)
 
 pub returns-then-buf : goal.returns-then-buf
-returns-then-buf g c = passed c.in_ok-make_way.ensures c.if-buf.true c.write.ensures.law
+returns-then-buf g c =
+    let way = c.in_ok-make_way.ensures in
+    let none = way_none _ _ c.if-buf.true way.2 in
+    then_goes_on _ _ _ _ way (passes _ _ _ (OneWrite c.args.buf.now) c.if-buf.true none none (one_made (Wrote c.args.buf.now c.write.result) c.write.ensures.law))
+
+pub push-requires : goal.push-requires
+push-requires g c = (search rules, way_room _ _ (omega (arith, c.if-buf.false)) c.in_ok-make_way.ensures.2)
 
 pub returns : goal.returns
-returns g c = held c.in_ok-make_way.ensures (omega (arith, c.if-buf.false)) refl c.push.ensures.held
+returns g c = then_goes_on _ _ _ _ c.in_ok-make_way.ensures (puts _ _ _ (OneWrite c.args.buf.now) (omega (arith, c.if-buf.false)) refl c.push.ensures.held)

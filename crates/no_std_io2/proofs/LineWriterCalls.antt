@@ -1,0 +1,320 @@
+-- What the calls of a line writer tell and count, by the calls of its inner writer.
+use Rattle.std.proofs.Common.{◌≡◌, ◌+◌, ℕ, ◌<◌, ◌≤◌, ◌==◌, ◌∙◌, List, [], ◌∷◌, ◌++◌, length, take, drop, Result, Ok, Err, Some, OnOk, IsOk, IfOk}
+use Rattle.std.proofs.Common.{refl, sym, ap, subst, arith, append-nil, if◌then◌else◌, ⊎_elim, inl, inr, le_refl, take-append-drop}
+use Rattle.std.proofs.lemmas.Bool.{cases_lt}
+use Rattle.std.proofs.lemmas.Bool.Decides.{nat_tests}
+use lib.Seq.{take-take}
+use Rattle.no_std_io2_base.specs.declared.error.Error.{Error}
+use Rattle.no_std_io2_base.specs.Errors.{IsNoInterruption}
+use Rattle.no_std_io2_base.specs.declared.traits.write.Write.{Ghosts as Writer}
+use Rattle.no_std_io2_base.specs.Write.{Moves, MovesFront, WriteCall, Wrote, Made, zero_write, calls_for}
+use Rattle.no_std_io2_base.proofs.MovesLemmas.{Moves-then}
+use Rattle.no_std_io2_base.proofs.CallsLemmas.{made_split}
+use Rattle.no_std_io2_base.proofs.WritesFacts.{writes_fault}
+use Rattle.no_std_io2_base.proofs.AllFacts.{all_calls}
+use Rattle.no_std_io2.specs.Lines.{IsLineState, lines_of, lines_len, unfinished_line, held_tail}
+use Rattle.no_std_io2.specs.BufWriter.{CallOf, Then, stops, goes_on, with_buffer}
+use Rattle.no_std_io2.specs.BufWriter.{SendCalls, WriteCalls, WriteAllCalls, OneWrite, OneWriteAll, way_calls, buffer_after, writing_calls}
+use Rattle.no_std_io2.specs.LineWriter.{SendLineCalls, HoldsTail, LinesCalls, SendLinesCalls, LineWriteCalls, LineWriteAllCalls}
+use Rattle.no_std_io2.specs.LineWriter.{line_buffer_filled, KeepsTaking}
+use Rattle.no_std_io2.proofs.BufWriterLemmas.{Moves-buffered, Moves-emptied, MovesFront-emptied}
+use Rattle.no_std_io2.proofs.StepLemmas.{no_ok, Tells, Sending, Counts, Counted, then_leaves, then_tells, then_counts}
+use Rattle.no_std_io2.proofs.BufWriterCalls.{buffered_leaves, send_leaves}
+use Rattle.no_std_io2.proofs.BufWriterCalls.{one_call, send_tells, kept_tells, write_tells, Writing, write_bound, send_counts, idle_counts, write_counts}
+use Rattle.no_std_io2.proofs.BufWriterCalls.{write_all_tells, write_all_fault, write_all_counts, writing_all_calls}
+use Rattle.no_std_io2.proofs.LineWriterLemmas.{MovesFront-ends, MovesFront-whole, MovesFront-part, MovesFront-rest}
+use Rattle.no_std_io2.proofs.LineWriterStates.{line_left, line_left-is, send_line_leaves, send_lines_leaves, lines_length, tail_whole}
+use Rattle.no_std_io2.proofs.LinesLast.{lines_are, lines_len-some, lines_len-none, unfinished_line-drop, took_tail, took_tail-le, tail_mishap}
+
+-- a sent line is one call at most
+abbrev pub line_calls : List ℕ → ℕ
+line_calls held = if lines_len held == 0 then 0 else calls_for held
+
+line_calls-le : (held : List ℕ) → line_calls held ≤ 1
+line_calls-le held = grind (arith, nat_tests)
+
+line_calls-zero : (held : List ℕ) → lines_len held ≡ 0 → line_calls held ≡ 0
+line_calls-zero held none = grind (arith, nat_tests)
+
+line_calls-some : (held : List ℕ) → 0 < lines_len held → line_calls held ≡ calls_for held
+line_calls-some held some = grind (arith, nat_tests)
+
+calls_for-le : (xs : List ℕ) → calls_for xs ≤ 1
+calls_for-le xs = grind (arith, nat_tests)
+
+-- a write takes two inner calls at most,
+writing_calls-le : (S : ℕ) (held x : List ℕ) → writing_calls S held x ≤ 2
+writing_calls-le S held x = grind (arith, nat_tests)
+
+-- and with nothing held one
+writing_all-none : (S : ℕ) (x : List ℕ) → writing_all_calls S x [] ≤ 1
+writing_all-none S x = grind (arith, nat_tests)
+
+writing_all-short : (S : ℕ) (x held : List ℕ) → length x < S → writing_all_calls S x held ≤ 1
+writing_all-short S x held short = grind (arith, nat_tests)
+
+writing_all-le : (S : ℕ) (x held : List ℕ) → writing_all_calls S x held ≤ 2
+writing_all-le S x held = grind (arith, nat_tests)
+
+long_sent : (S : ℕ) (held x : List ℕ) → S ≤ length x → calls_for (buffer_after S held x) ≡ 0
+long_sent S held x long = grind (arith, nat_tests)
+
+-- so do a write and then a sending
+writing_then_sending : (S : ℕ) (x held : List ℕ) → writing_all_calls S x held + calls_for (buffer_after S held x) ≤ 2
+writing_then_sending S x held = ⊎_elim
+    (λ short. omega (arith, writing_all-short S x held short, calls_for-le (buffer_after S held x)))
+    (λ long. omega (arith, writing_all-le S x held, long_sent S held x long))
+    (cases_lt (length x) S)
+
+-- what holds at `Ok` holds of an answer that is `Ok`
+at_ok : {A : Type 0} {P : Type 0} (r : Result A Error) → IsOk r → OnOk r P → P
+at_ok (Ok v) is p = p
+at_ok (Err e) is p = no_ok is
+
+filled_plain : (S : ℕ) (held x : List ℕ) → lines_len x ≡ 0 → buffer_after S (unfinished_line held) x ≡ line_buffer_filled S held x
+filled_plain S held x none = grind (arith, nat_tests)
+
+filled_lines : (S : ℕ) (held x : List ℕ) → 0 < lines_len x → take S (unfinished_line x) ≡ line_buffer_filled S held x
+filled_lines S held x some = grind (arith, nat_tests)
+
+module _ {W : Type 0} (I : Writer W) where
+  send_line_tells : Tells I SendLineCalls (Sending I)
+  send_line_tells = λ held C reply left sends a b made. elim sends [
+    | inl kept ↦
+      kept_tells I held left C reply a b kept.1 kept.2 kept.3 made
+    | inr sent ↦ send_tells I _ _ _ _ sent.1 a b made
+  ]
+
+  send_line_counts : Counts I SendLineCalls line_calls
+  send_line_counts = λ held C reply left sends a b made takes. elim sends [
+    | inl kept ↦ idle_counts I tt a b (line_calls held) kept.1 kept.2 (line_calls-zero held (lines_len-none held kept.0)) made takes
+    | inr sent ↦
+      let spent = send_counts I _ _ _ _ sent.1 a b made takes in
+      (spent.0, spent.1, λ m. let one = spent.2 m in (one.0, omega (arith, one.1, line_calls-some held (lines_len-some held sent.0))))
+  ]
+
+  module _ (S : ℕ) (x : List ℕ) where
+    -- one write of lines, of which n bytes were taken, and then a tail is held
+    tail_tells : 0 < lines_len x → (answer reply : Result ℕ Error) (held left : List ℕ) → held ≡ [] → HoldsTail S x answer reply left
+        → (a b : W) → CallOf I a (Wrote (lines_of x) answer) b → Writing I x (with_buffer (I.told a) held) reply (with_buffer (I.told b) left)
+    tail_tells some (Err e) reply held left none tail a b law =
+        subst (λ r. Writing I x (with_buffer (I.told a) held) r (with_buffer (I.told b) left)) (sym tail.1)
+        (Moves-emptied none tail.0 law.moves)
+    tail_tells some (Ok n) reply held left none tail a b law =
+        subst (λ r. Writing I x (with_buffer (I.told a) held) r (with_buffer (I.told b) left)) (sym tail.1)
+        (subst (λ k. Moves (with_buffer (I.told a) held) (take (n + length left) x) k (with_buffer (I.told b) left))
+        (tail_mishap S x n some ∙ ap (λ t. zero_write (n + length t) x) (sym tail.0))
+        (Moves-buffered held left (take (n + length left) x) law.moves
+        (ap (λ l. l ++ take (n + length left) x) none ∙ ap (λ t. take (n + length t) x) tail.0 ∙ took_tail S x n
+        ∙ ap (λ l. l ++ held_tail S x n) (sym (take-take n (lines_len x) x (omega (arith, law.bound, lines_length x))))
+        ∙ ap (λ t. take n (lines_of x) ++ t) (sym tail.0))))
+
+    lines_tell : 0 < lines_len x → Tells I (LinesCalls S x) (Writing I x)
+    lines_tell some = λ held C reply left lines a b made.
+        tail_tells some lines.1 reply held left lines.0 lines.3 a b (one_call I a b lines.2 made)
+
+    lines_count : 0 < lines_len x → Counts I (LinesCalls S x) (λ _. 1)
+    lines_count some = λ held C reply left lines a b made takes.
+        let law = one_call I a b lines.2 made in
+        let all = law.all takes in
+        (all.0, (tail_whole S x lines.1 reply left all.1 some lines.3).0, λ m. law.counts m takes)
+
+    -- `write` accepts what its answer says,
+    pub line_write_tells : Tells I (LineWriteCalls S x) (Writing I x)
+    line_write_tells = λ held C reply left write a b made. elim write [
+      | inl plain ↦
+        then_tells I SendLineCalls (WriteCalls S x) (Writing I x) (λ s t e m. m) (λ s m t r f g. Moves-then {k = []} f g)
+        send_line_tells (write_tells I S x) plain.1 a b made
+      | inr lines ↦
+        then_tells I SendCalls (LinesCalls S x) (Writing I x) (λ s t e m. m) (λ s m t r f g. Moves-then {k = []} f g)
+        (send_tells I) (lines_tell (lines_len-some x lines.0)) lines.1 a b made
+    ]
+
+    tail_bound : (answer reply : Result ℕ Error) (left : List ℕ) → HoldsTail S x answer reply left → IfOk answer (λ n. n ≤ length (lines_of x))
+        → IfOk reply (λ n. n ≤ length x)
+    tail_bound (Err e) reply left tail bound = subst (λ r. IfOk r (λ n. n ≤ length x)) (sym tail.1) tt
+    tail_bound (Ok n) reply left tail bound =
+        let within : n ≤ length x = omega (arith, bound, lines_length x, (lines_are x).within) in
+        subst (λ r. IfOk r (λ n. n ≤ length x)) (sym tail.1)
+        (omega (arith, ap length tail.0, took_tail-le S x n within))
+
+    -- and over an inner writer that takes all, it leaves this
+    tail_filled : {held left : List ℕ} {C : List WriteCall} {reply : Result ℕ Error} → Then SendCalls (LinesCalls S x) held C reply left
+        → 0 < lines_len x → (a b : W) → Made (CallOf I) a C b → I.takes_all a → left ≡ take S (unfinished_line x)
+    tail_filled (stops p) some a b made takes = no_ok (send_counts I _ _ _ _ p a b made takes).1
+    tail_filled (goes_on {C = C} {D = D} {left = left} {reply = reply} p q) some a b made takes =
+        let parts = made_split (CallOf I) C a D b made in
+        let law = one_call I parts.0 b q.2 parts.2 in
+        (tail_whole S x q.1 reply left (law.all (send_counts I _ _ _ _ p a parts.0 parts.1 takes).0).1 some q.3).1
+
+  plain_bound : (S : ℕ) {x held left : List ℕ} {C : List WriteCall} {reply : Result ℕ Error} → Then SendLineCalls (WriteCalls S x) held C reply left
+      → (a b : W) → Made (CallOf I) a C b → IfOk reply (λ n. n ≤ length x)
+  plain_bound S (stops p) a b made = tt
+  plain_bound S (goes_on {C = C} {D = D} p q) a b made =
+      let parts = made_split (CallOf I) C a D b made in write_bound I S q parts.0 b parts.2
+
+  lines_bound : (S : ℕ) (x : List ℕ) {held left : List ℕ} {C : List WriteCall} {reply : Result ℕ Error} → Then SendCalls (LinesCalls S x) held C reply left
+      → (a b : W) → Made (CallOf I) a C b → IfOk reply (λ n. n ≤ length x)
+  lines_bound S x (stops p) a b made = tt
+  lines_bound S x (goes_on {C = C} {D = D} {left = left} {reply = reply} p q) a b made =
+      let parts = made_split (CallOf I) C a D b made in
+      tail_bound S x q.1 reply left q.3 (one_call I parts.0 b q.2 parts.2).bound
+
+  -- no more is taken than was given
+  pub line_write_bound : (S : ℕ) {x held left : List ℕ} {C : List WriteCall} {reply : Result ℕ Error} → LineWriteCalls S x held C reply left
+      → (a b : W) → Made (CallOf I) a C b → IfOk reply (λ n. n ≤ length x)
+  line_write_bound S {x} write a b made = elim write [
+    | inl plain ↦ plain_bound S plain.1 a b made
+    | inr lines ↦ lines_bound S x lines.1 a b made
+  ]
+
+  -- over an inner writer that takes all it makes three calls at most,
+  pub line_write_keeps : (S : ℕ) {x held left : List ℕ} {C : List WriteCall} {reply : Result ℕ Error} → LineWriteCalls S x held C reply left
+      → (a b : W) → Made (CallOf I) a C b → KeepsTaking I a reply b
+  line_write_keeps S {x} {held} write a b made takes = elim write [
+    | inl plain ↦
+      let all = then_counts I SendLineCalls (WriteCalls S x) line_left line_calls (λ held. writing_calls S held x) send_line_leaves send_line_counts
+      (write_counts I S x) plain.1 a b made takes in
+      (all.0, all.1, λ m. let spent = all.2 m in (spent.0, omega (arith, spent.1, line_calls-le held, writing_calls-le S (line_left held) x)))
+    | inr lines ↦
+      let all = then_counts I SendCalls (LinesCalls S x) (λ _. []) calls_for (λ _. 1) send_leaves (send_counts I)
+      (lines_count S x (lines_len-some x lines.0)) lines.1 a b made takes in
+      (all.0, all.1, λ m. let spent = all.2 m in (spent.0, omega (arith, spent.1, calls_for-le held)))
+  ]
+
+  -- and this is held then
+  pub line_write_filled : (S : ℕ) {x held left : List ℕ} {C : List WriteCall} {reply : Result ℕ Error} → LineWriteCalls S x held C reply left
+      → IsLineState held → (a b : W) → Made (CallOf I) a C b → I.takes_all a → left ≡ line_buffer_filled S held x
+  line_write_filled S {x} {held} {left} {reply = reply} write line a b made takes =
+      let keeps = line_write_keeps S write a b made takes in elim write [
+    | inl plain ↦
+      at_ok reply keeps.1 (then_leaves SendLineCalls (WriteCalls S x) line_left (λ held. buffer_after S held x) send_line_leaves (buffered_leaves S x (length x) (OneWrite x)) plain.1)
+      ∙ ap (λ h. buffer_after S h x) (line_left-is held line) ∙ filled_plain S held x (lines_len-none x plain.0)
+    | inr lines ↦
+      let some = lines_len-some x lines.0 in
+      tail_filled S x lines.1 some a b made takes ∙ filled_lines S held x some
+  ]
+
+module _ {W : Type 0} (I : Writer W) (steady : (w : W) → I.takes_all w → (I.told w).mishaps ≡ Some []) where
+  -- lines that are handed on: some front of them is accepted, all at `Ok`,
+  behind_tells : (S : ℕ) {y held left : List ℕ} {C : List WriteCall} {reply : Result (Unit {0}) Error}
+      → Then (WriteAllCalls S y) SendCalls held C reply left → (a b : W) → Made (CallOf I) a C b
+      → MovesFront (with_buffer (I.told a) held) y reply (with_buffer (I.told b) left) × IsNoInterruption reply
+  behind_tells S {y} (stops w) a b made = (write_all_tells I steady S y _ _ _ _ w a b made, write_all_fault I steady S w a b made)
+  behind_tells S {y} (goes_on {C = C} {D = D} {reply = reply} w s) a b made =
+      let parts = made_split (CallOf I) C a D b made in (
+        MovesFront-ends y reply (MovesFront-whole y tt (write_all_tells I steady S y _ _ _ _ w a parts.0 parts.1))
+            (send_tells I _ _ _ _ s parts.0 b parts.2),
+        writes_fault s,
+      )
+
+  send_lines_tells : (S : ℕ) {y held left : List ℕ} {C : List WriteCall} {reply : Result (Unit {0}) Error} → SendLinesCalls S y held C reply left
+      → (a b : W) → Made (CallOf I) a C b
+      → MovesFront (with_buffer (I.told a) held) y reply (with_buffer (I.told b) left) × IsNoInterruption reply
+  send_lines_tells S sends a b made = elim sends [
+    | inl past ↦
+      let said = all_calls I.told I.takes_all I.cost I.is_metered I.may steady past.2 a b made in
+      (MovesFront-emptied past.0 past.1 said.1, said.0)
+    | inr behind ↦ behind_tells S behind.1 a b made
+  ]
+
+  -- by two calls at most of an inner writer that takes all
+  send_lines_count : (S : ℕ) {y held left : List ℕ} {C : List WriteCall} {reply : Result (Unit {0}) Error} → SendLinesCalls S y held C reply left
+      → (a b : W) → Made (CallOf I) a C b → I.takes_all a → (n : ℕ) × (n ≤ 2) × Counted I reply a n b
+  send_lines_count S {y} {held} sends a b made takes = elim sends [
+    | inl past ↦ (
+      calls_for y,
+      omega (arith, calls_for-le y),
+      (all_calls I.told I.takes_all I.cost I.is_metered I.may steady past.2 a b made).2 takes,
+    )
+    | inr behind ↦ (
+      writing_all_calls S y held + calls_for (buffer_after S held y),
+      writing_then_sending S y held,
+      then_counts I (WriteAllCalls S y) SendCalls (λ held. buffer_after S held y) (writing_all_calls S y) calls_for
+          (buffered_leaves S y tt (OneWriteAll y))
+          (write_all_counts I steady S y) (send_counts I) behind.1 a b made takes,
+    )
+  ]
+
+  -- `write_all`: a text without a newline,
+  plain_tells : (S : ℕ) {x held left : List ℕ} {C : List WriteCall} {reply : Result (Unit {0}) Error}
+      → Then SendLineCalls (WriteAllCalls S x) held C reply left → (a b : W) → Made (CallOf I) a C b
+      → MovesFront (with_buffer (I.told a) held) x reply (with_buffer (I.told b) left) × IsNoInterruption reply
+  plain_tells S {x} (stops {e = e} p) a b made = (
+    record { accepted = []; front = (x, refl); whole = tt; moves = send_line_tells I _ _ _ _ p a b made },
+    elim p [
+      | inl kept ↦ absurd (let never = kept.2 in cc)
+      | inr sent ↦ writes_fault sent.1
+    ],
+  )
+  plain_tells S {x} (goes_on {C = C} {D = D} p q) a b made =
+      let parts = made_split (CallOf I) C a D b made in
+      let all = write_all_tells I steady S x _ _ _ _ q parts.0 b parts.2 in (
+        record {
+          accepted = all.accepted;
+          front = all.front;
+          whole = all.whole;
+          moves = Moves-then {k = []} (send_line_tells I _ _ _ _ p a parts.0 parts.1) all.moves;
+        },
+        write_all_fault I steady S q parts.0 b parts.2,
+      )
+
+  -- and one with some
+  lines_tells : (S : ℕ) {x held left : List ℕ} {C : List WriteCall} {reply : Result (Unit {0}) Error}
+      → Then (SendLinesCalls S (lines_of x)) (WriteAllCalls S (unfinished_line x)) held C reply left → (a b : W) → Made (CallOf I) a C b
+      → MovesFront (with_buffer (I.told a) held) x reply (with_buffer (I.told b) left) × IsNoInterruption reply
+  lines_tells S {x} (stops {e = e} p) a b made =
+      let said = send_lines_tells S p a b made in
+      (MovesFront-part (lines_of x) x e (drop (lines_len x) x, sym (take-append-drop (lines_len x) x)) said.0, said.1)
+  lines_tells S {x} (goes_on {C = C} {D = D} {reply = reply} p q) a b made =
+      let parts = made_split (CallOf I) C a D b made in (
+        MovesFront-rest (lines_len x) x (unfinished_line x) reply (unfinished_line-drop x)
+            (MovesFront-whole (lines_of x) tt (send_lines_tells S p a parts.0 parts.1).0)
+            (write_all_tells I steady S (unfinished_line x) _ _ _ _ q parts.0 b parts.2),
+        write_all_fault I steady S q parts.0 b parts.2,
+      )
+
+  -- some front is accepted, all of it at `Ok`, and no interruption is answered
+  pub line_write_all_tells : (S : ℕ) {x held left : List ℕ} {C : List WriteCall} {reply : Result (Unit {0}) Error}
+      → LineWriteAllCalls S x held C reply left → (a b : W) → Made (CallOf I) a C b
+      → MovesFront (with_buffer (I.told a) held) x reply (with_buffer (I.told b) left) × IsNoInterruption reply
+  line_write_all_tells S write a b made = elim write [
+    | inl plain ↦ plain_tells S plain.1 a b made
+    | inr lines ↦ lines_tells S lines.1 a b made
+  ]
+
+  lines_keep : (S : ℕ) (x : List ℕ) {held left : List ℕ} {C : List WriteCall} {reply : Result (Unit {0}) Error}
+      → Then (SendLinesCalls S (lines_of x)) (WriteAllCalls S (unfinished_line x)) held C reply left → (a b : W) → Made (CallOf I) a C b
+      → KeepsTaking I a reply b
+  lines_keep S x (stops p) a b made takes = no_ok (send_lines_count S p a b made takes).2.1
+  lines_keep S x (goes_on {C = C} {D = D} {mid = mid} p q) a b made takes =
+      let parts = made_split (CallOf I) C a D b made in
+      let first = send_lines_count S p a parts.0 parts.1 takes in
+      let next = write_all_counts I steady S (unfinished_line x) _ _ _ _ q parts.0 b parts.2 first.2.0 in (
+        next.0,
+        next.1,
+        λ m.
+            let one = first.2.2 m in
+            let two = next.2 one.0 in (
+              two.0,
+              omega (
+                arith,
+                one.1,
+                two.1,
+                first.1,
+                ap (writing_all_calls S (unfinished_line x)) (send_lines_leaves S (lines_of x) _ _ _ _ p),
+                writing_all-none S (unfinished_line x),
+              ),
+            ),
+      )
+
+  -- by three calls at most of an inner writer that takes all
+  pub line_write_all_keeps : (S : ℕ) {x held left : List ℕ} {C : List WriteCall} {reply : Result (Unit {0}) Error}
+      → LineWriteAllCalls S x held C reply left → (a b : W) → Made (CallOf I) a C b → KeepsTaking I a reply b
+  line_write_all_keeps S {x} {held} write a b made takes = elim write [
+    | inl plain ↦
+      let all = then_counts I SendLineCalls (WriteAllCalls S x) line_left line_calls (writing_all_calls S x) send_line_leaves (send_line_counts I)
+      (write_all_counts I steady S x) plain.1 a b made takes in
+      (all.0, all.1, λ m. let spent = all.2 m in (spent.0, omega (arith, spent.1, line_calls-le held, writing_all-le S x (line_left held))))
+    | inr lines ↦ lines_keep S x lines.1 a b made takes
+  ]

@@ -1,0 +1,270 @@
+-- What the calls of a line writer leave: line states, and after an `Ok` these.
+use Rattle.std.proofs.Common.{◌≡◌, ◌+◌, ◌-◌, ℕ, ◌<◌, ◌≤◌, ◌==◌, ◌∙◌, List, [], ◌∷◌, ◌++◌, length, take, drop, get_or, slice_index, Result, Ok, Err, OnOk}
+use Rattle.std.proofs.Common.{IsOk, IfOk, refl, sym, ap, subst, arith, if◌then◌else◌, ⊎_elim, inl, inr, length-take, take-append-drop}
+use Rattle.std.proofs.lemmas.Bool.{cases_lt}
+use Rattle.std.proofs.lemmas.Bool.Decides.{nat_tests}
+use Rattle.std.proofs.lemmas.List.{get_or-take}
+use Rattle.no_std_io2_base.specs.declared.error.Error.{Error}
+use Rattle.no_std_io2_base.specs.Write.{WriteCall, Wrote, Writes, none as no_write, took, again, stuck, fault}
+use Rattle.no_std_io2_base.specs.declared.traits.write.Write.{Ghosts as Writer}
+use Rattle.no_std_io2_base.proofs.CallsLemmas.{writes_whole}
+use Rattle.no_std_io2.specs.Buffer.{IsEnd}
+use Rattle.no_std_io2.specs.Lines.{IsLineState, HasNoNewline, HasNewline, IsLinesLen, lines_of, lines_len, unfinished_line, held_tail}
+use Rattle.no_std_io2.specs.BufWriter.{CallOf, Then, stops, goes_on, SendCalls, WayCalls, Buffered, WriteCalls, WriteAllCalls, FlushCalls, OneWriteAll, buffer_after}
+use Rattle.no_std_io2.specs.LineWriter.{SendLineCalls, HoldsTail, LinesCalls, SendLinesCalls, LineWriteCalls, LineWriteAllCalls}
+use Rattle.no_std_io2.specs.LineWriter.{line_buffer_after, IsShortText}
+use Rattle.no_std_io2.proofs.AnswerLemmas.{onok, onok_map}
+use Rattle.no_std_io2.proofs.BufWriterLemmas.{IsEnd-trans, ok_same}
+use Rattle.no_std_io2.proofs.StepLemmas.{Stepped, Leaves, then_leaves}
+use Rattle.no_std_io2.proofs.BufWriterCalls.{buffered_leaves, buffered_fits, send_leaves, write_whole}
+use Rattle.no_std_io2.proofs.LineWriterLemmas.{IsLineState-end, IsLineState-plain, IsLineState-ended, HasNoNewline-end, HasNoNewline-append}
+use Rattle.no_std_io2.proofs.LineWriterLemmas.{HasNoNewline-none}
+use Rattle.no_std_io2.proofs.LinesLast.{lines_are, lines_len-is, lines_len-some, lines_len-none, unfinished_line-none, unfinished_line-ended}
+use Rattle.no_std_io2.proofs.LinesLast.{unfinished_line-drop, unfinished_line-plain, none_or_some, held_tail-all, tail_line}
+
+-- what is left of some bytes that were sent is an end of them
+pub writes_end : {text : List ℕ} {C : List WriteCall} {x left : List ℕ} {reply : Result (Unit {0}) Error}
+    → Writes text C x reply left → IsEnd x left
+writes_end no_write = ([], refl)
+writes_end (took {x = x} {left = left} {n = n} some more w) =
+    IsEnd-trans x (drop n x) left (take n x, sym (take-append-drop n x)) (writes_end w)
+writes_end (again some interrupted w) = writes_end w
+writes_end (stuck some says) = ([], refl)
+writes_end (fault some is) = ([], refl)
+
+way_end : (S n : ℕ) {held left : List ℕ} {C : List WriteCall} {reply : Result (Unit {0}) Error} → WayCalls S n held C reply left → IsEnd held left
+way_end S n {left = left} way = elim way [
+  | inl kept ↦ subst (λ l. IsEnd l left) kept.3 ([], refl)
+  | inr sent ↦ writes_end sent.1
+]
+
+-- a line that is held is sent
+abbrev pub line_left : List ℕ → List ℕ
+line_left held = if lines_len held == 0 then held else []
+
+line_left-zero : (held : List ℕ) → lines_len held ≡ 0 → line_left held ≡ held
+line_left-zero held none = grind (arith, nat_tests)
+
+line_left-some : (held : List ℕ) → 0 < lines_len held → line_left held ≡ []
+line_left-some held some = grind (arith, nat_tests)
+
+-- of a line state that is what follows its lines
+pub line_left-is : (held : List ℕ) → IsLineState held → line_left held ≡ unfinished_line held
+line_left-is held line =
+    let are = lines_are held in
+    ⊎_elim
+    (λ some. line_left-some held some
+    ∙ sym (unfinished_line-ended held (line (lines_len held - 1) (omega (arith, are.within, some)) (are.ends some))))
+    (λ none.
+    let zero : lines_len held ≡ 0 = omega (arith, none) in
+    line_left-zero held zero ∙ sym (unfinished_line-drop held ∙ ap (λ n. drop n held) zero))
+    (cases_lt 0 (lines_len held))
+
+pub send_line_leaves : Leaves SendLineCalls line_left
+send_line_leaves = λ held C reply left sends. elim sends [
+  | inl kept ↦ onok reply _ (kept.3 ∙ sym (line_left-zero held (lines_len-none held kept.0)))
+  | inr sent ↦ onok_map reply _ _ (λ e. e ∙ sym (line_left-some held (lines_len-some held sent.0))) (writes_whole sent.1)
+]
+
+-- and what is left then has no newline
+send_line_plain : {held left : List ℕ} {C : List WriteCall} → SendLineCalls held C (Ok tt) left → HasNoNewline left
+send_line_plain {left = left} sends = elim sends [
+  | inl kept ↦ subst HasNoNewline (sym kept.3) kept.0
+  | inr sent ↦ HasNoNewline-none left (writes_whole sent.1)
+]
+
+send_line_end : {held left : List ℕ} {C : List WriteCall} {reply : Result (Unit {0}) Error} → SendLineCalls held C reply left → IsEnd held left
+send_line_end {left = left} sends = elim sends [
+  | inl kept ↦ subst (λ l. IsEnd l left) kept.3 ([], refl)
+  | inr sent ↦ writes_end sent.1
+]
+
+-- no line is held: none is sent
+no_line_sent : {held left : List ℕ} {C : List WriteCall} {reply : Result (Unit {0}) Error} → SendLineCalls held C reply left
+    → HasNoNewline held → (C ≡ []) × (reply ≡ Ok tt) × (left ≡ held)
+no_line_sent {held} sends plain = elim sends [
+  | inl kept ↦ (kept.1, kept.2, kept.3)
+  | inr sent ↦ absurd (none_or_some held plain sent.0)
+]
+
+module _ {A : Type 0} (S : ℕ) (x : List ℕ) (v : A) (past : List WriteCall → Result A Error → Type 0) where
+  -- where neither what is held nor x has a newline, what goes through a buffer leaves none
+  buffered_plain : {held left : List ℕ} {C : List WriteCall} {reply : Result A Error} → Buffered S x v past held C reply left
+      → HasNoNewline held → HasNoNewline x → HasNoNewline left
+  buffered_plain (stops way) p q = HasNoNewline-end _ _ (way_end S (length x) way) p
+  buffered_plain (goes_on {mid = mid} {left = left} way put) p q = elim put [
+    | inl kept ↦ subst HasNoNewline (sym kept.3) (HasNoNewline-append mid x (HasNoNewline-end _ _ (way_end S (length x) way) p) q)
+    | inr gone ↦ HasNoNewline-none left gone.1.1
+  ]
+
+  -- and where x ends in one, a line state
+  buffered_line : {held left : List ℕ} {C : List WriteCall} {reply : Result A Error} → Buffered S x v past held C reply left
+      → IsLineState held → ((front : List ℕ) → IsLineState (front ++ x)) → IsLineState left
+  buffered_line (stops way) p q = IsLineState-end _ _ (way_end S (length x) way) p
+  buffered_line (goes_on {mid = mid} {left = left} way put) p q = elim put [
+    | inl kept ↦ subst IsLineState (sym kept.3) (q mid)
+    | inr gone ↦ IsLineState-plain left (HasNoNewline-none left gone.1.1)
+  ]
+
+  -- a text without a newline leaves a line state, and none of it after an `Ok`
+  plain_state : {held left : List ℕ} {C : List WriteCall} {reply : Result A Error}
+      → Then SendLineCalls (Buffered S x v past) held C reply left → IsLineState held → HasNoNewline x
+      → IsLineState left × OnOk reply (HasNoNewline left)
+  plain_state (stops p) line plain = (IsLineState-end _ _ (send_line_end p) line, tt)
+  plain_state (goes_on {reply = reply} p q) line plain =
+      let none = buffered_plain q (send_line_plain p) plain in (IsLineState-plain _ none, onok reply _ none)
+
+  -- where no line is held and it fits, it is held without a call
+  plain_fits : {held left : List ℕ} {C : List WriteCall} {reply : Result A Error}
+      → Then SendLineCalls (Buffered S x v past) held C reply left → HasNoNewline held → length x < S → length held + length x ≤ S
+      → (C ≡ []) × IsOk reply × (left ≡ held ++ x)
+  plain_fits (stops p) plain short room = absurd (let never = (no_line_sent p plain).1 in cc)
+  plain_fits (goes_on {D = D} p q) plain short room =
+      let kept = no_line_sent p plain in
+      let fits = buffered_fits S x v past q short (omega (arith, room, ap length kept.2)) in
+      (ap (λ C. C ++ D) kept.0 ∙ fits.0, subst IsOk (sym fits.1) refl, fits.2 ∙ ap (λ l. l ++ x) kept.2)
+
+-- one write of lines, of which some were taken, leaves a line state
+tail_state : (S : ℕ) (x : List ℕ) (answer reply : Result ℕ Error) (left : List ℕ) → HoldsTail S x answer reply left → IsLineState left
+tail_state S x (Err e) reply left tail = IsLineState-plain left (HasNoNewline-none left tail.0)
+tail_state S x (Ok n) reply left tail = subst IsLineState (sym tail.0) (tail_line S x n)
+
+-- the lines of x are a front of it
+pub lines_length : (x : List ℕ) → length (lines_of x) ≡ lines_len x
+lines_length x = omega (arith, length-take (lines_len x) x, (lines_are x).within)
+
+-- `Ok` of the whole is what the inner writer answers that takes all; behind that the unfinished line is held
+pub tail_whole : (S : ℕ) (x : List ℕ) (answer reply : Result ℕ Error) (left : List ℕ) → answer ≡ Ok (length (lines_of x)) → 0 < lines_len x
+    → HoldsTail S x answer reply left → IsOk reply × (left ≡ take S (unfinished_line x))
+tail_whole S x (Err e) reply left is some tail = absurd (let no : ⊥ = cc in no)
+tail_whole S x (Ok n) reply left is some tail =
+    let all : n ≡ lines_len x = ok_same is ∙ lines_length x in (
+      subst IsOk (sym tail.1) refl,
+      tail.0 ∙ held_tail-all S x (lines_len x) n refl (omega (arith, some, all)) (omega (arith, all))
+          ∙ ap (take S) (ap (λ k. drop k x) all ∙ sym (unfinished_line-drop x)),
+    )
+
+-- a `write` leaves a line state
+lines_state : (S : ℕ) (x : List ℕ) {held left : List ℕ} {C : List WriteCall} {reply : Result ℕ Error}
+    → Then SendCalls (LinesCalls S x) held C reply left → IsLineState held → IsLineState left
+lines_state S x (stops p) line = IsLineState-end _ _ (writes_end p) line
+lines_state S x (goes_on {left = left} {reply = reply} p q) line = tail_state S x q.1 reply left q.3
+
+pub line_write_state : (S : ℕ) {x held left : List ℕ} {C : List WriteCall} {reply : Result ℕ Error} → LineWriteCalls S x held C reply left
+    → IsLineState held → IsLineState left
+line_write_state S {x} write line = elim write [
+  | inl plain ↦ (plain_state S x (length x) _ plain.1 line plain.0).0
+  | inr lines ↦ lines_state S x lines.1 line
+]
+
+-- and takes a short text whole, or fails; where it fits, it is held without a call
+plain_whole : (S : ℕ) {x held left : List ℕ} {C : List WriteCall} {reply : Result ℕ Error}
+    → Then SendLineCalls (WriteCalls S x) held C reply left → length x < S → IfOk reply (λ n. n ≡ length x)
+plain_whole S (stops p) short = tt
+plain_whole S (goes_on p q) short = write_whole S q short
+
+pub line_write_short : (S : ℕ) {x held left : List ℕ} {C : List WriteCall} {reply : Result ℕ Error} → LineWriteCalls S x held C reply left
+    → IsShortText S x → IfOk reply (λ n. n ≡ length x)
+line_write_short S {x} write short = elim write [
+  | inl plain ↦ plain_whole S plain.1 short.1
+  | inr lines ↦ absurd (none_or_some x short.0 lines.0)
+]
+
+pub line_write_fits : (S : ℕ) {x held left : List ℕ} {C : List WriteCall} {reply : Result ℕ Error} → LineWriteCalls S x held C reply left
+    → IsShortText S x → HasNoNewline held → length held + length x ≤ S → (C ≡ []) × IsOk reply × (left ≡ held ++ x)
+line_write_fits S {x} write short plain room = elim write [
+  | inl text ↦ plain_fits S x (length x) _ text.1 plain short.1 room
+  | inr lines ↦ absurd (none_or_some x short.0 lines.0)
+]
+
+-- a `flush` leaves one too
+pub flush_state : {held left : List ℕ} {C : List WriteCall} {reply : Result (Unit {0}) Error} → FlushCalls held C reply left
+    → IsLineState held → IsLineState left
+flush_state (stops sent) line = IsLineState-end _ _ (writes_end sent) line
+flush_state (goes_on {left = left} sent past) line = IsLineState-plain left (HasNoNewline-none left past.1)
+
+-- lines that are handed on leave nothing at `Ok`
+pub send_lines_leaves : (S : ℕ) (y : List ℕ) → Leaves (SendLinesCalls S y) (λ _. [])
+send_lines_leaves S y = λ held C reply left sends. elim sends [
+  | inl past ↦ onok reply _ past.1
+  | inr behind ↦
+    then_leaves (WriteAllCalls S y) SendCalls (λ held. buffer_after S held y) (λ _. []) (buffered_leaves S y tt (OneWriteAll y)) send_leaves behind.1
+]
+
+-- a line state at an error
+behind_state : (S : ℕ) {y held left : List ℕ} {C : List WriteCall} {reply : Result (Unit {0}) Error}
+    → Then (WriteAllCalls S y) SendCalls held C reply left → IsLineState held → ((front : List ℕ) → IsLineState (front ++ y)) → IsLineState left
+behind_state S {y} (stops w) line ended = buffered_line S y tt (OneWriteAll y) w line ended
+behind_state S {y} (goes_on w s) line ended =
+    IsLineState-end _ _ (writes_end s) (buffered_line S y tt (OneWriteAll y) w line ended)
+
+lines_ended : (x : List ℕ) → 0 < lines_len x → (front : List ℕ) → IsLineState (front ++ lines_of x)
+lines_ended x some front =
+    let lines = lines_are x in
+    let len = lines_length x in
+    IsLineState-ended front (lines_of x) (omega (arith, len, some))
+    (ap (λ n. slice_index (lines_of x) (n - 1)) len ∙ get_or-take (lines_len x) x (lines_len x - 1) 0 (omega (arith, some)) ∙ lines.ends some)
+
+-- a `write_all` has no newline left after an `Ok`, and a line state after an error
+all_lines_state : (S : ℕ) (x : List ℕ) {held left : List ℕ} {C : List WriteCall} {reply : Result (Unit {0}) Error}
+    → Then (SendLinesCalls S (lines_of x)) (WriteAllCalls S (unfinished_line x)) held C reply left → IsLineState held → 0 < lines_len x
+    → IsLineState left × OnOk reply (HasNoNewline left)
+all_lines_state S x (stops {left = left} p) line some = (
+  elim p [
+    | inl past ↦ IsLineState-plain left (HasNoNewline-none left past.1)
+    | inr behind ↦ behind_state S behind.1 line (lines_ended x some)
+  ],
+  tt,
+)
+all_lines_state S x (goes_on {mid = mid} {reply = reply} p q) line some =
+    let empty = HasNoNewline-none mid (send_lines_leaves S (lines_of x) _ _ _ _ p) in
+    let rest = unfinished_line x in
+    let none = buffered_plain S rest tt (OneWriteAll rest) q empty (unfinished_line-plain x) in (IsLineState-plain _ none, onok reply _ none)
+
+pub line_write_all_state : (S : ℕ) {x held left : List ℕ} {C : List WriteCall} {reply : Result (Unit {0}) Error}
+    → LineWriteAllCalls S x held C reply left → IsLineState held → IsLineState left × OnOk reply (HasNoNewline left)
+line_write_all_state S {x} write line = elim write [
+  | inl plain ↦ plain_state S x tt _ plain.1 line plain.0
+  | inr lines ↦ all_lines_state S x lines.1 line (lines_len-some x lines.0)
+]
+
+pub line_write_all_fits : (S : ℕ) {x held left : List ℕ} {C : List WriteCall} {reply : Result (Unit {0}) Error}
+    → LineWriteAllCalls S x held C reply left
+    → IsShortText S x → HasNoNewline held → length held + length x ≤ S → (C ≡ []) × IsOk reply × (left ≡ held ++ x)
+line_write_all_fits S {x} write short plain room = elim write [
+  | inl text ↦ plain_fits S x tt _ text.1 plain short.1 room
+  | inr lines ↦ absurd (none_or_some x short.0 lines.0)
+]
+
+-- what is held after an `Ok` of `write_all`
+after_plain : (S : ℕ) (held x : List ℕ) → lines_len x ≡ 0 → buffer_after S (unfinished_line held) x ≡ buffer_after S (if lines_len x == 0 then unfinished_line held else []) x
+after_plain S held x none = grind (arith, nat_tests)
+
+after_lines : (held x : List ℕ) → 0 < lines_len x → (if lines_len x == 0 then unfinished_line held else []) ≡ []
+after_lines held x some = grind (arith, nat_tests)
+
+pub line_write_all_leaves : (S : ℕ) {x held left : List ℕ} {C : List WriteCall} {reply : Result (Unit {0}) Error}
+    → LineWriteAllCalls S x held C reply left → IsLineState held → OnOk reply (left ≡ line_buffer_after S held x)
+line_write_all_leaves S {x} {held} {left} {reply = reply} write line = elim write [
+  | inl plain ↦
+    let after = then_leaves SendLineCalls (WriteAllCalls S x) line_left (λ held. buffer_after S held x) send_line_leaves (buffered_leaves S x tt (OneWriteAll x)) plain.1 in
+    onok_map reply _ _
+    (λ e. e ∙ ap (λ h. buffer_after S h x) (line_left-is held line) ∙ after_plain S held x (lines_len-none x plain.0)
+    ∙ ap (buffer_after S (if lines_len x == 0 then unfinished_line held else [])) (sym (unfinished_line-none x plain.0))) after
+  | inr lines ↦
+    let after = then_leaves (SendLinesCalls S (lines_of x)) (WriteAllCalls S (unfinished_line x)) (λ _. [])
+    (λ held. buffer_after S held (unfinished_line x)) (send_lines_leaves S (lines_of x))
+    (buffered_leaves S (unfinished_line x) tt (OneWriteAll (unfinished_line x))) lines.1 in
+    onok_map reply _ _
+    (λ e. e ∙ ap (λ h. buffer_after S h (unfinished_line x)) (sym (after_lines held x (lines_len-some x lines.0)))) after
+]
+
+-- the lines were written by one call, and of what it left the tail is held
+pub wrote_lines : {W : Type 0} {I : Writer W} (S : ℕ) (x : List ℕ) (len : ℕ) {answer reply : Result ℕ Error} {held left : List ℕ} {a b : W}
+    → IsLinesLen x len → CallOf I a (Wrote (take len x) answer) b → held ≡ [] → HoldsTail S x answer reply left
+    → Stepped I (LinesCalls S x) a held reply left b
+wrote_lines {I} S x len {answer = answer} {a = a} {b = b} lines law none tail = (
+  Wrote (lines_of x) answer ∷ [],
+  (b, subst (λ n. CallOf I a (Wrote (take n x) answer) b) (sym (lines_len-is x len lines)) law, refl),
+  (none, answer, refl, tail),
+)

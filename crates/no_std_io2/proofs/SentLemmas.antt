@@ -1,0 +1,86 @@
+-- What follows where a call of a buffered writer sends first: its seeks and `into_inner`.
+use Rattle.std.proofs.Common.{◌≡◌, ℕ, ◌<◌, List, [], length, Result, Ok, Err, OnOk, IsOk, Some, refl, sym, ap, subst, arith, ◌∙◌}
+use Rattle.no_std_io2_base.specs.declared.error.Error.{Error}
+use Rattle.no_std_io2_base.specs.Errors.{error_kind}
+use Rattle.no_std_io2_base.specs.declared.traits.write.Write.{Ghosts as Writer}
+use Rattle.no_std_io2_base.specs.Write.{Moves, WriteCall, Made}
+use Rattle.no_std_io2_base.proofs.MovesLemmas.{Moves-steady}
+use Rattle.no_std_io2_base.proofs.CallsLemmas.{writes_whole}
+use Rattle.no_std_io2_base.proofs.WritesFacts.{writes_fault, writes_left, writes_idle, writes_sends}
+use Rattle.no_std_io2.specs.BufWriter.{CallOf, SendCalls, Takes, SendsFirst, SendsAll, Unwraps}
+use Rattle.no_std_io2.specs.declared.buffered.into_inner_error.IntoInnerError.{IntoInnerError}
+use Rattle.no_std_io2.specs.BufWriter.{into_inner_error_writer, into_inner_error_cause}
+use Rattle.no_std_io2.proofs.AnswerLemmas.{onok, iferr}
+use Rattle.no_std_io2.proofs.BufWriterLemmas.{Moves-out}
+use Rattle.no_std_io2.proofs.BufWriterCalls.{send_tells, send_counts}
+use Rattle.no_std_io2.proofs.StepLemmas.{no_ok, Stepped}
+
+module _ {W : Type 0} {I : Writer W} {a b : W} {held left : List ℕ} where
+  -- with nothing held there was no inner call
+  pub sent_idle : {reply : Result (Unit {0}) Error} → Stepped I SendCalls a held reply left b → held ≡ [] → (b ≡ a) × IsOk reply
+  sent_idle calls none = let idle = writes_idle calls.2 none in (subst (λ K. Made (CallOf I) a K b) idle.0 calls.1, idle.1)
+
+  -- some bytes are left at an error
+  pub failed_left : {T : Type 0} {e : Error} → Stepped I SendCalls a held (Err e) left b → left ≡ [] → T
+  failed_left calls none = absurd (omega (arith, writes_left calls.2, ap length none))
+
+  -- all was sent
+  pub sends_all : Stepped I SendCalls a held (Ok tt) left b → SendsAll I a held b
+  sends_all calls =
+      let none = writes_whole calls.2 in
+      let sends = writes_sends I.told I.takes_all I.cost I.is_metered I.may calls.2 a b calls.1 in
+      record {
+        moves = Moves-out {k = []} _ sends.sent _ sends.split none sends.moves;
+        calls = (calls.0, calls.1, subst (λ l. SendCalls held calls.0 (Ok tt) l) none calls.2);
+      }
+
+module _ {W B : Type 0} {I : Writer W} {inner : B → W} {buffer : B → List ℕ} {old : B} where
+  -- a call that sends first: the sending failed
+  pub sending_failed : {A : Type 0} {new : B} {e : Error} → Takes I inner buffer SendCalls old (Err e) new
+      → SendsFirst {A = A} I inner buffer old (Err e) new
+  sending_failed {new = new} calls = record {
+    empty = tt;
+    stopped = λ _. calls;
+    refused = λ _. send_tells I _ _ _ _ calls.2 (inner old) (inner new) calls.1;
+  }
+
+  -- or all was sent, whatever came then
+  pub sending_went : {A : Type 0} {new : B} (r : Result A Error) → buffer new ≡ [] → SendsFirst I inner buffer old r new
+  sending_went r none = record {
+    empty = onok r _ none;
+    stopped = iferr r (λ e some. absurd (omega (arith, some, ap length none)));
+    refused = iferr r (λ e some. absurd (omega (arith, some, ap length none)));
+  }
+
+  -- `into_inner`: all was sent, and the inner writer comes back
+  pub unwraps_ok : {w : W} {left : List ℕ}
+      → (C : List WriteCall) × Made (CallOf I) (inner old) C w × SendCalls (buffer old) C (Ok tt) left
+      → Unwraps I inner buffer old (Ok w)
+  unwraps_ok {w} calls =
+      let sent = sends_all calls in
+      record {
+        calls = sent.calls;
+        ok = sent.moves;
+        err = tt;
+        fault = tt;
+        empty = λ none. ap Ok (sent_idle calls none).0;
+        steady = λ _. refl;
+        all = λ t. (send_counts I _ _ _ _ calls.2 (inner old) w calls.1 t).0;
+        counts = λ m t. (send_counts I _ _ _ _ calls.2 (inner old) w calls.1 t).2 m;
+      }
+
+  -- or a fault came, with the writer
+  pub unwraps_err : (e : IntoInnerError B) → Takes I inner buffer SendCalls old (Err (into_inner_error_cause e)) (into_inner_error_writer e)
+      → Unwraps I inner buffer old (Err e)
+  unwraps_err e calls =
+      let moves = send_tells I _ _ _ _ calls.2 (inner old) (inner (into_inner_error_writer e)) calls.1 in
+      record {
+        calls = calls;
+        ok = tt;
+        err = moves;
+        fault = writes_fault calls.2;
+        empty = λ none. no_ok (sent_idle calls none).1;
+        steady = λ none. absurd (Moves-steady none moves);
+        all = λ t. no_ok (send_counts I _ _ _ _ calls.2 (inner old) (inner (into_inner_error_writer e)) calls.1 t).1;
+        counts = tt;
+      }

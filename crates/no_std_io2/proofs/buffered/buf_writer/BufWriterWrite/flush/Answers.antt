@@ -1,0 +1,21 @@
+use Rattle.no_std_io2.specs.BufWriter.{sender_inner, writer_inner, writer_buffer}
+use Rattle.no_std_io2.proofs.BufWriterCalls.{flush_empty, flush_tells, flush_counts, flushes_of}
+use Rattle.no_std_io2.proofs.buffered.buf_writer.BufWriterWrite.flush.Goals as goal
+
+pub returns : goal.returns
+returns g c =
+    let I = g.W.Write in
+    let steady = g.met.W.Write.steady in
+    let a = writer_inner c.args.self.now in
+    let b = sender_inner c.flush.new.self in
+    let calls = c.flush.ensures in
+    record {
+      law = record {
+        empty = flush_empty I calls.2 a b calls.1;
+        moves = flush_tells I _ _ _ _ calls.2 a b calls.1;
+        all = λ t. (flush_counts I steady _ _ _ _ calls.2 a b calls.1 t).0;
+        counts = λ no. absurd no;
+        call = calls;
+      };
+      buffer = flushes_of I steady writer_inner writer_buffer g.row.S calls;
+    }
