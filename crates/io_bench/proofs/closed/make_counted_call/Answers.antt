@@ -50,3 +50,6 @@ returns-in-Err-flush-clause-all g c = absurd (Moves-steady (g.met.W.Write.steady
 
 pub returns-in-Err-flush-clause-calls : goal.returns-in-Err-flush-clause-calls
 returns-in-Err-flush-clause-calls g c = absurd (Moves-steady (g.met.W.Write.steady _ c.requires.all) c.in-Err-flush.ensures.law.moves)
+
+pub returns-in-Err-flush-clause-buffer : goal.returns-in-Err-flush-clause-buffer
+returns-in-Err-flush-clause-buffer g c = absurd (Moves-steady (g.met.W.Write.steady _ c.requires.all) c.in-Err-flush.ensures.law.moves)
