@@ -8,6 +8,7 @@ use Rattle.no_std_io2_base.specs.Read.{Event, fails, events_of, bytes, HasNoFaul
 use Rattle.no_std_io2_base.specs.Read.{StopsAtFault, FallsShort, ReadsExact}
 use Rattle.no_std_io2_base.specs.BufRead.{Lends, LendsFrom, LendingTurn}
 use Rattle.no_std_io2_base.proofs.EventLemmas as below
+pub use Rattle.no_std_io2_base.proofs.EventLemmas.{cut-bytes, bytes-cut, length-events_of, HasNoFault-front, HasNoFault-behind}
 use Rattle.no_std_io2_base.proofs.PieceLemmas as pieces
 pub use Rattle.no_std_io2_base.proofs.PieceLemmas.{front_more}
 use Rattle.no_std_io2_base.proofs.WriteExits as exits

@@ -1,13 +1,15 @@
 -- How calls of a writer follow one another, for a crate that lists this one alone. Those of the base are stated again: `rt lemma` finds
 -- none behind a `pub use`.
-use Rattle.std.proofs.Common.{◌≡◌, Result, Ok, Err, subst, List, [], ◌++◌, ℕ}
+use Rattle.std.proofs.Common.{◌≡◌, ◌⊎◌, Some, IsErrAnd, Result, Ok, Err, subst, List, [], ◌++◌, ℕ}
 use Rattle.std.specs.List.{concat}
 use Rattle.std.specs.Result.{OnOk}
 use Rattle.no_std_io2_base.specs.declared.error.Error.{Error}
 use Rattle.no_std_io2_base.specs.declared.error.ErrorKind.{ErrorKind}
 use Rattle.no_std_io2_base.specs.Write.{Told, Moves, MovesFront, MovesEach, Sends, call_mishap}
+use Rattle.no_std_io2_base.specs.Text.{MovesText, IsTextError}
 use Rattle.no_std_io2_base.proofs.MovesLemmas as calls
-pub use Rattle.no_std_io2_base.proofs.MovesLemmas.{Moves-refl, Moves-quiet, Moves-steady}
+use Rattle.no_std_io2_base.proofs.TextLemmas as texts
+pub use Rattle.no_std_io2_base.proofs.MovesLemmas.{Moves-refl, Moves-quiet, Moves-steady, Moves-more, Moves-forget, count_by-append}
 use Rattle.no_std_io2.specs.declared.buffered.buf_writer.BufWriter.{BufWriter}
 use Rattle.no_std_io2.specs.BufWriter.{writer_inner, writer_buffer, writer_told}
 use Rattle.no_std_io2.proofs.BufWriterLemmas.{Moves-bare}
@@ -50,6 +52,11 @@ pub MovesFront-three : {a b c d : Told} (x y z : List ℕ) (r : Result (Unit {0}
     → MovesFront b y (Ok tt) c → MovesFront c z r d → MovesFront a (x ++ y ++ z) r d
 MovesFront-three x y z r f g h = calls.MovesFront-join (x ++ y) z r (calls.MovesFront-join x y (Ok tt) f g) h
 
+-- and where the second of three failed: the third made no call
+pub MovesFront-second : {a b c : Told} (x y z : List ℕ) (e : Error) → MovesFront a x (Ok tt) b → MovesFront b y (Err e) c
+    → MovesFront a (x ++ (y ++ z)) (Err e) c
+MovesFront-second x y z e f g = calls.MovesFront-join x (y ++ z) (Err e) f (calls.MovesFront-first y z e g)
+
 -- a `write_all` that answered `Ok` accepted the whole, without a mishap
 pub MovesFront-whole : {a b : Told} (x : List ℕ) (u : Unit {0}) → MovesFront a x (Ok u) b → Moves a x [] b
 MovesFront-whole x u f = lines.MovesFront-whole x u f
@@ -58,6 +65,11 @@ MovesFront-whole x u f = lines.MovesFront-whole x u f
 pub MovesFront-flush : {a b c : Told} (x : List ℕ) (u : Unit {0}) (r : Result (Unit {0}) Error) → MovesFront a x (Ok u) b
     → Moves b [] (call_mishap r) c → MovesFront a x r c
 MovesFront-flush x u r f g = lines.MovesFront-ends x r (lines.MovesFront-whole x u f) g
+
+-- a text with this output was accepted as `write_all` accepts it, unless its own `fmt` failed
+pub MovesFront-text : {a b : Told} {text : List ℕ} {r : Result (Unit {0}) Error} → MovesText a (Some text) r b
+    → MovesFront a text r b ⊎ IsErrAnd r IsTextError
+MovesFront-text f = texts.MovesFront-text f
 
 -- a call that says what is left is a call that accepted some front
 pub MovesFront-sends : {a b : Told} {r : Result (Unit {0}) Error} (x rest : List ℕ) → Sends a x r b rest

@@ -7,8 +7,10 @@ mod buffer;
 mod into_inner_error;
 mod line_writer;
 mod sender;
+mod unsent;
 
 pub use buf_reader::BufReader;
 pub use buf_writer::BufWriter;
 pub use into_inner_error::IntoInnerError;
 pub use line_writer::LineWriter;
+pub use unsent::Unsent;

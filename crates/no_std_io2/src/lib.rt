@@ -24,8 +24,8 @@ pub mod error {
 /// The whole surface, as Rust's `std::io`: the traits, the buffers, `Cursor`, the adaptors that the
 /// traits make, `copy`, and errors.
 pub mod io {
-    pub use super::buffered::{BufReader, BufWriter, IntoInnerError, LineWriter};
-    pub use super::util::{Sink, copy, empty, skip, write_with_retries};
+    pub use super::buffered::{BufReader, BufWriter, IntoInnerError, LineWriter, Unsent};
+    pub use super::util::{Sink, copy, empty, read_exact_at, skip, write_with_retries};
     pub use no_std_io2_base::cursor::{AsSlice, Cursor};
     pub use no_std_io2_base::error::{Error, ErrorKind, Result};
     pub use no_std_io2_base::traits::{

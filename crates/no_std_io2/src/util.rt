@@ -1,6 +1,5 @@
-//! Whole copies from a reader to a writer, [`copy`], bytes that are passed over, [`skip`], writes
-//! that are tried again, [`write_with_retries`], and streams without a device, [`empty`] and
-//! [`Sink`].
+//! Whole copies from a reader to a writer, [`copy`], bytes that are passed over, [`skip`], a read at
+//! a place, [`read_exact_at`], writes that are tried again, [`write_with_retries`], and streams without a device, [`empty`] and [`Sink`].
 ghost use Rattle.std.specs.Prelude.{◌≡◌, ◌+◌, ◌≤◌, ◌<◌, ◌^◌, [], length, IfErr, OnOk, OnErr};
 ghost use Rattle.no_std_io2_base.specs.Errors.{IsFault};
 ghost use Rattle.no_std_io2.specs.Copy.{Copies, CopyMoves, CopyHands, copy_reads};
@@ -10,10 +9,12 @@ use no_std_io2_base::error::Result;
 use no_std_io2_base::shared::failed_to_fill;
 use no_std_io2_base::traits::{BufRead, Read, Write};
 
+mod read_at;
 mod retries;
 mod sink;
 mod steady;
 
+pub use read_at::read_exact_at;
 pub use retries::write_with_retries;
 pub use sink::Sink;
 

@@ -1,5 +1,5 @@
 -- How the calls that print a text follow one another, and what is known behind any formatter.
-use Rattle.std.proofs.Common.{◌≡◌, ℕ, List, [], ◌++◌, Option, None, Some, Result, Ok, Err, OnOk, OnErr, IfSome, IsErrAnd, Bool, true, false, true≢false, is_ok, IsOk, ◌∷◌}
+use Rattle.std.proofs.Common.{◌≡◌, ℕ, List, [], ◌++◌, Option, None, Some, Result, Ok, Err, OnOk, OnErr, IfSome, IsErrAnd, ◌⊎◌, Bool, true, false, true≢false, is_ok, IsOk, ◌∷◌}
 use Rattle.std.proofs.Common.{refl, sym, ap, subst, ◌∙◌, append_assoc, append-nil, length, drop, inl, inr}
 use Rattle.std.proofs.Math.Seq.{drop-append_seam}
 use Rattle.std.proofs.Math.Logic.{∥∥₁_elim, ∥∥₁_map}
@@ -224,9 +224,10 @@ module _ {S : Type 0} {told : S → Told} {takes_all : S → Type 0} {cost : S �
       }
 
 -- where the output is specified
-pub MovesFront-text : {a b : Told} {bs : List ℕ} {u : Unit {0}} → MovesText a (Some bs) (Ok u) b → MovesFront a bs (Ok u) b
-MovesFront-text {a} {b} {bs} {u} f = ok f.answers
+pub MovesFront-text : {a b : Told} {bs : List ℕ} {r : Result (Unit {0}) Error} → MovesText a (Some bs) r b
+    → MovesFront a bs r b ⊎ IsErrAnd r IsTextError
+MovesFront-text {a} {b} {bs} {r} f = of_answer f.answers
   where
-    ok : AnswersText (Some bs) f.text f.met (Ok u) → MovesFront a bs (Ok u) b
-    ok (inl (same, is)) = subst (λ r. MovesFront a bs r b) (sym is) (subst (λ l. MovesFront a l f.met b) same f.moves)
-    ok (inr failed) = absurd failed
+    of_answer : AnswersText (Some bs) f.text f.met r → MovesFront a bs r b ⊎ IsErrAnd r IsTextError
+    of_answer (inl (same, is)) = inl (subst (λ r. MovesFront a bs r b) (sym is) (subst (λ l. MovesFront a l f.met b) same f.moves))
+    of_answer (inr failed) = inr failed

@@ -4,12 +4,14 @@ ghost use Rattle.std.specs.Borrow.{Lends, sem};
 ghost use Rattle.no_std_io2.specs.contracts.buffered.buf_writer.BufWriter.{the_row as writer-row};
 ghost use Rattle.no_std_io2_base.specs.Write.{WriteLaw, FlushLaw, WriteAllLaw};
 ghost use Rattle.no_std_io2.specs.BufWriter.{BufferMay, writer_inner, writer_buffer, writer_told, writer_with_inner};
+ghost use Rattle.no_std_io2.specs.Unsent.{unsent_bytes};
 ghost use Rattle.no_std_io2.specs.BufWriter.{Unwraps, Buffers, BuffersAll, Flushes};
 
 mod seeking;
 
 use super::into_inner_error::IntoInnerError;
 use super::sender::Sender;
+use super::unsent::Unsent;
 use no_std_io2_base::error::Result;
 use no_std_io2_base::traits::Write;
 use std::fmt;
@@ -96,6 +98,24 @@ impl<W: Write + Drop, const S: usize> BufWriter<W, S> {
         ensures { result ≡ S }
     {
         self.core.capacity()
+    }
+
+    /// Returns the inner writer, and the bytes that were held for it: nothing is sent. Follows
+    /// `std::io::BufWriter::into_parts`.
+    ///
+    /// ```rust
+    /// let mut w = BufWriter::<Vec<u8>, 8>::new(Vec::new(rt.alloc()));
+    /// w.write_all(b"abc")?;
+    /// let (device, unsent) = w.into_parts();
+    /// assert!(rt; device.is_empty());
+    /// assert!(rt; unsent.as_slice() == b"abc".as_slice());
+    /// ```
+    pub fn into_parts(self) -> (W, Unsent<S>)
+        ensures inner { result.0 ≡ writer_inner self }
+        ensures unsent { unsent_bytes result.1 ≡ writer_buffer self }
+    {
+        let BufWriter { core } = self;
+        core.into_parts()
     }
 
     /// Sends what is held and returns the inner writer, which isn't flushed. With nothing held it

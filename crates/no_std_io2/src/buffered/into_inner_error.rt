@@ -42,6 +42,16 @@ impl<W> IntoInnerError<W> {
         &self.error
     }
 
+    /// Returns the error that stopped the sending. The writer is dropped, and sends once more then. Follows
+    /// `std::io::IntoInnerError::into_error`.
+    pub fn into_error(self) -> Error
+    where
+        W: Drop,
+        ensures { result ≡ into_inner_error_cause self }
+    {
+        self.error
+    }
+
     /// Returns the buffered writer, to be used again. Follows `std::io::IntoInnerError::into_inner`.
     pub fn into_inner(self) -> W
         ensures { result ≡ into_inner_error_writer self }

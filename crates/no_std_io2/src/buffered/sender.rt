@@ -5,9 +5,11 @@ ghost use Rattle.std.specs.Borrow.{Lends, sem};
 ghost use Rattle.no_std_io2.specs.contracts.buffered.sender.Sender.{the_row as sender-row};
 ghost use Rattle.no_std_io2.specs.BufWriter.{sender_inner, sender_buffer, sender_with_inner, Takes, SendCalls, WayCalls};
 ghost use Rattle.no_std_io2.specs.BufWriter.{WriteCalls, WriteAllCalls, FlushCalls, Unwraps};
+ghost use Rattle.no_std_io2.specs.Unsent.{unsent_bytes};
 
 use super::buffer::Buffer;
 use super::into_inner_error::IntoInnerError;
+use super::unsent::Unsent;
 use no_std_io2_base::error::{Error, ErrorKind, Result};
 use no_std_io2_base::traits::Write;
 
@@ -228,5 +230,14 @@ impl<W: Write + Drop, const S: usize> Sender<W, S> {
             Ok(()) => Ok(self.inner),
             Err(error) => Err(IntoInnerError::new(self, error)),
         }
+    }
+
+    /// Takes it apart, and sends nothing.
+    pub(crate) fn into_parts(self) -> (W, Unsent<S>)
+        ensures inner { result.0 ≡ sender_inner self }
+        ensures unsent { unsent_bytes result.1 ≡ sender_buffer self }
+    {
+        let buffer = self.buffer;
+        (self.inner, Unsent { buffer })
     }
 }

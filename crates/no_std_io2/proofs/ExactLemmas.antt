@@ -1,0 +1,50 @@
+-- What a `read_exact` does where bytes stand first.
+use Rattle.std.proofs.Common.{◌≡◌, ◌⊎◌, inl, inr, ℕ, ◌≤◌, List, [], ◌∷◌, ◌++◌, length, Result, Ok, Err, IsOk, refl, sym, ap, ◌∙◌}
+use Rattle.std.proofs.Common.{arith, append_assoc, append-nil, length-append}
+use Rattle.no_std_io2_base.specs.declared.error.Error.{Error}
+use Rattle.no_std_io2_base.specs.Read.{Event, byte, fails, events_of, bytes, cut, Fills, StopsAtFault, FallsShort, ReadsExact}
+use Rattle.no_std_io2_base.proofs.EventLemmas.{bytes-append, bytes-events_of}
+
+-- a cut right behind the bytes
+cut_behind : (bs : List ℕ) (rest : List Event) → cut (length bs) (events_of bs ++ rest) ≡ events_of bs
+cut_behind [] rest = refl
+cut_behind (b ∷ bs) rest = ap (λ l. byte b ∷ l) (cut_behind bs rest)
+
+-- behind the same bytes stand the same events
+pub events_of-cancel : (bs : List ℕ) (x y : List Event) → events_of bs ++ x ≡ events_of bs ++ y → x ≡ y
+events_of-cancel [] x y e = e
+events_of-cancel (b ∷ bs) x y e = events_of-cancel bs x y (cc)
+
+-- a buffer as long as the bytes that stood first holds these, and they are gone
+pub Fills-bytes : {E after : List Event} (bs buf : List ℕ) (rest : List Event) → E ≡ events_of bs ++ rest → Fills E buf after
+    → length buf ≡ length bs → (buf ≡ bs) × (after ≡ rest)
+Fills-bytes {E} {after} bs buf rest is f long =
+    let stop : cut (length buf) E ≡ events_of bs = ap (λ n. cut n E) long ∙ ap (cut (length bs)) is ∙ cut_behind bs rest in (
+      sym f.filled ∙ ap bytes stop ∙ bytes-events_of bs,
+      sym (events_of-cancel bs rest after (sym is ∙ f.split ∙ ap (λ l. l ++ after) stop)),
+    )
+
+-- an error stands behind all bytes that stand first
+stands_behind : (bs : List ℕ) (Q R rest : List Event) (e : Error) → events_of bs ++ rest ≡ Q ++ fails e ∷ R
+    → length bs ≤ length (bytes Q)
+stands_behind [] Q R rest e is = omega arith
+stands_behind (b ∷ bs) [] R rest e is = absurd (cc)
+stands_behind (b ∷ bs) (byte c ∷ Q) R rest e is =
+    let more : length bs ≤ length (bytes Q) = stands_behind bs Q R rest e (cc) in omega arith
+stands_behind (b ∷ bs) (fails d ∷ Q) R rest e is = absurd (cc)
+
+bytes_end : (Q : List Event) (e : Error) → bytes (Q ++ fails e ∷ []) ≡ bytes Q
+bytes_end Q e = bytes-append Q (fails e ∷ []) ∙ append-nil (bytes Q)
+
+-- it does not fail where bytes enough stand first
+pub ReadsExact-enough : {t : Type 0} {E after : List Event} (r : Result (Unit {0}) Error) {buf : List ℕ} (bs : List ℕ) (rest : List Event)
+    → E ≡ events_of bs ++ rest → length buf ≤ length bs → ReadsExact t E r buf after → IsOk r
+ReadsExact-enough (Ok u) bs rest is fits f = refl
+ReadsExact-enough {after = after} (Err e) bs rest is fits (inl s) =
+    let Q = s.ends.0 in
+    let whole = sym is ∙ s.split ∙ ap (λ l. l ++ after) s.ends.1 ∙ append_assoc Q (fails e ∷ []) after in
+    let far : length bs ≤ length (bytes Q) = stands_behind bs Q after rest e whole in
+    absurd (omega (arith, far, fits, s.short, ap (λ l. length (bytes l)) s.ends.1, ap length (bytes_end Q e)))
+ReadsExact-enough (Err e) bs rest is fits (inr s) =
+    absurd (omega (arith, fits, s.short, ap (λ l. length (bytes l)) is, ap length (bytes-append (events_of bs) rest),
+    length-append (bytes (events_of bs)) (bytes rest), ap length (bytes-events_of bs)))

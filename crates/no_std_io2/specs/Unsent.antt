@@ -1,0 +1,8 @@
+-- What a clause reads of bytes that were not sent.
+use Rattle.std.specs.Prelude.{ℕ, List}
+use Rattle.no_std_io2.specs.declared.buffered.unsent.Unsent.{Unsent}
+use Rattle.no_std_io2.specs.Buffer.{buffer_held}
+
+-- the bytes
+abbrev pub unsent_bytes : {S : ℕ} → Unsent S → List ℕ
+unsent_bytes u = buffer_held u.buffer

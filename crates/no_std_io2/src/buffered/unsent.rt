@@ -1,0 +1,21 @@
+//! What a writer's buffer held.
+ghost use Rattle.std.specs.Prelude.{◌≡◌};
+
+use super::buffer::Buffer;
+
+/// The bytes that a buffered writer held as it was taken apart, by [`BufWriter::into_parts`](super::BufWriter::into_parts).
+#[derive(Drop)]
+pub struct Unsent<const S: usize> {
+    pub(super) buffer: Buffer<S>,
+}
+
+impl<const S: usize> Unsent<S> {
+    ghost use Rattle.no_std_io2.specs.Unsent.{unsent_bytes};
+
+    /// Returns the bytes.
+    pub fn as_slice(&self) -> &[u8]
+        ensures { result.now ≡ unsent_bytes self.now }
+    {
+        self.buffer.as_slice()
+    }
+}

@@ -1,0 +1,31 @@
+//! A read at a place.
+ghost use Rattle.std.specs.Prelude.{◌≡◌, ◌+◌, ◌≤◌, ℕ, length, IfOk, IsOk};
+ghost use Rattle.no_std_io2_base.specs.Seek.{IsTarget};
+ghost use Rattle.no_std_io2.specs.ReadAt.{ReadsAt};
+
+use no_std_io2_base::error::Result;
+use no_std_io2_base::traits::{Read, Seek, SeekFrom};
+
+/// Fills `buf` with the bytes at a place: a seek, and a `read_exact`. The position is behind them then. As
+/// `std::os::unix::fs::FileExt::read_exact_at`, which leaves the position.
+///
+/// # Errors
+/// Those of `seek` and of `read_exact`: over a told store none where the place is there, and bytes enough
+/// behind it.
+///
+/// ```rust
+/// let mut r = Cursor::new(*b"abcdef");
+/// let mut buf = [0u8; 2];
+/// read_exact_at(&mut r, SeekFrom::End(-3), &mut buf)?;
+/// assert!(rt; buf == *b"de");
+/// ```
+pub fn read_exact_at<R: Read + Seek>(reader: &mut R, at: SeekFrom, buf: &mut [u8]) -> Result<()>
+    ensures store { R.has_store reader.old → R.has_store reader.new × (R.content reader.new ≡ R.content reader.old)
+        × IfOk result (λ _. ReadsAt (R.content reader.old) (R.position reader.old) at (length buf.old) buf.new
+        (R.position reader.new)) }
+    ensures enough { R.has_store reader.old → (place : ℕ) → IsTarget (length (R.content reader.old)) (R.position reader.old) at place
+        → place + length buf.old ≤ length (R.content reader.old) → IsOk result }
+{
+    reader.seek(at)?;
+    reader.read_exact(buf)
+}
