@@ -232,8 +232,8 @@ module _ {W : Type 0} (I : Writer W) where
   way_counts S n = λ held C reply left way a b made takes. elim way [
     | inl kept ↦ idle_counts tt a b (way_calls S held n) kept.1 kept.2 (way_calls-none S n held kept.0) made takes
     | inr sent ↦
-      let spent = send_counts _ _ _ _ sent.1 a b made takes in
-      (spent.0, spent.1, λ m. let one = spent.2 m in (one.0, omega (arith, one.1, way_calls-over S n held sent.0)))
+        let spent = send_counts _ _ _ _ sent.1 a b made takes in
+        (spent.0, spent.1, λ m. let one = spent.2 m in (one.0, omega (arith, one.1, way_calls-over S n held sent.0)))
   ]
 
   module _ {A : Type 0} (S : ℕ) (x : List ℕ) (v : A) (past : List WriteCall → Result A Error → Type 0) where
@@ -248,8 +248,8 @@ module _ {W : Type 0} (I : Writer W) where
         put_tells : Tells I (PutCalls S x v past) R
         put_tells = λ held C reply left put a b made. elim put [
           | inl kept ↦
-            subst (λ r. R (with_buffer (I.told a) held) r (with_buffer (I.told b) left)) (sym kept.2)
-            (hold _ _ (idle_tells held left x a b kept.1 kept.3 made))
+              subst (λ r. R (with_buffer (I.told a) held) r (with_buffer (I.told b) left)) (sym kept.2)
+              (hold _ _ (idle_tells held left x a b kept.1 kept.3 made))
           | inr gone ↦ pass held C reply left gone.1 a b made
         ]
 
@@ -264,8 +264,8 @@ module _ {W : Type 0} (I : Writer W) where
         put_counts = λ held C reply left put a b made takes. elim put [
           | inl kept ↦ idle_counts v a b (past_calls S (length x) n) kept.1 kept.2 (past_calls-none S (length x) n kept.0) made takes
           | inr gone ↦
-            let one = pass held C reply left gone.1 a b made takes in
-            (one.0, one.1, λ m. let spent = one.2 m in (spent.0, omega (arith, spent.1, past_calls-all S (length x) n gone.0)))
+              let one = pass held C reply left gone.1 a b made takes in
+              (one.0, one.1, λ m. let spent = one.2 m in (spent.0, omega (arith, spent.1, past_calls-all S (length x) n gone.0)))
         ]
 
   -- a `write` accepts what its answer says
@@ -305,8 +305,8 @@ module _ {W : Type 0} (I : Writer W) where
   write_takes S {x} (goes_on {C = C} {D = D} way put) a b made takes = elim put [
     | inl held ↦ held.2
     | inr gone ↦
-      let parts = made_split (CallOf I) C a D b made in
-      ((one_call parts.0 b gone.1.2 parts.2).all (way_counts S (length x) _ _ _ _ way a parts.0 parts.1 takes).0).1
+        let parts = made_split (CallOf I) C a D b made in
+        ((one_call parts.0 b gone.1.2 parts.2).all (way_counts S (length x) _ _ _ _ way a parts.0 parts.1 takes).0).1
   ]
 
   -- `flush` leaves nothing held, here or further in
@@ -343,8 +343,8 @@ module _ {W : Type 0} (I : Writer W) (steady : (w : W) → I.takes_all w → (I.
   write_all_fault S (goes_on {C = C} {D = D} {reply = reply} way put) a b made = elim put [
     | inl held ↦ subst IsNoInterruption (sym held.2) tt
     | inr gone ↦
-      let parts = made_split (CallOf I) C a D b made in
-      (all_calls I.told I.takes_all I.cost I.is_metered I.may steady gone.1.2 parts.0 b parts.2).0
+        let parts = made_split (CallOf I) C a D b made in
+        (all_calls I.told I.takes_all I.cost I.is_metered I.may steady gone.1.2 parts.0 b parts.2).0
   ]
 
   pub flush_counts : Counts I FlushCalls calls_for

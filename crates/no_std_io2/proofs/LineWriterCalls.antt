@@ -81,7 +81,7 @@ module _ {W : Type 0} (I : Writer W) where
   send_line_tells : Tells I SendLineCalls (Sending I)
   send_line_tells = λ held C reply left sends a b made. elim sends [
     | inl kept ↦
-      kept_tells I held left C reply a b kept.1 kept.2 kept.3 made
+        kept_tells I held left C reply a b kept.1 kept.2 kept.3 made
     | inr sent ↦ send_tells I _ _ _ _ sent.1 a b made
   ]
 
@@ -89,8 +89,8 @@ module _ {W : Type 0} (I : Writer W) where
   send_line_counts = λ held C reply left sends a b made takes. elim sends [
     | inl kept ↦ idle_counts I tt a b (line_calls held) kept.1 kept.2 (line_calls-zero held (lines_len-none held kept.0)) made takes
     | inr sent ↦
-      let spent = send_counts I _ _ _ _ sent.1 a b made takes in
-      (spent.0, spent.1, λ m. let one = spent.2 m in (one.0, omega (arith, one.1, line_calls-some held (lines_len-some held sent.0))))
+        let spent = send_counts I _ _ _ _ sent.1 a b made takes in
+        (spent.0, spent.1, λ m. let one = spent.2 m in (one.0, omega (arith, one.1, line_calls-some held (lines_len-some held sent.0))))
   ]
 
   module _ (S : ℕ) (x : List ℕ) where
@@ -123,11 +123,11 @@ module _ {W : Type 0} (I : Writer W) where
     pub line_write_tells : Tells I (LineWriteCalls S x) (Writing I x)
     line_write_tells = λ held C reply left write a b made. elim write [
       | inl plain ↦
-        then_tells I SendLineCalls (WriteCalls S x) (Writing I x) (λ s t e m. m) (λ s m t r f g. Moves-then {k = []} f g)
-        send_line_tells (write_tells I S x) plain.1 a b made
+          then_tells I SendLineCalls (WriteCalls S x) (Writing I x) (λ s t e m. m) (λ s m t r f g. Moves-then {k = []} f g)
+          send_line_tells (write_tells I S x) plain.1 a b made
       | inr lines ↦
-        then_tells I SendCalls (LinesCalls S x) (Writing I x) (λ s t e m. m) (λ s m t r f g. Moves-then {k = []} f g)
-        (send_tells I) (lines_tell (lines_len-some x lines.0)) lines.1 a b made
+          then_tells I SendCalls (LinesCalls S x) (Writing I x) (λ s t e m. m) (λ s m t r f g. Moves-then {k = []} f g)
+          (send_tells I) (lines_tell (lines_len-some x lines.0)) lines.1 a b made
     ]
 
     tail_bound : (answer reply : Result ℕ Error) (left : List ℕ) → HoldsTail S x answer reply left → IfOk answer (λ n. n ≤ length (lines_of x))
@@ -173,13 +173,13 @@ module _ {W : Type 0} (I : Writer W) where
       → (a b : W) → Made (CallOf I) a C b → KeepsTaking I a reply b
   line_write_keeps S {x} {held} write a b made takes = elim write [
     | inl plain ↦
-      let all = then_counts I SendLineCalls (WriteCalls S x) line_left line_calls (λ held. writing_calls S held x) send_line_leaves send_line_counts
-      (write_counts I S x) plain.1 a b made takes in
-      (all.0, all.1, λ m. let spent = all.2 m in (spent.0, omega (arith, spent.1, line_calls-le held, writing_calls-le S (line_left held) x)))
+        let all = then_counts I SendLineCalls (WriteCalls S x) line_left line_calls (λ held. writing_calls S held x) send_line_leaves send_line_counts
+        (write_counts I S x) plain.1 a b made takes in
+        (all.0, all.1, λ m. let spent = all.2 m in (spent.0, omega (arith, spent.1, line_calls-le held, writing_calls-le S (line_left held) x)))
     | inr lines ↦
-      let all = then_counts I SendCalls (LinesCalls S x) (λ _. []) calls_for (λ _. 1) send_leaves (send_counts I)
-      (lines_count S x (lines_len-some x lines.0)) lines.1 a b made takes in
-      (all.0, all.1, λ m. let spent = all.2 m in (spent.0, omega (arith, spent.1, calls_for-le held)))
+        let all = then_counts I SendCalls (LinesCalls S x) (λ _. []) calls_for (λ _. 1) send_leaves (send_counts I)
+        (lines_count S x (lines_len-some x lines.0)) lines.1 a b made takes in
+        (all.0, all.1, λ m. let spent = all.2 m in (spent.0, omega (arith, spent.1, calls_for-le held)))
   ]
 
   -- and this is held then
@@ -187,13 +187,13 @@ module _ {W : Type 0} (I : Writer W) where
       → IsLineState held → (a b : W) → Made (CallOf I) a C b → I.takes_all a → left ≡ line_buffer_filled S held x
   line_write_filled S {x} {held} {left} {reply = reply} write line a b made takes =
       let keeps = line_write_keeps S write a b made takes in elim write [
-    | inl plain ↦
-      at_ok reply keeps.1 (then_leaves SendLineCalls (WriteCalls S x) line_left (λ held. buffer_after S held x) send_line_leaves (buffered_leaves S x (length x) (OneWrite x)) plain.1)
-      ∙ ap (λ h. buffer_after S h x) (line_left-is held line) ∙ filled_plain S held x (lines_len-none x plain.0)
-    | inr lines ↦
-      let some = lines_len-some x lines.0 in
-      tail_filled S x lines.1 some a b made takes ∙ filled_lines S held x some
-  ]
+        | inl plain ↦
+            at_ok reply keeps.1 (then_leaves SendLineCalls (WriteCalls S x) line_left (λ held. buffer_after S held x) send_line_leaves (buffered_leaves S x (length x) (OneWrite x)) plain.1)
+            ∙ ap (λ h. buffer_after S h x) (line_left-is held line) ∙ filled_plain S held x (lines_len-none x plain.0)
+        | inr lines ↦
+            let some = lines_len-some x lines.0 in
+            tail_filled S x lines.1 some a b made takes ∙ filled_lines S held x some
+      ]
 
 module _ {W : Type 0} (I : Writer W) (steady : (w : W) → I.takes_all w → (I.told w).mishaps ≡ Some []) where
   -- lines that are handed on: some front of them is accepted, all at `Ok`,
@@ -213,8 +213,8 @@ module _ {W : Type 0} (I : Writer W) (steady : (w : W) → I.takes_all w → (I.
       → MovesFront (with_buffer (I.told a) held) y reply (with_buffer (I.told b) left) × IsNoInterruption reply
   send_lines_tells S sends a b made = elim sends [
     | inl past ↦
-      let said = all_calls I.told I.takes_all I.cost I.is_metered I.may steady past.2 a b made in
-      (MovesFront-emptied past.0 past.1 said.1, said.0)
+        let said = all_calls I.told I.takes_all I.cost I.is_metered I.may steady past.2 a b made in
+        (MovesFront-emptied past.0 past.1 said.1, said.0)
     | inr behind ↦ behind_tells S behind.1 a b made
   ]
 
@@ -313,8 +313,8 @@ module _ {W : Type 0} (I : Writer W) (steady : (w : W) → I.takes_all w → (I.
       → LineWriteAllCalls S x held C reply left → (a b : W) → Made (CallOf I) a C b → KeepsTaking I a reply b
   line_write_all_keeps S {x} {held} write a b made takes = elim write [
     | inl plain ↦
-      let all = then_counts I SendLineCalls (WriteAllCalls S x) line_left line_calls (writing_all_calls S x) send_line_leaves (send_line_counts I)
-      (write_all_counts I steady S x) plain.1 a b made takes in
-      (all.0, all.1, λ m. let spent = all.2 m in (spent.0, omega (arith, spent.1, line_calls-le held, writing_all-le S x (line_left held))))
+        let all = then_counts I SendLineCalls (WriteAllCalls S x) line_left line_calls (writing_all_calls S x) send_line_leaves (send_line_counts I)
+        (write_all_counts I steady S x) plain.1 a b made takes in
+        (all.0, all.1, λ m. let spent = all.2 m in (spent.0, omega (arith, spent.1, line_calls-le held, writing_all-le S x (line_left held))))
     | inr lines ↦ lines_keep S x lines.1 a b made takes
   ]

@@ -188,7 +188,7 @@ pub send_lines_leaves : (S : ℕ) (y : List ℕ) → Leaves (SendLinesCalls S y)
 send_lines_leaves S y = λ held C reply left sends. elim sends [
   | inl past ↦ onok reply _ past.1
   | inr behind ↦
-    then_leaves (WriteAllCalls S y) SendCalls (λ held. buffer_after S held y) (λ _. []) (buffered_leaves S y tt (OneWriteAll y)) send_leaves behind.1
+      then_leaves (WriteAllCalls S y) SendCalls (λ held. buffer_after S held y) (λ _. []) (buffered_leaves S y tt (OneWriteAll y)) send_leaves behind.1
 ]
 
 -- a line state at an error
@@ -247,16 +247,16 @@ pub line_write_all_leaves : (S : ℕ) {x held left : List ℕ} {C : List WriteCa
     → LineWriteAllCalls S x held C reply left → IsLineState held → OnOk reply (left ≡ line_buffer_after S held x)
 line_write_all_leaves S {x} {held} {left} {reply = reply} write line = elim write [
   | inl plain ↦
-    let after = then_leaves SendLineCalls (WriteAllCalls S x) line_left (λ held. buffer_after S held x) send_line_leaves (buffered_leaves S x tt (OneWriteAll x)) plain.1 in
-    onok_map reply _ _
-    (λ e. e ∙ ap (λ h. buffer_after S h x) (line_left-is held line) ∙ after_plain S held x (lines_len-none x plain.0)
-    ∙ ap (buffer_after S (if lines_len x == 0 then unfinished_line held else [])) (sym (unfinished_line-none x plain.0))) after
+      let after = then_leaves SendLineCalls (WriteAllCalls S x) line_left (λ held. buffer_after S held x) send_line_leaves (buffered_leaves S x tt (OneWriteAll x)) plain.1 in
+      onok_map reply _ _
+      (λ e. e ∙ ap (λ h. buffer_after S h x) (line_left-is held line) ∙ after_plain S held x (lines_len-none x plain.0)
+      ∙ ap (buffer_after S (if lines_len x == 0 then unfinished_line held else [])) (sym (unfinished_line-none x plain.0))) after
   | inr lines ↦
-    let after = then_leaves (SendLinesCalls S (lines_of x)) (WriteAllCalls S (unfinished_line x)) (λ _. [])
-    (λ held. buffer_after S held (unfinished_line x)) (send_lines_leaves S (lines_of x))
-    (buffered_leaves S (unfinished_line x) tt (OneWriteAll (unfinished_line x))) lines.1 in
-    onok_map reply _ _
-    (λ e. e ∙ ap (λ h. buffer_after S h (unfinished_line x)) (sym (after_lines held x (lines_len-some x lines.0)))) after
+      let after = then_leaves (SendLinesCalls S (lines_of x)) (WriteAllCalls S (unfinished_line x)) (λ _. [])
+      (λ held. buffer_after S held (unfinished_line x)) (send_lines_leaves S (lines_of x))
+      (buffered_leaves S (unfinished_line x) tt (OneWriteAll (unfinished_line x))) lines.1 in
+      onok_map reply _ _
+      (λ e. e ∙ ap (λ h. buffer_after S h (unfinished_line x)) (sym (after_lines held x (lines_len-some x lines.0)))) after
 ]
 
 -- the lines were written by one call, and of what it left the tail is held

@@ -85,10 +85,10 @@ Step A = List ℕ → List WriteCall → Result A Error → List ℕ → Type 0
 
 -- `first?; next`: an error of the first step is the answer, and the next one is not taken then
 pub data Then {A : Type 0} (first : Step (Unit {0})) (next : Step A) (held : List ℕ) : List WriteCall → Result A Error → List ℕ → Type 0
-    where
-  stops : {C : List WriteCall} {e : Error} {left : List ℕ} → first held C (Err e) left → Then first next held C (Err e) left
-  goes_on : {C D : List WriteCall} {mid left : List ℕ} {reply : Result A Error} → first held C (Ok tt) mid → next mid D reply left
-      → Then first next held (C ++ D) reply left
+  where
+    stops : {C : List WriteCall} {e : Error} {left : List ℕ} → first held C (Err e) left → Then first next held C (Err e) left
+    goes_on : {C D : List WriteCall} {mid left : List ℕ} {reply : Result A Error} → first held C (Ok tt) mid → next mid D reply left
+        → Then first next held (C ++ D) reply left
 
 -- these calls, with nothing held before them or after
 abbrev pub PastEmpty : {A : Type 0} → (List WriteCall → Result A Error → Type 0) → Step A

@@ -25,7 +25,10 @@ fn buffered_writer_tells<W: Write + Drop, const S: usize>(w: &BufWriter<W, S>)
 {}
 
 // Each of its calls is so many of its inner writer.
-fn buffered_writer_calls<W: Write + Drop, const S: usize>(old: &BufWriter<W, S>, new: &BufWriter<W, S>)
+fn buffered_writer_calls<W: Write + Drop, const S: usize>(
+    old: &BufWriter<W, S>,
+    new: &BufWriter<W, S>,
+)
     ensures { (call : WriteCall) → ⟦<BufWriter<W, S> as Write>⟧.may old.now call new.now
         → BufferMay W.Write S writer_inner writer_buffer old.now call new.now }
 {}
@@ -62,7 +65,10 @@ fn line_writer_tells<W: Write + Drop, const S: usize>(w: &LineWriter<W, S>)
     ensures metered { ⟦<LineWriter<W, S> as Write>⟧.is_metered w.now → ⊥ }
 {}
 
-fn line_writer_calls<W: Write + Drop, const S: usize>(old: &LineWriter<W, S>, new: &LineWriter<W, S>)
+fn line_writer_calls<W: Write + Drop, const S: usize>(
+    old: &LineWriter<W, S>,
+    new: &LineWriter<W, S>,
+)
     ensures { (call : WriteCall) → ⟦<LineWriter<W, S> as Write>⟧.may old.now call new.now
         → LineMay W.Write S line_inner line_buffer old.now call new.now }
 {}

@@ -14,7 +14,10 @@ use std::alloc::{AllocError, Allocator};
 // Lengthens the vector to `end` by zeros. Where it was refused nothing changes.
 #[cold]
 #[inline(never)]
-fn lengthen<A: Allocator>(content: &mut Vec<u8, A>, end: usize) -> std::result::Result<(), AllocError>
+fn lengthen<A: Allocator>(
+    content: &mut Vec<u8, A>,
+    end: usize,
+) -> std::result::Result<(), AllocError>
     requires { vec_len content.old ≤ end }
     ensures items { content.new.items
         ≡ (if is_ok result then content.old.items ++ replicate (end - vec_len content.old) 0 else content.old.items) }
