@@ -3,10 +3,12 @@ use crate::outcome::Outcome;
 use crate::texts::{behind, text};
 use crate::torn::Torn;
 use framing::{FrameReader, FrameWriter};
-use no_std_io2::io::{Cursor, ErrorKind, Read, Result, Write};
+use no_std_io2::io::{Cursor, ErrorKind, Result, Write};
 use std::alloc::Global;
 
 type Writer<'a> = FrameWriter<Cursor<&'a mut [u8]>, 64>;
+
+type Reader<'a> = FrameReader<Torn<'a>, 64>;
 
 fn try_send(w: &mut Writer<'_>, payload: &[u8]) -> Outcome {
     if w.is_under_way() {
@@ -47,7 +49,7 @@ pub fn by_send(alloc: Global, first: usize, second: usize) -> Outcome {
     sent.if_right(is_put && room == wire)
 }
 
-fn take<R: Read>(r: &mut FrameReader<R, 64>, payload: &[u8]) -> Outcome {
+fn take(r: &mut Reader<'_>, payload: &[u8]) -> Outcome {
     match r.next() {
         Ok(Some(given)) => Outcome::Whole.if_right(given.as_slice() == payload),
         Ok(None) => Outcome::Wrong("no frame"),
@@ -55,7 +57,7 @@ fn take<R: Read>(r: &mut FrameReader<R, 64>, payload: &[u8]) -> Outcome {
     }
 }
 
-fn next<R: Read>(r: &mut FrameReader<R, 64>, payload: &[u8]) -> Outcome {
+fn next(r: &mut Reader<'_>, payload: &[u8]) -> Outcome {
     match take(r, payload) {
         Outcome::Refused => Outcome::Refused.and(take(r, payload)),
         other => other,
@@ -69,12 +71,12 @@ pub fn by_next(alloc: Global, first: usize, second: usize) -> Outcome {
         return Outcome::Wrong("frames that are too long");
     };
     let wire = &wire[..(len as usize).min(wire.len())];
-    let mut r = FrameReader::<&[u8], 64>::new(alloc, wire, 100_000);
+    let mut r = Reader::new(alloc, Torn::new(b"", wire), 100_000);
     next(&mut r, text(first)).and(next(&mut r, text(second)))
 }
 
 // A fault that is no want of memory.
-fn faults<R: Read>(r: &mut FrameReader<R, 64>, kind: ErrorKind) -> Outcome {
+fn faults(r: &mut Reader<'_>, kind: ErrorKind) -> Outcome {
     match r.next() {
         Err(e) if e.kind() == kind => Outcome::Whole,
         Err(e) => Outcome::of_error(&e),
@@ -82,7 +84,7 @@ fn faults<R: Read>(r: &mut FrameReader<R, 64>, kind: ErrorKind) -> Outcome {
     }
 }
 
-fn fault<R: Read>(r: &mut FrameReader<R, 64>, kind: ErrorKind) -> Outcome {
+fn fault(r: &mut Reader<'_>, kind: ErrorKind) -> Outcome {
     match faults(r, kind) {
         Outcome::Refused => Outcome::Refused.and(faults(r, kind)),
         other => other,
@@ -97,14 +99,14 @@ pub fn by_torn(alloc: Global, len: usize) -> Outcome {
     };
     let wire = &wire[..(end as usize).min(wire.len())];
     let (first, second) = wire.split_at(wire.len() / 2);
-    let mut r = FrameReader::<Torn<'_>, 64>::new(alloc, Torn::new(first, second), 100_000);
+    let mut r = Reader::new(alloc, Torn::new(first, second), 100_000);
     fault(&mut r, ErrorKind::WouldBlock).and(next(&mut r, text(len)))
 }
 
 /// A header that tells 2^32 - 1 bytes, above the limit.
 pub fn by_above(alloc: Global) -> Outcome {
     let wire = b"\xff\xff\xff\xffabc".as_slice();
-    let mut r = FrameReader::<&[u8], 64>::new(alloc, wire, 5);
+    let mut r = Reader::new(alloc, Torn::new(b"", wire), 5);
     fault(&mut r, ErrorKind::InvalidData).and(fault(&mut r, ErrorKind::InvalidData))
 }
 
