@@ -33,6 +33,7 @@ fn append_in_place<A: Allocator>(buf: &mut Vec<u8, A>, bytes: &[u8])
 ///
 /// # Errors
 /// `OutOfMemory` where the growth was refused: `buf` is as it was.
+#[inline(always)]
 pub fn append<A: Allocator>(buf: &mut Vec<u8, A>, bytes: &[u8]) -> Result<()>
     ensures ok { OnOk result (buf.new.items ≡ buf.old.items ++ bytes.now) }
     ensures err { OnErr result (buf.new.items ≡ buf.old.items) }
