@@ -167,6 +167,15 @@ calls! {
     writer_write_1024(source, room, calls) { write_to_sink::<1024>(&source[..room.len()], calls) }
     writer_vec_64(source, room, calls) { all_to_vec::<64>(&source[..room.len()], calls) }
     writer_vec_1024(source, room, calls) { all_to_vec::<1024>(&source[..room.len()], calls) }
+    text_writer(source, room, calls) {
+        let mut w = buffered_writer::<_, 1024>(Counter::default());
+        let sum = text_often(&mut w, calls);
+        flushed(&mut w, sum).wrapping_add(w.get_ref().sum())
+    }
+    text_vec(source, room, calls) {
+        let mut content = Vec::with_capacity(32 * calls as usize);
+        text_often(&mut content, calls).wrapping_add(sample(&content))
+    }
     line_writer(source, room, calls) {
         let mut w = new_line_writer::<_, 1024>(Counter::default());
         let sum = write_all_often(&mut w, &source[..room.len()], calls);

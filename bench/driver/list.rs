@@ -97,6 +97,8 @@ macro_rules! listed {
             seven_exact: bytes short "a device of seven bytes, `read_exact` of {}" [7 100];
             made_reader: bytes long "`BufReader` 1024, made, `read_exact` of {} and dropped" [16 100];
 
+            text_writer: bytes whole "`BufWriter` 1024, `write!` of a name and a number" [1];
+            text_vec: bytes whole "`Vec`, `write!` of a name and a number" [1];
             reader_position: bytes whole "`BufReader` 1024, `stream_position` and `read_exact` of 8" [8];
             slice_to_end: bytes whole "a slice, `read_to_end` of {}" [100 900 4096 10000 16777216];
             reader_to_end: bytes whole "`BufReader` 1024, `read_to_end` of {}" [100 900 4096 10000 16777216];

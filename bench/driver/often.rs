@@ -120,6 +120,16 @@ pub fn write_all_often<W: Write>(w: &mut W, piece: &[u8], calls: u64) -> u64 {
     0
 }
 
+/// Prints a name and a number so often.
+pub fn text_often<W: Write>(w: &mut W, calls: u64) -> u64 {
+    for n in 0..calls {
+        if write!(w, "{}={}\n", "volts", n).is_err() {
+            return FAILED;
+        }
+    }
+    0
+}
+
 /// Flushes, and answers the sum.
 pub fn flushed<W: Write>(w: &mut W, sum: u64) -> u64 {
     if w.flush().is_err() { FAILED } else { sum }

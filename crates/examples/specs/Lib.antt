@@ -1,3 +1,5 @@
 pub mod Headers
+pub mod Indexed
 pub mod Lengths
+pub mod Readings
 pub mod Summed

@@ -6,18 +6,24 @@ ghost use Rattle.no_std_io2.specs.BufWriter.{BufWriterFits};
 
 mod broken;
 mod inbox;
+mod indexed;
 mod lengths;
 mod narrow;
 mod patiently;
+mod readings;
+mod retries;
 mod serial;
 mod summed;
 
 pub use broken::Broken;
 pub use inbox::{Inbox, Source};
+pub use indexed::{entry_of, read_entry};
 pub use lengths::pass_records;
 pub use narrow::Narrow;
 use no_std_io2::io::{BufWriter, Result, Write};
 pub use patiently::send_patiently;
+pub use readings::write_reading;
+pub use retries::save_with_retries;
 pub use serial::{Port, Serial};
 pub use summed::{Summed, flush_summed, write_summed};
 

@@ -1,7 +1,9 @@
 // What the comments of the buffers, of `copy` and of `skip` show.
 use examples::Narrow;
+use io_bench::{Act, Faulty, Tally};
 use no_std_io2::io::{
-    BufRead, BufReader, BufWriter, Cursor, ErrorKind, LineWriter, Read, Write, copy, skip,
+    BufRead, BufReader, BufWriter, Cursor, ErrorKind, LineWriter, Read, SeekFrom, Write, copy,
+    read_exact_at, skip, write_with_retries,
 };
 use std::test::Fail;
 
@@ -137,5 +139,52 @@ fn a_writer_comes_apart_from_its_error(rt: HostRuntime) -> Result<(), Fail> {
         assert!(rt; error.kind() == ErrorKind::WriteZero);
         assert!(rt; w.buffer() == b"abc".as_slice());
     }
+    Ok(())
+}
+
+#[test]
+fn a_writer_is_taken_apart(rt: HostRuntime) -> Result<(), Fail> {
+    let mut w = BufWriter::<Vec<u8>, 8>::new(Vec::new(rt.alloc()));
+    w.write_all(b"abc")?;
+    let (device, unsent) = w.into_parts();
+    assert!(rt; device.is_empty());
+    assert!(rt; unsent.as_slice() == b"abc".as_slice());
+    Ok(())
+}
+
+#[test]
+fn a_slice_is_written_with_retries(rt: HostRuntime) -> Result<(), Fail> {
+    let mut w = BufWriter::<Vec<u8>, 64>::new(Vec::new(rt.alloc()));
+    let mut rest = b"abc".as_slice();
+    write_with_retries(&mut w, &mut rest, 3)?; // tries again after each of the first three faults
+    assert!(rt; w.get_ref().as_slice() == b"abc".as_slice());
+    Ok(())
+}
+
+// Tries that are not made, one too many, and a byte that goes out twice.
+#[test]
+fn so_many_retries_are_made(rt: HostRuntime) -> Result<(), Fail> {
+    let fault = Act::Fail(ErrorKind::BrokenPipe);
+    'budgets: for (retries, is_enough, writes) in
+        [(0, false, 2), (1, false, 3), (2, false, 4), (3, true, 5), (4, true, 5)]
+    {
+        let acts = Vec::from_array(rt.alloc(), [Act::Take(1), fault, fault, fault])?;
+        let mut w = Tally::new(Faulty::new(Vec::<u8>::new(rt.alloc()), acts));
+        let mut rest = b"abc".as_slice();
+        assert!(rt; write_with_retries(&mut w, &mut rest, retries).is_ok() == is_enough, "{retries}");
+        assert!(rt; w.writes() == writes, "{retries}");
+        assert!(rt; rest.is_empty() == is_enough, "{retries}");
+        write_with_retries(&mut w, &mut rest, 2)?;
+        assert!(rt; w.get_ref().get_ref().as_slice() == b"abc".as_slice(), "{retries}");
+    }
+    Ok(())
+}
+
+#[test]
+fn bytes_at_a_place_are_read(rt: HostRuntime) -> Result<(), Fail> {
+    let mut r = Cursor::new(*b"abcdef");
+    let mut buf = [0u8; 2];
+    read_exact_at(&mut r, SeekFrom::End(-3), &mut buf)?;
+    assert!(rt; buf == *b"de");
     Ok(())
 }

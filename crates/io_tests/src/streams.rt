@@ -231,3 +231,42 @@ fn a_position_is_asked_for(rt: HostRuntime) -> Result<(), Fail> {
     assert!(rt; r.stream_position()? == 0);
     Ok(())
 }
+
+#[test]
+fn a_text_goes_into_a_writer(rt: HostRuntime) -> Result<(), Fail> {
+    let mut device = Vec::<u8>::new(rt.alloc());
+    let n = 3;
+    write!(device, "n is {n}\n")?;
+    assert!(rt; device.as_slice() == b"n is 3\n".as_slice());
+    Ok(())
+}
+
+#[test]
+fn all_that_is_left_is_text(rt: HostRuntime) -> Result<(), Fail> {
+    let mut r = Cursor::new(*b"abc");
+    let mut text = String::new(rt.alloc());
+    assert!(rt; r.read_to_string(rt.alloc(), &mut text)? == 3);
+    assert!(rt; text.as_str() == "abc");
+    Ok(())
+}
+
+#[test]
+fn a_position_moves_by_an_offset(rt: HostRuntime) -> Result<(), Fail> {
+    let mut r = Cursor::new(*b"abcde");
+    r.seek_relative(3)?;
+    assert!(rt; r.position() == 3);
+    assert!(rt; r.seek_relative(-4).is_err()); // below 0: it stays
+    assert!(rt; r.position() == 3);
+    Ok(())
+}
+
+// A cursor over an array that grows, or that writes past its end.
+#[test]
+fn an_array_takes_what_fits(rt: HostRuntime) -> Result<(), Fail> {
+    let mut w = Cursor::new([0u8; 4]);
+    w.write_all(b"abc")?;
+    assert!(rt; w.write(b"de")? == 1);
+    assert!(rt; w.write_all(b"e").is_err());
+    assert!(rt; w.into_inner() == *b"abcd");
+    Ok(())
+}

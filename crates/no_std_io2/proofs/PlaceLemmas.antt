@@ -23,27 +23,27 @@ IsTarget-unique len position (End k) p q f g = IsAtOffset-unique len k p q f.0 g
 IsTarget-unique len position (Current k) p q f g = IsAtOffset-unique position k p q f.0 g.0
 
 -- behind a seek that succeeded come the bytes from its target on
-pub comes_there : {E : List Event} {content content' : List ℕ} {old position n : ℕ} {at : SeekFrom}
+pub comes_there : {E : List Event} (content content' : List ℕ) (old position n : ℕ) (at : SeekFrom)
     → Seeks (length content) old at (Ok n) position → content' ≡ content → E ≡ events_of (drop position content')
     → E ≡ events_of (drop n content)
-comes_there {n = n} sought same is = is ∙ ap (λ p. events_of (drop p _)) sought.1 ∙ ap (λ l. events_of (drop n l)) same
+comes_there content content' old position n at sought same is = is ∙ ap (λ p. events_of (drop p content')) sought.1 ∙ ap (λ l. events_of (drop n l)) same
 
 -- a read there fills the buffer with them, and is behind them then
-pub stands_there : {t : Type 0} {E after : List Event} (r : Result (Unit {0}) Error) (content content' buf : List ℕ)
+pub stands_there : (t : Type 0) {E : List Event} (after : List Event) (r : Result (Unit {0}) Error) (content content' buf : List ℕ)
     (old position n room new : ℕ) (at : SeekFrom) → Seeks (length content) old at (Ok n) position → content' ≡ content
     → E ≡ events_of (drop position content') → ReadsExact t E r buf after → length buf ≡ room
     → new + length after ≡ position + length E → IfOk r (λ _. ReadsAt content old at room buf new)
-stands_there (Ok u) content content' buf old position n room new at sought same is f long on =
-    let read = header_read (drop n content) buf room (comes_there sought same is) f long in
+stands_there t after (Ok u) content content' buf old position n room new at sought same is f long on =
+    let read = header_read (drop n content) buf room (comes_there content content' old position n at sought same is) f long in
     record { place = n; target = sought.0; there = read.0; behind = omega (arith, read.1, on, sought.1) }
-stands_there (Err e) content content' buf old position n room new at sought same is f long on = tt
+stands_there t after (Err e) content content' buf old position n room new at sought same is f long on = tt
 
 -- and it does not fail where there are enough
-pub enough_there : {t : Type 0} {E after : List Event} (r : Result (Unit {0}) Error) (content content' buf : List ℕ)
+pub enough_there : (t : Type 0) {E : List Event} (after : List Event) (r : Result (Unit {0}) Error) (content content' buf : List ℕ)
     (old position n p : ℕ) (at : SeekFrom) → Seeks (length content) old at (Ok n) position → content' ≡ content
     → E ≡ events_of (drop position content') → ReadsExact t E r buf after
     → IsTarget (length content) old at p → p + length buf ≤ length content → IsOk r
-enough_there r content content' buf old position n p at sought same is f target enough =
+enough_there t after r content content' buf old position n p at sought same is f target enough =
     let one : n ≡ p = IsTarget-unique (length content) old at n p sought.0 target in
-    ReadsExact-enough r (drop n content) [] (comes_there sought same is ∙ sym (append-nil (events_of (drop n content))))
+    ReadsExact-enough t after r buf (drop n content) [] (comes_there content content' old position n at sought same is ∙ sym (append-nil (events_of (drop n content))))
     (omega (arith, one, enough, length-drop n content)) f

@@ -15,60 +15,39 @@ use Rattle.std.specs.declared.fmt.Error.{Error as FormatError}
 use Rattle.no_std_io2_base.specs.declared.error.Error.{Error}
 use Rattle.no_std_io2_base.specs.declared.error.ErrorKind.{ErrorKind}
 use Rattle.no_std_io2_base.specs.Write.{Told, Moves, MovesFront, HasSpent, WriteCall, WriteAllLaw, call_mishap}
-use Rattle.no_std_io2_base.specs.Text.{TextCalls, none, piece, silent, Prints, IsTextError, AnswersText, MovesText, WriteFmtLaw}
+use Rattle.no_std_io2_base.specs.Text.{Prints, nothing, piece, silent, IsTextError, AnswersText, MovesText, WriteFmtLaw}
 use Rattle.no_std_io2_base.specs.Errors.{is_interruption, IsNoInterruption}
-use Rattle.no_std_io2_base.proofs.CallsLemmas.{made_then}
 use Rattle.no_std_io2_base.proofs.MovesLemmas.{IsFront-refl, Moves-refl, MovesFront-join, MovesFront-first}
 
 module _ {S : Type 0} {told : S → Told} {takes_all : S → Type 0} {cost : S → ℕ} {is_metered : S → Type 0}
     {may : S → WriteCall → S → Type 0} {old : S} where
-  -- nothing yet
-  pub prints_none : Prints told takes_all cost is_metered may old [] (Ok tt) old
-  prints_none = record {
-    fault = tt;
-    moves = record { accepted = []; front = IsFront-refl []; whole = refl; moves = Moves-refl (told old) };
-    all = λ a. a;
-    calls = ([], refl, none);
-  }
-
-  -- a piece more
-  pub prints_more : {text x : List ℕ} {reply : Result (Unit {0}) Error} {mid new : S}
-      → Prints told takes_all cost is_metered may old text (Ok tt) mid → WriteAllLaw told takes_all cost is_metered may mid x reply new
-      → Prints told takes_all cost is_metered may old (text ++ x) reply new
-  prints_more {text} {x} {reply} {mid} {new} so_far wrote = record {
-    fault = wrote.fault;
-    moves = MovesFront-join text x reply so_far.moves wrote.moves;
-    all = λ a. wrote.all (so_far.all a);
-    calls = (
-      so_far.calls.0 ++ wrote.calls.0,
-      made_then _ so_far.calls.0 old wrote.calls.0 mid new so_far.calls.1 wrote.calls.1,
-      piece x so_far.calls.2 wrote.calls.2,
-    );
-  }
-
-  -- nothing more after an error
-  pub prints_silent : {text : List ℕ} (x : List ℕ) {e : Error} {now : S} → Prints told takes_all cost is_metered may old text (Err e) now
-      → Prints told takes_all cost is_metered may old (text ++ x) (Err e) now
-  prints_silent {text} x {e} so_far = record {
-    fault = so_far.fault;
-    moves = MovesFront-first text x e so_far.moves;
-    all = so_far.all;
-    calls = (so_far.calls.0, so_far.calls.1, silent x so_far.calls.2);
-  }
-
-  -- the test says that none was met
+  -- a piece more, where the test says that no error was met
   pub prints_next : (b : Bool) {met : Result (Unit {0}) Error} → b ≡ is_ok met → b ≡ true → {text bytes x : List ℕ} {reply : Result (Unit {0}) Error}
       {mid new : S} → WriteAllLaw told takes_all cost is_metered may mid bytes reply new → bytes ≡ x
       → Prints told takes_all cost is_metered may old text met mid → Prints told takes_all cost is_metered may old (text ++ x) reply new
-  prints_next b {met = Ok u} is had {text = text} {reply = reply} {new = new} wrote same so_far =
-      subst (λ l. Prints told takes_all cost is_metered may old (text ++ l) reply new) same (prints_more so_far wrote)
+  prints_next b {met = Ok u} is had {text = text} {bytes = bytes} {reply = reply} {new = new} wrote same so_far =
+      subst (λ l. Prints told takes_all cost is_metered may old (text ++ l) reply new) same (piece bytes so_far wrote)
   prints_next b {met = Err e} is had wrote same so_far = absurd (true≢false (sym had ∙ is))
 
-  -- or that one was
+  -- no call, where it says that one was
   pub prints_after : (b : Bool) {met : Result (Unit {0}) Error} → b ≡ is_ok met → b ≡ false → {text : List ℕ} (x : List ℕ) {now : S}
       → Prints told takes_all cost is_metered may old text met now → Prints told takes_all cost is_metered may old (text ++ x) met now
   prints_after b {met = Ok u} is had x so_far = absurd (true≢false (sym is ∙ had))
-  prints_after b {met = Err e} is had x so_far = prints_silent x so_far
+  prints_after b {met = Err e} is had x so_far = silent x so_far
+
+  -- some front was accepted
+  pub prints_moves : {text : List ℕ} {reply : Result (Unit {0}) Error} {new : S} → Prints told takes_all cost is_metered may old text reply new
+      → MovesFront (told old) text reply (told new)
+  prints_moves nothing = record { accepted = []; front = IsFront-refl []; whole = refl; moves = Moves-refl (told old) }
+  prints_moves (piece {text = text} x {reply = reply} so_far wrote) = MovesFront-join text x reply (prints_moves so_far) wrote.moves
+  prints_moves (silent {text = text} x {e = e} so_far) = MovesFront-first text x e (prints_moves so_far)
+
+  -- and no interruption is answered
+  pub prints_fault : {text : List ℕ} {reply : Result (Unit {0}) Error} {new : S} → Prints told takes_all cost is_metered may old text reply new
+      → IsNoInterruption reply
+  prints_fault nothing = tt
+  prints_fault (piece x so_far wrote) = wrote.fault
+  prints_fault (silent x so_far) = prints_fault so_far
 
 -- a formatter's calls, one after another, print what they print together
 module _ {W S : Type 0} (prints : S → List ℕ → W → Type 0) where
@@ -205,8 +184,8 @@ module _ {S : Type 0} {told : S → Told} {takes_all : S → Type 0} {cost : S �
       let prints : ∥ ((text : List ℕ) × Prints told takes_all cost is_metered may old text met new × IfSome output (λ bs. text ≡ bs)) ∥₁ =
       ∥∥₁_map had (λ p. (p.1, subst (λ x. Prints told takes_all cost is_metered may x p.1 met new) p.2.0.0 p.2.1, p.3 refl)) in
       subst (λ r. WriteFmtLaw told takes_all cost is_metered may old output r new) (sym same) (record {
-        fault = ∥∥₁_elim prints (IsNoInterruption-prop met) (λ p. p.1.fault);
-        moves = moves_text output (∥∥₁_map prints (λ p. (p.0, p.1.moves, p.2)));
+        fault = ∥∥₁_elim prints (IsNoInterruption-prop met) (λ p. prints_fault p.1);
+        moves = moves_text output (∥∥₁_map prints (λ p. (p.0, prints_moves p.1, p.2)));
         calls = ∥∥₁_map prints (λ p. (p.0, met, p.1, inl (p.2, refl)));
       })
   law_shown (Err f) reply had same why =
@@ -217,7 +196,7 @@ module _ {S : Type 0} {told : S → Told} {takes_all : S → Type 0} {cost : S �
         moves = record {
           text = since (told old) (told new);
           met = met;
-          moves = MovesFront-some (∥∥₁_map prints (λ p. (p.0, p.1.moves)));
+          moves = MovesFront-some (∥∥₁_map prints (λ p. (p.0, prints_moves p.1)));
           answers = inr why;
         };
         calls = ∥∥₁_map prints (λ p. (p.0, met, p.1, inr why));

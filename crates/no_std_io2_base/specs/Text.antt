@@ -3,28 +3,18 @@ use Rattle.std.specs.Prelude.{◌≡◌, ◌⊎◌, ℕ, List, [], ◌++◌, Opt
 use Rattle.no_std_io2_base.specs.declared.error.Error.{Error}
 use Rattle.no_std_io2_base.specs.declared.error.ErrorKind.TheVariants.{Other}
 use Rattle.no_std_io2_base.specs.Errors.{SaysError, IsNoInterruption}
-use Rattle.no_std_io2_base.specs.Write.{Told, MovesFront, WriteCall, Made, CallLaw, AllCalls}
+use Rattle.no_std_io2_base.specs.Write.{Told, MovesFront, WriteCall, WriteAllLaw}
 
--- C are the calls that write a text in pieces, each as `write_all` does, and what the last one answers.
-pub data TextCalls : List WriteCall → List ℕ → Result (Unit {0}) Error → Type 0 where
-  none : TextCalls [] [] (Ok tt)
-  piece : {A C : List WriteCall} {text : List ℕ} (x : List ℕ) {reply : Result (Unit {0}) Error} → TextCalls A text (Ok tt) → AllCalls C x reply
-      → TextCalls (A ++ C) (text ++ x) reply
+-- From old to new this text was printed to a writer by calls of `write_all`, one after another, of which the last one answered this.
+pub data Prints {S : Type 0} (told : S → Told) (takes_all : S → Type 0) (cost : S → ℕ) (is_metered : S → Type 0)
+    (may : S → WriteCall → S → Type 0) (old : S) : List ℕ → Result (Unit {0}) Error → S → Type 0 where
+  nothing : Prints told takes_all cost is_metered may old [] (Ok tt) old
+  piece : {text : List ℕ} (x : List ℕ) {reply : Result (Unit {0}) Error} {mid new : S}
+      → Prints told takes_all cost is_metered may old text (Ok tt) mid → WriteAllLaw told takes_all cost is_metered may mid x reply new
+      → Prints told takes_all cost is_metered may old (text ++ x) reply new
   -- after an error there is no call
-  silent : {C : List WriteCall} {text : List ℕ} (x : List ℕ) {e : Error} → TextCalls C text (Err e) → TextCalls C (text ++ x) (Err e)
-
--- From old to new this text was printed to a writer, which answered this.
-pub record Prints {S : Type 0} (told : S → Told) (takes_all : S → Type 0) (cost : S → ℕ) (is_metered : S → Type 0)
-    (may : S → WriteCall → S → Type 0)
-    (old : S) (text : List ℕ) (reply : Result (Unit {0}) Error) (new : S) : Type 0 where
-  -- no interruption is answered
-  pub fault : IsNoInterruption reply
-  -- some front is accepted, the whole at `Ok`, and an error is a mishap
-  pub moves : MovesFront (told old) text reply (told new)
-  -- who takes all goes on taking all
-  pub all : takes_all old → takes_all new
-  -- which calls were made
-  pub calls : (C : List WriteCall) × Made (CallLaw told takes_all cost is_metered may) old C new × TextCalls C text reply
+  silent : {text : List ℕ} (x : List ℕ) {e : Error} {new : S} → Prints told takes_all cost is_metered may old text (Err e) new
+      → Prints told takes_all cost is_metered may old (text ++ x) (Err e) new
 
 -- a value's own `fmt` answered an error, which no writer made
 abbrev pub IsTextError : Error → Type 0
@@ -49,6 +39,6 @@ pub record WriteFmtLaw {S : Type 0} (told : S → Told) (takes_all : S → Type 
   pub fault : IsNoInterruption reply
   -- some text is printed
   pub moves : MovesText (told old) output reply (told new)
-  -- by such calls; which ones is a formatter's own
+  -- by such calls; that there are some is known, since which ones is a formatter's own
   pub calls : ∥ ((text : List ℕ) × (met : Result (Unit {0}) Error) × Prints told takes_all cost is_metered may old text met new
       × AnswersText output text met reply) ∥₁

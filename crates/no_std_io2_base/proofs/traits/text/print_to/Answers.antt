@@ -1,10 +1,10 @@
 use Rattle.std.proofs.Common.{[]}
-use Rattle.no_std_io2_base.specs.Text.{Prints}
-use Rattle.no_std_io2_base.proofs.TextLemmas.{prints_none, prints_shown}
+use Rattle.no_std_io2_base.specs.Text.{Prints, nothing}
+use Rattle.no_std_io2_base.proofs.TextLemmas.{prints_shown}
 use Rattle.no_std_io2_base.proofs.traits.text.print_to.Goals as goal
 
 pub invariant_of-new : goal.invariant_of-new
-invariant_of-new g c = record { prints = ∣ (c.args.lent.inner.now, [], (c.requires.began, prints_none)) ∣₁ }
+invariant_of-new g c = record { prints = ∣ (c.args.lent.inner.now, [], (c.requires.began, nothing)) ∣₁ }
 
 pub returns : goal.returns
 returns g c =
@@ -13,5 +13,5 @@ returns g c =
       prints = prints_shown (λ old text s. g.K.Began.at old s.inner.ghost_name
           × Prints W.told W.takes_all W.cost W.is_metered W.may old text s.met s.inner.now) _ _ _ _
           c.new-f.ensures.writer c.new-f.ensures.plain c.into_inner-inner.ensures c.write-formatted.ensures.writes
-          (c.requires.began, prints_none) c.into_inner-inner.result.prints;
+          (c.requires.began, nothing) c.into_inner-inner.result.prints;
     }

@@ -1,0 +1,41 @@
+//! Files with an index: the last four bytes tell where the index stands, which has the place of each entry in four bytes. Numbers
+//! stand with the lowest byte first.
+ghost use Rattle.std.specs.Prelude.{◌≡◌, length, take, drop, IfOk};
+ghost use Rattle.examples.specs.Indexed.{IsNumberAt, entry_place};
+
+use no_std_io2::io::{BufReader, Cursor, Read, Result, Seek, SeekFrom, read_exact_at};
+
+// The number at a place.
+fn read_u32_at<R: Read + Seek>(r: &mut R, at: SeekFrom) -> Result<u32>
+    ensures store { R.has_store r.old → R.has_store r.new × (R.content r.new ≡ R.content r.old)
+        × IfOk result (λ n. IsNumberAt (R.content r.old) (R.position r.old) at n) }
+{
+    let mut bytes = [0u8; 4];
+    read_exact_at(r, at, &mut bytes)?;
+    Ok(u32::from_le_bytes(bytes))
+}
+
+/// Fills `entry` with the bytes from the start of entry `i` on, of any file that can be read and sought.
+///
+/// # Errors
+/// Those of `seek` and of `read_exact`.
+pub fn read_entry<R: Read + Seek>(r: &mut R, i: u32, entry: &mut [u8]) -> Result<()>
+    ensures store { R.has_store r.old → R.has_store r.new × (R.content r.new ≡ R.content r.old)
+        × IfOk result (λ _. entry.new ≡ take (length entry.old) (drop (entry_place i (R.content r.old)) (R.content r.old))) }
+{
+    let index = read_u32_at(r, SeekFrom::End(-4))?;
+    let slot = u64::from(index) + 4 * u64::from(i);
+    let place = read_u32_at(r, SeekFrom::Start(slot))?;
+    read_exact_at(r, SeekFrom::Start(u64::from(place)), entry)
+}
+
+/// The same of a file in memory, through a buffer.
+///
+/// # Errors
+/// Those of `read_entry`.
+pub fn entry_of(file: &[u8], i: u32, entry: &mut [u8]) -> Result<()>
+    ensures { IfOk result (λ _. entry.new ≡ take (length entry.old) (drop (entry_place i file.now) file.now)) }
+{
+    let mut r = BufReader::<_, 64>::new(Cursor::new(file));
+    read_entry(&mut r, i, entry)
+}
