@@ -1,6 +1,6 @@
 -- How calls of a writer follow one another, for a crate that lists this one alone. Those of the base are stated again: `rt lemma` finds
 -- none behind a `pub use`.
-use Rattle.std.proofs.Common.{◌≡◌, ◌⊎◌, Some, IsErrAnd, Result, Ok, Err, subst, List, [], ◌++◌, ℕ}
+use Rattle.std.proofs.Common.{◌≡◌, ◌⊎◌, Some, IsErrAnd, Result, Ok, Err, subst, refl, ap, ◌∙◌, append-nil, List, [], ◌++◌, ℕ}
 use Rattle.std.specs.List.{concat}
 use Rattle.std.specs.Result.{OnOk}
 use Rattle.no_std_io2_base.specs.declared.error.Error.{Error}
@@ -11,7 +11,7 @@ use Rattle.no_std_io2_base.proofs.MovesLemmas as calls
 use Rattle.no_std_io2_base.proofs.TextLemmas as texts
 pub use Rattle.no_std_io2_base.proofs.MovesLemmas.{Moves-refl, Moves-quiet, Moves-steady, Moves-more, Moves-forget, count_by-append}
 use Rattle.no_std_io2.specs.declared.buffered.buf_writer.BufWriter.{BufWriter}
-use Rattle.no_std_io2.specs.BufWriter.{writer_inner, writer_buffer, writer_told}
+use Rattle.no_std_io2.specs.BufWriter.{with_buffer, writer_inner, writer_buffer, writer_told}
 use Rattle.no_std_io2.proofs.BufWriterLemmas.{Moves-bare}
 use Rattle.no_std_io2.proofs.LineWriterLemmas as lines
 
@@ -37,6 +37,20 @@ pub Moves-device : {W : Type 0} {S : ℕ} {a : Told} {b : Told} {x : List ℕ} {
     → writer_inner w ≡ device → writer_buffer w ≡ [] → a ≡ writer_told told w → Moves a x k b → Moves (told device) x k b
 Moves-device {b = b} {x = x} {k = k} told w device inner none is m =
     subst (λ d. Moves (told d) x k b) inner (Moves-bare (writer_buffer w) none (subst (λ t. Moves t x k b) is m))
+
+-- with nothing in its buffer a writer tells what its device tells
+bare : (t : Told) → with_buffer t [] ≡ t
+bare t = ap (λ held. record t { held = held }) (append-nil t.held)
+
+-- what a buffer accepted at `Ok` that was empty, and is, its device did
+pub MovesFront-device : {W : Type 0} {S : ℕ} (told : W → Told) (w v : BufWriter W S) (x : List ℕ) (r : Result (Unit {0}) Error)
+    → MovesFront (writer_told told w) x r (writer_told told v) → writer_buffer w ≡ [] → OnOk r (writer_buffer v ≡ [])
+    → OnOk r (Moves (told (writer_inner w)) x [] (told (writer_inner v)))
+MovesFront-device told w v x (Ok u) f none sent =
+    subst (λ b. Moves (told (writer_inner w)) x [] b)
+    (ap (λ held. with_buffer (told (writer_inner v)) held) sent ∙ bare (told (writer_inner v)))
+    (Moves-device told w (writer_inner w) refl none refl (lines.MovesFront-whole x u f))
+MovesFront-device told w v x (Err e) f none sent = tt
 
 -- `write_all(x)?; write_all(y)`, where the first answered `Ok`
 pub MovesFront-join : {a b c : Told} (x y : List ℕ) (r : Result (Unit {0}) Error) → MovesFront a x (Ok tt) b

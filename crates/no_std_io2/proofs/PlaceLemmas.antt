@@ -26,7 +26,8 @@ IsTarget-unique len position (Current k) p q f g = IsAtOffset-unique position k 
 pub comes_there : {E : List Event} (content content' : List ℕ) (old position n : ℕ) (at : SeekFrom)
     → Seeks (length content) old at (Ok n) position → content' ≡ content → E ≡ events_of (drop position content')
     → E ≡ events_of (drop n content)
-comes_there content content' old position n at sought same is = is ∙ ap (λ p. events_of (drop p content')) sought.1 ∙ ap (λ l. events_of (drop n l)) same
+comes_there content content' old position n at sought same is =
+    is ∙ ap (λ p. events_of (drop p content')) sought.1 ∙ ap (λ l. events_of (drop n l)) same
 
 -- a read there fills the buffer with them, and is behind them then
 pub stands_there : (t : Type 0) {E : List Event} (after : List Event) (r : Result (Unit {0}) Error) (content content' buf : List ℕ)
@@ -45,5 +46,6 @@ pub enough_there : (t : Type 0) {E : List Event} (after : List Event) (r : Resul
     → IsTarget (length content) old at p → p + length buf ≤ length content → IsOk r
 enough_there t after r content content' buf old position n p at sought same is f target enough =
     let one : n ≡ p = IsTarget-unique (length content) old at n p sought.0 target in
-    ReadsExact-enough t after r buf (drop n content) [] (comes_there content content' old position n at sought same is ∙ sym (append-nil (events_of (drop n content))))
+    ReadsExact-enough t after r buf (drop n content) []
+    (comes_there content content' old position n at sought same is ∙ sym (append-nil (events_of (drop n content))))
     (omega (arith, one, enough, length-drop n content)) f

@@ -1,5 +1,6 @@
 -- How the calls that print a text follow one another, and what is known behind any formatter.
-use Rattle.std.proofs.Common.{◌≡◌, ℕ, List, [], ◌++◌, Option, None, Some, Result, Ok, Err, OnOk, OnErr, IfSome, IsErrAnd, ◌⊎◌, Bool, true, false, true≢false, is_ok, IsOk, ◌∷◌}
+use Rattle.std.proofs.Common.{◌≡◌, ℕ, List, [], ◌++◌, Option, None, Some, Result, Ok, Err, OnOk, OnErr, IsOk, is_ok, IfSome}
+use Rattle.std.proofs.Common.{◌∷◌, ◌⊎◌, Bool, true, false, true≢false, IsErrAnd}
 use Rattle.std.proofs.Common.{refl, sym, ap, subst, ◌∙◌, append_assoc, append-nil, length, drop, inl, inr}
 use Rattle.std.proofs.Math.Seq.{drop-append_seam}
 use Rattle.std.proofs.Math.Logic.{∥∥₁_elim, ∥∥₁_map}
@@ -22,8 +23,8 @@ use Rattle.no_std_io2_base.proofs.MovesLemmas.{IsFront-refl, Moves-refl, MovesFr
 module _ {S : Type 0} {told : S → Told} {takes_all : S → Type 0} {cost : S → ℕ} {is_metered : S → Type 0}
     {may : S → WriteCall → S → Type 0} {old : S} where
   -- a piece more, where the test says that no error was met
-  pub prints_next : (b : Bool) {met : Result (Unit {0}) Error} → b ≡ is_ok met → b ≡ true → {text bytes x : List ℕ} {reply : Result (Unit {0}) Error}
-      {mid new : S} → WriteAllLaw told takes_all cost is_metered may mid bytes reply new → bytes ≡ x
+  pub prints_next : (b : Bool) {met : Result (Unit {0}) Error} → b ≡ is_ok met → b ≡ true
+      → {text bytes x : List ℕ} {reply : Result (Unit {0}) Error} {mid new : S} → WriteAllLaw told takes_all cost is_metered may mid bytes reply new → bytes ≡ x
       → Prints told takes_all cost is_metered may old text met mid → Prints told takes_all cost is_metered may old (text ++ x) reply new
   prints_next b {met = Ok u} is had {text = text} {bytes = bytes} {reply = reply} {new = new} wrote same so_far =
       subst (λ l. Prints told takes_all cost is_metered may old (text ++ l) reply new) same (piece bytes so_far wrote)
@@ -36,15 +37,15 @@ module _ {S : Type 0} {told : S → Told} {takes_all : S → Type 0} {cost : S �
   prints_after b {met = Err e} is had x so_far = silent x so_far
 
   -- some front was accepted
-  pub prints_moves : {text : List ℕ} {reply : Result (Unit {0}) Error} {new : S} → Prints told takes_all cost is_metered may old text reply new
-      → MovesFront (told old) text reply (told new)
+  pub prints_moves : {text : List ℕ} {reply : Result (Unit {0}) Error} {new : S}
+      → Prints told takes_all cost is_metered may old text reply new → MovesFront (told old) text reply (told new)
   prints_moves nothing = record { accepted = []; front = IsFront-refl []; whole = refl; moves = Moves-refl (told old) }
   prints_moves (piece {text = text} x {reply = reply} so_far wrote) = MovesFront-join text x reply (prints_moves so_far) wrote.moves
   prints_moves (silent {text = text} x {e = e} so_far) = MovesFront-first text x e (prints_moves so_far)
 
   -- and no interruption is answered
-  pub prints_fault : {text : List ℕ} {reply : Result (Unit {0}) Error} {new : S} → Prints told takes_all cost is_metered may old text reply new
-      → IsNoInterruption reply
+  pub prints_fault : {text : List ℕ} {reply : Result (Unit {0}) Error} {new : S}
+      → Prints told takes_all cost is_metered may old text reply new → IsNoInterruption reply
   prints_fault nothing = tt
   prints_fault (piece x so_far wrote) = wrote.fault
   prints_fault (silent x so_far) = prints_fault so_far
