@@ -20,7 +20,8 @@ impl Write for Failing {
             return Err(Error::new(ErrorKind::BrokenPipe, "unplugged"));
         }
         self.calls -= 1;
-        self.taken.write(buf)
+        self.taken.extend_from_slice(buf)?;
+        Ok(buf.len())
     }
 
     fn flush(&mut self) -> IoResult<()> {
@@ -84,7 +85,7 @@ fn a_text_is_printed_to_each_writer(rt: HostRuntime) -> Result<(), Fail> {
     assert!(rt; buffered.get_ref().as_slice() == want);
     let mut lines = LineWriter::<&mut Vec<u8>, 8>::new(&mut bytes);
     writeln!(lines, "n is {:>3}, {:02x}, {point} and {:+}", -7, 10, 3)?;
-    assert!(rt; lines.get_ref().len() == 2 * want.len());
+    assert!(rt; lines.get_ref().len() == 58);
     let mut boxed: Box<dyn Write + Drop> = Box::new(rt.alloc(), Vec::<u8>::new(rt.alloc()))?;
     writeln!(boxed, "{point}")?;
     Ok(())
@@ -94,7 +95,6 @@ fn a_text_is_printed_to_each_writer(rt: HostRuntime) -> Result<(), Fail> {
 #[test]
 fn a_device_that_fails_at_a_piece_has_the_front_before_it(rt: HostRuntime) -> Result<(), Fail> {
     let whole = b"t=  21, (1, -2)\n".as_slice();
-    let mut fronts = 0;
     'pieces: for calls in 0..100 {
         let mut device = Failing {
             taken: Vec::new(rt.alloc()),
@@ -103,17 +103,17 @@ fn a_device_that_fails_at_a_piece_has_the_front_before_it(rt: HostRuntime) -> Re
         match write!(device, "{}={:>4}, {}\n", "t", 21, Point { x: 1, y: -2 }) {
             Ok(()) => {
                 assert!(rt; device.taken.as_slice() == whole);
-                break 'pieces;
+                assert!(rt; calls > 5);
+                return Ok(());
             }
             Err(e) => {
                 assert!(rt; e.kind() == ErrorKind::BrokenPipe, "{calls}");
                 assert!(rt; e.get_ref().copied() == Some("unplugged"), "{calls}");
                 assert!(rt; whole.starts_with(device.taken.as_slice()), "{calls}");
-                fronts += 1;
             }
         }
     }
-    assert!(rt; fronts > 5);
+    assert!(rt; false);
     Ok(())
 }
 
