@@ -3,7 +3,7 @@ ghost use Rattle.std.specs.Prelude.{◌≡◌, ◌+◌, ◌-◌, ◌^◌, ◌≤
 ghost use Rattle.std.specs.Prelude.{take, vec_len, vec_capacity};
 ghost use Rattle.no_std_io2.specs.Errors.{IsFault, IsNoInterruption};
 ghost use Rattle.no_std_io2.specs.Read.{ReadLaw, ReadExactLaw, ReadToEndLaw};
-ghost use Rattle.no_std_io2.specs.Write.{WriteLaw};
+ghost use Rattle.no_std_io2.specs.Writers.{WriteOf};
 ghost use Rattle.io_bench.specs.Calls.{CountsLoop, CountsToEnd};
 
 use no_std_io2::io::{Read, Result, Stored, Write};
@@ -112,8 +112,7 @@ impl<T: Write> Write for Tally<T> {
     ghost may = { TallyMay T.Write };
 
     fn write(&mut self, buf: &[u8]) -> Result<usize>
-        ensures law { let W = ⟦<Self as Write>⟧ in
-            WriteLaw W.told W.takes_all W.cost W.is_metered W.may self.old buf.now result self.new }
+        ensures law { WriteOf ⟦<Self as Write>⟧ self.old buf.now result self.new }
 
         // Each call counts, whatever the answer.
         ensures writes { tally_writes self.new ≡ tally_writes self.old + 1 }

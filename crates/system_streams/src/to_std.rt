@@ -6,7 +6,7 @@ ghost use Rattle.std.specs.Io.KnownBytes.{ReadConsumes, WriteAppends, Keeps};
 ghost use Rattle.no_std_io2.specs.declared.io.Error.{Error};
 ghost use Rattle.no_std_io2.specs.Errors.{error_kind};
 ghost use Rattle.no_std_io2.specs.Read.{ReadLaw};
-ghost use Rattle.no_std_io2.specs.Write.{WriteLaw, FlushLaw};
+ghost use Rattle.no_std_io2.specs.Writers.{FlushOf, WriteOf};
 ghost use Rattle.system_streams.specs.ToStd.{std_inner, std_kind, HandsOn, accepted};
 
 use no_std_io2::io::{Error, ErrorKind, Read, Write};
@@ -111,7 +111,7 @@ impl<W: Write> io::Write for ToStd<W> {
     fn write(&mut self, buf: &[u8]) -> io::Result<usize>
         // It is one call of the writer, and its answer.
         ensures law { (reply : Result ℕ Error) × HandsOn reply result
-            × WriteLaw W.told W.takes_all W.cost W.is_metered W.may (std_inner self.old) buf.now reply (std_inner self.new) }
+            × WriteOf W.Write (std_inner self.old) buf.now reply (std_inner self.new) }
     {
         match self.inner.write(buf) {
             Ok(n) => Ok(n),
@@ -122,7 +122,7 @@ impl<W: Write> io::Write for ToStd<W> {
     fn flush(&mut self) -> io::Result<()>
         // It is one call of the writer, and its answer.
         ensures law { (reply : Result (Unit {0}) Error) × HandsOn reply result
-            × FlushLaw W.told W.takes_all W.cost W.is_metered W.may (std_inner self.old) reply (std_inner self.new) }
+            × FlushOf W.Write (std_inner self.old) reply (std_inner self.new) }
     {
         match self.inner.flush() {
             Ok(()) => Ok(()),

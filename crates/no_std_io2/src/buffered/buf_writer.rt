@@ -2,7 +2,7 @@
 ghost use Rattle.std.specs.Prelude.{◌≡◌, ◌≤◌, [], length};
 ghost use Rattle.std.specs.Borrow.{Lends, sem};
 ghost use Rattle.no_std_io2.specs.contracts.buffered.buf_writer.BufWriter.{the_row as writer-row};
-ghost use Rattle.no_std_io2_base.specs.Write.{WriteLaw, FlushLaw, WriteAllLaw};
+ghost use Rattle.no_std_io2_base.specs.Writers.{FlushOf, WriteAllOf, WriteOf};
 ghost use Rattle.no_std_io2.specs.BufWriter.{BufferMay, writer_inner, writer_buffer, writer_told, writer_with_inner};
 ghost use Rattle.no_std_io2.specs.Unsent.{unsent_bytes};
 ghost use Rattle.no_std_io2.specs.BufWriter.{Unwraps, Buffers, BuffersAll, Flushes};
@@ -177,8 +177,7 @@ impl<W: Write + Drop, const S: usize> Write for BufWriter<W, S> {
     /// Sending's fault, or the inner `write`'s error. What was not sent is still held.
     #[inline(always)]
     fn write(&mut self, buf: &[u8]) -> Result<usize>
-        ensures law { let B = ⟦<Self as Write>⟧ in
-            WriteLaw B.told B.takes_all B.cost B.is_metered B.may self.old buf.now result self.new }
+        ensures law { WriteOf ⟦<Self as Write>⟧ self.old buf.now result self.new }
 
         ensures buffer { Buffers W.Write S writer_inner writer_buffer self.old buf.now result self.new }
     {
@@ -191,8 +190,7 @@ impl<W: Write + Drop, const S: usize> Write for BufWriter<W, S> {
     /// Sending's fault, with the inner writer not flushed, or the inner `flush`'s error. What was
     /// not sent is still held.
     fn flush(&mut self) -> Result<()>
-        ensures law { let B = ⟦<Self as Write>⟧ in
-            FlushLaw B.told B.takes_all B.cost B.is_metered B.may self.old result self.new }
+        ensures law { FlushOf ⟦<Self as Write>⟧ self.old result self.new }
 
         ensures buffer { Flushes W.Write writer_inner writer_buffer self.old result self.new }
     {
@@ -205,8 +203,7 @@ impl<W: Write + Drop, const S: usize> Write for BufWriter<W, S> {
     /// Sending's fault, or the inner `write_all`'s error. What was not sent is still held.
     #[inline(always)]
     fn write_all(&mut self, buf: &[u8]) -> Result<()>
-        ensures law { let B = ⟦<Self as Write>⟧ in
-            WriteAllLaw B.told B.takes_all B.cost B.is_metered B.may self.old buf.now result self.new }
+        ensures law { WriteAllOf ⟦<Self as Write>⟧ self.old buf.now result self.new }
 
         ensures buffer { BuffersAll W.Write S writer_inner writer_buffer self.old buf.now result self.new }
     {

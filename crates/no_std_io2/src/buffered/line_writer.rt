@@ -7,7 +7,7 @@ ghost use Rattle.no_std_io2.specs.LineWriter.{line_inner, line_buffer, line_told
 ghost use Rattle.no_std_io2.specs.LineWriter.{LineWriteCalls, LineWriteAllCalls, line_buffer_after, line_buffer_filled};
 ghost use Rattle.no_std_io2.specs.LineWriter.{IsShortText, KeepsTaking};
 ghost use Rattle.no_std_io2.specs.BufWriter.{Takes, Unwraps, Flushes, into_inner_error_writer};
-ghost use Rattle.no_std_io2_base.specs.Write.{WriteLaw, FlushLaw, WriteAllLaw};
+ghost use Rattle.no_std_io2_base.specs.Writers.{FlushOf, WriteAllOf, WriteOf};
 
 mod state;
 mod steps;
@@ -151,8 +151,7 @@ impl<W: Write + Drop, const S: usize> Write for LineWriter<W, S> {
     /// The inner writer's own, or `WriteZero` where it took no byte of some that were held. Nothing
     /// of `buf` was accepted then, and what was not sent is still held.
     fn write(&mut self, buf: &[u8]) -> Result<usize>
-        ensures law { let B = ⟦<Self as Write>⟧ in
-            WriteLaw B.told B.takes_all B.cost B.is_metered B.may self.old buf.now result self.new }
+        ensures law { WriteOf ⟦<Self as Write>⟧ self.old buf.now result self.new }
         ensures calls { Takes W.Write line_inner line_buffer (LineWriteCalls S buf.now) self.old result self.new }
 
         // A short text without a newline is taken whole or not at all, and held where it fits.
@@ -180,8 +179,7 @@ impl<W: Write + Drop, const S: usize> Write for LineWriter<W, S> {
     /// The inner writer's own, or `WriteZero` where it took no byte of some that were held. What was
     /// not sent is still held, and a later flush goes on there.
     fn flush(&mut self) -> Result<()>
-        ensures law { let B = ⟦<Self as Write>⟧ in
-            FlushLaw B.told B.takes_all B.cost B.is_metered B.may self.old result self.new }
+        ensures law { FlushOf ⟦<Self as Write>⟧ self.old result self.new }
         ensures buffer { Flushes W.Write line_inner line_buffer self.old result self.new }
     {
         self.core.buffered.flush()
@@ -197,8 +195,7 @@ impl<W: Write + Drop, const S: usize> Write for LineWriter<W, S> {
     /// `Interrupted`. Some front of `buf`, possibly empty or whole, was accepted then: it is out or
     /// held.
     fn write_all(&mut self, buf: &[u8]) -> Result<()>
-        ensures law { let B = ⟦<Self as Write>⟧ in
-            WriteAllLaw B.told B.takes_all B.cost B.is_metered B.may self.old buf.now result self.new }
+        ensures law { WriteAllOf ⟦<Self as Write>⟧ self.old buf.now result self.new }
         ensures calls { Takes W.Write line_inner line_buffer (LineWriteAllCalls S buf.now) self.old result self.new }
 
         // After `Ok` only the unfinished line is held.

@@ -2,7 +2,7 @@ ghost use Rattle.std.specs.Prelude.{◌≡◌, ℕ, ◌+◌, ◌-◌, ◌≤◌,
 ghost use Rattle.std.specs.Prelude.{length, if◌then◌else◌};
 ghost use Rattle.no_std_io2_base.specs.Cursor.{cursor_place, cursor_inner, cursor_out, PutsFitting};
 ghost use Rattle.no_std_io2_base.specs.Errors.{IsNoInterruption, IsUnwritten};
-ghost use Rattle.no_std_io2_base.specs.Write.{WriteLaw, FlushLaw, WriteAllLaw};
+ghost use Rattle.no_std_io2_base.specs.Writers.{FlushOf, WriteAllOf, WriteOf};
 ghost use Rattle.no_std_io2_base.specs.Write.{Moves, MovesFront, taken, write_mishap, call_mishap, told_out};
 
 use super::Cursor;
@@ -32,8 +32,7 @@ impl Write for Cursor<&mut [u8]> {
     ghost told = { λ c. told_out (cursor_out (λ s. s.now) c) };
 
     fn write(&mut self, buf: &[u8]) -> Result<usize>
-        ensures law { let W = ⟦<Self as Write>⟧ in
-            WriteLaw W.told W.takes_all W.cost W.is_metered W.may self.old buf.now result self.new }
+        ensures law { WriteOf ⟦<Self as Write>⟧ self.old buf.now result self.new }
 
         // What fits, at the position.
         ensures answer { IsOkAnd result (λ n. n
@@ -46,8 +45,7 @@ impl Write for Cursor<&mut [u8]> {
     }
 
     fn flush(&mut self) -> Result<()>
-        ensures law { let W = ⟦<Self as Write>⟧ in
-            FlushLaw W.told W.takes_all W.cost W.is_metered W.may self.old result self.new }
+        ensures law { FlushOf ⟦<Self as Write>⟧ self.old result self.new }
 
         // It does nothing.
         ensures ok { IsOk result }
@@ -57,8 +55,7 @@ impl Write for Cursor<&mut [u8]> {
     }
 
     fn write_all(&mut self, buf: &[u8]) -> Result<()>
-        ensures law { let W = ⟦<Self as Write>⟧ in
-            WriteAllLaw W.told W.takes_all W.cost W.is_metered W.may self.old buf.now result self.new }
+        ensures law { WriteAllOf ⟦<Self as Write>⟧ self.old buf.now result self.new }
 
         // What fits, at the position, and an error exactly where that is not all.
         ensures variant { IsOk result ↔ (length buf.now ≤ length (cursor_inner self.old).now - cursor_place self.old) }
@@ -84,8 +81,7 @@ impl<const N: usize> Write for Cursor<[u8; N]> {
     ghost told = { λ c. told_out (cursor_out (λ a. a) c) };
 
     fn write(&mut self, buf: &[u8]) -> Result<usize>
-        ensures law { let W = ⟦<Self as Write>⟧ in
-            WriteLaw W.told W.takes_all W.cost W.is_metered W.may self.old buf.now result self.new }
+        ensures law { WriteOf ⟦<Self as Write>⟧ self.old buf.now result self.new }
 
         // What fits, at the position.
         ensures answer { IsOkAnd result (λ n. n ≡ min (length buf.now) (length (cursor_inner self.old) - cursor_place self.old)) }
@@ -96,8 +92,7 @@ impl<const N: usize> Write for Cursor<[u8; N]> {
     }
 
     fn flush(&mut self) -> Result<()>
-        ensures law { let W = ⟦<Self as Write>⟧ in
-            FlushLaw W.told W.takes_all W.cost W.is_metered W.may self.old result self.new }
+        ensures law { FlushOf ⟦<Self as Write>⟧ self.old result self.new }
 
         // It does nothing.
         ensures ok { IsOk result }

@@ -2,7 +2,7 @@ ghost use Rattle.std.specs.Prelude.{◌≡◌, ℕ, ◌+◌, ◌-◌, nat_lt, �
 ghost use Rattle.std.specs.Prelude.{length, replicate, vec_len, vec_capacity, is_ok, if◌then◌else◌};
 ghost use Rattle.no_std_io2_base.specs.Cursor.{cursor_place, cursor_inner, cursor_out, put_at, IsPut, PutsWhole, PutsAll};
 ghost use Rattle.no_std_io2_base.specs.Errors.{IsNoInterruption};
-ghost use Rattle.no_std_io2_base.specs.Write.{WriteLaw, FlushLaw, WriteAllLaw};
+ghost use Rattle.no_std_io2_base.specs.Writers.{FlushOf, WriteAllOf, WriteOf};
 ghost use Rattle.no_std_io2_base.specs.Write.{Moves, MovesFront, taken, write_mishap, call_mishap, told_out};
 
 use super::Cursor;
@@ -83,8 +83,7 @@ impl<A: Allocator> Write for Cursor<Vec<u8, A>> {
 
     #[inline(always)]
     fn write(&mut self, buf: &[u8]) -> Result<usize>
-        ensures law { let W = ⟦<Self as Write>⟧ in
-            WriteLaw W.told W.takes_all W.cost W.is_metered W.may self.old buf.now result self.new }
+        ensures law { WriteOf ⟦<Self as Write>⟧ self.old buf.now result self.new }
 
         // All of the buffer, at the position, or nothing, and that only where it lacks the room.
         ensures puts { PutsWhole (cursor_inner self.old).items (cursor_place self.old) buf.now result
@@ -96,8 +95,7 @@ impl<A: Allocator> Write for Cursor<Vec<u8, A>> {
     }
 
     fn flush(&mut self) -> Result<()>
-        ensures law { let W = ⟦<Self as Write>⟧ in
-            FlushLaw W.told W.takes_all W.cost W.is_metered W.may self.old result self.new }
+        ensures law { FlushOf ⟦<Self as Write>⟧ self.old result self.new }
 
         // It does nothing.
         ensures ok { IsOk result }
@@ -108,8 +106,7 @@ impl<A: Allocator> Write for Cursor<Vec<u8, A>> {
 
     #[inline(always)]
     fn write_all(&mut self, buf: &[u8]) -> Result<()>
-        ensures law { let W = ⟦<Self as Write>⟧ in
-            WriteAllLaw W.told W.takes_all W.cost W.is_metered W.may self.old buf.now result self.new }
+        ensures law { WriteAllOf ⟦<Self as Write>⟧ self.old buf.now result self.new }
 
         // All of the buffer, at the position, or nothing, and that only where it lacks the room.
         ensures puts { PutsAll (cursor_inner self.old).items (cursor_place self.old) buf.now result
@@ -134,8 +131,7 @@ impl<A: Allocator> Write for Cursor<&mut Vec<u8, A>> {
 
     #[inline(always)]
     fn write(&mut self, buf: &[u8]) -> Result<usize>
-        ensures law { let W = ⟦<Self as Write>⟧ in
-            WriteLaw W.told W.takes_all W.cost W.is_metered W.may self.old buf.now result self.new }
+        ensures law { WriteOf ⟦<Self as Write>⟧ self.old buf.now result self.new }
 
         // All of the buffer, at the position, or nothing, and that only where it lacks the room.
         ensures puts { PutsWhole (cursor_inner self.old).now.items (cursor_place self.old) buf.now result
@@ -148,8 +144,7 @@ impl<A: Allocator> Write for Cursor<&mut Vec<u8, A>> {
     }
 
     fn flush(&mut self) -> Result<()>
-        ensures law { let W = ⟦<Self as Write>⟧ in
-            FlushLaw W.told W.takes_all W.cost W.is_metered W.may self.old result self.new }
+        ensures law { FlushOf ⟦<Self as Write>⟧ self.old result self.new }
 
         // It does nothing.
         ensures ok { IsOk result }
@@ -160,8 +155,7 @@ impl<A: Allocator> Write for Cursor<&mut Vec<u8, A>> {
 
     #[inline(always)]
     fn write_all(&mut self, buf: &[u8]) -> Result<()>
-        ensures law { let W = ⟦<Self as Write>⟧ in
-            WriteAllLaw W.told W.takes_all W.cost W.is_metered W.may self.old buf.now result self.new }
+        ensures law { WriteAllOf ⟦<Self as Write>⟧ self.old buf.now result self.new }
 
         // All of the buffer, at the position, or nothing, and that only where it lacks the room.
         ensures puts { PutsAll (cursor_inner self.old).now.items (cursor_place self.old) buf.now result

@@ -1,7 +1,7 @@
 ghost use Rattle.std.specs.Prelude.{◌≡◌, ℕ, ◌+◌, ◌++◌, ◌≤◌, ◌<◌, nat_lt, if◌then◌else◌, [], Ok, IsOk, OnOk, OnErr, IfOk};
 ghost use Rattle.std.specs.Prelude.{IfErr, length, vec_len, vec_capacity};
 ghost use Rattle.no_std_io2_base.specs.Errors.{IsNoInterruption, IsOutOfMemory};
-ghost use Rattle.no_std_io2_base.specs.Write.{WriteLaw, FlushLaw, WriteAllLaw};
+ghost use Rattle.no_std_io2_base.specs.Writers.{FlushOf, WriteAllOf, WriteOf};
 ghost use Rattle.no_std_io2_base.specs.Write.{Moves, MovesFront, taken, write_mishap, call_mishap, told_out};
 
 use super::copying::copy_bytes;
@@ -63,8 +63,7 @@ impl<A: Allocator> Write for Vec<u8, A> {
 
     #[inline]
     fn write(&mut self, buf: &[u8]) -> Result<usize>
-        ensures law { let W = ⟦<Self as Write>⟧ in
-            WriteLaw W.told W.takes_all W.cost W.is_metered W.may self.old buf.now result self.new }
+        ensures law { WriteOf ⟦<Self as Write>⟧ self.old buf.now result self.new }
 
         // All of the buffer or nothing, and memory alone refuses, where the room was missing.
         ensures whole { IfOk result (λ n. n ≡ length buf.now) }
@@ -79,8 +78,7 @@ impl<A: Allocator> Write for Vec<u8, A> {
 
     #[inline]
     fn write_all(&mut self, buf: &[u8]) -> Result<()>
-        ensures law { let W = ⟦<Self as Write>⟧ in
-            WriteAllLaw W.told W.takes_all W.cost W.is_metered W.may self.old buf.now result self.new }
+        ensures law { WriteAllOf ⟦<Self as Write>⟧ self.old buf.now result self.new }
 
         // All of the buffer or nothing, and memory alone refuses, where the room was missing.
         ensures err { IfErr result IsOutOfMemory }
@@ -92,8 +90,7 @@ impl<A: Allocator> Write for Vec<u8, A> {
     }
 
     fn flush(&mut self) -> Result<()>
-        ensures law { let W = ⟦<Self as Write>⟧ in
-            FlushLaw W.told W.takes_all W.cost W.is_metered W.may self.old result self.new }
+        ensures law { FlushOf ⟦<Self as Write>⟧ self.old result self.new }
 
         // It does nothing.
         ensures ok { IsOk result }
