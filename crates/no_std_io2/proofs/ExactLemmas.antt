@@ -37,21 +37,14 @@ bytes_end : (Q : List Event) (e : Error) → bytes (Q ++ fails e ∷ []) ≡ byt
 bytes_end Q e = bytes-append Q (fails e ∷ []) ∙ append-nil (bytes Q)
 
 -- it does not fail where bytes enough stand first
-pub ReadsExact-enough : {t : Type 0} {E after : List Event} (r : Result (Unit {0}) Error) {buf : List ℕ} (bs : List ℕ) (rest : List Event)
-    → E ≡ events_of bs ++ rest → length buf ≤ length bs → ReadsExact t E r buf after → IsOk r
-ReadsExact-enough (Ok u) bs rest is fits f = refl
-ReadsExact-enough {after = after} (Err e) bs rest is fits (inl s) =
+pub ReadsExact-enough : (t : Type 0) {E : List Event} (after : List Event) (r : Result (Unit {0}) Error) (buf bs : List ℕ)
+    (rest : List Event) → E ≡ events_of bs ++ rest → length buf ≤ length bs → ReadsExact t E r buf after → IsOk r
+ReadsExact-enough t after (Ok u) buf bs rest is fits f = refl
+ReadsExact-enough t after (Err e) buf bs rest is fits (inl s) =
     let Q = s.ends.0 in
     let whole = sym is ∙ s.split ∙ ap (λ l. l ++ after) s.ends.1 ∙ append_assoc Q (fails e ∷ []) after in
     let far : length bs ≤ length (bytes Q) = stands_behind bs Q after rest e whole in
     absurd (omega (arith, far, fits, s.short, ap (λ l. length (bytes l)) s.ends.1, ap length (bytes_end Q e)))
-ReadsExact-enough (Err e) bs rest is fits (inr s) =
-    absurd (omega (
-      arith,
-      fits,
-      s.short,
-      ap (λ l. length (bytes l)) is,
-      ap length (bytes-append (events_of bs) rest),
-      length-append (bytes (events_of bs)) (bytes rest),
-      ap length (bytes-events_of bs),
-    ))
+ReadsExact-enough t after (Err e) buf bs rest is fits (inr s) =
+    absurd (omega (arith, fits, s.short, ap (λ l. length (bytes l)) is, ap length (bytes-append (events_of bs) rest),
+    length-append (bytes (events_of bs)) (bytes rest), ap length (bytes-events_of bs)))
