@@ -65,7 +65,7 @@ impl<R: Read, const S: usize> BufRead for BufReader<R, S> {
         })) }
     {
         if self.buffer.len() == 0 {
-            self.refill()?;
+            self.read_ahead()?;
         }
         Ok(self.buffer())
     }

@@ -37,30 +37,11 @@ impl<R: Read, const S: usize> BufReader<R, S> {
 
     // Reads once into the buffer, in which nothing is held.
     #[inline(always)]
-    fn read_ahead(&mut self) -> Result<()>
+    pub(super) fn read_ahead(&mut self) -> Result<()>
         requires { length (reader_held self.old) ≡ 0 }
         ensures { FillsBuffer R.Read self.old result self.new }
     {
         self.buffer.fill(&mut self.inner)
-    }
-
-    // The same for who lends, apart from the loop over the pieces that are lent.
-    #[cold]
-    #[inline(never)]
-    fn read_cold(&mut self) -> Result<()>
-        requires { length (reader_held self.old) ≡ 0 }
-        ensures { FillsBuffer R.Read self.old result self.new }
-    {
-        self.read_ahead()
-    }
-
-    // The call of `read_cold`. The room for its answer is made on this way alone.
-    #[inline(always)]
-    pub(super) fn refill(&mut self) -> Result<()>
-        requires { length (reader_held self.old) ≡ 0 }
-        ensures { FillsBuffer R.Read self.old result self.new }
-    {
-        self.read_cold()
     }
 
     // Goes on with an exact read that wants more than is held, as the trait's body does.
