@@ -1,6 +1,7 @@
 // Makes one call of a program fail: LD_PRELOAD of this, and in the environment
 //   MISBEHAVE=memory, read or write   of what kind the call is: an allocation, a read of standard input, a write to standard output
 //   MISBEHAVE=large                   each allocation of more than MISBEHAVE_AT bytes fails
+//   MISBEHAVE=sizes                   none fails: the sizes that are asked for are written to MISBEHAVE_TOLD, a line up to each write
 //   MISBEHAVE_AT=N                    which of them
 //   MISBEHAVE_TIMES=N                 how many in a row, one where it is not set
 //   MISBEHAVE_BY=short or a number    a read or write then moves one byte; or it fails with this number of errno
@@ -12,6 +13,7 @@
 #include <fcntl.h>
 #include <stdlib.h>
 #include <string.h>
+#include <sys/syscall.h>
 #include <sys/uio.h>
 #include <unistd.h>
 
@@ -20,6 +22,7 @@ void *__libc_realloc(void *pointer, size_t size);
 
 static const char *kind = "", *path;
 static long left, times; // how many calls there are up to the one that fails, and how many fail from there on
+static int noted = -1; // the file that sizes are written to
 static int takes_nothing, number; // the number of errno, or 0 for a call that moves one byte
 
 __attribute__((constructor)) static void begin(void)
@@ -31,6 +34,8 @@ __attribute__((constructor)) static void begin(void)
     takes_nothing = by && strcmp(by, "nothing") == 0;
     left = at ? atol(at) : 0;
     times = getenv("MISBEHAVE_TIMES") ? atol(getenv("MISBEHAVE_TIMES")) : 1;
+    if (path && strcmp(kind, "sizes") == 0)
+        noted = open(path, O_WRONLY | O_CREAT | O_TRUNC, 0644);
 }
 
 static int has_come(const char *of)
@@ -48,9 +53,22 @@ static int has_come(const char *of)
     return 1;
 }
 
+// Notes a size, or the end of a line where there is none. It asks for no memory.
+static void note(size_t size, char end)
+{
+    char digits[24];
+    size_t at = sizeof digits - 1;
+    digits[at] = end;
+    for (; size > 0; size /= 10)
+        digits[--at] = '0' + size % 10;
+    if (noted >= 0 && syscall(SYS_write, noted, digits + at, sizeof digits - at) < 0)
+        abort();
+}
+
 // Whether an allocation of this size is refused.
 static int is_refused(size_t size)
 {
+    note(size, ' ');
     return strcmp(kind, "large") == 0 ? size > (size_t)left : has_come("memory");
 }
 
@@ -69,6 +87,7 @@ void *realloc(void *pointer, size_t size)
     ssize_t name(int file, bytes buffer, size_t size) \
     { \
         ssize_t (*next)(int, bytes, size_t) = (ssize_t (*)(int, bytes, size_t))dlsym(RTLD_NEXT, #name); \
+        if (file == 1) note(0, '\n'); \
         if (file != on || size == 0 || !has_come(#name)) return next(file, buffer, size); \
         if (takes_nothing) return 0; \
         if (number == 0) return next(file, buffer, 1); \

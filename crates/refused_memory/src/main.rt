@@ -1,131 +1,86 @@
-//! Reads a text by `read_line`, `split` and `lines` through a small buffer, and sends and reads frames and lines of a log,
-//! for runs in each of which one allocation fails (`scripts/check_memory`).
+//! Plays rows of calls that ask for memory, for runs in each of which one asking is refused, and one that notes how much each asks
+//! for (`scripts/check_memory`).
 //!
-//! The status is 0 where all was read, and 1 where memory was refused and nothing else went wrong. An answer in
-//! place of the refusal is printed, and the status is 0, so that the run differs from one with memory by its output.
+//! A row of standard input is a call with one or two numbers, and behind a bar the sizes that it asks for, which the script compares.
+//! Printed is the call and how it ended: `whole`; `refused`, where memory was and nothing else went wrong (then the call was
+//! made once more, where it goes on); or what was answered in place of that. A line is one write, so that it is known which row asked.
 #![tactic(auto)]
 
-mod clients;
+mod frames;
+mod large;
+mod lines;
+mod members;
+mod outcome;
+mod small;
+mod texts;
+mod torn;
 
-use clients::{by_frames, by_given_frames, by_joined, by_log};
-use no_std_io2::io::{BufRead, BufReader, Cursor, Error, ErrorKind, Read};
+use no_std_io2::io::{BufWriter, Cursor, Result, Write, copy};
+use outcome::Outcome;
 use std::alloc::Global;
+use std::io;
 use std::process::ExitCode;
+use system_streams::Patient;
 
-const TEXT: &str = "a line that grows\r\nend";
-
-// The same as `split` and `lines` give it.
-const PIECES: [&str; 2] = ["a line that grows\r", "end"];
-
-const LINES: [&str; 2] = ["a line that grows", "end"];
-
-type Reader = BufReader<Cursor<&'static [u8]>, 4>;
-
-// How a reading ended.
-#[derive(Clone, Copy, PartialEq, Eq)]
-enum Outcome {
-    Whole,
-    Refused,
-    // What was answered in place of the refusal.
-    Wrong(&'static str),
-}
-
-fn reader() -> Reader {
-    BufReader::new(Cursor::new(TEXT.as_bytes()))
-}
-
-// What an error says about a reading.
-fn outcome_of(error: &Error) -> Outcome {
-    if error.kind() == ErrorKind::OutOfMemory && error.get_ref().is_none() {
-        Outcome::Refused
-    } else {
-        Outcome::Wrong("an error of another kind")
+fn play_long(alloc: Global, text: &[u8], word: &str, first: usize, second: usize) -> Outcome {
+    match word {
+        "send" => frames::by_send(alloc, text, first, second),
+        "next" => frames::by_next(alloc, text, first, second),
+        "torn" => frames::by_torn(alloc, text, first),
+        "log" => lines::by_log(alloc, text, first, second),
+        "name" => members::by_name(alloc, text, first),
+        "gap" => large::by_gap(alloc, first),
+        "read_to_end" => large::by_known(alloc, text, first),
+        "read_to_end_unknown" => large::by_unknown(alloc, text, first),
+        "read_line" => large::by_read_line(alloc, text, first),
+        "split" => large::by_split(alloc, text, first),
+        "lines" => large::by_lines(alloc, text, first),
+        _ => Outcome::Wrong("no such call"),
     }
 }
 
-// After a refusal the text is as it was, and the rest of the reader is an end of the whole text.
-fn after_refusal<R: Read>(alloc: Global, r: &mut R, text: &str, len: usize) -> Outcome {
-    if text.len() != len || !TEXT.starts_with(text) {
-        return Outcome::Wrong("a text that a refusal has changed");
-    }
-    let mut rest = Vec::new(alloc);
-    match r.read_to_end(&mut rest) {
-        Ok(_) if TEXT.as_bytes().ends_with(&rest) => Outcome::Refused,
-        Ok(_) => Outcome::Wrong("another rest"),
-        Err(e) => outcome_of(&e),
-    }
-}
-
-fn by_read_line<R: BufRead>(alloc: Global, r: &mut R) -> Outcome {
-    let mut text = String::new(alloc);
-    'lines: for _ in 0..LINES.len() {
-        let len = text.len();
-        if let Err(e) = r.read_line(alloc, &mut text) {
-            return match outcome_of(&e) {
-                Outcome::Refused => after_refusal(alloc, r, text.as_str(), len),
-                wrong => wrong,
-            };
+fn play(alloc: Global, text: &[u8], call: &str) -> Outcome {
+    match call {
+        "above" => frames::by_above(alloc),
+        "short read_line" => small::by_read_lines(alloc),
+        "short split" => small::by_split(alloc),
+        "short lines" => small::by_lines(alloc),
+        "joined" => small::by_joined(alloc),
+        _ => {
+            let (word, numbers) = call.split_once(" ").unwrap_or((call, ""));
+            let (first, second) = numbers.split_once(" ").unwrap_or((numbers, "0"));
+            match (first.parse::<usize>(), second.parse::<usize>()) {
+                (Ok(first), Ok(second)) => play_long(alloc, text, word, first, second),
+                _ => Outcome::Wrong("no numbers"),
+            }
         }
     }
-    if text.as_str() == TEXT {
-        Outcome::Whole
-    } else {
-        Outcome::Wrong("another text")
-    }
 }
 
-fn by_split(alloc: Global) -> Outcome {
-    let mut pieces = reader().split(alloc, b'\n');
-    'pieces: for want in PIECES {
-        match pieces.next() {
-            Some(Ok(piece)) if piece.as_slice() == want.as_bytes() => {}
-            Some(Err(e)) if pieces.next().is_none() => return outcome_of(&e),
-            _ => return Outcome::Wrong("another piece"),
-        }
+fn play_rows(rt: &HostRuntime, text: &[u8], script: &str) -> Result<()> {
+    let mut out = BufWriter::<_, 256>::new(Patient::new(io::writer(rt), u64::MAX));
+    'rows: for row in script.lines() {
+        let (call, _sizes) = row.split_once(" | ").unwrap_or((row, ""));
+        let outcome = play(rt.alloc(), text, call);
+        out.write_all(call.as_bytes())?;
+        out.write_all(b": ")?;
+        out.write_all(outcome.text().as_bytes())?;
+        out.write_all(b"\n")?;
+        out.flush()?;
     }
-    match pieces.next() {
-        None => Outcome::Whole,
-        Some(_) => Outcome::Wrong("a piece behind the last"),
-    }
-}
-
-fn by_lines(alloc: Global) -> Outcome {
-    let mut lines = reader().lines(alloc);
-    'lines: for want in LINES {
-        match lines.next() {
-            Some(Ok(line)) if line.as_str() == want => {}
-            Some(Err(e)) if lines.next().is_none() => return outcome_of(&e),
-            _ => return Outcome::Wrong("another line"),
-        }
-    }
-    match lines.next() {
-        None => Outcome::Whole,
-        Some(_) => Outcome::Wrong("a line behind the last"),
-    }
+    Ok(())
 }
 
 fn main(rt: HostRuntime) -> ExitCode {
-    let alloc = rt.alloc();
-    let outcomes = [
-        by_read_line(alloc, &mut reader()),
-        by_read_line(alloc, &mut reader().take(99)),
-        by_read_line(alloc, &mut Cursor::new(TEXT.as_bytes())),
-        by_split(alloc),
-        by_lines(alloc),
-        by_frames(alloc),
-        by_given_frames(alloc),
-        by_log(alloc),
-        by_joined(alloc),
-    ];
-    'outcomes: for outcome in outcomes {
-        if let Outcome::Wrong(what) = outcome {
-            let _ = println!(rt; "{what}");
-            return ExitCode::SUCCESS;
-        }
-    }
-    if outcomes.contains(&Outcome::Refused) {
+    let mut room = [0u8; 4096];
+    let mut input = Patient::new(rt.reader(), u64::MAX);
+    let Ok(len) = copy::<_, _, 512>(&mut input, &mut Cursor::new(&mut room[..])) else {
         return ExitCode::FAILURE;
+    };
+    let text = [b'a'; 300_000];
+    let rows = &room[..(len as usize).min(room.len())];
+    match std::str::from_utf8(rows) {
+        Ok(script) if play_rows(&rt, &text, script).is_ok() => ExitCode::SUCCESS,
+        _ => ExitCode::FAILURE,
     }
-    let _ = println!(rt; "all was read");
-    ExitCode::SUCCESS
 }

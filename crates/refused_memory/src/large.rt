@@ -1,0 +1,60 @@
+// Long pieces and wide gaps.
+use crate::outcome::Outcome;
+use crate::texts::front;
+use crate::torn::Torn;
+use no_std_io2::io::{BufRead, BufReader, Cursor, Read, Write};
+use std::alloc::Global;
+
+/// `read_to_end` of so many bytes of a slice, which knows how many are to come.
+pub fn by_known(alloc: Global, text: &[u8], len: usize) -> Outcome {
+    let mut all = Vec::new(alloc);
+    let mut r = front(text, len);
+    Outcome::of(&r.read_to_end(&mut all)).if_full(all.len(), len)
+}
+
+/// The same of a reader that knows nothing, which has the trait's own body.
+pub fn by_unknown(alloc: Global, text: &[u8], len: usize) -> Outcome {
+    let mut all = Vec::new(alloc);
+    Outcome::of(&Torn::new(b"", front(text, len)).read_to_end(&mut all)).if_full(all.len(), len)
+}
+
+/// `read_line` of so many bytes through a buffer.
+pub fn by_read_line(alloc: Global, text: &[u8], len: usize) -> Outcome {
+    let mut line = String::new(alloc);
+    let mut r = BufReader::<&[u8], 4096>::new(front(text, len));
+    Outcome::of(&r.read_line(alloc, &mut line)).if_full(line.len(), len)
+}
+
+/// A piece of `split` of so many bytes.
+pub fn by_split(alloc: Global, text: &[u8], len: usize) -> Outcome {
+    let mut pieces = BufReader::<&[u8], 4096>::new(front(text, len)).split(alloc, b'\n');
+    match pieces.next() {
+        Some(Ok(piece)) => Outcome::Whole.if_right(piece.len() == len),
+        Some(Err(e)) => Outcome::of_error(&e),
+        None => Outcome::Wrong("no piece"),
+    }
+}
+
+/// A line of `lines` of so many bytes.
+pub fn by_lines(alloc: Global, text: &[u8], len: usize) -> Outcome {
+    let mut lines = BufReader::<&[u8], 4096>::new(front(text, len)).lines(alloc);
+    match lines.next() {
+        Some(Ok(line)) => Outcome::Whole.if_right(line.len() == len),
+        Some(Err(e)) => Outcome::of_error(&e),
+        None => Outcome::Wrong("no line"),
+    }
+}
+
+/// A byte behind a gap of so many.
+pub fn by_gap(alloc: Global, len: usize) -> Outcome {
+    let mut to = Cursor::new(Vec::new(alloc));
+    to.set_position(len as u64);
+    let first = Outcome::of(&to.write_all(b"x"));
+    if first != Outcome::Refused {
+        return first.if_full(to.get_ref().len(), len.saturating_add(1));
+    }
+    let is_same = to.get_ref().is_empty() && to.position() == len as u64;
+    first
+        .if_right(is_same)
+        .and(Outcome::of(&to.write_all(b"x")))
+}

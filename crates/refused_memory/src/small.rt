@@ -1,0 +1,88 @@
+// Readings of a short text, and what a run accepted: each is made of many small askings.
+use crate::outcome::Outcome;
+use io_bench::{Op, Reply, joined};
+use no_std_io2::io::{BufRead, BufReader, Cursor, Read};
+use std::alloc::Global;
+
+const TEXT: &str = "a line that grows\r\nend";
+
+// The same as `split` and `lines` give it.
+const PIECES: [&str; 2] = ["a line that grows\r", "end"];
+
+const LINES: [&str; 2] = ["a line that grows", "end"];
+
+type Reader = BufReader<Cursor<&'static [u8]>, 4>;
+
+fn reader() -> Reader {
+    BufReader::new(Cursor::new(TEXT.as_bytes()))
+}
+
+// After a refusal the text is as it was, and the rest of the reader is an end of the whole text.
+fn after_refusal<R: Read>(alloc: Global, r: &mut R, text: &str, len: usize) -> Outcome {
+    if text.len() != len || !TEXT.starts_with(text) {
+        return Outcome::Wrong("a text that a refusal has changed");
+    }
+    let mut rest = Vec::new(alloc);
+    match r.read_to_end(&mut rest) {
+        Ok(_) => Outcome::Refused.if_right(TEXT.as_bytes().ends_with(&rest)),
+        Err(e) => Outcome::of_error(&e),
+    }
+}
+
+fn by_read_line<R: BufRead>(alloc: Global, r: &mut R) -> Outcome {
+    let mut text = String::new(alloc);
+    'lines: for _ in 0..LINES.len() {
+        let len = text.len();
+        if let Err(e) = r.read_line(alloc, &mut text) {
+            return match Outcome::of_error(&e) {
+                Outcome::Refused => after_refusal(alloc, r, text.as_str(), len),
+                wrong => wrong,
+            };
+        }
+    }
+    Outcome::Whole.if_right(text.as_str() == TEXT)
+}
+
+/// `read_line` of a buffer, of a buffer up to a limit and of a cursor.
+pub fn by_read_lines(alloc: Global) -> Outcome {
+    by_read_line(alloc, &mut reader())
+        .and(by_read_line(alloc, &mut reader().take(99)))
+        .and(by_read_line(alloc, &mut Cursor::new(TEXT.as_bytes())))
+}
+
+/// The pieces between newlines.
+pub fn by_split(alloc: Global) -> Outcome {
+    let mut pieces = reader().split(alloc, b'\n');
+    'pieces: for want in PIECES {
+        match pieces.next() {
+            Some(Ok(piece)) if piece.as_slice() == want.as_bytes() => {}
+            Some(Err(e)) if pieces.next().is_none() => return Outcome::of_error(&e),
+            _ => return Outcome::Wrong("another piece"),
+        }
+    }
+    Outcome::Whole.if_right(pieces.next().is_none())
+}
+
+/// The lines.
+pub fn by_lines(alloc: Global) -> Outcome {
+    let mut lines = reader().lines(alloc);
+    'lines: for want in LINES {
+        match lines.next() {
+            Some(Ok(line)) if line.as_str() == want => {}
+            Some(Err(e)) if lines.next().is_none() => return Outcome::of_error(&e),
+            _ => return Outcome::Wrong("another line"),
+        }
+    }
+    Outcome::Whole.if_right(lines.next().is_none())
+}
+
+/// The bytes that a run accepted.
+pub fn by_joined(alloc: Global) -> Outcome {
+    let ops = [Op::Write(b"abc"), Op::WriteAll(b"de"), Op::Flush];
+    let replies = [Reply::Took(2), Reply::Done, Reply::Done];
+    match joined(alloc, &ops, &replies) {
+        Ok(Some(bytes)) => Outcome::Whole.if_right(bytes.as_slice() == b"abde".as_slice()),
+        Ok(None) => Outcome::Wrong("no bytes of a run"),
+        Err(e) => Outcome::of_error(&e),
+    }
+}
