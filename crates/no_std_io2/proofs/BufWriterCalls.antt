@@ -20,7 +20,8 @@ use Rattle.no_std_io2.specs.BufWriter.{PastEmpty, OneWrite, OneWriteAll, OneFlus
 use Rattle.no_std_io2.specs.BufWriter.{way_calls, writing_calls, buffer_after, Buffers, BuffersAll, Flushes}
 use Rattle.no_std_io2.proofs.BufWriterLemmas.{Moves-kept, Moves-sent_part, Moves-emptied, MovesFront-emptied, none_of_length}
 use Rattle.no_std_io2.proofs.AnswerLemmas.{onok, onok_map}
-use Rattle.no_std_io2.proofs.StepLemmas.{no_ok, Stepped, Leaves, Tells, Sending, Counts, Counted, then_goes_on, then_leaves, then_tells, then_counts}
+use Rattle.no_std_io2.proofs.StepLemmas.{no_ok, Stepped, Leaves, Tells, Sending, Counts, Counted, then_goes_on, then_leaves, then_tells}
+use Rattle.no_std_io2.proofs.StepLemmas.{then_counts}
 
 -- to make way takes no inner call where n more bytes fit beside what is held,
 way_calls-none : (S n : ℕ) (held : List ℕ) → length held + n ≤ S → way_calls S held n ≡ 0
@@ -203,7 +204,8 @@ module _ {W : Type 0} (I : Writer W) where
       Moves-sent_part sends.sent _ _ sends.split sends.moves
 
   -- a sending, or no call
-  pub kept_tells : (held left : List ℕ) (C : List WriteCall) (reply : Result (Unit {0}) Error) (a b : W) → C ≡ [] → reply ≡ Ok tt → left ≡ held
+  pub kept_tells : (held left : List ℕ) (C : List WriteCall) (reply : Result (Unit {0}) Error) (a b : W) → C ≡ [] → reply ≡ Ok tt
+      → left ≡ held
       → Made (CallOf I) a C b → Sending I (with_buffer (I.told a) held) reply (with_buffer (I.told b) left)
   kept_tells held left C reply a b is ok same made =
       subst (λ r. Moves (with_buffer (I.told a) held) [] (call_mishap r) (with_buffer (I.told b) left)) (sym ok)
@@ -225,8 +227,15 @@ module _ {W : Type 0} (I : Writer W) where
   pub idle_counts : {A : Type 0} {C : List WriteCall} {reply : Result A Error} (v : A) (a b : W) (n : ℕ) → C ≡ [] → reply ≡ Ok v
       → n ≡ 0 → Made (CallOf I) a C b → I.takes_all a → Counted I reply a n b
   idle_counts v a b n is ok zero made takes =
-      let same = subst (λ K. Made (CallOf I) a K b) is made in
-      (subst I.takes_all (sym same) takes, subst IsOk (sym ok) refl, λ m. (subst I.is_metered (sym same) m, omega (arith, ap I.cost same, zero)))
+      let same = subst (λ K. Made (CallOf I) a K b) is made in (
+        subst I.takes_all (sym same) takes,
+        subst IsOk (sym ok) refl,
+        λ m. (
+          subst I.is_metered (sym same) m,
+          omega
+              (arith, ap I.cost same, zero),
+        ),
+      )
 
   way_counts : (S n : ℕ) → Counts I (WayCalls S n) (λ held. way_calls S held n)
   way_counts S n = λ held C reply left way a b made takes. elim way [

@@ -73,10 +73,6 @@ IsEnd-none whole end e = (whole, sym (append-nil whole) ∙ ap (λ l. whole ++ l
 pub IsEnd-held : (old mid new x : List ℕ) → IsEnd old mid → new ≡ mid ++ x → IsEnd (old ++ x) new
 IsEnd-held old mid new x f e = (f.0, ap (λ l. l ++ x) f.1 ∙ append_assoc f.0 mid x ∙ ap (λ l. f.0 ++ l) (sym e))
 
--- what follows a front of x is an end of what was held and x together
-pub IsEnd-split : (held x front end : List ℕ) → x ≡ front ++ end → IsEnd (held ++ x) end
-IsEnd-split held x front end e = (held ++ front, ap (λ l. held ++ l) e ∙ sym (append_assoc held front end))
-
 -- an end of an end, and with more behind both
 pub IsEnd-trans : (old mid new : List ℕ) → IsEnd old mid → IsEnd mid new → IsEnd old new
 IsEnd-trans old mid new f g = (f.0 ++ g.0, f.1 ∙ ap (λ l. f.0 ++ l) g.1 ∙ sym (append_assoc f.0 g.0 new))

@@ -1,5 +1,6 @@
 -- What the calls of a line writer tell and count, by the calls of its inner writer.
-use Rattle.std.proofs.Common.{◌≡◌, ◌+◌, ℕ, ◌<◌, ◌≤◌, ◌==◌, ◌∙◌, List, [], ◌∷◌, ◌++◌, length, take, drop, Result, Ok, Err, Some, OnOk, IsOk, IfOk}
+use Rattle.std.proofs.Common.{◌≡◌, ◌+◌, ℕ, ◌<◌, ◌≤◌, ◌==◌, ◌∙◌, List, [], ◌∷◌, ◌++◌, length, take, drop, Result, Ok, Err, Some, OnOk, IsOk}
+use Rattle.std.proofs.Common.{IfOk}
 use Rattle.std.proofs.Common.{refl, sym, ap, subst, arith, append-nil, if◌then◌else◌, ⊎_elim, inl, inr, le_refl, take-append-drop}
 use Rattle.std.proofs.lemmas.Bool.{cases_lt}
 use Rattle.std.proofs.lemmas.Bool.Decides.{nat_tests}
@@ -20,11 +21,13 @@ use Rattle.no_std_io2.specs.LineWriter.{line_buffer_filled, KeepsTaking}
 use Rattle.no_std_io2.proofs.BufWriterLemmas.{Moves-buffered, Moves-emptied, MovesFront-emptied}
 use Rattle.no_std_io2.proofs.StepLemmas.{no_ok, Tells, Sending, Counts, Counted, then_leaves, then_tells, then_counts}
 use Rattle.no_std_io2.proofs.BufWriterCalls.{buffered_leaves, send_leaves}
-use Rattle.no_std_io2.proofs.BufWriterCalls.{one_call, send_tells, kept_tells, write_tells, Writing, write_bound, send_counts, idle_counts, write_counts}
+use Rattle.no_std_io2.proofs.BufWriterCalls.{one_call, send_tells, kept_tells, write_tells, Writing, write_bound, send_counts, idle_counts}
+use Rattle.no_std_io2.proofs.BufWriterCalls.{write_counts}
 use Rattle.no_std_io2.proofs.BufWriterCalls.{write_all_tells, write_all_fault, write_all_counts, writing_all_calls}
 use Rattle.no_std_io2.proofs.LineWriterLemmas.{MovesFront-ends, MovesFront-whole, MovesFront-part, MovesFront-rest}
 use Rattle.no_std_io2.proofs.LineWriterStates.{line_left, line_left-is, send_line_leaves, send_lines_leaves, lines_length, tail_whole}
-use Rattle.no_std_io2.proofs.LinesLast.{lines_are, lines_len-some, lines_len-none, unfinished_line-drop, took_tail, took_tail-le, tail_mishap}
+use Rattle.no_std_io2.proofs.LinesLast.{lines_are, lines_len-some, lines_len-none, unfinished_line-drop, took_tail, took_tail-le}
+use Rattle.no_std_io2.proofs.LinesLast.{tail_mishap}
 
 -- a sent line is one call at most
 abbrev pub line_calls : List ℕ → ℕ
@@ -96,7 +99,8 @@ module _ {W : Type 0} (I : Writer W) where
   module _ (S : ℕ) (x : List ℕ) where
     -- one write of lines, of which n bytes were taken, and then a tail is held
     tail_tells : 0 < lines_len x → (answer reply : Result ℕ Error) (held left : List ℕ) → held ≡ [] → HoldsTail S x answer reply left
-        → (a b : W) → CallOf I a (Wrote (lines_of x) answer) b → Writing I x (with_buffer (I.told a) held) reply (with_buffer (I.told b) left)
+        → (a b : W) → CallOf I a (Wrote (lines_of x) answer) b
+        → Writing I x (with_buffer (I.told a) held) reply (with_buffer (I.told b) left)
     tail_tells some (Err e) reply held left none tail a b law =
         subst (λ r. Writing I x (with_buffer (I.told a) held) r (with_buffer (I.told b) left)) (sym tail.1)
         (Moves-emptied none tail.0 law.moves)
@@ -130,7 +134,8 @@ module _ {W : Type 0} (I : Writer W) where
           (send_tells I) (lines_tell (lines_len-some x lines.0)) lines.1 a b made
     ]
 
-    tail_bound : (answer reply : Result ℕ Error) (left : List ℕ) → HoldsTail S x answer reply left → IfOk answer (λ n. n ≤ length (lines_of x))
+    tail_bound : (answer reply : Result ℕ Error) (left : List ℕ) → HoldsTail S x answer reply left
+        → IfOk answer (λ n. n ≤ length (lines_of x))
         → IfOk reply (λ n. n ≤ length x)
     tail_bound (Err e) reply left tail bound = subst (λ r. IfOk r (λ n. n ≤ length x)) (sym tail.1) tt
     tail_bound (Ok n) reply left tail bound =
@@ -147,13 +152,15 @@ module _ {W : Type 0} (I : Writer W) where
         let law = one_call I parts.0 b q.2 parts.2 in
         (tail_whole S x q.1 reply left (law.all (send_counts I _ _ _ _ p a parts.0 parts.1 takes).0).1 some q.3).1
 
-  plain_bound : (S : ℕ) {x held left : List ℕ} {C : List WriteCall} {reply : Result ℕ Error} → Then SendLineCalls (WriteCalls S x) held C reply left
+  plain_bound : (S : ℕ) {x held left : List ℕ} {C : List WriteCall} {reply : Result ℕ Error}
+      → Then SendLineCalls (WriteCalls S x) held C reply left
       → (a b : W) → Made (CallOf I) a C b → IfOk reply (λ n. n ≤ length x)
   plain_bound S (stops p) a b made = tt
   plain_bound S (goes_on {C = C} {D = D} p q) a b made =
       let parts = made_split (CallOf I) C a D b made in write_bound I S q parts.0 b parts.2
 
-  lines_bound : (S : ℕ) (x : List ℕ) {held left : List ℕ} {C : List WriteCall} {reply : Result ℕ Error} → Then SendCalls (LinesCalls S x) held C reply left
+  lines_bound : (S : ℕ) (x : List ℕ) {held left : List ℕ} {C : List WriteCall} {reply : Result ℕ Error}
+      → Then SendCalls (LinesCalls S x) held C reply left
       → (a b : W) → Made (CallOf I) a C b → IfOk reply (λ n. n ≤ length x)
   lines_bound S x (stops p) a b made = tt
   lines_bound S x (goes_on {C = C} {D = D} {left = left} {reply = reply} p q) a b made =
@@ -173,9 +180,22 @@ module _ {W : Type 0} (I : Writer W) where
       → (a b : W) → Made (CallOf I) a C b → KeepsTaking I a reply b
   line_write_keeps S {x} {held} write a b made takes = elim write [
     | inl plain ↦
-        let all = then_counts I SendLineCalls (WriteCalls S x) line_left line_calls (λ held. writing_calls S held x) send_line_leaves send_line_counts
-        (write_counts I S x) plain.1 a b made takes in
-        (all.0, all.1, λ m. let spent = all.2 m in (spent.0, omega (arith, spent.1, line_calls-le held, writing_calls-le S (line_left held) x)))
+        let all = then_counts I SendLineCalls (WriteCalls S x) line_left line_calls
+        (λ held. writing_calls S held x) send_line_leaves send_line_counts
+        (write_counts I S x) plain.1 a b made takes in (
+          all.0,
+          all.1,
+          λ m. let spent = all.2 m in (
+            spent.0,
+            omega (
+              arith,
+              spent.1,
+              line_calls-le held,
+              writing_calls-le S
+                  (line_left held) x,
+            ),
+          ),
+        )
     | inr lines ↦
         let all = then_counts I SendCalls (LinesCalls S x) (λ _. []) calls_for (λ _. 1) send_leaves (send_counts I)
         (lines_count S x (lines_len-some x lines.0)) lines.1 a b made takes in
@@ -183,12 +203,14 @@ module _ {W : Type 0} (I : Writer W) where
   ]
 
   -- and this is held then
-  pub line_write_filled : (S : ℕ) {x held left : List ℕ} {C : List WriteCall} {reply : Result ℕ Error} → LineWriteCalls S x held C reply left
+  pub line_write_filled : (S : ℕ) {x held left : List ℕ} {C : List WriteCall} {reply : Result ℕ Error}
+      → LineWriteCalls S x held C reply left
       → IsLineState held → (a b : W) → Made (CallOf I) a C b → I.takes_all a → left ≡ line_buffer_filled S held x
   line_write_filled S {x} {held} {left} {reply = reply} write line a b made takes =
       let keeps = line_write_keeps S write a b made takes in elim write [
         | inl plain ↦
-            at_ok reply keeps.1 (then_leaves SendLineCalls (WriteCalls S x) line_left (λ held. buffer_after S held x) send_line_leaves (buffered_leaves S x (length x) (OneWrite x)) plain.1)
+            at_ok reply keeps.1 (then_leaves SendLineCalls (WriteCalls S x) line_left (λ held. buffer_after S held x) send_line_leaves
+            (buffered_leaves S x (length x) (OneWrite x)) plain.1)
             ∙ ap (λ h. buffer_after S h x) (line_left-is held line) ∙ filled_plain S held x (lines_len-none x plain.0)
         | inr lines ↦
             let some = lines_len-some x lines.0 in
@@ -208,7 +230,8 @@ module _ {W : Type 0} (I : Writer W) (steady : (w : W) → I.takes_all w → (I.
         writes_fault s,
       )
 
-  send_lines_tells : (S : ℕ) {y held left : List ℕ} {C : List WriteCall} {reply : Result (Unit {0}) Error} → SendLinesCalls S y held C reply left
+  send_lines_tells : (S : ℕ) {y held left : List ℕ} {C : List WriteCall} {reply : Result (Unit {0}) Error}
+      → SendLinesCalls S y held C reply left
       → (a b : W) → Made (CallOf I) a C b
       → MovesFront (with_buffer (I.told a) held) y reply (with_buffer (I.told b) left) × IsNoInterruption reply
   send_lines_tells S sends a b made = elim sends [
@@ -219,7 +242,8 @@ module _ {W : Type 0} (I : Writer W) (steady : (w : W) → I.takes_all w → (I.
   ]
 
   -- by two calls at most of an inner writer that takes all
-  send_lines_count : (S : ℕ) {y held left : List ℕ} {C : List WriteCall} {reply : Result (Unit {0}) Error} → SendLinesCalls S y held C reply left
+  send_lines_count : (S : ℕ) {y held left : List ℕ} {C : List WriteCall} {reply : Result (Unit {0}) Error}
+      → SendLinesCalls S y held C reply left
       → (a b : W) → Made (CallOf I) a C b → I.takes_all a → (n : ℕ) × (n ≤ 2) × Counted I reply a n b
   send_lines_count S {y} {held} sends a b made takes = elim sends [
     | inl past ↦ (
@@ -313,8 +337,21 @@ module _ {W : Type 0} (I : Writer W) (steady : (w : W) → I.takes_all w → (I.
       → LineWriteAllCalls S x held C reply left → (a b : W) → Made (CallOf I) a C b → KeepsTaking I a reply b
   line_write_all_keeps S {x} {held} write a b made takes = elim write [
     | inl plain ↦
-        let all = then_counts I SendLineCalls (WriteAllCalls S x) line_left line_calls (writing_all_calls S x) send_line_leaves (send_line_counts I)
-        (write_all_counts I steady S x) plain.1 a b made takes in
-        (all.0, all.1, λ m. let spent = all.2 m in (spent.0, omega (arith, spent.1, line_calls-le held, writing_all-le S x (line_left held))))
+        let all = then_counts I SendLineCalls (WriteAllCalls S x) line_left line_calls (writing_all_calls S x) send_line_leaves
+        (send_line_counts I)
+        (write_all_counts I steady S x) plain.1 a b made takes in (
+          all.0,
+          all.1,
+          λ m. let spent = all.2 m in (
+            spent.0,
+            omega (
+              arith,
+              spent.1,
+              line_calls-le held,
+              writing_all-le S x
+                  (line_left held),
+            ),
+          ),
+        )
     | inr lines ↦ lines_keep S x lines.1 a b made takes
   ]

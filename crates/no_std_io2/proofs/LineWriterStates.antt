@@ -1,5 +1,6 @@
 -- What the calls of a line writer leave: line states, and after an `Ok` these.
-use Rattle.std.proofs.Common.{◌≡◌, ◌+◌, ◌-◌, ℕ, ◌<◌, ◌≤◌, ◌==◌, ◌∙◌, List, [], ◌∷◌, ◌++◌, length, take, drop, get_or, slice_index, Result, Ok, Err, OnOk}
+use Rattle.std.proofs.Common.{◌≡◌, ◌+◌, ◌-◌, ℕ, ◌<◌, ◌≤◌, ◌==◌, ◌∙◌, List, [], ◌∷◌, ◌++◌, length, take, drop, get_or, slice_index, Result}
+use Rattle.std.proofs.Common.{Ok, Err, OnOk}
 use Rattle.std.proofs.Common.{IsOk, IfOk, refl, sym, ap, subst, arith, if◌then◌else◌, ⊎_elim, inl, inr, length-take, take-append-drop}
 use Rattle.std.proofs.lemmas.Bool.{cases_lt}
 use Rattle.std.proofs.lemmas.Bool.Decides.{nat_tests}
@@ -10,7 +11,8 @@ use Rattle.no_std_io2_base.specs.declared.traits.write.Write.{Ghosts as Writer}
 use Rattle.no_std_io2_base.proofs.CallsLemmas.{writes_whole}
 use Rattle.no_std_io2.specs.Buffer.{IsEnd}
 use Rattle.no_std_io2.specs.Lines.{IsLineState, HasNoNewline, HasNewline, IsLinesLen, lines_of, lines_len, unfinished_line, held_tail}
-use Rattle.no_std_io2.specs.BufWriter.{CallOf, Then, stops, goes_on, SendCalls, WayCalls, Buffered, WriteCalls, WriteAllCalls, FlushCalls, OneWriteAll, buffer_after}
+use Rattle.no_std_io2.specs.BufWriter.{CallOf, Then, stops, goes_on, SendCalls, WayCalls, Buffered, WriteCalls, WriteAllCalls, FlushCalls}
+use Rattle.no_std_io2.specs.BufWriter.{OneWriteAll, buffer_after}
 use Rattle.no_std_io2.specs.LineWriter.{SendLineCalls, HoldsTail, LinesCalls, SendLinesCalls, LineWriteCalls, LineWriteAllCalls}
 use Rattle.no_std_io2.specs.LineWriter.{line_buffer_after, IsShortText}
 use Rattle.no_std_io2.proofs.AnswerLemmas.{onok, onok_map}
@@ -19,7 +21,8 @@ use Rattle.no_std_io2.proofs.StepLemmas.{Stepped, Leaves, then_leaves}
 use Rattle.no_std_io2.proofs.BufWriterCalls.{buffered_leaves, buffered_fits, send_leaves, write_whole}
 use Rattle.no_std_io2.proofs.LineWriterLemmas.{IsLineState-end, IsLineState-plain, IsLineState-ended, HasNoNewline-end, HasNoNewline-append}
 use Rattle.no_std_io2.proofs.LineWriterLemmas.{HasNoNewline-none}
-use Rattle.no_std_io2.proofs.LinesLast.{lines_are, lines_len-is, lines_len-some, lines_len-none, unfinished_line-none, unfinished_line-ended}
+use Rattle.no_std_io2.proofs.LinesLast.{lines_are, lines_len-is, lines_len-some, lines_len-none, unfinished_line-none}
+use Rattle.no_std_io2.proofs.LinesLast.{unfinished_line-ended}
 use Rattle.no_std_io2.proofs.LinesLast.{unfinished_line-drop, unfinished_line-plain, none_or_some, held_tail-all, tail_line}
 
 -- what is left of some bytes that were sent is an end of them
@@ -32,7 +35,8 @@ writes_end (again some interrupted w) = writes_end w
 writes_end (stuck some says) = ([], refl)
 writes_end (fault some is) = ([], refl)
 
-way_end : (S n : ℕ) {held left : List ℕ} {C : List WriteCall} {reply : Result (Unit {0}) Error} → WayCalls S n held C reply left → IsEnd held left
+way_end : (S n : ℕ) {held left : List ℕ} {C : List WriteCall} {reply : Result (Unit {0}) Error} → WayCalls S n held C reply left
+    → IsEnd held left
 way_end S n {left = left} way = elim way [
   | inl kept ↦ subst (λ l. IsEnd l left) kept.3 ([], refl)
   | inr sent ↦ writes_end sent.1
@@ -73,7 +77,8 @@ send_line_plain {left = left} sends = elim sends [
   | inr sent ↦ HasNoNewline-none left (writes_whole sent.1)
 ]
 
-send_line_end : {held left : List ℕ} {C : List WriteCall} {reply : Result (Unit {0}) Error} → SendLineCalls held C reply left → IsEnd held left
+send_line_end : {held left : List ℕ} {C : List WriteCall} {reply : Result (Unit {0}) Error} → SendLineCalls held C reply left
+    → IsEnd held left
 send_line_end {left = left} sends = elim sends [
   | inl kept ↦ subst (λ l. IsEnd l left) kept.3 ([], refl)
   | inr sent ↦ writes_end sent.1
@@ -188,12 +193,14 @@ pub send_lines_leaves : (S : ℕ) (y : List ℕ) → Leaves (SendLinesCalls S y)
 send_lines_leaves S y = λ held C reply left sends. elim sends [
   | inl past ↦ onok reply _ past.1
   | inr behind ↦
-      then_leaves (WriteAllCalls S y) SendCalls (λ held. buffer_after S held y) (λ _. []) (buffered_leaves S y tt (OneWriteAll y)) send_leaves behind.1
+      then_leaves (WriteAllCalls S y) SendCalls (λ held. buffer_after S held y) (λ _. []) (buffered_leaves S y tt
+      (OneWriteAll y)) send_leaves behind.1
 ]
 
 -- a line state at an error
 behind_state : (S : ℕ) {y held left : List ℕ} {C : List WriteCall} {reply : Result (Unit {0}) Error}
-    → Then (WriteAllCalls S y) SendCalls held C reply left → IsLineState held → ((front : List ℕ) → IsLineState (front ++ y)) → IsLineState left
+    → Then (WriteAllCalls S y) SendCalls held C reply left → IsLineState held → ((front : List ℕ) → IsLineState (front ++ y))
+    → IsLineState left
 behind_state S {y} (stops w) line ended = buffered_line S y tt (OneWriteAll y) w line ended
 behind_state S {y} (goes_on w s) line ended =
     IsLineState-end _ _ (writes_end s) (buffered_line S y tt (OneWriteAll y) w line ended)
@@ -203,7 +210,8 @@ lines_ended x some front =
     let lines = lines_are x in
     let len = lines_length x in
     IsLineState-ended front (lines_of x) (omega (arith, len, some))
-    (ap (λ n. slice_index (lines_of x) (n - 1)) len ∙ get_or-take (lines_len x) x (lines_len x - 1) 0 (omega (arith, some)) ∙ lines.ends some)
+    (ap (λ n. slice_index (lines_of x) (n - 1)) len ∙ get_or-take (lines_len x) x (lines_len x - 1) 0 (omega (arith, some))
+    ∙ lines.ends some)
 
 -- a `write_all` has no newline left after an `Ok`, and a line state after an error
 all_lines_state : (S : ℕ) (x : List ℕ) {held left : List ℕ} {C : List WriteCall} {reply : Result (Unit {0}) Error}
@@ -219,7 +227,8 @@ all_lines_state S x (stops {left = left} p) line some = (
 all_lines_state S x (goes_on {mid = mid} {reply = reply} p q) line some =
     let empty = HasNoNewline-none mid (send_lines_leaves S (lines_of x) _ _ _ _ p) in
     let rest = unfinished_line x in
-    let none = buffered_plain S rest tt (OneWriteAll rest) q empty (unfinished_line-plain x) in (IsLineState-plain _ none, onok reply _ none)
+    let none = buffered_plain S rest tt (OneWriteAll rest) q empty (unfinished_line-plain x) in
+    (IsLineState-plain _ none, onok reply _ none)
 
 pub line_write_all_state : (S : ℕ) {x held left : List ℕ} {C : List WriteCall} {reply : Result (Unit {0}) Error}
     → LineWriteAllCalls S x held C reply left → IsLineState held → IsLineState left × OnOk reply (HasNoNewline left)
@@ -237,7 +246,8 @@ line_write_all_fits S {x} write short plain room = elim write [
 ]
 
 -- what is held after an `Ok` of `write_all`
-after_plain : (S : ℕ) (held x : List ℕ) → lines_len x ≡ 0 → buffer_after S (unfinished_line held) x ≡ buffer_after S (if lines_len x == 0 then unfinished_line held else []) x
+after_plain : (S : ℕ) (held x : List ℕ) → lines_len x ≡ 0
+    → buffer_after S (unfinished_line held) x ≡ buffer_after S (if lines_len x == 0 then unfinished_line held else []) x
 after_plain S held x none = grind (arith, nat_tests)
 
 after_lines : (held x : List ℕ) → 0 < lines_len x → (if lines_len x == 0 then unfinished_line held else []) ≡ []
@@ -247,7 +257,8 @@ pub line_write_all_leaves : (S : ℕ) {x held left : List ℕ} {C : List WriteCa
     → LineWriteAllCalls S x held C reply left → IsLineState held → OnOk reply (left ≡ line_buffer_after S held x)
 line_write_all_leaves S {x} {held} {left} {reply = reply} write line = elim write [
   | inl plain ↦
-      let after = then_leaves SendLineCalls (WriteAllCalls S x) line_left (λ held. buffer_after S held x) send_line_leaves (buffered_leaves S x tt (OneWriteAll x)) plain.1 in
+      let after = then_leaves SendLineCalls (WriteAllCalls S x) line_left (λ held. buffer_after S held x) send_line_leaves
+      (buffered_leaves S x tt (OneWriteAll x)) plain.1 in
       onok_map reply _ _
       (λ e. e ∙ ap (λ h. buffer_after S h x) (line_left-is held line) ∙ after_plain S held x (lines_len-none x plain.0)
       ∙ ap (buffer_after S (if lines_len x == 0 then unfinished_line held else [])) (sym (unfinished_line-none x plain.0))) after

@@ -6,7 +6,8 @@ use lib.Seq.{take-add}
 use Rattle.std.proofs.lemmas.Bool.Decides.{nat_tests}
 use Rattle.std.proofs.lemmas.List.{get_or-drop, get_or-take, drop_all, take_min, take-take, get_or_default}
 use Rattle.std.proofs.lemmas.List.Sums.{suffix_len_is}
-use Rattle.no_std_io2.specs.Lines.{HasNoNewline, IsLineState, HasNewline, IsLinesLen, unfinished_line, lines_of, lines_len, lines_or_all, held_tail}
+use Rattle.no_std_io2.specs.Lines.{HasNoNewline, IsLineState, HasNewline, IsLinesLen, unfinished_line, lines_of, lines_len, lines_or_all}
+use Rattle.no_std_io2.specs.Lines.{held_tail}
 use Rattle.std.specs.List.{slice_range}
 use Rattle.no_std_io2_base.specs.Write.{zero_write}
 use Rattle.no_std_io2.proofs.LineWriterLemmas.{IsLineState-plain, HasNoNewline-take, HasNoNewline-none, zero_write-lines, zero_write-some}
@@ -46,7 +47,15 @@ lines_down xs (suc n) h none =
     (λ less. before (λ is. omega (arith, less, is)))
     (λ most. ⊎_elim
     (λ more. before (λ is. omega (arith, more, is)))
-    (λ least. (suc n, record { within = h; ends = λ _. ap (λ i. get_or xs i 0) (let same : suc n - 1 ≡ n = omega arith in same) ∙ ten most least; none_after = none }))
+    (λ least. (
+      suc n,
+      record {
+        within = h;
+        ends = λ _. ap (λ i. get_or xs i 0) (let same : suc n - 1 ≡ n = omega arith in same)
+            ∙ ten most least;
+        none_after = none;
+      },
+    ))
     (cases_lt 10 (get_or xs n 0)))
     (cases_lt (get_or xs n 0) 10)
   where
@@ -56,7 +65,8 @@ lines_down xs (suc n) h none =
     none_before : get_or xs n 0 ≢ 10 → HasNoNewline (drop n xs)
     none_before other k lt is = ⊎_elim
         (λ first. other (ap (λ i. get_or xs i 0) (omega (arith, first)) ∙ sym (get_or-drop n xs k 0) ∙ is))
-        (λ later. none_from xs (suc n) (n + k) none (omega (arith, later)) (omega (arith, lt, length-drop n xs)) (sym (get_or-drop n xs k 0) ∙ is))
+        (λ later. none_from xs (suc n) (n + k) none (omega (arith, later)) (omega (arith, lt, length-drop n xs)) (sym
+        (get_or-drop n xs k 0) ∙ is))
         (cases_lt k 1)
 
 pub lines_are : (xs : List ℕ) → IsLinesLen xs (lines_len xs)
@@ -71,10 +81,6 @@ IsLinesLen-none xs h = record { within = omega arith; ends = λ some. absurd (om
 -- bytes have a newline, or they have none
 pub none_or_some : (xs : List ℕ) → HasNoNewline xs → HasNewline xs → ⊥
 none_or_some xs h has = h has.0 has.1 (get_or_default xs has.0 0 10 has.1 ∙ has.2)
-
--- lines of some bytes end in a newline
-pub none_or_lines : (xs : List ℕ) (n : ℕ) → IsLinesLen xs n → 0 < n → HasNoNewline xs → ⊥
-none_or_lines xs n h some none = none (n - 1) (omega (arith, h.within)) (h.ends some)
 
 -- bytes that end in a newline are all lines
 pub IsLinesLen-whole : (xs : List ℕ) → (0 < length xs → slice_index xs (length xs - 1) ≡ 10) → IsLinesLen xs (length xs)
@@ -213,7 +219,12 @@ lines_len-none xs h = lines_len-is xs 0 (IsLinesLen-none xs h)
 
 -- lines are a newline at least
 pub HasNewline-lines : (xs : List ℕ) (n : ℕ) → IsLinesLen xs n → 0 < n → HasNewline xs
-HasNewline-lines xs n h some = (n - 1, omega (arith, h.within, some), get_or_default xs (n - 1) 10 0 (omega (arith, h.within, some)) ∙ h.ends some)
+HasNewline-lines xs n h some = (
+  n - 1,
+  omega (arith, h.within, some),
+  get_or_default xs (n - 1) 10 0 (omega (arith, h.within, some))
+      ∙ h.ends some,
+)
 
 -- that tail has no newline, or ends in one
 part_line : (S : ℕ) (l : List ℕ) → IsLineState (lines_or_all (take S l))

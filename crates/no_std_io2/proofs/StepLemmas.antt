@@ -66,7 +66,8 @@ module _ {W : Type 0} (I : Writer W) where
   Counts {A} step n = (held : List ℕ) (C : List WriteCall) (reply : Result A Error) (left : List ℕ) → step held C reply left
       → (a b : W) → Made (CallOf I) a C b → I.takes_all a → Counted reply a (n held) b
 
-  pub then_counts : {A : Type 0} {held left : List ℕ} {C : List WriteCall} {reply : Result A Error} (first : Step (Unit {0})) (next : Step A)
+  pub then_counts : {A : Type 0} {held left : List ℕ} {C : List WriteCall} {reply : Result A Error} (first : Step (Unit {0}))
+      (next : Step A)
       (f : List ℕ → List ℕ) (n k : List ℕ → ℕ) → Leaves first f → Counts first n → Counts next k → Then first next held C reply left
       → (a b : W) → Made (CallOf I) a C b → I.takes_all a → Counted reply a (n held + k (f held)) b
   then_counts first next f n k leaves of_first of_next (stops p) a b made takes = no_ok (of_first _ _ _ _ p a b made takes).1

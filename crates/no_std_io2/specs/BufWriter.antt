@@ -112,13 +112,15 @@ PutCalls S x v past held C reply left = ((length x < S) × (C ≡ []) × (reply 
 abbrev pub Buffered : {A : Type 0} → ℕ → List ℕ → A → (List WriteCall → Result A Error → Type 0) → Step A
 Buffered S x v past = Then (WayCalls S (length x)) (PutCalls S x v past)
 
--- one write of x, one `write_all` of it, one flush, whose answer this is
+-- one write of x, whose answer this is
 abbrev pub OneWrite : List ℕ → List WriteCall → Result ℕ Error → Type 0
 OneWrite x C reply = C ≡ Wrote x reply ∷ []
 
+-- one `write_all` of x
 abbrev pub OneWriteAll : List ℕ → List WriteCall → Result (Unit {0}) Error → Type 0
 OneWriteAll x C reply = AllCalls C x reply
 
+-- one flush
 abbrev pub OneFlush : List WriteCall → Result (Unit {0}) Error → Type 0
 OneFlush C reply = C ≡ Flushed reply ∷ []
 

@@ -1,9 +1,8 @@
-use Rattle.std.proofs.Common.{rules, ◌∙◌, le_trans, inl, inr, ap, arith, length, length-take-le, take, Ok, Err}
+use Rattle.std.proofs.Common.{rules, ◌∙◌, le_trans, inl, inr, ap, arith, length-take-le, take, Ok, Err}
 use Rattle.std.proofs.lemmas.Grind.{common_steps}
 use Rattle.std.proofs.lemmas.Result.{err_from_is_err_and}
 use Rattle.no_std_io2_base.proofs.ReadToEndTaken.{moved_read, no_error}
 use Rattle.no_std_io2.proofs.CopyReads.{read_length, one_read, last_read}
-use Rattle.no_std_io2.specs.Copy.{HandsOn}
 use Rattle.no_std_io2_base.specs.Read.{bytes}
 use Rattle.no_std_io2.proofs.CopyHands.{hands_none, hands_same, hands_more, gave, gave_none}
 use Rattle.no_std_io2.proofs.CopyLemmas.{written_more, copied_more, copied_interruption, copied_end, copied_fault}

@@ -1,4 +1,4 @@
-use Rattle.std.proofs.Common.{◌≡◌, ◌<◌, arith, rules, subst}
+use Rattle.std.proofs.Common.{subst}
 use Rattle.no_std_io2_base.specs.Write.{Made}
 use Rattle.no_std_io2_base.proofs.CallsLemmas.{all_own}
 use Rattle.no_std_io2.specs.BufWriter.{sender_inner, CallOf}

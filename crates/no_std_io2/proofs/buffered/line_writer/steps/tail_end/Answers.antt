@@ -5,11 +5,13 @@ use Rattle.no_std_io2.proofs.buffered.line_writer.steps.tail_end.Goals as goal
 pub returns-then-sent-len-clause-tail : goal.returns-then-sent-len-clause-tail
 returns-then-sent-len-clause-tail c =
     window_all c.args.x.now c.args.sent c.args.room _ c.min.ensures
-    ∙ sym (held_tail-all c.args.room c.args.x.now c.args.len c.args.sent (lines_len-is _ _ c.requires.lines) c.requires.some c.if-sent-len.true)
+    ∙ sym (held_tail-all c.args.room c.args.x.now c.args.len c.args.sent
+    (lines_len-is _ _ c.requires.lines) c.requires.some c.if-sent-len.true)
 
 pub returns-then-len-sent-clause-tail : goal.returns-then-len-sent-clause-tail
 returns-then-len-sent-clause-tail c =
-    sym (held_tail-rest c.args.room c.args.x.now c.args.len c.args.sent (lines_len-is _ _ c.requires.lines) c.requires.some (omega arith) (omega arith))
+    sym (held_tail-rest c.args.room c.args.x.now c.args.len c.args.sent (lines_len-is _ _ c.requires.lines) c.requires.some (omega arith)
+    (omega arith))
 
 pub returns-then-part-eq0-clause-tail : goal.returns-then-part-eq0-clause-tail
 returns-then-part-eq0-clause-tail c =

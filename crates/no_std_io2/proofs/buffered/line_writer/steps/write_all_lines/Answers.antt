@@ -13,7 +13,8 @@ returns-in_err-send_lines g c =
     let x = c.args.x.now in
     let lines = c.requires.lines in
     let is = ap (λ n. take n x) (sym (lines_len-is x c.args.len lines)) in
-    let sent = subst (λ y. Takes g.W.Write sender_inner sender_buffer (SendLinesCalls g.row.S y) c.args.w.now c.send_lines.result c.send_lines.new.w) is
+    let sent = subst (λ y. Takes g.W.Write sender_inner sender_buffer
+    (SendLinesCalls g.row.S y) c.args.w.now c.send_lines.result c.send_lines.new.w) is
     c.send_lines.ensures in
     let stopped = then_stops _ _ (rw c.in_err-send_lines.was at sent) in
     rw (p.1, p.2) (stopped.0, stopped.1, inr (HasNewline-lines x _ lines c.requires.some, stopped.2))

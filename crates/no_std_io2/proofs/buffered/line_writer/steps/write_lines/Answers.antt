@@ -1,4 +1,5 @@
-use Rattle.std.proofs.Common.{◌≡◌, ◌+◌, ◌-◌, ◌++◌, [], Ok, length, arith, ◌∙◌, sym, refl, ap, subst, inr, rules, length-take, length-drop, drop}
+use Rattle.std.proofs.Common.{◌≡◌, ◌+◌, ◌-◌, ◌++◌, Ok, length, arith, ◌∙◌, sym, refl, ap, inr, rules, length-take, length-drop}
+use Rattle.std.proofs.Common.{drop}
 use Rattle.std.specs.List.{slice_range}
 use Rattle.std.proofs.lemmas.Result.{err_from_is_err_and}
 use Rattle.no_std_io2_base.proofs.CallsLemmas.{writes_whole}
@@ -29,7 +30,8 @@ pub returns-then-n-eq0 : goal.returns-then-n-eq0
 returns-then-n-eq0 g c =
     let none = writes_whole c.in_ok-send.ensures.calls.2 in
     let empty = none ∙ sym (ap (held_tail g.row.S c.args.x.now) c.if-n-eq0.true) in
-    let zero = ap Ok (let sum : 0 ≡ c.in_ok-n.n + length (sender_buffer c.send.new.self) = omega (arith, c.if-n-eq0.true, ap length none) in sum) in
+    let zero = ap Ok (let sum : 0 ≡ c.in_ok-n.n + length (sender_buffer c.send.new.self) = omega
+    (arith, c.if-n-eq0.true, ap length none) in sum) in
     let went = then_goes_on _ _ _ _ c.in_ok-send.ensures.calls
     (wrote_lines g.row.S _ _ c.requires.lines c.in_ok-n.ensures.law none (empty, zero)) in
     (went.0, went.1, inr (HasNewline-lines _ _ c.requires.lines c.requires.some, went.2))

@@ -1,6 +1,4 @@
 -- The inner writer, once all was sent; or the fault that stopped the sending, and the writer.
-use Rattle.std.proofs.Common.{sym, subst, Err}
-use Rattle.no_std_io2.specs.BufWriter.{sender_inner, sender_buffer, Takes, SendCalls}
 use Rattle.no_std_io2.proofs.SentLemmas.{unwraps_ok, unwraps_err}
 use Rattle.no_std_io2.proofs.buffered.sender.Sender.into_inner.Goals as goal
 

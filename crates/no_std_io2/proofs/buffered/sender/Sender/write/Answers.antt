@@ -15,4 +15,5 @@ returns-then-hold_if_room g c =
 pub returns-then-len-eq0 : goal.returns-then-len-eq0
 returns-then-len-eq0 g c =
     let none = none_of_length _ (sym c.len.ensures.len ∙ c.if-len-eq0.true) in
-    buffered_past _ _ (OneWrite c.args.buf.now) c.if-hold_if_room.ensures.same none c.if-buf.true (one_made (Wrote c.args.buf.now c.write.result) c.write.ensures.law)
+    buffered_past _ _ (OneWrite c.args.buf.now) c.if-hold_if_room.ensures.same none c.if-buf.true (one_made
+    (Wrote c.args.buf.now c.write.result) c.write.ensures.law)

@@ -16,10 +16,12 @@ pub returns-then-buf : goal.returns-then-buf
 returns-then-buf g c =
     let way = c.in_ok-make_way.ensures in
     let none = way_none _ _ c.if-buf.true way.2 in
-    then_goes_on _ _ _ _ way (passes _ _ _ (OneWrite c.args.buf.now) c.if-buf.true none none (one_made (Wrote c.args.buf.now c.write.result) c.write.ensures.law))
+    then_goes_on _ _ _ _ way (passes _ _ _ (OneWrite c.args.buf.now) c.if-buf.true none none (one_made
+    (Wrote c.args.buf.now c.write.result) c.write.ensures.law))
 
 pub push-requires : goal.push-requires
 push-requires g c = (search rules, way_room _ _ (omega (arith, c.if-buf.false)) c.in_ok-make_way.ensures.2)
 
 pub returns : goal.returns
-returns g c = then_goes_on _ _ _ _ c.in_ok-make_way.ensures (puts _ _ _ (OneWrite c.args.buf.now) (omega (arith, c.if-buf.false)) refl c.push.ensures.held)
+returns g c = then_goes_on _ _ _ _ c.in_ok-make_way.ensures (puts _ _ _ (OneWrite c.args.buf.now) (omega
+    (arith, c.if-buf.false)) refl c.push.ensures.held)
