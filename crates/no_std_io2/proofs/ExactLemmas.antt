@@ -46,5 +46,12 @@ ReadsExact-enough t after (Err e) buf bs rest is fits (inl s) =
     let far : length bs ≤ length (bytes Q) = stands_behind bs Q after rest e whole in
     absurd (omega (arith, far, fits, s.short, ap (λ l. length (bytes l)) s.ends.1, ap length (bytes_end Q e)))
 ReadsExact-enough t after (Err e) buf bs rest is fits (inr s) =
-    absurd (omega (arith, fits, s.short, ap (λ l. length (bytes l)) is, ap length (bytes-append (events_of bs) rest),
-    length-append (bytes (events_of bs)) (bytes rest), ap length (bytes-events_of bs)))
+    absurd (omega (
+      arith,
+      fits,
+      s.short,
+      ap (λ l. length (bytes l)) is,
+      ap length (bytes-append (events_of bs) rest),
+      length-append (bytes (events_of bs)) (bytes rest),
+      ap length (bytes-events_of bs),
+    ))
