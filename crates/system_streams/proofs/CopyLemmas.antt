@@ -1,7 +1,7 @@
 -- A copy, piece by piece.
 use Rattle.std.proofs.Common.{◌≡◌, ℕ, List, [], ◌∷◌, ◌++◌, ap, ◌∙◌, subst, arith, Ok, Err, Result, Some}
 use Rattle.std.proofs.Common.{append-nil, append_assoc, inl, inr, ◌⊎◌, ◌+◌, ◌==◌, None, Option}
-use Rattle.std.proofs.Common.{count_by, eq-eqb, if◌then◌else◌, refl, length, length-append}
+use Rattle.std.proofs.Common.{Bool, count_by, eq-eqb, if◌then◌else◌, refl, length, length-append}
 use Rattle.std.proofs.lemmas.List.{nil_from_length}
 use Rattle.no_std_io2.specs.declared.io.ErrorKind.{ErrorKind}
 use Rattle.no_std_io2.specs.declared.io.Error.{Error}
@@ -12,7 +12,15 @@ use Rattle.no_std_io2.proofs.MovesLemmas.{Moves-ends}
 use Rattle.no_std_io2.specs.BufWriter.{with_buffer}
 use Rattle.no_std_io2.proofs.BufWriterLemmas.{Moves-bare}
 use Rattle.no_std_io2.specs.Copy.{Copies, CopyEnds}
-use Rattle.system_streams.specs.Copies.{Passes, HasFirstFault, MayFail, TellsMishap}
+use Rattle.no_std_io2.specs.declared.io.Write.{Ghosts as Writer}
+use Rattle.no_std_io2.specs.Read.{Reader}
+use Rattle.no_std_io2.specs.Write.{FlushLaw, WriteCall, Flushed, Made}
+use Rattle.no_std_io2.specs.BufWriter.{CallOf}
+use Rattle.no_std_io2.specs.Copy.{Handed, HandsOn}
+use Rattle.no_std_io2.specs.Towers.{Through}
+use Rattle.no_std_io2.proofs.CallsLemmas.{made_more}
+use Rattle.no_std_io2.proofs.TowerCalls.{through}
+use Rattle.system_streams.specs.Copies.{Passes, HasFirstFault, MayFail, TellsMishap, HandsAndFlushes, HandsThrough, BufferCalls}
 
 -- where the mishaps to come were told, one that happened was among them
 told_mishap : (old : Option (List ErrorKind)) (kind : ErrorKind) (new : Option (List ErrorKind)) → HasSpent old (kind ∷ []) new
@@ -80,3 +88,37 @@ pub comes_apart : {A E : Type 0} {x : A} {e : E} (held buffer : List ℕ) → he
     → (buffer ≡ [] → ◌≡◌ {A = Result A E} (Err e) (Ok x)) → ⊥
 comes_apart held buffer none back =
     let same = back (nil_from_length buffer (omega (arith, ap length none, length-append held buffer))) in cc
+
+-- a flush behind a copy
+pub flushed_behind : {R W : Type 0} {K : Reader R} {I : Writer W} {from from' : R} {old mid new : W}
+    → HandsOn K I 64 from old (Ok tt) from' mid → FlushLaw I.told I.takes_all I.cost I.is_metered I.may mid (Ok tt) new
+    → HandsAndFlushes I old new
+flushed_behind {I = I} {old = old} hands flushed = record {
+  pieces = hands.pieces;
+  calls = hands.calls;
+  handed = hands.handed;
+  made = made_more (CallOf I) hands.calls old hands.made flushed;
+}
+
+-- through a buffer that was empty, is empty, and is taken off again
+pub handed_through : {W B E : Type 0} (I : Writer W) {K : Writer B} (line : Bool) (inner : B → W) (buffer : B → List ℕ)
+    → ((a b : B) (call : WriteCall) → K.may a call b → (D : List WriteCall) × Made (CallOf I) (inner a) D (inner b)
+    × BufferCalls line (buffer a) call D (buffer b))
+    → {output w : W} {old new : B} (held : List ℕ) → inner old ≡ output → buffer old ≡ [] → held ++ buffer new ≡ []
+    → (buffer new ≡ [] → ◌≡◌ {A = Result W E} (Ok w) (Ok (inner new)))
+    → HandsAndFlushes K old new → HandsThrough I line output w
+handed_through I {K} line inner buffer each {output = output} {w = w} {old = old} {new} held at empty none back hands =
+    let calls = hands.calls ++ Flushed (Ok tt) ∷ [] in
+    let below = through I K inner buffer (BufferCalls line) each calls old new hands.made in
+    let gone : buffer new ≡ [] = nil_from_length (buffer new) (omega (arith, ap length none, length-append held (buffer new))) in
+    let same : inner new ≡ w = (let is = back gone in cc) in
+    record {
+      pieces = hands.pieces;
+      calls = hands.calls;
+      handed = hands.handed;
+      below = below.0;
+      through =
+          subst (λ l. Through (BufferCalls line) [] calls below.0 l) gone
+          (subst (λ h. Through (BufferCalls line) h calls below.0 (buffer new)) empty below.2);
+      made = subst (λ v. Made (CallOf I) v below.0 w) at (subst (λ v. Made (CallOf I) (inner old) below.0 v) same below.1);
+    }

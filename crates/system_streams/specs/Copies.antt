@@ -1,11 +1,15 @@
 -- What a copy through a buffered writer does.
-use Rattle.std.specs.Prelude.{◌≡◌, ℕ, ◌<◌, ◌==◌, List, [], ◌++◌, count_by, Option, None, Some, ⊤}
+use Rattle.std.specs.Prelude.{◌≡◌, ℕ, ◌<◌, ◌==◌, Bool, true, false, List, [], ◌∷◌, ◌++◌, count_by, Option, None, Some, Ok, ⊤}
 use Rattle.no_std_io2.specs.declared.io.ErrorKind.{ErrorKind}
 use Rattle.no_std_io2.specs.declared.io.Error.{Error}
 use Rattle.no_std_io2.specs.Errors.{error_kind, kind_number, IsInterruption}
 use Rattle.no_std_io2.specs.Read.{Event, EndsInFault}
-use Rattle.no_std_io2.specs.Write.{Told, Moves}
-use Rattle.no_std_io2.specs.Copy.{counted}
+use Rattle.no_std_io2.specs.declared.io.Write.{Ghosts as Writer}
+use Rattle.no_std_io2.specs.Write.{Told, Moves, WriteCall, Flushed, Made}
+use Rattle.no_std_io2.specs.BufWriter.{CallOf, InnerCalls}
+use Rattle.no_std_io2.specs.LineWriter.{LineCalls}
+use Rattle.no_std_io2.specs.Copy.{counted, Handed}
+use Rattle.no_std_io2.specs.Towers.{Through}
 
 -- A writer accepted b without a mishap, and n counts it.
 pub record Passes (old : Told) (b : List ℕ) (n : ℕ) (new : Told) : Type 0 where
@@ -33,3 +37,24 @@ TellsMishap (Some kinds) kind = 0 < count_by (λ other. kind_number other == kin
 pub record MayFail (told : Told) (e : Error) : Type 0 where
   pub mishap : TellsMishap told.mishaps (error_kind e)
   pub turn : IsInterruption e → 0 < told.turns
+
+-- Pieces of at most 64 bytes were handed on to a writer, one `write_all` each, and then it was flushed, once.
+pub record HandsAndFlushes {W : Type 0} (I : Writer W) (old new : W) : Type 0 where
+  pub pieces : List (List ℕ)
+  pub calls : List WriteCall
+  pub handed : Handed 64 pieces calls (Ok tt)
+  pub made : Made (CallOf I) old (calls ++ Flushed (Ok tt) ∷ []) new
+
+-- the inner calls of one call of a writer with a buffer of 64 bytes, at true one of lines
+abbrev pub BufferCalls : Bool → List ℕ → WriteCall → List WriteCall → List ℕ → Type 0
+BufferCalls true held call inner left = LineCalls 64 held call inner left
+BufferCalls false held call inner left = InnerCalls 64 held call inner left
+
+-- They were handed on to such a buffer, and the writer below got the calls that this makes.
+pub record HandsThrough {W : Type 0} (I : Writer W) (line : Bool) (old new : W) : Type 0 where
+  pub pieces : List (List ℕ)
+  pub calls : List WriteCall
+  pub handed : Handed 64 pieces calls (Ok tt)
+  pub below : List WriteCall
+  pub through : Through (BufferCalls line) [] (calls ++ Flushed (Ok tt) ∷ []) below []
+  pub made : Made (CallOf I) old below new

@@ -3,6 +3,7 @@ ghost use Rattle.std.specs.Prelude.{◌≡◌, ◌⊎◌, [], Some, IfOk, IsOk, 
 ghost use Rattle.no_std_io2.specs.Read.{bytes, HasNoFault};
 ghost use Rattle.no_std_io2.specs.BufReader.{BufReaderFits};
 ghost use Rattle.system_streams.specs.Copies.{Passes, PassesSome, HasFirstFault, MayFail};
+ghost use Rattle.system_streams.specs.Copies.{HandsAndFlushes, HandsThrough};
 ghost use Rattle.no_std_io2.specs.BufWriter.{BufWriterFits};
 ghost use Rattle.no_std_io2.specs.LineWriter.{LineWriterFits};
 
@@ -17,6 +18,7 @@ fn copy_and_flush<R: Read + Drop, T: Write + Drop>(mut input: R, mut tower: T) -
     ensures all { R.tells input → IfOk result (λ r. HasNoFault (R.events input)
         × Passes (T.told tower) (bytes (R.events input)) r.0 (T.told r.1)) }
     ensures empty { IfOk result (λ r. (T.told r.1).held ≡ []) }
+    ensures calls { IfOk result (λ r. HandsAndFlushes T.Write tower r.1) }
     ensures err { R.tells input → IfErr result (λ e. HasFirstFault (R.events input) e
         ⊎ MayFail (T.told tower) e) }
 {
@@ -55,6 +57,8 @@ pub fn copy_through<R: Read + Drop, W: Write + Drop>(
     ensures all { R.tells input → IfOk result (λ r. HasNoFault (R.events input)
         × Passes (W.told output) (bytes (R.events input)) r.0 (W.told r.1)) }
     ensures empty { IfOk result (λ r. (W.told r.1).held ≡ []) }
+    // Through the buffer that was asked for, and no other: the output got the calls that it makes.
+    ensures calls { IfOk result (λ r. HandsThrough W.Write line output r.1) }
     ensures err { R.tells input → IfErr result (λ e. HasFirstFault (R.events input) e
         ⊎ MayFail (W.told output) e) }
     ensures steady { R.tells input → HasNoFault (R.events input) → (W.told output).mishaps ≡ Some []

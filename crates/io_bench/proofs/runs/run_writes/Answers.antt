@@ -7,7 +7,14 @@ use Rattle.io_bench.proofs.runs.run_writes.Goals as goal
 pub calls-init : goal.calls-init
 calls-init g c =
     record {
-      ran = ([], c.reserve.ensures.items ∙ sym (append-nil c.args.replies.now.items), Ran-none _, λ e. absurd e, λ t. (t, tt), RunCalls-none);
+      ran = (
+        [],
+        c.reserve.ensures.items ∙ sym (append-nil c.args.replies.now.items),
+        Ran-none _,
+        λ e. absurd e,
+        λ t. (t, tt),
+        RunCalls-none,
+      );
       room = search rules;
     }
 

@@ -1,5 +1,7 @@
-use Rattle.std.proofs.Common.{ap, ◌∙◌, sym, subst}
-use Rattle.system_streams.proofs.CopyLemmas.{passes_off, none_held, comes_apart, no_failure}
+use Rattle.std.proofs.Common.{ap, ◌∙◌, sym, subst, true, false}
+use Rattle.no_std_io2.specs.BufWriter.{writer_inner, writer_buffer}
+use Rattle.no_std_io2.specs.LineWriter.{line_inner, line_buffer}
+use Rattle.system_streams.proofs.CopyLemmas.{passes_off, none_held, comes_apart, no_failure, handed_through}
 use Rattle.system_streams.proofs.copy.copy_through.Goals as goal
 
 pub returns-in_err-count-clause-steady : goal.returns-in_err-count-clause-steady
@@ -32,6 +34,12 @@ returns-in_ok-into_inner-clause-all g c = λ t.
     let same = ap g.W.Write.told c.new.ensures.inner in
     rw (sym c.new-input.ensures.events) (poured.0, passes_off _ same c.new.ensures.empty poured.1 c.in_ok-into_inner.ensures.law.ok)
 
+pub returns-in_ok-into_inner-clause-calls : goal.returns-in_ok-into_inner-clause-calls
+returns-in_ok-into_inner-clause-calls g c =
+    rw c.if-line.true
+    (handed_through g.W.Write true line_inner line_buffer (λ a b call may. may) _
+    c.new.ensures.inner c.new.ensures.empty c.in_ok-count.ensures.empty c.in_ok-into_inner.ensures.law.empty c.in_ok-count.ensures.calls)
+
 pub returns-in_err-count-2-clause-steady : goal.returns-in_err-count-2-clause-steady
 returns-in_err-count-2-clause-steady g c = λ t none steady.
     let tells = subst g.R.Read.tells (sym c.new-input.ensures.inner) t in
@@ -62,3 +70,10 @@ returns-in_ok-into_inner-2-clause-all g c = λ t.
     let same = ap g.W.Write.told c.new-else-line.ensures.inner in
     rw (sym c.new-input.ensures.events)
     (poured.0, passes_off _ same c.new-else-line.ensures.empty poured.1 c.in_ok-into_inner-2.ensures.law.ok)
+
+pub returns-in_ok-into_inner-2-clause-calls : goal.returns-in_ok-into_inner-2-clause-calls
+returns-in_ok-into_inner-2-clause-calls g c =
+    rw c.if-line.false
+    (handed_through g.W.Write false writer_inner writer_buffer (λ a b call may. may) _
+    c.new-else-line.ensures.inner c.new-else-line.ensures.empty c.in_ok-count-2.ensures.empty c.in_ok-into_inner-2.ensures.law.empty
+    c.in_ok-count-2.ensures.calls)

@@ -42,8 +42,8 @@ pub returns-in-Some-Zero : goal.returns-in-Some-Zero
 returns-in-Some-Zero g c =
     let act = c.in-Some-Zero in
     let none : act_mishap act.field-0 ≡ WriteZero ∷ [] = search rules in
-    let kept : WritesBehind g.W.Write (Some act.field-0) (faulty_inner c.spend.new.self) c.args.buf.now (Ok 0) (faulty_inner c.spend.new.self)
-    = search rules in
+    let inner = faulty_inner c.spend.new.self in
+    let kept : WritesBehind g.W.Write (Some act.field-0) inner c.args.buf.now (Ok 0) inner = search rules in
     record {
       law = record {
         bound = search rules;
