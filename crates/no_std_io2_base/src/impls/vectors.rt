@@ -61,7 +61,7 @@ pub fn append<A: Allocator>(buf: &mut Vec<u8, A>, bytes: &[u8]) -> Result<()>
 impl<A: Allocator> Write for Vec<u8, A> {
     ghost told = { λ v. told_out v.items };
 
-    #[inline]
+    #[inline(always)]
     fn write(&mut self, buf: &[u8]) -> Result<usize>
         ensures law { WriteOf ⟦<Self as Write>⟧ self.old buf.now result self.new }
 
@@ -76,7 +76,7 @@ impl<A: Allocator> Write for Vec<u8, A> {
         Ok(buf.len())
     }
 
-    #[inline]
+    #[inline(always)]
     fn write_all(&mut self, buf: &[u8]) -> Result<()>
         ensures law { WriteAllOf ⟦<Self as Write>⟧ self.old buf.now result self.new }
 
