@@ -165,17 +165,27 @@ fn a_slice_is_written_with_retries(rt: HostRuntime) -> Result<(), Fail> {
 #[test]
 fn so_many_retries_are_made(rt: HostRuntime) -> Result<(), Fail> {
     let fault = Act::Fail(ErrorKind::BrokenPipe);
-    'budgets: for (retries, is_enough, writes) in
-        [(0, false, 2), (1, false, 3), (2, false, 4), (3, true, 5), (4, true, 5)]
-    {
+    'budgets: for (retries, is_enough, writes) in [
+        (0, false, 2),
+        (1, false, 3),
+        (2, false, 4),
+        (3, true, 5),
+        (4, true, 5),
+    ] {
         let acts = Vec::from_array(rt.alloc(), [Act::Take(1), fault, fault, fault])?;
         let mut w = Tally::new(Faulty::new(Vec::<u8>::new(rt.alloc()), acts));
         let mut rest = b"abc".as_slice();
-        assert!(rt; write_with_retries(&mut w, &mut rest, retries).is_ok() == is_enough, "{retries}");
+        assert!(rt;
+            write_with_retries(&mut w, &mut rest, retries).is_ok() == is_enough,
+            "{retries}"
+        );
         assert!(rt; w.writes() == writes, "{retries}");
         assert!(rt; rest.is_empty() == is_enough, "{retries}");
         write_with_retries(&mut w, &mut rest, 2)?;
-        assert!(rt; w.get_ref().get_ref().as_slice() == b"abc".as_slice(), "{retries}");
+        assert!(rt;
+            w.get_ref().get_ref().as_slice() == b"abc".as_slice(),
+            "{retries}"
+        );
     }
     Ok(())
 }
