@@ -1,41 +1,73 @@
 -- What a play does and prints.
-use Rattle.std.specs.Prelude.{◌≡◌, ℕ, List, []}
-use Rattle.no_std_io2_base.specs.Write.{Told, Moves, told_out}
+use Rattle.std.specs.Prelude.{◌≡◌, ℕ, List, [], ◌++◌}
+use Rattle.no_std_io2.specs.declared.io.Write.{Ghosts as Writer}
+use Rattle.no_std_io2.specs.Write.{Told, Moves, told_out, WriteCall}
+use Rattle.no_std_io2.specs.BufWriter.{with_buffer, InnerCalls}
+use Rattle.no_std_io2.specs.LineWriter.{LineCalls}
+use Rattle.no_std_io2.specs.Towers.{Through}
 use Rattle.io_bench.specs.declared.faulty.Act.{Act}
+use Rattle.io_bench.specs.declared.faulty.Faulty.{Faulty}
 use Rattle.io_bench.specs.declared.runs.Op.{Op}
 use Rattle.io_bench.specs.declared.runs.Reply.{Reply}
-use Rattle.io_bench.specs.Faulty.{with_acts}
-use Rattle.io_bench.specs.Runs.{Ran}
-use Rattle.no_std_io2_base.specs.Read.{Event}
+use Rattle.io_bench.specs.Faulty.{with_acts, acts_left}
+use Rattle.io_bench.specs.Runs.{Ran, RunCalls, RunBelow}
+use Rattle.no_std_io2.specs.Read.{Event}
+use Rattle.tower_play.specs.declared.playing.Shape.{Shape}
+use Rattle.tower_play.specs.declared.playing.Shape.TheVariants.{Buf, Line, BufBuf, LineBuf}
 use Rattle.tower_play.specs.declared.script.Script.{Script}
 use Rattle.tower_play.specs.Calls.{AreCalls}
 use Rattle.tower_play.specs.Reading.{IsRead}
 use Rattle.tower_play.specs.Report.{report}
 
--- These calls were made of a tower, and the text shows their replies, and what was then out and held.
-pub record Shows (start : Told) (ops : List Op) (text : List ℕ) : Type 0 where
-  pub replies : List Reply
-  pub end : Told
-  pub ran : Ran start ops replies end
-  pub shown : text ≡ report replies end.out end.held
-
 -- what a tower tells over an empty vector behind these acts
 abbrev pub fresh_told : List Act → Told
 fresh_told acts = with_acts (told_out []) acts
 
+-- calls of a level above a buffer of 8 bytes were these calls of what is below both, and so much is held then, the inner level's first
+abbrev pub TwoLevels : (List ℕ → WriteCall → List WriteCall → List ℕ → Type 0) → List WriteCall → List WriteCall → List ℕ → Type 0
+TwoLevels outer calls below held = (mid : List WriteCall) × (above : List ℕ) × (inner : List ℕ)
+    × Through outer [] calls mid above × Through (InnerCalls 8) [] mid below inner × (held ≡ inner ++ above)
+
+-- calls of a tower of this shape were these calls of the device
+abbrev pub TowerCalls : Shape → List WriteCall → List WriteCall → List ℕ → Type 0
+TowerCalls Buf calls below held = Through (InnerCalls 8) [] calls below held
+TowerCalls Line calls below held = Through (LineCalls 8) [] calls below held
+TowerCalls BufBuf calls below held = TwoLevels (InnerCalls 8) calls below held
+TowerCalls LineBuf calls below held = TwoLevels (LineCalls 8) calls below held
+
+-- These calls were made of a writer, and the text shows their replies, and what was then out and held.
+pub record ShowsRun {T : Type 0} (I : Writer T) (old : T) (ops : List Op) (text : List ℕ) : Type 0 where
+  pub replies : List Reply
+  pub new : T
+  pub ran : Ran (I.told old) ops replies (I.told new)
+  pub calls : RunCalls I old ops replies new
+  pub shown : text ≡ report replies (I.told new).out (I.told new).held
+
+-- These calls were made of a tower of this shape over a device that fails as these acts say, and has taken nothing; and the text shows it.
+pub record Shows {W : Type 0} (I : Writer (Faulty W)) (shape : Shape) (acts : List Act) (ops : List Op) (text : List ℕ) : Type 0 where
+  pub replies : List Reply
+  pub old : Faulty W
+  pub fresh : (acts_left old ≡ acts) × (I.told old ≡ fresh_told acts)
+  pub new : Faulty W
+  pub held : List ℕ
+  pub ran : Ran (fresh_told acts) ops replies (with_buffer (I.told new) held)
+  -- the device got the calls that such a tower makes
+  pub calls : RunBelow I (λ calls below. TowerCalls shape calls below held) old ops replies new
+  pub shown : text ≡ report replies (I.told new).out held
+
 -- The text shows a play on such a tower.
-pub record IsPlay (text : List ℕ) : Type 0 where
+pub record IsPlay {W : Type 0} (I : Writer (Faulty W)) (shape : Shape) (text : List ℕ) : Type 0 where
   pub acts : List Act
   pub ops : List Op
-  pub shows : Shows (fresh_told acts) ops text
+  pub shows : Shows I shape acts ops text
 
 -- The text shows the play of the script that is read from these events.
-pub record IsPlayOf (E : List Event) (text : List ℕ) : Type 0 where
+pub record IsPlayOf {W : Type 0} (I : Writer (Faulty W)) (shape : Shape) (E : List Event) (text : List ℕ) : Type 0 where
   pub script : Script
   pub ops : List Op
   pub read : IsRead 10 E script
   pub calls : AreCalls script.calls ops
-  pub shows : Shows (fresh_told script.acts.items) ops text
+  pub shows : Shows I shape script.acts.items ops text
 
 -- From old to new a writer accepted one text that is P, and nothing is held.
 pub record Writes (P : List ℕ → Type 0) (old new : Told) : Type 0 where

@@ -1,7 +1,7 @@
 // Asking for memory. Only this module makes a `Refused`, and only where memory was asked for and refused: nothing else in the
 // program can answer that there was none.
 ghost use Rattle.std.specs.Prelude.{◌≡◌, ℕ, List, ◌++◌, ◌+◌, ◌≤◌, ◌<◌, length, vec_len, vec_capacity, Some, OnOk, OnErr, IfOk};
-ghost use Rattle.io_bench.specs.Runs.{Ran};
+ghost use Rattle.io_bench.specs.Runs.{Ran, RunCalls};
 
 use io_bench::{Op, Reply, run_writes};
 use std::alloc::{Allocator, Global};
@@ -54,6 +54,7 @@ pub fn replies_of<W: no_std_io2::io::Write>(
     ops: &[Op<'_>],
 ) -> Result<Vec<Reply>, Refused>
     ensures ran { IfOk result (λ replies. Ran (W.told w.old) ops.now replies.items (W.told w.new)) }
+    ensures calls { IfOk result (λ replies. RunCalls W.Write w.old ops.now replies.items w.new) }
     ensures err { OnErr result (w.new ≡ w.old) }
     // No calls want no memory.
     ensures full { OnErr result (0 < length ops.now) }

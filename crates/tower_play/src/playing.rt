@@ -6,7 +6,7 @@ ghost use Rattle.tower_play.specs.declared.playing.Fault.TheVariants.{Io};
 ghost use Rattle.system_streams.specs.Copies.{HasFirstFault, MayFail};
 ghost use Rattle.tower_play.specs.Faults.{fault_display, IfIo, IfLine};
 ghost use Rattle.tower_play.specs.Reading.{IsBadAt};
-ghost use Rattle.tower_play.specs.Play.{Shows, IsPlay, IsPlayOf, Writes, fresh_told};
+ghost use Rattle.tower_play.specs.Play.{Shows, ShowsRun, IsPlay, IsPlayOf, Writes};
 
 use crate::memory::{Refused, replies_of};
 use crate::report::report_of;
@@ -138,9 +138,11 @@ pub fn play<R: Read + Drop, W: Write + Drop>(
     shape: Shape,
 ) -> Result<W, Fault>
     requires reader_fits { BufReaderFits R.row 64 }
-    ensures ok { IfOk result (λ w. Writes IsPlay (W.told output) (W.told w)) }
+    // The tower has this shape: the device got the calls that such a tower makes.
+    ensures ok { IfOk result (λ w. Writes (IsPlay ⟦<Faulty<Vec<u8>> as Write>⟧ shape) (W.told output) (W.told w)) }
     // The script is what the input tells.
-    ensures script { R.tells input → IfOk result (λ w. Writes (IsPlayOf (R.events input)) (W.told output) (W.told w)) }
+    ensures script { R.tells input → IfOk result (λ w. Writes (IsPlayOf ⟦<Faulty<Vec<u8>> as Write>⟧ shape (R.events input))
+        (W.told output) (W.told w)) }
     // A bad line is the first one of all that the input tells.
     ensures first { R.tells input → IfErr result (IfLine (IsBadAt 10 (R.events input))) }
     // Any other fault is the input's first one, want of memory, or an error of the output.
@@ -157,7 +159,7 @@ pub fn play<R: Read + Drop, W: Write + Drop>(
 }
 
 fn play_ops(alloc: Global, acts: Vec<Act>, ops: &[Op<'_>], shape: Shape) -> Result<Vec<u8>, Refused>
-    ensures ok { IfOk result (λ text. Shows (fresh_told acts.items) ops.now text.items) }
+    ensures ok { IfOk result (λ text. Shows ⟦<Faulty<Vec<u8>> as Write>⟧ shape acts.items ops.now text.items) }
 {
     let base = Faulty::new(Vec::new(alloc), acts);
     match shape {
@@ -184,7 +186,7 @@ fn play_ops(alloc: Global, acts: Vec<Act>, ops: &[Op<'_>], shape: Shape) -> Resu
 
 // Makes the calls, and then the text, before the tower is dropped.
 fn play_on<T: Tower + Drop>(alloc: Global, mut tower: T, ops: &[Op<'_>]) -> Result<Vec<u8>, Refused>
-    ensures ok { IfOk result (λ text. Shows (T.Write.told tower) ops.now text.items) }
+    ensures ok { IfOk result (λ text. ShowsRun T.Write tower ops.now text.items) }
 {
     let replies = replies_of(alloc, &mut tower, ops)?;
     let (inner, outer) = tower.held();

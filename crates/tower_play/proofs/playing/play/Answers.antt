@@ -2,7 +2,7 @@ use Rattle.std.proofs.Common.{◌≡◌, subst, sym, ap, ◌∙◌, inr}
 use Rattle.std.proofs.lemmas.Result.{err_from_is_err_and}
 use Rattle.no_std_io2.specs.BufReader.{reader_inner, reader_events}
 use Rattle.no_std_io2_base.specs.Pieces.{split_reader, split_delim}
-use Rattle.tower_play.specs.Play.{IsPlay, IsPlayOf, Shows, fresh_told}
+use Rattle.tower_play.specs.Play.{IsPlay, IsPlayOf, Shows}
 use Rattle.tower_play.specs.Reading.{IsRead}
 use Rattle.tower_play.proofs.PlayLemmas.{writes_text, write_failed, flush_failed}
 use Rattle.tower_play.proofs.playing.play.Goals as goal
@@ -12,13 +12,13 @@ returns g c =
     let R = g.R.Read in
     let E = R.events c.args.input in
     let script = c.in_ok-acts.field-0 in
-    let is : IsPlay c.in_ok-report.report.items =
+    let is : IsPlay _ c.args.shape c.in_ok-report.report.items =
     record { acts = script.acts.items; ops = c.deref.result.now; shows = c.in_ok-report.ensures.ok } in
     let reader = c.split.ensures.reader in
     let inner : reader_inner (split_reader c.split.result) ≡ c.args.input = ap reader_inner reader ∙ c.new-reader.ensures.inner in
     let events : reader_events R.events (split_reader c.split.result) ≡ E =
     ap (reader_events R.events) reader ∙ c.new-reader.ensures.events in
-    let play_of : R.tells c.args.input → IsPlayOf E c.in_ok-report.report.items = λ t. record {
+    let play_of : R.tells c.args.input → IsPlayOf _ c.args.shape E c.in_ok-report.report.items = λ t. record {
       script = script;
       ops = c.in_ok-ops.ops.items;
       read =
@@ -27,7 +27,7 @@ returns g c =
           (c.in_ok-acts.ensures.read c.split.ensures.fresh (subst R.tells (sym inner) t)));
       calls = c.in_ok-ops.ensures.calls;
       shows =
-          subst (λ ops. Shows (fresh_told script.acts.items) ops c.in_ok-report.report.items) c.deref.ensures.value
+          subst (λ ops. Shows _ c.args.shape script.acts.items ops c.in_ok-report.report.items) c.deref.ensures.value
           c.in_ok-report.ensures.ok;
     } in
     let wrote = c.in_ok-write_all.ensures.law.moves in
