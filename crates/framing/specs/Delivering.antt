@@ -10,7 +10,7 @@ abbrev pub HasAtMost : ℕ → Option (List ErrorKind) → Type 0
 HasAtMost n None = ⊥
 HasAtMost n (Some mishaps) = length mishaps ≤ n
 
--- a told list stays told, and is shorter by n - left at least
+-- told mishaps stay told, and at least n - left of them are gone
 abbrev pub HasSpentTries : ℕ → ℕ → Option (List ErrorKind) → Option (List ErrorKind) → Type 0
 HasSpentTries n left None new = ⊤
 HasSpentTries n left (Some old) None = ⊥

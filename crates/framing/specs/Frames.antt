@@ -18,11 +18,11 @@ frames payloads = concat (map frame payloads)
 abbrev pub told_length : List ℕ → ℕ
 told_length bs = from_le_bytes w32 (take 4 bs)
 
--- fewer bytes than a frame that begins with them has
+-- the beginning of a frame, but not the whole of it
 abbrev pub IsPart : List ℕ → Type 0
 IsPart bs = (length bs < 4) ⊎ (length bs < 4 + told_length bs)
 
--- a header and a payload that are no more than a frame's: no payload before the header is whole, and no longer one than it tells
+-- a header and a payload that are at most one frame: there is no payload until the header is whole, and then at most as much as it says
 abbrev pub IsWithin : List ℕ → List ℕ → Type 0
 IsWithin header payload = (length header ≤ 4) × (length header < 4 → payload ≡ []) × (length payload ≤ from_le_bytes w32 header)
 

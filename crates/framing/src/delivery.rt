@@ -29,9 +29,10 @@ impl<W: Write + Drop, const S: usize> FrameWriter<W, S> {
         }
     }
 
-    /// Sends these payloads as [`send_all`](FrameWriter::send_all) and flushes, and does so again after each of the
-    /// first `tries` faults of the device. After `Ok` every frame is out, once, and nothing is held. Over a
-    /// device that tells at most `tries` mishaps to come it fails by a refusal alone.
+    /// Sends these payloads like [`send_all`](FrameWriter::send_all) and flushes. If the device
+    /// fails, it tries again, up to `tries` times. After `Ok` every frame is out, once, and nothing
+    /// is held. If the device tells that at most `tries` mishaps are to come, `deliver` fails only
+    /// if a payload is refused.
     ///
     /// # Errors
     /// The fault of the last try, with its text: the same call goes on. `InvalidInput` and `OutOfMemory` as of

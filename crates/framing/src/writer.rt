@@ -1,4 +1,4 @@
-//! Frames into a writer: none is torn by a fault, and none goes out twice.
+//! Writes frames to a writer. A fault does not tear a frame, and no frame goes out twice.
 ghost use Rattle.std.specs.Prelude.{◌≡◌, ◌<◌, ◌≤◌, ◌^◌, [], ◌++◌, map, length, nat_lt, OnOk, OnErr, IfErr, IsOk};
 ghost use Rattle.no_std_io2.specs.BufWriter.{writer_inner, writer_buffer, Unwraps};
 ghost use Rattle.pending.specs.Pending.{pending_bytes, pending_rest, pending_room, RestLaw, RestFlushLaw};
@@ -13,10 +13,10 @@ use std::alloc::Global;
 
 /// A writer of frames, with a buffer of `S` bytes in front of any writer.
 ///
-/// A frame that was not whole when the device failed is *under way*: [`retry`](FrameWriter::retry), and
-/// likewise `send_all` and `flush`, go on where it stopped, so no byte goes out twice. What the device
-/// took, then what the buffer holds, then what is still to go of the frame under way is always what it
-/// was, followed by exactly the frames that were sent.
+/// If the device fails before a whole frame was accepted, that frame is *under way*.
+/// [`retry`](FrameWriter::retry), `send_all` and `flush` continue where it stopped, so no byte goes
+/// out twice. What the device took, then what the buffer holds, then what is still to go of the
+/// frame under way is always what it was, followed by exactly the frames that were sent.
 ///
 /// Dropping it sends the buffer once, ignores a fault, and cuts off the frame under way.
 #[derive(Drop)]

@@ -138,7 +138,7 @@ EndsFlushed (op ∷ []) (reply ∷ []) = IsFlushed op reply
 EndsFlushed (op ∷ []) (reply ∷ next ∷ replies) = ⊥
 EndsFlushed (op ∷ next ∷ ops) (reply ∷ replies) = EndsFlushed (next ∷ ops) replies
 
--- all was taken, or done
+-- the call succeeded and accepted all its bytes
 abbrev pub IsWhole : Op → Reply → Type 0
 IsWhole (Write x) (Took n) = n ≡ length x.now
 IsWhole (WriteAll x) Done = ⊤

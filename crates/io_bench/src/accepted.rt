@@ -37,8 +37,9 @@ fn are_clear(ops: &[Op<'_>], replies: &[Reply]) -> bool
     true
 }
 
-/// The bytes that a run of these calls with these replies accepted, in order: `Some`, and no run with these
-/// replies accepted others. So out and then held of a writer is what it was, followed by these bytes.
+/// Returns the bytes that a run of these calls accepted, in order, if the replies determine them.
+/// Then `out` followed by `held` of the writer is what it was before the run, followed by these
+/// bytes.
 ///
 /// `None` where the replies leave it open: the lists differ in length, a reply is none that such a call gives (a
 /// `write` that took more than it had, say), or a `write_all` failed, of whose bytes any front may be accepted.

@@ -82,10 +82,10 @@ fn make_ask<R: Read, const S: usize>(
 /// Makes these asks of a buffered reader, in order, each into the front of `buf`, which has room
 /// for the longest of them. It goes on after an ask that failed.
 ///
-/// Each ask has one answer, and the totals count these. Over a reader that tells its events an answer
-/// is what its call does to them, so a front of what is to come is taken. Over a filling reader, as a
-/// slice or a cursor is, none fails, and the inner reads are few: where nothing was held before and N
-/// bytes are taken, the tally counted at most `N / S + 1 + at_end` more.
+/// The totals count the results of all asks. If the reader tells its events, each ask takes some
+/// from the front, as its call does. If the reader is filling, as slices and cursors are, no ask
+/// fails and the number of inner reads is bounded: if nothing was held before and N bytes are
+/// taken, the tally counts at most `N / S + 1 + at_end` more.
 pub fn run_reads<R: Read, const S: usize>(
     r: &mut BufReader<Tally<R>, S>,
     asks: &[Ask],

@@ -42,8 +42,9 @@ fn make_counted_call<W: Write + Drop, const S: usize>(
     }
 }
 
-/// Makes these calls, in order, of a new `BufWriter<_, S>` over `w`, appends one reply each, and
-/// gives `w` back by `into_inner`. The base of `w` takes all, and S is above 0.
+/// Makes the calls of `ops`, in order, on a new `BufWriter<_, S>` over `w`. It appends one reply
+/// for each call, and returns `w`, which it gets back by `into_inner`. The writer below `w` takes
+/// all, and S is above 0.
 ///
 /// Each call then succeeds whole, the base got exactly the bytes of all calls and takes all as
 /// before, and the inner writes are few: where the calls give N bytes and F of them are flushes,

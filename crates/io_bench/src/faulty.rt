@@ -15,9 +15,9 @@ pub enum Act {
     Fail(ErrorKind),
 }
 
-/// A writer in front of another one, that fails as its acts say. Each call of `write` or `flush`
-/// spends the next act; once the acts are spent, calls are handed on whole. `write_all` and `write_rest`
-/// are the trait's own, so each of their writes spends one.
+/// A writer in front of another one that fails as its list of acts says. Each `write` or `flush`
+/// uses up the next act. Once no act is left, calls are passed on unchanged. `write_all` and
+/// `write_rest` are the trait's own, so each of their writes spends one.
 #[derive(Debug, Drop)]
 pub struct Faulty<W> {
     inner: W,

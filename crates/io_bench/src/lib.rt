@@ -1,10 +1,10 @@
 //! Scripted devices and whole runs, to try writers and readers with.
 //!
-//! [`run_writes`] makes a list of calls on any writer and notes each reply; its contract says what
-//! such a run does to the writer, whatever the writer is. [`Sink`], [`Faulty`] and [`Tally`] are
+//! [`run_writes`] makes the calls of a list on any writer, and keeps each reply. Its contract says
+//! what this does to the writer, for every type of writer. [`Sink`], [`Faulty`] and [`Tally`] are
 //! writers to put below: one that takes all, one that fails as it is told, and one that counts.
-//! [`run_closed`] is a run through one `BufWriter` with a bound on the inner writes. [`joined`] is what a run accepted, by
-//! its replies.
+//! [`run_closed`] is a run through one `BufWriter` with a bound on the inner writes. [`joined`] is
+//! what a run accepted, by its replies.
 //!
 //! [`run_reads`] is a list of reads through one `BufReader` with a bound on the inner reads. [`Feed`]
 //! is a reader to put below, which gives what its script says; `Tally` counts its reads too.

@@ -1,4 +1,5 @@
-//! Plays files of rows: each row is a call of the streams under test, with its answer and what stands after it.
+//! Runs table-driven tests. Each row of a table is a call on the stream under test, its expected
+//! result and the expected state afterwards.
 //!
 //! A file has tables. A table begins with a line `stream NAME`, or `stream NAME, NAME`, and has groups of rows. A group
 //! begins with a line `new ANSWERS`, which makes the stream anew over a device that answers so. A row is
@@ -17,8 +18,8 @@
 //! `\n`, `\\` and `\x0d`, none are a dash, and `\*300a` are 300 bytes from `a` on, of which each follows the one before it: the
 //! letters from `a` to `w` over and over, or dots. An error is `!KIND`, or `!KIND: TEXT`.
 //!
-//! Behind an argument `each-kind` each table is played once more for each kind of fault, with a text and without, in place of
-//! the one that it names.
+//! After the argument `each-kind`, each table is also played with every other kind of fault in
+//! place of the one that it names, with a text and without.
 //!
 //! A program has [`player::Streams`] for its streams, and its `main` calls [`files::play_files`].
 #![tactic(auto)]

@@ -7,8 +7,8 @@ use super::kinds::name_of_kind;
 use no_std_io2::io::{Error, Result};
 use std::alloc::{AllocError, Global};
 
-// A text that is printed piece by piece. What it lacks since memory was refused, and that its row can't be played, it keeps in
-// mind, so that who prints goes on.
+// A text that is printed piece by piece. If an allocation fails, or if its row cannot be played, it
+// remembers that, so that the printing code need not stop.
 #[derive(Drop)]
 pub struct Line {
     alloc: Global,

@@ -1,4 +1,5 @@
-// A stream that writes down the name of each call that its trait could make of others, and hands it on.
+// A stream that logs the name of each call that has a default body, such as `write_all`, and passes
+// the call on.
 ghost use Rattle.std.specs.Prelude.{◌≡◌};
 
 use super::journal::Journal;

@@ -1,7 +1,7 @@
 //! Tests of what neither a clause nor a row of a table says: printed texts, kinds as keys, a long stream; and the examples of
 //! comments, those of the library in `buffers`, `memory` and `streams`, those of its clients in `clients`.
 //!
-//! The line above a test says which mistake it is to find.
+//! The comment above each test names the mistake that the test would find.
 #![tactic(auto)]
 
 #[cfg(test)]

@@ -93,7 +93,7 @@ impl<W: Write + Drop, const S: usize> LineLog<W, S> {
             return Ok(());
         }
         self.pending.send_to(&mut self.lines)?;
-        // The end of the line may be held: a write of nothing sends it.
+        // The end of the line may still be in the buffer. An empty write sends it.
         self.lines.write_all(b"")?;
         self.pending.clear();
         Ok(())

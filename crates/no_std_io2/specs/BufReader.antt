@@ -36,7 +36,7 @@ reader_inner r = r.inner
 abbrev pub reader_events : {R : Type 0} {S : ℕ} → (R → List Event) → BufReader R S → List Event
 reader_events events r = events_of (reader_held r) ++ events (reader_inner r)
 
--- each held byte is a turn, and each inner turn is one more than a full buffer
+-- the turns of a `BufReader`: one for each held byte, and S + 1 for each turn of the inner reader
 abbrev pub reader_turns : {R : Type 0} {S : ℕ} → (R → ℕ) → BufReader R S → ℕ
 reader_turns {S = room} turns r = length (reader_held r) + (room + 1) * turns (reader_inner r)
 
@@ -97,7 +97,7 @@ exact_left room len held all =
 abbrev pub exact_behind : ℕ → ℕ → ℕ → ℕ
 exact_behind room len held = if nat_le room (len - held) then 0 else len - held
 
--- `target` is so far back that one seek of the inner reader, which is `held` bytes ahead, can't say it
+-- the offset is so far back that one seek of the inner reader, which is `held` bytes ahead, would not fit an `i64`
 abbrev pub IsTooFarBack : SeekFrom → ℕ → Type 0
 IsTooFarBack (Current (negsuc k)) held = 2 ^ 63 < held + (k + 1)
 IsTooFarBack _ held = ⊥
@@ -231,8 +231,8 @@ SeeksInner may held old (Current offset) new reply =
     × (SeeksTwice may held old offset new reply ⊎ (IsErr reply × may old (Sought (back_by held) reply) new)))
 SeeksInner may held old to new reply = may old (Sought to reply) new
 
--- A buffered reader was sought: its inner reader was, and the buffer dropped, or it failed, and the buffer was kept where one
--- seek was made.
+-- A seek of a `BufReader`. If it succeeds, the inner reader was sought, and the buffer is dropped. If it fails, the buffer is kept; only if
+-- the target needs two inner seeks, it may be dropped.
 pub record ReaderSeeks {R : Type 0} {S : ℕ} (may : R → SeekCall → R → Type 0) (old : BufReader R S)
     (to : SeekFrom) (new : BufReader R S) (reply : Result ℕ Error) : Type 0 where
   pub dropped : OnOk reply (HasNoBuffer new)

@@ -54,7 +54,7 @@ sender_told told w = with_buffer (told w.inner) (sender_buffer w)
 abbrev pub writer_told : {W : Type 0} {S : ℕ} → (W → Told) → BufWriter W S → Told
 writer_told told w = sender_told told w.core
 
--- how many inner calls it takes that n more bytes fit beside the buffer, where the inner writer takes all
+-- the number of inner calls that make room for n more bytes, if the inner writer takes all
 abbrev pub way_calls : ℕ → List ℕ → ℕ → ℕ
 way_calls S buffer n = if nat_lt 0 (length buffer) && nat_lt S (length buffer + n) then 1 else 0
 
@@ -173,7 +173,7 @@ pub record Buffers {W B : Type 0} (I : Writer W) (S : ℕ) (inner : B → W) (bu
   pub whole : length x < S → IfOk reply (λ n. n ≡ length x)
   -- what is held after an `Ok`
   pub after : OnOk reply (buffer new ≡ buffer_after S (buffer old) x)
-  -- how many calls an inner writer gets that takes all
+  -- the number of calls on the inner writer, if that takes all
   pub counts : CountsCalls I (inner old) (writing_calls S (buffer old) x) (inner new)
 
 -- What `write_all(x)` does.
@@ -186,7 +186,7 @@ pub record BuffersAll {W B : Type 0} (I : Writer W) (S : ℕ) (inner : B → W) 
       → IsOk reply × (inner new ≡ inner old) × (buffer new ≡ buffer old ++ x)
   -- what is held after an `Ok`
   pub after : OnOk reply (buffer new ≡ buffer_after S (buffer old) x)
-  -- how many calls an inner writer gets that takes all; with S = 0 an empty x makes none
+  -- the number of calls on the inner writer, if that takes all; with S = 0 an empty x makes none
   pub counts : 0 < S → CountsCalls I (inner old) (writing_calls S (buffer old) x) (inner new)
 
 -- What `flush` does.

@@ -27,7 +27,7 @@ abbrev pub IsInBuffer : ℤ → ℕ → ℕ → Type 0
 IsInBuffer (pos k) behind held = k ≤ held
 IsInBuffer (negsuc k) behind held = k + 1 ≤ behind
 
--- behind and held are together the list that they were, cut `offset` further on
+-- the border between `behind` and `held` has moved by `offset`; joined, they are the same list as before
 abbrev pub IsCutOn : ℤ → List ℕ → List ℕ → List ℕ → List ℕ → Type 0
 IsCutOn offset behind held behind' held' = (behind' ++ held' ≡ behind ++ held) × IsAtOffset (length behind) offset (length behind')
 
@@ -36,7 +36,7 @@ abbrev pub MovesEvents : ℤ → List ℕ → List ℕ → List Event → List E
 MovesEvents (pos k) behind held E after = E ≡ events_of (take k held) ++ after
 MovesEvents (negsuc k) behind held E after = after ≡ events_of (drop (length behind - (k + 1)) behind) ++ E
 
--- whole ends in end
+-- `end` is a suffix of `whole`
 abbrev pub IsEnd : List ℕ → List ℕ → Type 0
 IsEnd whole end = (front : List ℕ) × (whole ≡ front ++ end)
 

@@ -13,7 +13,7 @@ use Rattle.no_std_io2.specs.BufWriter.{CallOf}
 abbrev pub counted : List ℕ → ℕ
 counted b = min (length b) (2 ^ 64 - 1)
 
--- b is a front of x, and at most `room` bytes shorter
+-- b is a prefix of x, and x has at most `room` more bytes
 abbrev pub IsNearlyAll : ℕ → List ℕ → List ℕ → Type 0
 IsNearlyAll room b x = IsFront b x × (length x ≤ length b + room)
 

@@ -1,10 +1,10 @@
--- What is gone of what was to come, where no fault is among it.
+-- Events that were taken without meeting a fault.
 use Rattle.std.specs.Prelude.{◌≡◌, ◌⊎◌, ℕ, ◌+◌, List, [], ◌∷◌, ◌++◌, length, Result, Ok, Err}
 use Rattle.no_std_io2_base.specs.declared.error.Error.{Error}
 use Rattle.no_std_io2_base.specs.Errors.{IsFault, IsUnexpectedEnd}
 use Rattle.no_std_io2_base.specs.Read.{Event, fails, bytes, HasNoFault}
 
--- A front of E is gone that has no fault and these bytes.
+-- The first events of E are taken. They have no fault, and their bytes are `taken`.
 pub record Passes (E : List Event) (taken : List ℕ) (after : List Event) : Type 0 where
   pub front : List Event
   pub split : E ≡ front ++ after

@@ -1,4 +1,5 @@
-//! Pins what each type tells: with a member that tells nothing, every promise over it would be empty and still be proved.
+//! Fixes what each type tells. A type whose ghost members say nothing would still be proved, but
+//! every promise about it would be empty.
 ghost use Rattle.std.specs.Prelude.{◌≡◌, ◌+◌, ◌-◌, ◌<◌, ◌≤◌, min, nat_lt, if◌then◌else◌, [], length, drop, ◌++◌, Some, IsOk, IfOk, OnOk};
 ghost use Rattle.std.specs.Prelude.{IsOkAnd};
 ghost use Rattle.no_std_io2_base.specs.Read.{events_of};

@@ -2,8 +2,8 @@
 //! system. The names are those of Rust's `std::io`, under [`io`].
 //!
 //! To put a buffer in front of a device, take [`io::BufWriter`], [`io::LineWriter`] or
-//! [`io::BufReader`]. In the examples of all comments `rt` is the `HostRuntime` that a program's
-//! `main` and a test are given, and `?` leaves a function that returns a `Result`.
+//! [`io::BufReader`]. In the examples, `rt` is the `HostRuntime` that `main` and each test take as
+//! an argument, and the code stands in a function that returns a `Result`.
 //!
 //! Bytes in memory are a stream by [`io::Cursor`]; slices read, and vectors take bytes, by
 //! themselves. [`io::copy`] moves all of a reader to a writer. A device of your own implements

@@ -1,4 +1,5 @@
-//! Bytes that only contracts read, for a device that keeps none of those that it took.
+//! A list of bytes that exists only for contracts, for a device that does not store the bytes that
+//! it takes.
 ghost use Rattle.std.specs.Prelude.{◌≡◌, ℕ, List, [], ◌++◌};
 ghost use Rattle.std.specs.Borrow.{ftrue};
 
@@ -6,7 +7,8 @@ use std::marker::{Model, PhantomData};
 
 /// A list of bytes that is seen by contracts alone: ghost state. It takes no memory, and its calls do nothing when they run.
 ///
-/// A device that doesn't keep what it took tells its `out` by one: a port, a socket, a sink.
+/// A device that does not store the bytes that it takes, such as a port, a socket or a sink, uses a
+/// `Trace` to tell its `out`.
 #[derive(Drop)]
 pub struct Trace {
     marker: PhantomData<u8>,

@@ -23,15 +23,16 @@ pub use sink::Sink;
 /// reader's interruptions, hands on what each read gives by one `write_all`, and doesn't flush
 /// `writer`. Follows `std::io::copy`.
 ///
-/// Of a reader that gives as many bytes as fit, `S` above 0, it makes as many reads as give bytes, and
-/// one more, that gives none.
+/// If `S` is above 0 and each read gives as many bytes as fit, `copy` makes one read for each `S`
+/// bytes, rounded up, and one more, which finds the end.
 ///
 /// `S` is from 0 to 2^63 - 1. With `S` 0 nothing is copied and the result is 0, or the reader's
 /// fault where it returns one.
 ///
 /// # Errors
-/// The reader's first fault: the writer has accepted all bytes before it. Or the writer's fault:
-/// up to `S` of the bytes that were read aren't accepted, and are lost. Never `Interrupted`.
+/// Returns the reader's first fault; the writer has then accepted all bytes before it. Or returns
+/// the writer's fault; then up to `S` bytes that were read are not accepted, and are lost. Never
+/// returns `Interrupted`.
 ///
 /// ```rust
 /// let mut from = Cursor::new(*b"abcde");
@@ -75,9 +76,9 @@ pub fn copy<R: Read, W: Write, const S: usize>(reader: &mut R, writer: &mut W) -
     }
 }
 
-/// Passes over the next `left` bytes of `reader`, and over interruptions. `left` is then what is still to
-/// be passed over: 0 at `Ok`. With `left` 0 no call is made. No byte is copied. `std::io` has no such
-/// function: there one copies a `Take` into a `Sink`.
+/// Skips the next `left` bytes of `reader` without copying them, and ignores interruptions.
+/// Afterwards `left` is the number of bytes that are still to be skipped: 0 after `Ok`. If `left`
+/// is 0, no call is made. `std::io` has no such function; there you copy a `Take` into a `Sink`.
 ///
 /// # Errors
 /// The reader's first fault, which is gone then; `UnexpectedEof` where the bytes end too early. The bytes

@@ -9,7 +9,7 @@ use Rattle.no_std_io2_base.specs.Errors.{IsNoInterruption}
 use Rattle.no_std_io2_base.specs.Pieces.{TakesLine, TakesPiece, HasPieceRoom}
 use Rattle.no_std_io2_base.specs.Write.{IsFront}
 
--- P holds of the value in the `&mut` s once the result's borrow of it ends
+-- P holds for the value behind the `&mut` s after the borrow of it by the result has ended
 abbrev pub Rests : (R : RattleType) → MutBor R.Denot → (R.Denot → Type 0) → Fml
 Rests R s P = follows_so R R s.ghost_name none (λ _ _. ⊤) P
 
@@ -67,7 +67,7 @@ pub record FillBufLaw {X : Type 0} (R : Lender X) (old : X) (reply : Result (Bor
   pub held : IsNotEmpty (R.held old) → IsOkAnd reply (λ s. s.now ≡ R.held old)
   -- what is lent comes next
   pub front : R.tells old → IfOk reply (λ s. BeginsWith (R.events old) s.now)
-  -- nothing is lent at the end alone
+  -- an empty slice is lent only at the end
   pub end : R.tells old → IfOk reply (λ s. s.now ≡ [] → R.events old ≡ [])
   -- it lends as much as it tells
   pub lends_surely : R.lends_surely old → IsOkAnd reply (λ s. length s.now ≡ R.lent_length old)
@@ -86,7 +86,7 @@ AfterLoan R old reply new = record {
   unchanged : IsNotEmpty (R.held old) → new ≡ old;
   -- where none were held one read was made
   counts : R.counts_fills old → R.counts_fills new × (R.fills new ≡ R.fills old + reads_needed (R.held old));
-  -- what it claims of itself stays so
+  -- what the reader claims about itself still holds
   stays_sure : R.lends_surely old → R.lends_surely new;
   metered : R.is_metered old → R.is_metered new;
   filling : R.is_filling old → R.is_filling new;
@@ -107,7 +107,7 @@ pub record ConsumeLaw {X : Type 0} (R : Lender X) (old : X) (amount : ℕ) (new 
   -- nothing is read
   pub cost : R.is_metered old → R.is_metered new × (R.cost new ≡ R.cost old)
   pub counts : R.counts_fills old → R.counts_fills new × (R.fills new ≡ R.fills old)
-  -- what it claims of itself stays so
+  -- what the reader claims about itself still holds
   pub filling : R.is_filling old → R.is_filling new
   pub lends_surely : R.lends_surely old → R.lends_surely new
   -- a told store keeps its content, and its position goes on by what was dropped
@@ -133,7 +133,7 @@ pub record ReadUntilLaw {X A : Type 0} (R : Lender X) (old : X) (delim : ℕ) (b
   pub turns : R.turns new ≤ R.turns old
   -- a piece of some bytes spends one
   pub turn : IfOk reply (λ n. 0 < n → R.turns new < R.turns old)
-  -- what it claims of itself stays so
+  -- what the reader claims about itself still holds
   pub metered : R.is_metered old → R.is_metered new
   pub filling : R.is_filling old → R.is_filling new
   -- a told store keeps its content, and its position goes on by what was taken
@@ -156,7 +156,7 @@ pub record ReadLineLaw {X A : Type 0} (R : Lender X) (old : X) (buf : String A) 
   pub turns : R.turns new ≤ R.turns old
   -- a line of some bytes spends one
   pub turn : IfOk reply (λ n. 0 < n → R.turns new < R.turns old)
-  -- what it claims of itself stays so
+  -- what the reader claims about itself still holds
   pub metered : R.is_metered old → R.is_metered new
   pub filling : R.is_filling old → R.is_filling new
   -- a told store keeps its content, and its position goes on by what was taken

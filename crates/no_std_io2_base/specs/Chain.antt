@@ -27,13 +27,13 @@ chain_tells first second c = (c.done_first ≡ false → first c.first) × secon
 abbrev pub chain_events : {T U : Type 0} → (T → List Event) → (U → List Event) → Chain T U → List Event
 chain_events first second c = (if c.done_first then [] else first c.first) ++ second c.second
 
--- a call used one reader after the other: a done first one is left as it is, and the second until then
+-- a call uses one reader after the other: it does not touch the first once it is done, nor the second before that
 pub record InTurn {T U : Type 0} (was now : Chain T U) : Type 0 where
   pub stays_done : was.done_first ≡ true → now.done_first ≡ true
   pub first_alone : was.done_first ≡ true → now.first ≡ was.first
   pub second_alone : now.done_first ≡ false → now.second ≡ was.second
 
--- no call of either raises its turns, and neither does the mark
+-- the turns of both readers together; neither a call nor the mark raises them
 abbrev pub chain_turns : {T U : Type 0} → (T → ℕ) → (U → ℕ) → Chain T U → ℕ
 chain_turns first second c = first c.first + second c.second
 

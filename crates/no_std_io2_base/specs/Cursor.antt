@@ -6,11 +6,11 @@ use Rattle.no_std_io2_base.specs.declared.error.Error.{Error}
 use Rattle.no_std_io2_base.specs.declared.error.ErrorKind.TheVariants.{InvalidInput, OutOfMemory}
 use Rattle.no_std_io2_base.specs.Errors.{error_kind, error_text}
 
--- where a cursor stands
+-- the position of a cursor
 abbrev pub cursor_place : {T : Type 0} → Cursor T → ℕ
 cursor_place c = c.pos
 
--- what it goes over
+-- the content of a cursor, `c.into_inner()`
 abbrev pub cursor_inner : {T : Type 0} → Cursor T → T
 cursor_inner c = c.inner
 
@@ -18,7 +18,7 @@ cursor_inner c = c.inner
 abbrev pub cursor_left : {T : Type 0} → (T → List ℕ) → Cursor T → List ℕ
 cursor_left slice c = drop c.pos (slice c.inner)
 
--- both fit the numbers that the calls give
+-- the length of the content and the position fit a `u64`
 abbrev pub cursor_stores : {T : Type 0} → (T → List ℕ) → Cursor T → Type 0
 cursor_stores slice c = (length (slice c.inner) < 2 ^ 64) × (c.pos < 2 ^ 64)
 

@@ -33,7 +33,7 @@ without d bs = if ends_in d bs then but_last bs else bs
 abbrev pub line_text : List ℕ → List ℕ
 line_text bs = if ends_in 10 bs then without 13 (without 10 bs) else bs
 
--- b in front of the first piece, which it begins where there is none
+-- the pieces with b put in front of the first one; if there is no piece, b alone is the first
 abbrev pub in_front : ℕ → List (List ℕ) → List (List ℕ)
 in_front b [] = (b ∷ []) ∷ []
 in_front b (p ∷ ps) = (b ∷ p) ∷ ps
@@ -156,13 +156,13 @@ YieldsPiece view trim refuses d E (Some (Ok item)) after = (piece : List ℕ) ×
 YieldsPiece view trim refuses d E (Some (Err e)) after =
     (piece : List ℕ) × (StopsInPiece d E e [] piece after ⊎ (TakesSome d E piece after × refuses piece e))
 
--- after an error it has ended
+-- whether the iterator has ended after yielding this: yes, if it is an error
 abbrev pub ends_at : {T : Type 0} → Option (Result T Error) → Bool
 ends_at None = false
 ends_at (Some (Ok item)) = false
 ends_at (Some (Err e)) = true
 
--- at least as many items are to come, by the reader's turns
+-- an upper bound on the items to come, from the reader's turns
 abbrev pub items_left : Bool → ℕ → ℕ
 items_left is_ended turns = if is_ended then 0 else suc turns
 

@@ -7,7 +7,7 @@ use Rattle.no_std_io2_base.specs.Errors.{is_interruption}
 use Rattle.no_std_io2_base.specs.declared.traits.bytes.Bytes.{Bytes}
 use Rattle.std.proofs.Common.{ap, sym, ◌∙◌}
 
--- what is still to come of a reader: a byte, or an error that a call answers
+-- one thing that a reader is going to give: a byte, or an error that a call returns
 pub data Event : Type 0 where
   byte : ℕ → Event
   fails : Error → Event
@@ -36,8 +36,8 @@ cut (suc k) [] = []
 cut (suc k) (byte b ∷ E) = byte b ∷ cut k E
 cut (suc k) (fails e ∷ E) = fails e ∷ cut (suc k) E
 
--- one read into buf turned E into after: n bytes now stand at its front, or the error that stood first is gone; no byte
--- comes only at the end or with no room
+-- one `read` took the events of E up to `after`: the n bytes that are now at the front of buf, or the error that E began with. It gives 0
+-- bytes only at the end, or if buf is empty
 abbrev pub Reads : List Event → Result ℕ Error → List ℕ → List Event → Type 0
 Reads E (Ok n) buf after = (E ≡ events_of (take n buf) ++ after) × (n ≡ 0 → 0 < length buf → E ≡ [])
 Reads E (Err e) buf after = E ≡ fails e ∷ after
@@ -137,9 +137,9 @@ pub record ReadLaw {S : Type 0} (R : Reader S) (old : S) (buf : List ℕ) (reply
   pub bound : IfOk reply (λ n. n ≤ length buf')
   -- it takes what it gives off the front of the events
   pub told : R.tells old → R.tells new × Reads (R.events old) reply buf' (R.events new)
-  -- turns are never won
+  -- turns never rise
   pub turns : R.turns new ≤ R.turns old
-  -- bytes spend one, and so does an error
+  -- a call that gives bytes or returns an error lowers them
   pub turn : SpendsTurn reply (R.turns old) (R.turns new)
   -- a read into some room is counted
   pub counts : R.is_metered old → R.is_metered new × (R.cost new ≡ R.cost old + min 1 (length buf))
@@ -151,13 +151,13 @@ pub record ReadLaw {S : Type 0} (R : Reader S) (old : S) (buf : List ℕ) (reply
 -- `read_exact(buf)`
 pub record ReadExactLaw {S : Type 0} (R : Reader S) (old : S) (buf : List ℕ) (reply : Result (Unit {0}) Error) (buf' : List ℕ)
     (new : S) : Type 0 where
-  -- the front of the events is taken that fills the buffer, or that ends in a fault; or they fall short
+  -- it takes the first events that fill the buffer, or those up to the first fault; or there are too few bytes
   pub told : R.tells old → R.tells new × ReadsExact (R.may_take_none old) (R.events old) reply buf' (R.events new)
   -- no interruption is answered
   pub fault : IsNoInterruption reply
   -- an empty buffer makes no call
   pub empty : length buf ≡ 0 → IsOk reply × (new ≡ old)
-  -- turns are never won
+  -- turns never rise
   pub turns : R.turns new ≤ R.turns old
   -- a buffer that was filled spent one
   pub turn : 0 < length buf → OnOk reply (R.turns new < R.turns old)
@@ -177,14 +177,14 @@ pub record ReadToEndLaw {S A : Type 0} (R : Reader S) (old : S) (buf : Vec ℕ A
   pub appends : take (vec_len buf) buf'.items ≡ buf.items
   -- the answer is how many bytes it grew by
   pub count : IfOk reply (λ n. vec_len buf' ≡ vec_len buf + n)
-  -- room is never given back
+  -- the capacity never shrinks
   pub capacity : vec_capacity buf ≤ vec_capacity buf'
-  -- a vector with ample room is never refused memory: what fails is the first fault
+  -- if the vector has room enough, any error is the first fault of E, never a lack of memory
   pub room : R.tells old → HasRoom 32 (R.events old) (vec_len buf) (vec_capacity buf)
       → IfErr reply (λ e. first_fault (R.events old) ≡ Some e)
   -- no interruption is answered
   pub fault : IsNoInterruption reply
-  -- turns are never won
+  -- turns never rise
   pub turns : R.turns new ≤ R.turns old
   -- appended bytes spent one
   pub turn : vec_len buf < vec_len buf' → R.turns new < R.turns old
@@ -199,7 +199,7 @@ pub record ReadToEndLaw {S A : Type 0} (R : Reader S) (old : S) (buf : Vec ℕ A
 abbrev pub bytes_reader : {R : Type 0} → Bytes R → R
 bytes_reader s = s.inner
 
--- E has neither a byte nor a fault
+-- E has only interruptions
 abbrev pub IsInterruptionsAlone : List Event → Type 0
 IsInterruptionsAlone E = HasNoFault E × (bytes E ≡ [])
 

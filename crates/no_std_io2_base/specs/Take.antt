@@ -23,7 +23,8 @@ take_held held t = take t.limit (held t.inner)
 abbrev pub take_with_inner : {T : Type 0} → Take T → T → Take T
 take_with_inner t x = record t { inner = x }
 
--- What a call removed from the events of E cut at `limit`, it removed from E; and `limit` fell by the bytes among it.
+-- The events that a call removed from the front of E cut at `limit` are also gone from E, and `limit` fell by the number of bytes among
+-- them.
 pub record TakesAlong (limit : ℕ) (E : List Event) (new_limit : ℕ) (after : List Event) : Type 0 where
   pub removed : List Event
   pub below : E ≡ removed ++ after

@@ -15,7 +15,7 @@ pub record Told : Type 0 where
   pub held : List ℕ
   -- the mishaps to come, in any order, where it tells them
   pub mishaps : Option (List ErrorKind)
-  -- at least as many as interruptions to come
+  -- an upper bound on the interruptions to come
   pub turns : ℕ
 
 -- whole begins with front
@@ -46,7 +46,7 @@ abbrev pub taken : Result ℕ Error → List ℕ → List ℕ
 taken (Ok n) x = take n x
 taken (Err e) x = []
 
--- the mishap that `Ok(n)` is of `write(x)`: that nothing was taken of some bytes
+-- the mishap that `Ok(n)` of `write(x)` counts as: `WriteZero` if n is 0 and x is not empty, and else none
 abbrev pub zero_write : ℕ → List ℕ → List ErrorKind
 zero_write n x = if (n == 0) && nat_lt 0 (length x) then WriteZero ∷ [] else []
 
@@ -78,11 +78,11 @@ abbrev pub MovesEach : Told → List (List ℕ) → Told → Type 0
 MovesEach old [] new = Moves old [] [] new
 MovesEach old (x ∷ xs) new = (mid : Told) × Moves old x [] mid × MovesEach mid xs new
 
--- how many calls hand on some bytes, and how many none
+-- how many writes pass these bytes on, if the writer takes all: 1, or 0 if there are no bytes
 abbrev pub calls_for : List ℕ → ℕ
 calls_for x = if nat_lt 0 (length x) then 1 else 0
 
--- what a writer tells whose bytes are out as soon as they are accepted, and that tells no mishaps
+-- what a writer tells that holds nothing, has these bytes out, and does not tell its mishaps
 abbrev pub told_out : List ℕ → Told
 told_out bytes = record { out = bytes; held = []; mishaps = None; turns = 0 }
 
@@ -145,7 +145,7 @@ pub record WriteLaw {S : Type 0} (told : S → Told) (takes_all : S → Type 0) 
   pub bound : IfOk reply (λ n. n ≤ length x)
   -- what the answer says is accepted, and an error or a zero is a mishap
   pub moves : Moves (told old) (taken reply x) (write_mishap reply x) (told new)
-  -- who takes all took the whole, and goes on taking all
+  -- if the writer takes all, it accepted all of x, and it still takes all
   pub all : takes_all old → takes_all new × (reply ≡ Ok (length x))
   -- the call is counted
   pub counts : is_metered old → takes_all old → is_metered new × (cost new ≡ cost old + 1)
@@ -183,7 +183,7 @@ CallLaw told takes_all cost is_metered may old (WroteRest x reply left) new = ma
 pub record WriteAllLaw {S : Type 0} (told : S → Told) (takes_all : S → Type 0) (cost : S → ℕ) (is_metered : S → Type 0)
     (may : S → WriteCall → S → Type 0)
     (old : S) (x : List ℕ) (reply : Result (Unit {0}) Error) (new : S) : Type 0 where
-  -- no interruption is answered
+  -- the result is never an interruption
   pub fault : IsNoInterruption reply
   -- some front is accepted, the whole at `Ok`, and an error is a mishap
   pub moves : MovesFront (told old) x reply (told new)
@@ -198,13 +198,13 @@ pub record WriteAllLaw {S : Type 0} (told : S → Told) (takes_all : S → Type 
 pub record WriteRestLaw {S : Type 0} (told : S → Told) (takes_all : S → Type 0) (cost : S → ℕ) (is_metered : S → Type 0)
     (may : S → WriteCall → S → Type 0)
     (old : S) (x : List ℕ) (reply : Result (Unit {0}) Error) (new : S) (left : List ℕ) : Type 0 where
-  -- no interruption is answered
+  -- the result is never an interruption
   pub fault : IsNoInterruption reply
   -- exactly what is gone from the front is accepted, and an error is a mishap
   pub sends : Sends (told old) x reply (told new) left
   -- nothing is left at `Ok`
   pub done : OnOk reply (left ≡ [])
-  -- who takes all took the whole, and goes on taking all
+  -- if the writer takes all, it accepted all of x, and it still takes all
   pub all : takes_all old → takes_all new × IsOk reply
   -- one call is counted, and none for no bytes
   pub counts : is_metered old → takes_all old → is_metered new × (cost new ≡ cost old + calls_for x)

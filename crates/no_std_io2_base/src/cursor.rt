@@ -1,5 +1,5 @@
-//! Bytes in memory as a stream, with a position in them: [`Cursor`]. Its content is what lends itself
-//! as a slice, [`AsSlice`].
+//! [`Cursor`], a stream over bytes in memory with a position. Its content is a type that can be
+//! borrowed as a slice, [`AsSlice`].
 ghost use Rattle.std.specs.Prelude.{◌≡◌, List, IsOk, IfOk, IfErr, ◌↔◌, IsTrue};
 ghost use types.Logic.{sem};
 ghost use Rattle.std.specs.Borrow.{Lends};
@@ -15,8 +15,9 @@ mod vectors;
 use crate::error::Result;
 use std::alloc::Allocator;
 
-/// What lends itself as one slice: the content of a [`Cursor`]. It stands where `std::io::Cursor`
-/// asks `AsRef<[u8]>`. The same value always lends the same elements.
+/// A type that can be borrowed as one slice. The content of a [`Cursor`] has to be one;
+/// `std::io::Cursor` has the bound `AsRef<[u8]>` there. The same value always gives the same
+/// elements.
 ///
 /// ```rust
 /// assert!(rt; AsSlice::as_slice(b"abc") == b"abc".as_slice());
@@ -70,8 +71,9 @@ impl<A: Allocator> AsSlice<u8> for &mut Vec<u8, A> {
     }
 }
 
-/// A content in memory, and a position in it, from 0 to 2^64 - 1, past the end too. It reads, seeks
-/// and, over a vector or a slice that may be written, writes. Follows `std::io::Cursor`.
+/// A content in memory, and a position in it. The position is from 0 to 2^64 - 1, and may be past
+/// the end. A cursor can be read and sought; over a vector or a mutable slice it can also be
+/// written. Follows `std::io::Cursor`.
 ///
 /// ```rust
 /// let mut c = Cursor::new(Vec::<u8>::new(rt.alloc()));

@@ -1,5 +1,5 @@
-//! The traits at streams in memory (slices, vectors), and at what stands for another stream
-//! (references, boxes, boxed trait objects). There is nothing here to be named.
+//! The traits for slices and vectors, and for types that forward to another stream: references,
+//! boxes, boxed trait objects. This module has no public names.
 mod boxed;
 mod copying;
 mod lending_objects;

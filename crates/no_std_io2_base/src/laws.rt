@@ -1,5 +1,6 @@
-//! What each implementation tells, pinned: functions with no caller, whose contracts are proved of its ghost
-//! members, so that none can tell less, which would make every promise over it empty.
+//! Functions that nothing calls. Their contracts fix what each implementation tells. Without them
+//! an implementation could tell less and still be proved, and every promise about it would be
+//! empty.
 ghost use Rattle.std.specs.Hash as fed;
 ghost use Rattle.std.specs.Prelude.{◌≡◌, ◌+◌, ◌-◌, ◌≤◌, ◌<◌, ◌++◌, ◌↔◌, length, take, drop, replicate, true, false, [], Ok, Some, None};
 ghost use Rattle.std.specs.Prelude.{IsTrue, IsOk, IsOkAnd, IfOk, IfErr, IfSome, OnSome};

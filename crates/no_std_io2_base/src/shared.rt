@@ -1,4 +1,4 @@
-//! For the crates above, no surface: what their streams stand on as those of this crate do.
+//! Helpers for the crates above. They are not part of the public interface.
 ghost use Rattle.no_std_io2_base.specs.Errors.{IsUnexpectedEnd, IsUnwritten};
 
 use crate::error::{Error, ErrorKind};

@@ -1,7 +1,7 @@
-//! What reads, writes and seeks, with the laws that every implementation is proved to keep: [`Write`];
+//! The stream traits, with the laws that every implementation is proved to keep: [`Write`];
 //! [`Read`] and [`BufRead`], which lends what it holds; [`Seek`]; and [`Stored`], the parent of the
-//! last three, which says what bytes stand behind a stream. The adaptors that calls of these traits
-//! make are [`Chain`], [`Take`], [`Bytes`], [`Split`] and [`Lines`].
+//! last three, which says what bytes stand behind a stream. Methods of these traits return the
+//! adaptors [`Chain`], [`Take`], [`Bytes`], [`Split`] and [`Lines`].
 mod buf_read;
 mod bytes;
 mod chain;

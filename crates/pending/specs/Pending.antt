@@ -88,7 +88,8 @@ SendsRecord law whole refusal old (Ok u) under_way to_go new = law old whole (Ok
 SendsRecord law whole refusal old (Err e) under_way to_go new =
     IsRefused old (refusal e) under_way new ⊎ IsStopped law old whole e under_way to_go new
 
--- the mishap that an answer is: an error is one of the device's where a record is under way, else a refusal
+-- the mishap that a result counts as. An error is the device's if a record is under way, and then it is a mishap; else it is a refusal, and
+-- none
 abbrev pub record_mishap : Result (Unit {0}) Error → List ℕ → List ErrorKind
 record_mishap (Ok u) under_way = []
 record_mishap (Err e) [] = []

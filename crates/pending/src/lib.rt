@@ -7,7 +7,7 @@ ghost use Rattle.no_std_io2.specs.Errors.{IsOutOfMemory};
 use no_std_io2::io::{Result, Write};
 use std::alloc::Global;
 
-/// A record under way. No bytes: none is.
+/// A record that is being sent. If it has no bytes, no record is under way.
 ///
 /// What the writer was told, then what is still to go, is always what it was, followed by exactly the records
 /// that were staged, each once, whatever the device does: after an error the same call of `send_to` goes on.

@@ -33,7 +33,8 @@ abbrev pub TellsMishap : Option (List ErrorKind) → ErrorKind → Type 0
 TellsMishap None kind = ⊤
 TellsMishap (Some kinds) kind = 0 < count_by (λ other. kind_number other == kind_number kind) kinds
 
--- All that is known of an error of a writer that is gone: its kind is among the mishaps that were told, and an interruption had a turn.
+-- All that is known of the error of a writer that was dropped: if mishaps were told, its kind is one of them; and if it is an interruption,
+-- a turn was left.
 pub record MayFail (told : Told) (e : Error) : Type 0 where
   pub mishap : TellsMishap told.mishaps (error_kind e)
   pub turn : IsInterruption e → 0 < told.turns

@@ -14,9 +14,9 @@ use std::io::ErrorKind as SystemKind;
 
 /// A reader or writer of Rust's `std::io` as one of this library's.
 ///
-/// What such a device does is not known, so a number of turns bounds how often it is asked again: a
-/// reader spends one with each result but its end, a writer one with each interruption. As a
-/// writer, the bytes that the device answered for are out, as contracts see it.
+/// Nothing is known about what such a device will do, so a number of turns bounds how often it is
+/// called again. A reader spends one turn for each result except the end, and a writer spends one
+/// for each interruption. In contracts, the bytes that a writer's device reported as taken are out.
 ///
 /// # Errors
 /// Of a call: `Interrupted` where the device was interrupted; `TimedOut`, `no turns left`, at a

@@ -10,7 +10,8 @@ use crate::to_std::ToStd;
 use no_std_io2::io::Read;
 use std::io;
 
-/// A reader that tells its events, as one of Rust's `std::io` of which it is known what is to come.
+/// Makes a reader that tells its events a reader of Rattle's `std::io` whose bytes are known in
+/// advance.
 ///
 /// These are the bytes among the events. An error among them is answered in its turn, as by
 /// [`ToStd`], and what comes behind it is still to come.

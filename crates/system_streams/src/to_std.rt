@@ -15,8 +15,9 @@ use std::io::ErrorKind as StdKind;
 
 /// A reader or writer of this library as one of Rust's `std::io`, for code that asks for those.
 ///
-/// Each call is one call of the stream. What a writer is known to hold are the bytes that it accepted.
-/// Of a reader nothing is known to come; one that tells its events is a [`Telling`](crate::Telling).
+/// Each call is one call of the stream. In contracts of `std::io`, a writer has the bytes that it
+/// accepted, and nothing is known about what a reader will give. For a reader that tells its events
+/// there is [`Telling`](crate::Telling).
 ///
 /// # Errors
 /// Of a call: the stream's own, with the kind of the same name and its text, cut short past 80 bytes.

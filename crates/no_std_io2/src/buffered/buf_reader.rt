@@ -11,12 +11,12 @@ mod pieces;
 mod reads;
 mod seeks;
 
-/// A reader with a buffer of `S` bytes in front of another one, so that small reads ask that one
-/// seldom. Follows Rust's `std::io::BufReader`, with its buffer in the value itself.
+/// Puts a buffer of `S` bytes in front of a reader, so that many small reads make few inner reads.
+/// Follows Rust's `std::io::BufReader`, with its buffer in the value itself.
 ///
-/// A call of `read` or `fill_buf` makes one inner read at most, and none while bytes are held.
-/// A read into at least `S` bytes with none held goes straight to the inner reader. An empty read
-/// with none held fills the buffer, and may return the inner reader's error.
+/// A call of `read` or `fill_buf` makes at most one inner read, and none if bytes are held. If none
+/// are held, a read into at least `S` bytes goes straight to the inner reader, and a read into an
+/// empty buffer fills this reader's buffer and may return the inner reader's error.
 ///
 /// ```rust
 /// let mut r = BufReader::<_, 4>::new(Cursor::new(*b"abcdefgh"));
@@ -90,10 +90,11 @@ impl<R, const S: usize> BufReader<R, S> {
         self.buffer.as_slice()
     }
 
-    /// Returns the bytes given since the last inner read that lie right before those held: as far
-    /// back as [`seek_relative`](BufReader::seek_relative) goes without a seek of the inner reader.
-    /// They are no more there after an inner read, whatever it returns, after a `read_to_end`, and
-    /// after a seek that drops the buffer. Rust's `BufReader` keeps them and doesn't show them.
+    /// Returns the bytes of the buffer that this reader has already given, right before the held
+    /// ones. [`seek_relative`](BufReader::seek_relative) can go back over them without a seek of
+    /// the inner reader. They are gone after an inner read, whatever that returns, after a
+    /// `read_to_end`, and after a seek that drops the buffer. Rust's `BufReader` keeps such bytes
+    /// too, but does not show them.
     pub fn behind(&self) -> &[u8]
         ensures value { result.now ≡ reader_behind self.now }
         ensures bound { length result.now ≤ S }

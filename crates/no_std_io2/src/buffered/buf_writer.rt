@@ -17,19 +17,21 @@ use no_std_io2_base::traits::Write;
 use std::fmt;
 use std::fmt::{Debug, Formatter};
 
-/// A buffer of `S` bytes in front of a writer, for programs that write many small pieces: the inner
-/// writer gets few large ones. Follows `std::io::BufWriter`, over an array in place of a vector.
+/// Puts a buffer of `S` bytes in front of a writer, so that many small writes make few large writes
+/// of the inner writer. Follows `std::io::BufWriter`, over an array in place of a vector.
 ///
-/// A piece shorter than `S` is held whole; what is held is *sent* first where the two together are
-/// above `S`. A piece of `S` bytes and more goes past the buffer. Sending repeats the inner `write`
-/// with all that is held, passes over interruptions and stops at a fault; what was taken is no
-/// longer held then, so no byte goes out twice. With `S` = 0 each call goes to the inner writer.
+/// A write of fewer than `S` bytes is held whole. If it does not fit next to the held bytes, these
+/// are *sent* first. A write of `S` bytes or more goes straight to the inner writer, after the held
+/// bytes. To send means to repeat the inner `write` with all held bytes until none is left. Sending
+/// ignores interruptions and stops at a fault. Bytes that the inner writer took are no longer held,
+/// so no byte goes out twice. With `S` = 0 each call goes to the inner writer.
 ///
-/// Dropping it sends once, ignores a fault, and doesn't flush the inner writer. To see a fault,
-/// call [`flush`](Write::flush) or [`into_inner`](BufWriter::into_inner) first.
+/// Dropping it tries once to send the held bytes. It ignores a fault, and does not flush the inner
+/// writer. To see the fault, first call [`flush`](Write::flush) or
+/// [`into_inner`](BufWriter::into_inner).
 ///
-/// To contracts it tells what its inner writer tells, with the buffer's bytes held behind the inner
-/// writer's own.
+/// In contracts, it tells what its inner writer tells, and its `held` is the inner writer's `held`
+/// followed by its own buffer.
 ///
 /// ```rust
 /// let mut w = BufWriter::<Vec<u8>, 8>::new(Vec::new(rt.alloc()));
@@ -125,8 +127,8 @@ impl<W: Write + Drop, const S: usize> BufWriter<W, S> {
     /// `WriteZero` where the inner writer took no byte of some, else its first fault; never
     /// `Interrupted`. The writer comes back inside the error, and holds what was not sent.
     ///
-    /// In a `match`, bind the error to a name: the borrow check refuses `Err(_)` here, and passes
-    /// `Err(_e)`.
+    /// In a `match`, bind the error to a name: the borrow checker accepts `Err(_e)` here, but not
+    /// `Err(_)`.
     pub fn into_inner(self) -> std::result::Result<W, IntoInnerError<BufWriter<W, S>>>
         ensures law { Unwraps W.Write writer_inner writer_buffer self result }
     {

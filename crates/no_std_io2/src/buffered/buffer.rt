@@ -10,8 +10,8 @@ use no_std_io2_base::shared::{append_rest, copy_bytes};
 use no_std_io2_base::traits::Read;
 use std::alloc::Allocator;
 
-/// Holds the bytes from `start` to `end`. Those before `start` were held since the last read or
-/// `clear`, and are not gone yet: a reader may step back over them.
+/// The held bytes are those from `start` to `end`. The bytes before `start` were held at some time
+/// since the last read or `clear`, and are still in the array, so a reader may step back over them.
 #[derive(Drop)]
 pub(crate) struct Buffer<const S: usize> {
     bytes: [u8; S],

@@ -20,12 +20,11 @@ use state::LineSender;
 use std::fmt;
 use steps::{lines_len, write_all_lines, write_all_plain, write_lines, write_plain};
 
-/// A writer that hands each line on as soon as it is complete, and holds what is no complete line
-/// yet, at most `S` bytes, which may be 0. Follows Rust's `std::io::LineWriter`.
+/// Passes each line on as soon as it is complete. An incomplete line is held, up to `S` bytes; `S`
+/// may be 0. Follows Rust's `std::io::LineWriter`.
 ///
-/// A line ends in a newline byte. The held bytes have no newline, or end in one: where the inner
-/// writer took only a part of the lines, complete ones may be held too, and the next call sends
-/// them first.
+/// A line ends in a newline byte. The held bytes have no newline, or end in one. They end in one if
+/// the inner writer took only a part of the lines; the next call then sends them first.
 ///
 /// A dropped writer sends what it holds once, and ignores a fault: call [`Write::flush`] or
 /// [`LineWriter::into_inner`] to see it.
@@ -121,7 +120,7 @@ impl<W: Write + Drop, const S: usize> Drop for LineWriter<W, S> {
     }
 }
 
-/// Shows the inner writer, and how many bytes are held of how many that may be.
+/// Shows the inner writer, and how many bytes are held out of how many can be.
 impl<W: Write + Drop + fmt::Debug, const S: usize> fmt::Debug for LineWriter<W, S> {
     fn fmt<F: fmt::Write>(&self, f: &mut fmt::Formatter<F>) -> fmt::Result {
         let held = self.buffer().len();
@@ -141,11 +140,11 @@ impl<W: Write + Drop, const S: usize> Write for LineWriter<W, S> {
 
     ghost may = { LineMay W.Write S line_inner line_buffer };
 
-    /// Writes some front of `buf`. Held complete lines are sent first. Without a newline in `buf`, it is
-    /// held where it fits behind what is held, else that is sent first, and a `buf` of at least `S`
-    /// bytes is then one inner write. With a newline in `buf`, what is held is sent, one inner write
-    /// gets the lines of `buf`, and of what it left over as much is held as makes up whole lines, or
-    /// no line.
+    /// Writes some front of `buf`. Complete lines that are held are sent first. If `buf` has no
+    /// newline, it is then written as by a `BufWriter`: it is held if it fits; if not, the held
+    /// bytes are sent first, and a `buf` of at least `S` bytes is one inner write. If `buf` has a
+    /// newline, all held bytes are sent, and one inner write gets the lines of `buf`. Of the bytes
+    /// that this leaves, at most `S` are held, and they either end in a newline or have none.
     ///
     /// # Errors
     /// The inner writer's own, or `WriteZero` where it took no byte of some that were held. Nothing

@@ -1,4 +1,4 @@
-//! A writer with a buffer in front: what both buffered writers stand on.
+//! An inner writer with a buffer in front of it, from which both buffered writers are built.
 ghost use Rattle.std.specs.Prelude.{◌≡◌, ◌+◌, ◌<◌, ◌≤◌, [], ◌++◌, length};
 ghost use Rattle.std.specs.Bool.{OnTrue, OnFalse};
 ghost use Rattle.std.specs.Borrow.{Lends, sem};
@@ -145,8 +145,8 @@ impl<W: Write + Drop, const S: usize> Sender<W, S> {
         self.write_slowly(buf)
     }
 
-    // The call of `write_cold`. It stands between, so that the room for the answer is made on this way alone: a write
-    // that is held costs four instructions less so.
+    // Calls `write_cold`. This function is inlined, so the room for the result is made only on this
+    // path. That saves four instructions in a write that is held.
     #[inline(always)]
     fn write_slowly(&mut self, buf: &[u8]) -> Result<usize>
         ensures { Takes W.Write sender_inner sender_buffer (WriteCalls S buf.now) self.old result self.new }

@@ -85,7 +85,8 @@ impl<A: Allocator> Write for Cursor<Vec<u8, A>> {
     fn write(&mut self, buf: &[u8]) -> Result<usize>
         ensures law { WriteOf ⟦<Self as Write>⟧ self.old buf.now result self.new }
 
-        // All of the buffer, at the position, or nothing, and that only where it lacks the room.
+        // It writes the whole buffer at the position, or nothing. It writes nothing only if the
+        // capacity is too small.
         ensures puts { PutsWhole (cursor_inner self.old).items (cursor_place self.old) buf.now result
             (cursor_inner self.new).items (cursor_place self.new) }
         ensures full { OnErr result (vec_capacity (cursor_inner self.old)
@@ -108,7 +109,8 @@ impl<A: Allocator> Write for Cursor<Vec<u8, A>> {
     fn write_all(&mut self, buf: &[u8]) -> Result<()>
         ensures law { WriteAllOf ⟦<Self as Write>⟧ self.old buf.now result self.new }
 
-        // All of the buffer, at the position, or nothing, and that only where it lacks the room.
+        // It writes the whole buffer at the position, or nothing. It writes nothing only if the
+        // capacity is too small.
         ensures puts { PutsAll (cursor_inner self.old).items (cursor_place self.old) buf.now result
             (cursor_inner self.new).items (cursor_place self.new) }
         ensures empty { length buf.now ≡ 0 → IsOk result × (self.new ≡ self.old) }
@@ -133,7 +135,8 @@ impl<A: Allocator> Write for Cursor<&mut Vec<u8, A>> {
     fn write(&mut self, buf: &[u8]) -> Result<usize>
         ensures law { WriteOf ⟦<Self as Write>⟧ self.old buf.now result self.new }
 
-        // All of the buffer, at the position, or nothing, and that only where it lacks the room.
+        // It writes the whole buffer at the position, or nothing. It writes nothing only if the
+        // capacity is too small.
         ensures puts { PutsWhole (cursor_inner self.old).now.items (cursor_place self.old) buf.now result
             (cursor_inner self.new).now.items (cursor_place self.new) }
         ensures full { OnErr result (vec_capacity (cursor_inner self.old).now
@@ -157,7 +160,8 @@ impl<A: Allocator> Write for Cursor<&mut Vec<u8, A>> {
     fn write_all(&mut self, buf: &[u8]) -> Result<()>
         ensures law { WriteAllOf ⟦<Self as Write>⟧ self.old buf.now result self.new }
 
-        // All of the buffer, at the position, or nothing, and that only where it lacks the room.
+        // It writes the whole buffer at the position, or nothing. It writes nothing only if the
+        // capacity is too small.
         ensures puts { PutsAll (cursor_inner self.old).now.items (cursor_place self.old) buf.now result
             (cursor_inner self.new).now.items (cursor_place self.new) }
         ensures empty { length buf.now ≡ 0 → IsOk result × (self.new ≡ self.old) }

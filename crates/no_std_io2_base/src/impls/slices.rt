@@ -50,7 +50,7 @@ pub fn append_rest<A: Allocator>(rest: &mut &[u8], buf: &mut Vec<u8, A>) -> Resu
     Ok(())
 }
 
-// A slice tells no store: what it left behind is forgotten.
+// A slice tells no store, because it does not keep the bytes that were read from it.
 impl Stored for &[u8] {
     ghost has_store = { λ _. ⊥ };
 

@@ -65,7 +65,8 @@ impl<A: Allocator> Write for Vec<u8, A> {
     fn write(&mut self, buf: &[u8]) -> Result<usize>
         ensures law { WriteOf ⟦<Self as Write>⟧ self.old buf.now result self.new }
 
-        // All of the buffer or nothing, and memory alone refuses, where the room was missing.
+        // It appends the whole buffer or nothing. It fails only if the capacity was too small and
+        // memory was refused.
         ensures whole { IfOk result (λ n. n ≡ length buf.now) }
         ensures err { IfErr result IsOutOfMemory }
         ensures same { OnErr result (self.new.items ≡ self.old.items) }
@@ -80,7 +81,8 @@ impl<A: Allocator> Write for Vec<u8, A> {
     fn write_all(&mut self, buf: &[u8]) -> Result<()>
         ensures law { WriteAllOf ⟦<Self as Write>⟧ self.old buf.now result self.new }
 
-        // All of the buffer or nothing, and memory alone refuses, where the room was missing.
+        // It appends the whole buffer or nothing. It fails only if the capacity was too small and
+        // memory was refused.
         ensures err { IfErr result IsOutOfMemory }
         ensures same { OnErr result (self.new.items ≡ self.old.items) }
         ensures empty { length buf.now ≡ 0 → IsOk result }

@@ -20,7 +20,7 @@ use std::alloc::{Allocator, Global};
 /// assert!(rt; r.fill_buf()? == b"bc".as_slice());
 /// ```
 pub trait BufRead: Read {
-    // The bytes that stand ready: where events are told, those begin with them.
+    // The bytes in the buffer. If the reader tells its events, the events begin with these bytes.
     ghost held: { Self → List ℕ };
 
     // Whether the inner reads are counted that `fill_buf` makes, and how many were made. Left out, they aren't.
@@ -28,16 +28,18 @@ pub trait BufRead: Read {
 
     ghost fills: { Self → ℕ } = { λ _. 0 };
 
-    // Whether it is known how many bytes `fill_buf` lends next, and how many. Left out, it isn't.
+    // Whether it is known how many bytes the next `fill_buf` lends, and that number. By default it
+    // is not known.
     ghost lends_surely: { Self → Type 0 } = { λ _. ⊥ };
 
     ghost lent_length: { Self → ℕ } = { λ _. 0 };
 
-    /// Lends the bytes that are held. Where some are, nothing changes. Where none are, it reads once;
-    /// none lent means the end. Follows `std::io::BufRead::fill_buf`.
+    /// Lends the held bytes. If some bytes are held already, nothing changes. If none are, it first
+    /// reads once. An empty slice means the end. Follows `std::io::BufRead::fill_buf`.
     ///
     /// # Errors
-    /// The device's own, interruptions too, and only where nothing is held: nothing was taken.
+    /// The device's own errors, interruptions among them. They come only if nothing is held, and
+    /// then no byte was taken.
     fn fill_buf(&mut self) -> Result<&[u8]>
         ensures law { FillBufLaw ⟦<Self as BufRead>⟧ self.old result }
         ensures* after_borrow { sem 𝓛 (Rests Self.row self.entry (λ new. AfterLoan ⟦<Self as BufRead>⟧ self.old result new)) };
@@ -48,9 +50,10 @@ pub trait BufRead: Read {
         requires { amount ≤ length (held self.old) }
         ensures law { ConsumeLaw ⟦<Self as BufRead>⟧ self.old amount self.new };
 
-    /// Appends the bytes up to and with the first `delim`, or all that are left where there is none,
-    /// and returns their number: 0 means the end. It passes over interruptions. Where `buf` has room
-    /// for these bytes, it is never refused any. Follows `std::io::BufRead::read_until`.
+    /// Appends the bytes up to and including the first `delim`, and returns their number. If there
+    /// is no `delim`, it appends all bytes that are left. 0 means the end. It passes over
+    /// interruptions. Where `buf` has room for these bytes, it is never refused any. Follows
+    /// `std::io::BufRead::read_until`.
     ///
     /// # Errors
     /// The first fault that comes before a `delim`: the reader stands right after it. `OutOfMemory`
@@ -91,10 +94,10 @@ pub trait BufRead: Read {
     /// Follows `std::io::BufRead::read_line`.
     ///
     /// # Errors
-    /// `InvalidData` where the line isn't UTF-8: the text is as it was, and the line is taken. The
-    /// first fault: the bytes before it are appended where they are UTF-8, else the text is as it
-    /// was. `OutOfMemory`, a device's own too: the text is as it was, and the bytes taken in the call
-    /// are lost. Never `Interrupted`.
+    /// Returns `InvalidData` if the line is not UTF-8; `buf` is unchanged, and the line is taken.
+    /// Returns the first fault of the reader; the bytes before it are appended if they are UTF-8,
+    /// and else `buf` is unchanged. After `OutOfMemory`, also one of the device's own, `buf` is
+    /// unchanged, and the bytes that this call has taken are lost. Never returns `Interrupted`.
     ///
     /// ```rust
     /// let mut r = Cursor::new(*b"one\ntwo");

@@ -16,9 +16,9 @@ use std::alloc::Allocator;
 
 /// Two readers, one after the other. Made by [`Read::chain`]; follows Rust's `std::io::Chain`.
 ///
-/// The first is read until it is at its end: a read into some room that gives nothing, or an empty
-/// slice from `fill_buf`, marks it done, and the second is used in the same call. An empty read
-/// never marks it, and the mark is never taken back.
+/// The first reader is read to its end, which shows as a read of 0 bytes into a buffer that is not
+/// empty, or as an empty slice from `fill_buf`. It is then marked as done for good, and the second
+/// reader is used within the same call. A read into an empty buffer never sets the mark.
 ///
 /// ```rust
 /// let mut r = Cursor::new(*b"ab").chain(Cursor::new(*b"cd"));
@@ -111,7 +111,8 @@ impl<T: Read, U: Read> Read for Chain<T, U> {
     fn read(&mut self, buf: &mut [u8]) -> Result<usize>
         ensures law { ReadLaw ⟦<Self as Read>⟧ self.old buf.old result buf.new self.new }
 
-        // One reader after the other, and the first is done where it had nothing left, but by no empty read.
+        // It uses one reader after the other. The first is marked done if it had nothing left and
+        // `buf` is not empty.
         ensures in_turn { InTurn self.old self.new }
         ensures empty { length buf.old ≡ 0 → chain_is_done self.new ≡ chain_is_done self.old }
         ensures ended { T.tells (chain_first self.old) → T.events (chain_first self.old) ≡ [] → 0 < length buf.old

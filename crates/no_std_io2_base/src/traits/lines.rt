@@ -13,8 +13,8 @@ use std::alloc::Global;
 /// it. Made by [`BufRead::lines`]; follows Rust's `std::io::Lines`.
 ///
 /// A last line without a newline is an item too, and keeps its carriage return. A line that isn't
-/// UTF-8 is the item `InvalidData`. After an error it has ended and stays ended, unlike Rust's: what
-/// was taken for that item is lost.
+/// UTF-8 is the item `InvalidData`. After an error it returns `None` for good, unlike Rust's
+/// `Lines`; the bytes that were read for that item are lost.
 #[derive(Drop)]
 pub struct Lines<R> {
     inner: R,

@@ -32,7 +32,7 @@ pub trait Read: Stored {
 
     ghost events: { Self → List Event };
 
-    // No call raises it, and each that gives bytes or an error lowers it.
+    // A number that no call raises. Each call that gives bytes or returns an error lowers it.
     ghost turns: { Self → ℕ };
 
     // How many reads into some room were made, and whether they are counted.
@@ -43,12 +43,13 @@ pub trait Read: Stored {
     // Bytes alone are to come, and each read gives as many of them as fit.
     ghost is_filling: { Self → Type 0 } = { λ _. ⊥ };
 
-    // A `read_exact` that falls short may leave all that there was. Else it has taken it.
+    // Whether a `read_exact` may take nothing if too few bytes are left. If this is `⊥`, it takes
+    // all of them.
     ghost may_take_none: { Self → Type 0 } = { λ _. Unit {0} };
 
-    /// Reads some bytes into the front of `buf`: `Ok(n)` gave `n` bytes, `n` at most its length.
-    /// Where `buf` has room, `Ok(0)` means the end, and a reader that tells its events stays there.
-    /// Into an empty buffer nothing is read. Follows `std::io::Read::read`.
+    /// Reads some bytes into the front of `buf` and returns their number, which is at most the
+    /// length of `buf`. If `buf` is not empty, `Ok(0)` means the end, and a reader that tells its
+    /// events stays at its end. If `buf` is empty, nothing is read. Follows `std::io::Read::read`.
     ///
     /// # Errors
     /// The device's own; no byte was taken then. After an interruption the call may be made again.
@@ -59,9 +60,9 @@ pub trait Read: Stored {
     /// `std::io::Read::read_exact`.
     ///
     /// # Errors
-    /// The first fault that comes before `buf` is full: the reader stands right after it.
-    /// `UnexpectedEof` where the bytes end too early: all that there was is taken, but slices and
-    /// cursors have taken nothing. Never `Interrupted`.
+    /// Returns the first fault that comes before `buf` is full; the reader is then right after it.
+    /// Returns `UnexpectedEof` if the bytes end too early; then all of them are taken, except that
+    /// slices and cursors take nothing. Never returns `Interrupted`.
     ///
     /// ```rust
     /// let mut r = Cursor::new(*b"abcde");
@@ -87,14 +88,14 @@ pub trait Read: Stored {
 
     /// Appends all bytes to come to `buf`, passing over interruptions, and returns their number.
     /// Before its first read, and whenever no room is left, it makes room for at least 32 bytes; a
-    /// slice and a cursor make room for all of their rest once these are full. Where `buf` has room for
-    /// the bytes before the first fault and for 32 more, it is never refused any.
-    /// Follows `std::io::Read::read_to_end`.
+    /// slice and a cursor make room for all of their rest once these are full. If `buf` has room
+    /// for the bytes before the first fault and for 32 more, `read_to_end` never fails for lack of
+    /// memory. Follows `std::io::Read::read_to_end`.
     ///
     /// # Errors
-    /// The first fault: the reader stands right after it. `OutOfMemory` where a growth was refused,
-    /// before the read that it was for. After either, `buf` has its old content and then the bytes
-    /// taken. Never `Interrupted`.
+    /// The first fault: the reader stands right after it. Returns `OutOfMemory` if `buf` could not
+    /// grow; the read that needed the room is not made. After either error, `buf` has its old
+    /// content, followed by the bytes that were taken. Never `Interrupted`.
     ///
     /// ```rust
     /// let mut r = Cursor::new(*b"abcde");
@@ -179,7 +180,8 @@ pub trait Read: Stored {
         Bytes::new(self)
     }
 
-    /// Returns a reader of this one and, after its end, of `next`. Follows `std::io::Read::chain`.
+    /// Returns a reader that reads this reader to its end, and then `next`. Follows
+    /// `std::io::Read::chain`.
     final fn chain<R: Read>(self, next: R) -> Chain<Self, R>
     where
         Self: Sized,

@@ -31,9 +31,10 @@ pub fn reserve_room<A: Allocator>(buf: &mut Vec<u8, A>, wanted: usize) -> Result
     Ok(())
 }
 
-/// Opens zeros behind the `filled` bytes for the next read, where none are left: as many as were
-/// read so far, within bounds. So each byte is zeroed once, and few are that no read fills. Where
-/// the capacity is full, it grows by at least `least`.
+/// Extends `buf` by zeros for the next read, unless some are left after the first `filled` bytes.
+/// The number of zeros is the number of bytes read so far, within bounds. So each byte is zeroed
+/// once, and few zeros are never overwritten by a read. If the capacity is used up, it first grows
+/// by at least `least`.
 ///
 /// # Errors
 /// `OutOfMemory` where that growth was refused: nothing changes.
@@ -105,9 +106,9 @@ fn fill_room<R: Read, A: Allocator>(reader: &mut R, buf: &mut Vec<u8, A>) -> Res
     Ok(false)
 }
 
-/// Reads to the end as `read_to_end` does, but into the room that is there first: the reader is
-/// asked for its own way only where that was not enough. For a reader of more readers or pieces
-/// than one, behind its first.
+/// Reads to the end like `read_to_end`, but first into the room that the vector has. Only if that
+/// is not enough, it calls the reader's own `read_to_end`. Readers that have several parts use it
+/// for each part after the first.
 ///
 /// # Errors
 /// As those of `read_to_end`.

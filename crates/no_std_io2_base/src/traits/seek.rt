@@ -30,8 +30,8 @@ pub trait Seek: Stored {
     // What one call, with its answer, may do to it. Left out, anything.
     ghost may: { Self → SeekCall → Self → Type 0 } = { λ _ _ _. Unit {0} };
 
-    /// Moves to `pos`, past the end too, and returns the new position from the start. A told store
-    /// keeps its content. Follows `std::io::Seek::seek`.
+    /// Moves to `pos`, which may be past the end, and returns the new position, counted from the
+    /// start. The content of a told store does not change. Follows `std::io::Seek::seek`.
     ///
     /// # Errors
     /// `InvalidInput`, `invalid seek to a negative or overflowing position`, where the target is

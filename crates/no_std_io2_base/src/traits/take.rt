@@ -16,7 +16,8 @@ use crate::error::{Result, failed_to_fill};
 use crate::impls::append;
 use std::alloc::{Allocator, Global};
 
-/// At most so many bytes of a reader. Made by [`Read::take`]; follows Rust's `std::io::Take`.
+/// A reader of at most `limit` bytes of another reader. Made by [`Read::take`]; follows Rust's
+/// `std::io::Take`.
 ///
 /// Each call lowers the limit by the bytes that it gives or drops; errors don't lower it. At limit
 /// 0 the stream is at its end, and the inner reader isn't called, so its errors aren't seen.
@@ -107,8 +108,9 @@ impl<T: Read> Stored for Take<T> {
     ghost position = { λ _. 0 };
 }
 
-// Beside the trait's clauses each call says what becomes of the limit, that the inner reader is left
-// alone at limit 0, and that it loses what this stream does.
+// Besides the trait's clauses, each call states the new limit, that the inner reader is not called
+// at limit 0, and that the events that are gone from this stream are gone from the inner reader
+// too.
 impl<T: Read> Read for Take<T> {
     ghost tells = { λ t. T.tells (take_inner t) };
 

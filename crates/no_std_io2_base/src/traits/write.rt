@@ -15,9 +15,10 @@ use std::marker::Brand;
 /// and not yet out), the *mishaps* to come where it knows them, and a number of *turns*. A mishap is
 /// an `Err`, of its error's kind, or an `Ok(0)` to a `write` of some bytes, of kind `WriteZero`.
 ///
-/// The law of each call: `out` then `held` becomes what it was, followed by exactly what the result
-/// says was accepted; what is out stays out; told mishaps stay told and lose each one that happened; and an
-/// interruption spends a turn, so that a retry ends.
+/// Each call keeps this law. `out` followed by `held` is afterwards what it was, followed by
+/// exactly the bytes that the result reports as accepted. What is out stays out. Told mishaps stay
+/// told, and each one that happened is removed from them. An interruption spends a turn, so that a
+/// loop of retries ends.
 ///
 /// ```rust
 /// let mut device = Vec::<u8>::new(rt.alloc());
@@ -41,8 +42,8 @@ pub trait Write {
     // What one call, with its answer, may do to it. Left out, anything.
     ghost may: { Self → WriteCall → Self → Type 0 } = { λ _ _ _. Unit {0} };
 
-    /// Writes some front of `buf`: `Ok(n)` accepted its first `n` bytes, `n` at most its length,
-    /// and `Err` accepted none. Follows `std::io::Write::write`.
+    /// Writes some of `buf`, from its front. `Ok(n)` means that its first `n` bytes were accepted,
+    /// and `n` is at most its length. `Err` means that none was. Follows `std::io::Write::write`.
     ///
     /// # Errors
     /// The device's own. After an interruption the call may be made again.
@@ -56,8 +57,8 @@ pub trait Write {
     fn write(&mut self, buf: &[u8]) -> Result<usize>
         ensures law { WriteLaw told takes_all cost is_metered may self.old buf.now result self.new };
 
-    /// Hands on all that is held: after `Ok` nothing is held, and after `Err` the accepted bytes
-    /// are the same. Follows `std::io::Write::flush`.
+    /// Sends all held bytes to the device. After `Ok` nothing is held. After `Err` no accepted byte
+    /// is lost: each is out or held. Follows `std::io::Write::flush`.
     ///
     /// # Errors
     /// The device's own, or `WriteZero` where a buffer's device took no byte of some. What was not
@@ -78,8 +79,9 @@ pub trait Write {
     ///
     /// # Errors
     /// `WriteZero` where the device took no byte of some, else the device's first fault; never
-    /// `Interrupted`. Some front of `buf`, possibly empty or whole, was accepted then; nobody knows
-    /// which, so a caller that must not send a byte twice calls [`write_rest`](Write::write_rest).
+    /// `Interrupted`. Then some first bytes of `buf` were accepted, possibly none or all, and the
+    /// caller cannot know how many. A caller that must not send a byte twice calls
+    /// [`write_rest`](Write::write_rest).
     ///
     /// ```rust
     /// let mut room = [0u8; 4];
@@ -94,10 +96,10 @@ pub trait Write {
         self.write_rest(&mut rest)
     }
 
-    /// Writes what is left in `rest`, and takes off its front what was accepted. So after an error
-    /// `rest` is exactly what is still to be written: the same call goes on there, and no byte goes
-    /// out twice. It passes over interruptions; an empty `rest` makes no call. Rust's std has no such
-    /// call.
+    /// Writes the bytes of `rest`, and removes those that were accepted from its front. So after an
+    /// error `rest` is exactly what is still to be written; the same call continues there, and no
+    /// byte goes out twice. It passes over interruptions; an empty `rest` makes no call. Rust's std
+    /// has no such call.
     ///
     /// # Errors
     /// `WriteZero` where the device took no byte of some, else the device's first fault; never

@@ -1,4 +1,5 @@
-// Frames and lines over a device that fails once, at each place and in each of some ways: each goes out and comes back once.
+// Frames and lines over a device that fails once, at every possible place and in several ways. Each
+// frame and line must go out, and come back, exactly once.
 //
 // A row is `sweep`; then the runs that go wrong, and how many were tried.
 use super::copies::events_of;

@@ -88,7 +88,7 @@ impl<R: Read, const S: usize> Read for BufReader<R, S> {
     fn read(&mut self, buf: &mut [u8]) -> Result<usize>
         ensures law { ReadLaw ⟦<Self as Read>⟧ self.old buf.old result buf.new self.new }
 
-        // With bytes held, it gives of them alone.
+        // If bytes are held, it gives only held bytes, and does not call the inner reader.
         ensures held { IsNotEmpty (reader_held self.old)
             → IsOkAnd result (λ n. n ≡ min (length (reader_held self.old)) (length buf.old))
             × (take (given result) buf.new ≡ take (given result) (reader_held self.old))
@@ -111,7 +111,8 @@ impl<R: Read, const S: usize> Read for BufReader<R, S> {
         // A short read leaves nothing held.
         ensures rest { given result < length buf.old → reader_held self.new ≡ [] }
 
-        // What then lies behind: with bytes held those given now too, else those given of the own buffer.
+        // What lies behind afterwards. If bytes were held, the given bytes are added to it. If none
+        // were, it is the bytes that were given from this reader's own buffer.
         ensures behind { IsNotEmpty (reader_held self.old)
             → reader_behind self.new ≡ reader_behind self.old ++ take (given result) buf.new }
         ensures behind_anew { reader_held self.old ≡ []

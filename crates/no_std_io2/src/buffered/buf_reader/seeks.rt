@@ -91,12 +91,12 @@ impl<R: Seek, const S: usize> BufReader<R, S> {
         }
     }
 
-    /// Moves by `offset` bytes from the next byte that this reader would give. Where the target
-    /// lies in the buffer, from the first byte [`behind`](BufReader::behind) to the end of those
-    /// held, the inner reader isn't asked, and no byte that was read is lost: forward the next
-    /// bytes are passed over, backward the last ones come again. Else this is
-    /// `seek(SeekFrom::Current(offset))` without its number, which drops the buffer. Follows
-    /// `std::io::BufReader::seek_relative`.
+    /// Moves the position by `offset` bytes. The buffer spans the bytes
+    /// [`behind`](BufReader::behind) the position and the held bytes after it. If the target is
+    /// within it, the inner reader is not called and the buffer is kept: forward, the next bytes
+    /// are skipped; backward, the last bytes come again. Otherwise this is
+    /// `seek(SeekFrom::Current(offset))`, except that it returns no position, and it drops the
+    /// buffer. Follows `std::io::BufReader::seek_relative`.
     ///
     /// # Errors
     /// Those of `seek`, and none in the buffer: `InvalidInput` where the target is below 0 or above
@@ -146,11 +146,12 @@ impl<R: Seek, const S: usize> BufReader<R, S> {
     }
 }
 
-/// `Current(n)` counts from the next byte that this reader would give, and so seeks the inner
-/// reader by `n` less the bytes held. Where that is no `i64`, the inner reader first goes back by
-/// the bytes held, which are dropped, and then by `n`. `Start` and `End` go to the inner reader.
-/// Success drops the bytes held and those that lie behind; a refusal of the first or only inner
-/// seek keeps them. Each error is the inner reader's own, with its text.
+/// `Current(n)` counts from the next byte that this reader would give. The inner reader is ahead of
+/// that by the held bytes, so it is sought by `n` minus their number. If this does not fit an
+/// `i64`, there are two inner seeks: back by the number of held bytes, which drops them, and then
+/// by `n`. `Start` and `End` go to the inner reader. Success drops the bytes held and those that
+/// lie behind; a refusal of the first or only inner seek keeps them. Each error is the inner
+/// reader's own, with its text.
 impl<R: Seek, const S: usize> Seek for BufReader<R, S> {
     fn seek(&mut self, pos: SeekFrom) -> Result<u64>
         ensures law { SeekLaw ⟦<Self as Seek>⟧ self.old pos result self.new }
