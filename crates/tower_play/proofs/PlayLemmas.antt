@@ -25,6 +25,11 @@ pub ifok_map : {A E : Type 0} {P Q : A → Type 0} (r : Result A E) → ((a : A)
 ifok_map (Ok a) f p = f a p
 ifok_map (Err e) f p = tt
 
+-- calls that are the same show the same
+pub shows_at : {W : Type 0} {I : Writer (Faulty W)} {shape : Shape} {acts : List Act} {a b : List Op} {text : List ℕ} → a ≡ b
+    → Shows I shape acts a text → Shows I shape acts b text
+shows_at {I = I} {shape} {acts} {text = text} same shows = subst (λ ops. Shows I shape acts ops text) same shows
+
 -- what one call of a level is to the one below
 abbrev Level : Type 1
 Level = List ℕ → WriteCall → List WriteCall → List ℕ → Type 0

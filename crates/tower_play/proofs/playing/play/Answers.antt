@@ -2,9 +2,9 @@ use Rattle.std.proofs.Common.{◌≡◌, subst, sym, ap, ◌∙◌, inr}
 use Rattle.std.proofs.lemmas.Result.{err_from_is_err_and}
 use Rattle.no_std_io2.specs.BufReader.{reader_inner, reader_events}
 use Rattle.no_std_io2_base.specs.Pieces.{split_reader, split_delim}
-use Rattle.tower_play.specs.Play.{IsPlay, IsPlayOf, Shows}
+use Rattle.tower_play.specs.Play.{IsPlay, IsPlayOf}
 use Rattle.tower_play.specs.Reading.{IsRead}
-use Rattle.tower_play.proofs.PlayLemmas.{writes_text, write_failed, flush_failed}
+use Rattle.tower_play.proofs.PlayLemmas.{shows_at, writes_text, write_failed, flush_failed}
 use Rattle.tower_play.proofs.playing.play.Goals as goal
 
 pub returns : goal.returns
@@ -26,9 +26,7 @@ returns g c =
           (subst (λ e. IsRead (split_delim c.split.result) e script) events
           (c.in_ok-acts.ensures.read c.split.ensures.fresh (subst R.tells (sym inner) t)));
       calls = c.in_ok-ops.ensures.calls;
-      shows =
-          subst (λ ops. Shows _ c.args.shape script.acts.items ops c.in_ok-report.report.items) c.deref.ensures.value
-          c.in_ok-report.ensures.ok;
+      shows = shows_at c.deref.ensures.value c.in_ok-report.ensures.ok;
     } in
     let wrote = c.in_ok-write_all.ensures.law.moves in
     let flushed = c.in_ok-flush.ensures.law.moves in
