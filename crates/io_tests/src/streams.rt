@@ -81,9 +81,9 @@ fn a_vector_gets_all_that_is_left(rt: HostRuntime) -> Result<(), Fail> {
 
 #[test]
 fn a_lent_reader_stays(rt: HostRuntime) -> Result<(), Fail> {
-    let mut r = Cursor::new(b"abcde".as_slice());
+    let mut r = Cursor::new(*b"abcde");
     let mut head = Vec::<u8>::new(rt.alloc());
-    r.by_ref().take(2).read_to_end(&mut head)?;
+    Read::by_ref(&mut r).take(2).read_to_end(&mut head)?;
     assert!(rt; r.position() == 2); // `r` goes on behind `ab`
     Ok(())
 }

@@ -157,9 +157,9 @@ pub trait Read: Stored {
     /// `std::io::Read::by_ref`.
     ///
     /// ```rust
-    /// let mut r = Cursor::new(b"abcde".as_slice());
+    /// let mut r = Cursor::new(*b"abcde");
     /// let mut head = Vec::<u8>::new(rt.alloc());
-    /// r.by_ref().take(2).read_to_end(&mut head)?;
+    /// Read::by_ref(&mut r).take(2).read_to_end(&mut head)?;
     /// assert!(rt; r.position() == 2); // `r` goes on behind `ab`
     /// ```
     final fn by_ref(&mut self) -> &mut Self
