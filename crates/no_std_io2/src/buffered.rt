@@ -1,6 +1,6 @@
 //! Buffers in front of readers and writers: [`BufReader`], [`BufWriter`], and [`LineWriter`], which
-//! hands on each line as it ends. The buffer of `S` bytes is in the value itself, so that no memory is
-//! asked for. [`IntoInnerError`] is what `into_inner` of a writer fails with.
+//! passes each line on as soon as it is complete. The buffer of `S` bytes is in the value itself, so
+//! nothing is allocated. [`IntoInnerError`] is the error of `into_inner` of a writer.
 mod buf_reader;
 mod buf_writer;
 mod buffer;

@@ -25,7 +25,7 @@ fn buffered_writer_tells<W: Write + Drop, const S: usize>(w: &BufWriter<W, S>)
     ensures unmetered { ¬ ⟦<BufWriter<W, S> as Write>⟧.is_metered w.now }
 {}
 
-// Each of its calls is so many of its inner writer.
+// Each of its calls makes the inner calls that `BufferMay` lists.
 fn buffered_writer_calls<W: Write + Drop, const S: usize>(
     old: &BufWriter<W, S>,
     new: &BufWriter<W, S>,
@@ -43,7 +43,7 @@ fn buffered_store_tells<W: Write + Stored + Drop, const S: usize>(w: &BufWriter<
     ensures position { ⟦<BufWriter<W, S> as Stored>⟧.position w.now ≡ W.position (writer_inner w.now) }
 {}
 
-// Its seeks send what is held, and then make one of the inner writer.
+// A seek of it sends the held bytes, and then makes one seek of the inner writer.
 fn buffered_seeker_tells<W: Write + Seek + Drop, const S: usize>(
     old: &BufWriter<W, S>,
     new: &BufWriter<W, S>,
@@ -52,7 +52,7 @@ fn buffered_seeker_tells<W: Write + Seek + Drop, const S: usize>(
         → WriterMaySeek W.Write W.Seek old.now call new.now }
 {}
 
-// The inner's out; the inner's held, then the own buffer; the inner's mishaps and turns.
+// It tells the inner writer's `out`, the inner writer's `held` followed by its own buffer, and the inner writer's mishaps and turns.
 fn line_writer_tells<W: Write + Drop, const S: usize>(w: &LineWriter<W, S>)
     ensures out { (⟦<LineWriter<W, S> as Write>⟧.told w.now).out ≡ (W.told (line_inner w.now)).out }
     ensures held { (⟦<LineWriter<W, S> as Write>⟧.told w.now).held
@@ -84,7 +84,7 @@ fn reader_tells<R: Read, const S: usize>(r: &BufReader<R, S>)
     ensures takes_all { ⟦<BufReader<R, S> as Read>⟧.may_take_none r.now → ⊥ }
 {}
 
-// Its position is the inner's less what is held, where that is what the store has there.
+// Its position is the inner reader's minus the held bytes, if these are what the store has there.
 fn reader_stores<R: Stored, const S: usize>(r: &BufReader<R, S>)
     ensures has_store { R.has_store (reader_inner r.now)
         → IsSound (reader_held r.now) (R.position (reader_inner r.now)) (R.content (reader_inner r.now))
@@ -94,7 +94,7 @@ fn reader_stores<R: Stored, const S: usize>(r: &BufReader<R, S>)
         ≡ R.position (reader_inner r.now) - length (reader_held r.now) }
 {}
 
-// It is sound where what lies behind and what is held are the store's up to the inner's position;
+// It is sound if the bytes behind and held are those of the store before the inner reader's position;
 // then it tells that store.
 #[tactic(auto, using(crate::proofs::BufReaderBehind::sound_held))]
 fn reader_is_sound_where<R: Stored, const S: usize>(r: &BufReader<R, S>)
@@ -106,8 +106,8 @@ fn reader_is_sound_where<R: Stored, const S: usize>(r: &BufReader<R, S>)
         → ⟦<BufReader<R, S> as Stored>⟧.has_store r.now }
 {}
 
-// What it holds stands at the front of what is to come. Over a metered reader its fills are counted, and over a filling one
-// their lengths are known.
+// Its events begin with the held bytes. Over a metered reader its fills are counted, and over a filling one their lengths are
+// known.
 fn reader_lends<R: Read, const S: usize>(r: &BufReader<R, S>)
     ensures held { ⟦<BufReader<R, S> as BufRead>⟧.held r.now ≡ reader_held r.now }
     ensures front { BeginsWith (⟦<BufReader<R, S> as Read>⟧.events r.now) (⟦<BufReader<R, S> as BufRead>⟧.held r.now) }
@@ -119,7 +119,7 @@ fn reader_lends<R: Read, const S: usize>(r: &BufReader<R, S>)
         else min S (length (R.events (reader_inner r.now)))) }
 {}
 
-// Lends once. Where nothing is held that is one inner read, else none, and the inner reader is left alone.
+// Lends once. If nothing is held, that is one inner read; if bytes are held, the inner reader is not called.
 fn lend_counted<R: Read, const S: usize>(r: &mut BufReader<R, S>) -> Result<usize>
     ensures reads { R.is_metered (reader_inner r.old) → R.is_metered (reader_inner r.new)
         × (R.cost (reader_inner r.new) ≡ R.cost (reader_inner r.old)
@@ -144,13 +144,13 @@ fn consume_counted<R: Read, const S: usize>(r: &mut BufReader<R, S>, amount: usi
     r.consume(amount);
 }
 
-// Its seeks are one of the inner reader, or two.
+// A seek of it makes one or two seeks of the inner reader.
 fn reader_seeks_tell<R: Seek, const S: usize>(old: &BufReader<R, S>, new: &BufReader<R, S>)
     ensures { (call : SeekCall) → ⟦<BufReader<R, S> as Seek>⟧.may old.now call new.now
         → ReaderMaySeek R.may old.now call new.now }
 {}
 
-// Moves inside the buffer once. The events to come move with it, and none is taken from the inner.
+// Moves once inside the buffer. The events to come move with it, and the inner reader gives none.
 fn move_told<R: Read + Seek, const S: usize>(r: &mut BufReader<R, S>, offset: i64) -> Result<()>
     ensures { IsInBuffer offset (length (reader_behind r.old)) (length (reader_held r.old))
         → IsOk result × MovesEvents offset (reader_behind r.old) (reader_held r.old)

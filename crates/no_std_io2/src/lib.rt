@@ -3,12 +3,12 @@
 //!
 //! To put a buffer in front of a device, take [`io::BufWriter`], [`io::LineWriter`] or
 //! [`io::BufReader`]. In the examples, `rt` is the `HostRuntime` that `main` and each test take as
-//! an argument, and the code stands in a function that returns a `Result`.
+//! an argument, and the code is in a function that returns a `Result`.
 //!
-//! Bytes in memory are a stream by [`io::Cursor`]; slices read, and vectors take bytes, by
-//! themselves. [`io::copy`] moves all of a reader to a writer. A device of your own implements
-//! [`io::Write`], or [`io::Stored`] and [`io::Read`]; where it keeps no byte of those that it took,
-//! a [`trace::Trace`] tells them. The words of all contracts are under `Rattle.no_std_io2.specs`.
+//! [`io::Cursor`] makes bytes in memory a stream; a slice is a reader, and a vector a writer, without
+//! it. [`io::copy`] copies all bytes of a reader to a writer. A device of your own implements
+//! [`io::Write`], or [`io::Stored`] and [`io::Read`]. If it does not keep the bytes that it takes, it
+//! tells them by a [`trace::Trace`]. The words of all contracts are under `Rattle.no_std_io2.specs`.
 #![tactic(auto)]
 
 pub mod buffered;
@@ -16,13 +16,13 @@ mod laws;
 pub mod trace;
 pub mod util;
 
-/// The standard trait of errors.
+/// Re-exports the standard trait of errors.
 pub mod error {
     pub use std::error::Error;
 }
 
-/// The whole surface, as Rust's `std::io`: the traits, the buffers, `Cursor`, the adaptors that the
-/// traits make, `copy`, and errors.
+/// Re-exports all public names, as Rust's `std::io` does: the traits, the buffers, `Cursor`, the
+/// adaptors that the traits return, `copy`, and errors.
 pub mod io {
     pub use super::buffered::{BufReader, BufWriter, IntoInnerError, LineWriter, Unsent};
     pub use super::util::{Sink, copy, empty, read_exact_at, skip, write_with_retries};
@@ -32,7 +32,7 @@ pub mod io {
         Answers, BufRead, Bytes, Chain, Lines, Read, Seek, SeekFrom, Split, Stored, Take, Write,
     };
 
-    /// The traits, by `use no_std_io2::io::prelude::*`. Follows `std::io::prelude`.
+    /// Re-exports the traits, for `use no_std_io2::io::prelude::*`. Follows `std::io::prelude`.
     pub mod prelude {
         pub use no_std_io2_base::traits::{BufRead, Read, Seek, Write};
     }

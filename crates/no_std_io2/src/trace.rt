@@ -5,7 +5,7 @@ ghost use Rattle.std.specs.Borrow.{ftrue};
 
 use std::marker::{Model, PhantomData};
 
-/// A list of bytes that is seen by contracts alone: ghost state. It takes no memory, and its calls do nothing when they run.
+/// A list of bytes that only contracts see. It takes no memory, and its calls do nothing when they run.
 ///
 /// A device that does not store the bytes that it takes, such as a port, a socket or a sink, uses a
 /// `Trace` to tell its `out`.
@@ -20,7 +20,7 @@ impl Model for Trace {
 }
 
 impl Trace {
-    /// No bytes.
+    /// Makes an empty list.
     ///
     /// ```rust
     /// let mut taken = Trace::new();
@@ -34,7 +34,7 @@ impl Trace {
         }
     }
 
-    /// These bytes come after the others.
+    /// Appends bytes to the list.
     pub fn add(&mut self, _more: &[u8])
         ensures { self.new.bytes ≡ self.old.bytes ++ _more.now }
     {}

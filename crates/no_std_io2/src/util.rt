@@ -1,5 +1,6 @@
-//! Whole copies from a reader to a writer, [`copy`], bytes that are passed over, [`skip`], a read at
-//! a place, [`read_exact_at`], writes that are tried again, [`write_with_retries`], and streams without a device, [`empty`] and [`Sink`].
+//! Functions over streams: [`copy`] copies a reader to a writer, [`skip`] skips bytes, [`read_exact_at`]
+//! reads at a place, and [`write_with_retries`] writes again after a fault. [`empty`] and [`Sink`] are
+//! streams without a device.
 ghost use Rattle.std.specs.Prelude.{◌≡◌, ◌+◌, ◌≤◌, ◌<◌, ◌^◌, [], length, IfErr, OnOk, OnErr};
 ghost use Rattle.no_std_io2_base.specs.Errors.{IsFault};
 ghost use Rattle.no_std_io2.specs.Copy.{Copies, CopyMoves, CopyHands, copy_reads};
@@ -18,21 +19,21 @@ pub use read_at::read_exact_at;
 pub use retries::write_with_retries;
 pub use sink::Sink;
 
-/// Copies all bytes to come of `reader` to `writer`, through a buffer of `S` bytes on the stack,
-/// and returns their number, or the greatest `u64` where there are more. It passes over the
-/// reader's interruptions, hands on what each read gives by one `write_all`, and doesn't flush
-/// `writer`. Follows `std::io::copy`.
+/// Copies all remaining bytes of `reader` to `writer`, through a buffer of `S` bytes on the stack.
+/// It returns their number, or `u64::MAX` if there are more. It ignores the reader's interruptions,
+/// passes on what each read gives by one `write_all`, and does not flush `writer`. Follows
+/// `std::io::copy`.
 ///
 /// If `S` is above 0 and each read gives as many bytes as fit, `copy` makes one read for each `S`
 /// bytes, rounded up, and one more, which finds the end.
 ///
-/// `S` is from 0 to 2^63 - 1. With `S` 0 nothing is copied and the result is 0, or the reader's
-/// fault where it returns one.
+/// `S` is from 0 to 2^63 - 1. If `S` is 0, nothing is copied, and the result is 0, or the reader's
+/// fault if the reader returns one.
 ///
 /// # Errors
-/// Returns the reader's first fault; the writer has then accepted all bytes before it. Or returns
-/// the writer's fault; then up to `S` bytes that were read are not accepted, and are lost. Never
-/// returns `Interrupted`.
+/// Returns the reader's first fault if there is one; the writer has then accepted all bytes before
+/// it. Returns the writer's fault if a `write_all` fails; up to `S` bytes that were read are then not
+/// accepted, and are lost. Never returns `Interrupted`.
 ///
 /// ```rust
 /// let mut from = Cursor::new(*b"abcde");
@@ -81,9 +82,10 @@ pub fn copy<R: Read, W: Write, const S: usize>(reader: &mut R, writer: &mut W) -
 /// is 0, no call is made. `std::io` has no such function; there you copy a `Take` into a `Sink`.
 ///
 /// # Errors
-/// The reader's first fault, which is gone then; `UnexpectedEof` where the bytes end too early. The bytes
-/// before it are passed over, and `left` says how many are missing: the same call goes on. Never
-/// `Interrupted`.
+/// Returns the first fault that comes before all `left` bytes are skipped; the reader is then right
+/// after it. Returns `UnexpectedEof` if the bytes end too early. After either error the bytes before
+/// it are skipped, and `left` is the number of missing bytes, so the same call continues. Never
+/// returns `Interrupted`.
 ///
 /// ```rust
 /// let mut r = Cursor::new(*b"abcde");
@@ -126,7 +128,7 @@ pub fn skip<B: BufRead>(reader: &mut B, left: &mut u64) -> Result<()>
     Ok(())
 }
 
-/// A reader that is at its end: a slice of no bytes. As `std::io::empty`.
+/// Returns a reader that is at its end: an empty slice. Follows `std::io::empty`.
 pub fn empty() -> &'static [u8]
     ensures { result.now ≡ [] }
 {

@@ -56,7 +56,7 @@ impl<R, const S: usize> BufReader<R, S> {
     ghost use Rattle.no_std_io2.specs.contracts.buffered.buf_reader.BufReader.{the_row as reader-row};
     ghost use Rattle.no_std_io2.specs.BufReader.{reader_held, reader_behind, reader_inner, reader_with_inner};
 
-    /// Gets a reference to the inner reader. It is ahead of this one by the bytes held. Follows
+    /// Gets a reference to the inner reader, which is ahead of this one by the held bytes. Follows
     /// `std::io::BufReader::get_ref`.
     ///
     /// ```rust
@@ -71,7 +71,7 @@ impl<R, const S: usize> BufReader<R, S> {
         &self.inner
     }
 
-    /// Gets a mutable reference to the inner reader. The bytes held stay. Follows
+    /// Gets a mutable reference to the inner reader. The held bytes stay. Follows
     /// `std::io::BufReader::get_mut`.
     pub fn get_mut(&mut self) -> &mut R
         ensures value { result.now ≡ reader_inner self.old }
@@ -81,7 +81,7 @@ impl<R, const S: usize> BufReader<R, S> {
         &mut self.inner
     }
 
-    /// Returns the bytes held: read and not yet given, at most `S`. Follows
+    /// Returns the held bytes, at most `S`: they were read and not yet given. Follows
     /// `std::io::BufReader::buffer`.
     pub fn buffer(&self) -> &[u8]
         ensures value { result.now ≡ reader_held self.now }
@@ -92,9 +92,9 @@ impl<R, const S: usize> BufReader<R, S> {
 
     /// Returns the bytes of the buffer that this reader has already given, right before the held
     /// ones. [`seek_relative`](BufReader::seek_relative) can go back over them without a seek of
-    /// the inner reader. They are gone after an inner read, whatever that returns, after a
-    /// `read_to_end`, and after a seek that drops the buffer. Rust's `BufReader` keeps such bytes
-    /// too, but does not show them.
+    /// the inner reader. An inner read drops them, whatever it returns; so do a `read_to_end` and
+    /// a seek that drops the buffer. Rust's `BufReader` keeps such bytes too, but does not show
+    /// them.
     pub fn behind(&self) -> &[u8]
         ensures value { result.now ≡ reader_behind self.now }
         ensures bound { length result.now ≤ S }
@@ -109,7 +109,7 @@ impl<R, const S: usize> BufReader<R, S> {
         S
     }
 
-    /// Returns the inner reader. The bytes held are lost. Follows `std::io::BufReader::into_inner`.
+    /// Returns the inner reader. The held bytes are lost. Follows `std::io::BufReader::into_inner`.
     ///
     /// ```rust
     /// let mut r = BufReader::<_, 4>::new(Cursor::new(*b"abcdefgh"));
@@ -124,7 +124,7 @@ impl<R, const S: usize> BufReader<R, S> {
     }
 }
 
-// The inner's store, less what is held.
+// Tells the inner reader's store, at a position that is lower by the held bytes.
 impl<R: Stored, const S: usize> Stored for BufReader<R, S> {
     ghost use Rattle.no_std_io2.specs.BufReader.{reader_inner, reader_has_store, reader_position};
 
@@ -135,7 +135,7 @@ impl<R: Stored, const S: usize> Stored for BufReader<R, S> {
     ghost position = { reader_position R.position };
 }
 
-/// Of the buffer it shows how much is held, and how much could be.
+/// Shows the inner reader, and the buffer as `3/8` if 3 bytes are held and 8 can be.
 impl<R: Debug, const S: usize> Debug for BufReader<R, S> {
     fn fmt<W: fmt::Write>(&self, f: &mut Formatter<W>) -> fmt::Result {
         let held = self.buffer.len();

@@ -102,7 +102,7 @@ impl<W: Write + Drop, const S: usize> BufWriter<W, S> {
         self.core.capacity()
     }
 
-    /// Returns the inner writer, and the bytes that were held for it: nothing is sent. Follows
+    /// Returns the inner writer and the bytes that were held for it, and sends nothing. Follows
     /// `std::io::BufWriter::into_parts`.
     ///
     /// ```rust
@@ -120,12 +120,13 @@ impl<W: Write + Drop, const S: usize> BufWriter<W, S> {
         core.into_parts()
     }
 
-    /// Sends what is held and returns the inner writer, which isn't flushed. With nothing held it
-    /// makes no inner call. Follows `std::io::BufWriter::into_inner`.
+    /// Sends the held bytes and returns the inner writer, which is not flushed. If nothing is held,
+    /// it makes no inner call. Follows `std::io::BufWriter::into_inner`.
     ///
     /// # Errors
-    /// `WriteZero` where the inner writer took no byte of some, else its first fault; never
-    /// `Interrupted`. The writer comes back inside the error, and holds what was not sent.
+    /// Returns `WriteZero` if an inner write takes no byte, and the inner writer's fault if one fails.
+    /// The error contains this writer, which holds the bytes that were not sent. Never returns
+    /// `Interrupted`.
     ///
     /// In a `match`, bind the error to a name: the borrow checker accepts `Err(_e)` here, but not
     /// `Err(_)`.
@@ -143,7 +144,7 @@ impl<W: Write + Drop, const S: usize> BufWriter<W, S> {
     }
 }
 
-/// Sends once and ignores a fault; the inner writer isn't flushed.
+/// Tries once to send the held bytes, ignores a fault, and does not flush the inner writer.
 impl<W: Write + Drop, const S: usize> Drop for BufWriter<W, S> {
     fn drop(mut self) {
         let _ = self.core.send();
@@ -151,7 +152,7 @@ impl<W: Write + Drop, const S: usize> Drop for BufWriter<W, S> {
     }
 }
 
-/// Shows the inner writer, and how many bytes are held of how many can be, as `3/8`.
+/// Shows the inner writer, and the buffer as `3/8` if 3 bytes are held and 8 can be.
 impl<W: Write + Drop + Debug, const S: usize> Debug for BufWriter<W, S> {
     fn fmt<V: fmt::Write>(&self, f: &mut Formatter<V>) -> fmt::Result {
         let held = self.buffer().len();
@@ -162,7 +163,7 @@ impl<W: Write + Drop + Debug, const S: usize> Debug for BufWriter<W, S> {
     }
 }
 
-/// Tells what its inner writer tells, and holds its buffer behind that.
+/// Tells what its inner writer tells; its `held` is the inner writer's `held`, then its own buffer.
 impl<W: Write + Drop, const S: usize> Write for BufWriter<W, S> {
     ghost told = { writer_told W.told };
 
@@ -172,11 +173,12 @@ impl<W: Write + Drop, const S: usize> Write for BufWriter<W, S> {
 
     ghost may = { BufferMay W.Write S writer_inner writer_buffer };
 
-    /// Holds `buf` where it is shorter than `S`, else hands it to the inner `write`. What is held is
-    /// sent first where both together are above `S`; a refusal there accepts nothing of `buf`.
+    /// Holds `buf` if it is shorter than `S`, and passes it to the inner `write` if it is not. If the
+    /// held bytes and `buf` together are longer than `S`, the held bytes are sent first.
     ///
     /// # Errors
-    /// Sending's fault, or the inner `write`'s error. What was not sent is still held.
+    /// Returns the sending's fault if the sending fails, and the inner `write`'s error if that fails.
+    /// Nothing of `buf` was accepted then, and bytes that were not sent are still held.
     #[inline(always)]
     fn write(&mut self, buf: &[u8]) -> Result<usize>
         ensures law { WriteOf ⟦<Self as Write>⟧ self.old buf.now result self.new }
@@ -186,11 +188,11 @@ impl<W: Write + Drop, const S: usize> Write for BufWriter<W, S> {
         self.core.write(buf)
     }
 
-    /// Sends what is held, then flushes the inner writer.
+    /// Sends the held bytes, then flushes the inner writer.
     ///
     /// # Errors
-    /// Sending's fault, with the inner writer not flushed, or the inner `flush`'s error. What was
-    /// not sent is still held.
+    /// Returns the sending's fault if the sending fails; the inner writer is then not flushed. Returns
+    /// the inner `flush`'s error if that fails. Bytes that were not sent are still held.
     fn flush(&mut self) -> Result<()>
         ensures law { FlushOf ⟦<Self as Write>⟧ self.old result self.new }
 
@@ -199,10 +201,12 @@ impl<W: Write + Drop, const S: usize> Write for BufWriter<W, S> {
         self.core.flush()
     }
 
-    /// As `write`, with the inner `write_all` for a buffer of `S` bytes and more.
+    /// Holds `buf` if it is shorter than `S`, and passes it to the inner `write_all` if it is not. If
+    /// the held bytes and `buf` together are longer than `S`, the held bytes are sent first.
     ///
     /// # Errors
-    /// Sending's fault, or the inner `write_all`'s error. What was not sent is still held.
+    /// Returns the sending's fault if the sending fails, and the inner `write_all`'s error if that
+    /// fails. Bytes that were not sent are still held.
     #[inline(always)]
     fn write_all(&mut self, buf: &[u8]) -> Result<()>
         ensures law { WriteAllOf ⟦<Self as Write>⟧ self.old buf.now result self.new }

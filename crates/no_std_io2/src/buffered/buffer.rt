@@ -72,7 +72,7 @@ impl<const S: usize> Buffer<S> {
         self.end = 0;
     }
 
-    /// Passes over the first bytes, which then lie behind. No byte moves.
+    /// Skips the first held bytes, which then lie behind. No byte moves.
     #[inline]
     pub(crate) fn consume(&mut self, n: usize)
         requires { n ≤ length (buffer_held self.old) }
@@ -83,8 +83,8 @@ impl<const S: usize> Buffer<S> {
         self.start += n;
     }
 
-    /// Moves the border between what lies behind and what is held, where that stays between their
-    /// ends, and answers whether it does. No byte moves.
+    /// Moves the border between the bytes behind and the held bytes if it stays between their ends,
+    /// and returns whether it does. No byte moves.
     pub(crate) fn shift(&mut self, offset: i64) -> bool
         ensures within { OnTrue result
             (IsInBuffer offset (length (buffer_behind self.old)) (length (buffer_held self.old))
@@ -128,7 +128,7 @@ impl<const S: usize> Buffer<S> {
         if self.start == self.end {
             return 0;
         }
-        // Who reads byte by byte asks for one.
+        // A caller that reads byte by byte asks for one.
         if buf.len() == 1 {
             buf[0] = self.bytes[self.start];
             self.start += 1;
@@ -139,8 +139,8 @@ impl<const S: usize> Buffer<S> {
         n
     }
 
-    /// Appends what is held to a vector, and clears the array; or as much as there is room for where
-    /// memory is refused, and keeps the rest.
+    /// Appends the held bytes to a vector, and clears the array. If an allocation fails, it appends as
+    /// many as there is room for, and keeps the rest.
     pub(crate) fn append_to<A: Allocator>(&mut self, buf: &mut Vec<u8, A>) -> Result<()>
         ensures moved { HasMoved (buffer_held self.old) (buffer_held self.new) buf.old.items buf.new.items }
         ensures done { OnOk result ((buffer_held self.new ≡ []) × (buffer_behind self.new ≡ [])) }
@@ -187,7 +187,7 @@ impl<const S: usize> Buffer<S> {
         Ok(())
     }
 
-    /// Drops bytes at the front, and moves none. Where nothing is left, both ends go back to the front.
+    /// Drops the first held bytes, and moves none. If none are left, both ends go back to the front.
     #[inline]
     pub(crate) fn drop_front(&mut self, n: usize)
         requires { n ≤ length (buffer_held self.old) }
@@ -214,7 +214,7 @@ impl<const S: usize> Buffer<S> {
         self.start = 0;
     }
 
-    // Copies `more` behind the end, where it fits. No held byte moves.
+    // Copies `more` to the room after the end, in which it fits. No held byte moves.
     #[inline]
     fn append(&mut self, more: &[u8])
         requires { length more.now ≤ buffer_room self.old }
@@ -227,7 +227,7 @@ impl<const S: usize> Buffer<S> {
         self.end = end;
     }
 
-    /// Appends `more`. The held bytes move only where it doesn't fit behind the end.
+    /// Appends `more`. The held bytes move only if it does not fit after the end.
     pub(crate) fn push(&mut self, more: &[u8])
         requires { length (buffer_held self.old) + length more.now ≤ S }
         ensures held { buffer_held self.new ≡ buffer_held self.old ++ more.now }
@@ -239,7 +239,7 @@ impl<const S: usize> Buffer<S> {
         self.append(more);
     }
 
-    /// Appends `more` where that leaves room behind the end. No held byte moves.
+    /// Appends `more` if that leaves room after the end. No held byte moves.
     #[inline(always)]
     pub(crate) fn append_if_room(&mut self, more: &[u8]) -> bool
         ensures held { OnTrue result ((length more.now < buffer_room self.old)

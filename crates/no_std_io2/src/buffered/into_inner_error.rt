@@ -42,8 +42,8 @@ impl<W> IntoInnerError<W> {
         &self.error
     }
 
-    /// Returns the error that stopped the sending. The writer is dropped, and sends once more then. Follows
-    /// `std::io::IntoInnerError::into_error`.
+    /// Returns the error that stopped the sending, and drops the writer. The drop tries once more to send.
+    /// Follows `std::io::IntoInnerError::into_error`.
     pub fn into_error(self) -> Error
     where
         W: Drop,
@@ -80,7 +80,7 @@ impl<W> IntoInnerError<W> {
     }
 }
 
-/// The error alone; the writer is dropped, and a buffered one sends once more then.
+/// Keeps the error and drops the writer. If the writer is a buffered one, the drop tries once more to send.
 impl<W: Drop> From<IntoInnerError<W>> for Error {
     ghost from_gives = { λ x y. y ≡ into_inner_error_cause x };
 

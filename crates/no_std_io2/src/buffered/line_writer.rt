@@ -26,8 +26,8 @@ use steps::{lines_len, write_all_lines, write_all_plain, write_lines, write_plai
 /// A line ends in a newline byte. The held bytes have no newline, or end in one. They end in one if
 /// the inner writer took only a part of the lines; the next call then sends them first.
 ///
-/// A dropped writer sends what it holds once, and ignores a fault: call [`Write::flush`] or
-/// [`LineWriter::into_inner`] to see it.
+/// Dropping it tries once to send the held bytes, and ignores a fault. To see the fault, first call
+/// [`Write::flush`] or [`LineWriter::into_inner`].
 ///
 /// ```rust
 /// let mut w = LineWriter::<Vec<u8>, 16>::new(Vec::new(rt.alloc()));
@@ -76,8 +76,8 @@ impl<W: Write + Drop, const S: usize> LineWriter<W, S> {
         self.core.get_mut()
     }
 
-    /// Returns the held bytes, at most `S`: they have no newline, or end in one. Rust's
-    /// `LineWriter` has no such call; `std::io::BufWriter::buffer` is its like.
+    /// Returns the held bytes, at most `S`. They have no newline, or end in one. Follows
+    /// `std::io::BufWriter::buffer`; Rust's `LineWriter` has no such call.
     pub fn buffer(&self) -> &[u8]
         ensures value { result.now ≡ line_buffer self.now }
         ensures bound { length result.now ≤ S }
@@ -86,13 +86,13 @@ impl<W: Write + Drop, const S: usize> LineWriter<W, S> {
         self.core.buffered.buffer()
     }
 
-    /// Sends what is held and returns the inner writer, which isn't flushed. With nothing held there
-    /// is no inner call. Follows `std::io::LineWriter::into_inner`.
+    /// Sends the held bytes and returns the inner writer, which is not flushed. If nothing is held,
+    /// it makes no inner call. Follows `std::io::LineWriter::into_inner`.
     ///
     /// # Errors
-    /// The fault that stopped the sending, never an interruption: the inner writer's own, or
-    /// `WriteZero` where it took no byte of some. The error holds this writer, with the bytes that
-    /// are not yet sent; they have no newline, or end in one.
+    /// Returns `WriteZero` if an inner write takes no byte, and the inner writer's fault if one fails.
+    /// The error contains this writer, which holds the bytes that were not sent; they have no newline,
+    /// or end in one. Never returns `Interrupted`.
     pub fn into_inner(self) -> std::result::Result<W, IntoInnerError<LineWriter<W, S>>>
         ensures law { Unwraps W.Write line_inner line_buffer self result }
 
@@ -112,7 +112,7 @@ impl<W: Write + Drop, const S: usize> LineWriter<W, S> {
     }
 }
 
-/// Sends what is held once, ignores a fault, and does not flush the inner writer.
+/// Tries once to send the held bytes, ignores a fault, and does not flush the inner writer.
 impl<W: Write + Drop, const S: usize> Drop for LineWriter<W, S> {
     fn drop(mut self) {
         let _ = self.core.buffered.send();
@@ -120,7 +120,7 @@ impl<W: Write + Drop, const S: usize> Drop for LineWriter<W, S> {
     }
 }
 
-/// Shows the inner writer, and how many bytes are held out of how many can be.
+/// Shows the inner writer, and the buffer as `3/8` if 3 bytes are held and 8 can be.
 impl<W: Write + Drop + fmt::Debug, const S: usize> fmt::Debug for LineWriter<W, S> {
     fn fmt<F: fmt::Write>(&self, f: &mut fmt::Formatter<F>) -> fmt::Result {
         let held = self.buffer().len();
@@ -131,8 +131,8 @@ impl<W: Write + Drop + fmt::Debug, const S: usize> fmt::Debug for LineWriter<W, 
     }
 }
 
-/// Bytes go out line by line. What is out is the inner writer's out; what is held is the inner
-/// writer's held bytes, then the buffer.
+/// Sends bytes line by line. Its `out` is the inner writer's `out`; its `held` is the inner writer's
+/// `held`, then its own buffer.
 impl<W: Write + Drop, const S: usize> Write for LineWriter<W, S> {
     ghost told = { line_told W.told };
 
@@ -140,20 +140,21 @@ impl<W: Write + Drop, const S: usize> Write for LineWriter<W, S> {
 
     ghost may = { LineMay W.Write S line_inner line_buffer };
 
-    /// Writes some front of `buf`. Complete lines that are held are sent first. If `buf` has no
+    /// Writes some first bytes of `buf`. Complete lines that are held are sent first. If `buf` has no
     /// newline, it is then written as by a `BufWriter`: it is held if it fits; if not, the held
     /// bytes are sent first, and a `buf` of at least `S` bytes is one inner write. If `buf` has a
     /// newline, all held bytes are sent, and one inner write gets the lines of `buf`. Of the bytes
     /// that this leaves, at most `S` are held, and they either end in a newline or have none.
     ///
     /// # Errors
-    /// The inner writer's own, or `WriteZero` where it took no byte of some that were held. Nothing
-    /// of `buf` was accepted then, and what was not sent is still held.
+    /// Returns `WriteZero` if an inner write of held bytes takes no byte, and the inner writer's error
+    /// if an inner write fails. Nothing of `buf` was accepted then, and bytes that were not sent are
+    /// still held.
     fn write(&mut self, buf: &[u8]) -> Result<usize>
         ensures law { WriteOf ⟦<Self as Write>⟧ self.old buf.now result self.new }
         ensures calls { Takes W.Write line_inner line_buffer (LineWriteCalls S buf.now) self.old result self.new }
 
-        // A short text without a newline is taken whole or not at all, and held where it fits.
+        // A short text without a newline is taken whole or not at all, and held if it fits.
         ensures short { IsShortText S buf.now → IfOk result (λ n. n ≡ length buf.now) }
         ensures fits { IsShortText S buf.now → HasNoNewline (line_buffer self.old)
             → length (line_buffer self.old) + length buf.now ≤ S
@@ -172,11 +173,12 @@ impl<W: Write + Drop, const S: usize> Write for LineWriter<W, S> {
         write_lines(&mut self.core.buffered, buf, len)
     }
 
-    /// Sends what is held, then flushes the inner writer.
+    /// Sends the held bytes, then flushes the inner writer.
     ///
     /// # Errors
-    /// The inner writer's own, or `WriteZero` where it took no byte of some that were held. What was
-    /// not sent is still held, and a later flush goes on there.
+    /// Returns `WriteZero` if an inner write of held bytes takes no byte, and the inner writer's error
+    /// if an inner call fails. Bytes that were not sent are still held, and a later flush continues
+    /// with them.
     fn flush(&mut self) -> Result<()>
         ensures law { FlushOf ⟦<Self as Write>⟧ self.old result self.new }
         ensures buffer { Flushes W.Write line_inner line_buffer self.old result self.new }
@@ -184,15 +186,15 @@ impl<W: Write + Drop, const S: usize> Write for LineWriter<W, S> {
         self.core.buffered.flush()
     }
 
-    /// Writes all of `buf`. Without a newline in `buf`, it goes the way of [`LineWriter::write`]. With
-    /// one, what is held and the lines of `buf` are sent, and what follows them is held where it is
-    /// shorter than `S`, else it goes to the inner writer. After `Ok` no newline is held, and after a
-    /// `buf` that ends in one nothing is.
+    /// Writes all of `buf`. If `buf` has no newline, it is written as by [`LineWriter::write`]. If it has
+    /// one, the held bytes and the lines of `buf` are sent; the bytes after the lines are then held if
+    /// they are fewer than `S`, and go to the inner writer if they are not. After `Ok` no newline is
+    /// held; if `buf` ends in a newline, nothing is held.
     ///
     /// # Errors
-    /// The inner writer's first fault, or `WriteZero` where it took no byte of some; never
-    /// `Interrupted`. Some front of `buf`, possibly empty or whole, was accepted then: it is out or
-    /// held.
+    /// Returns `WriteZero` if an inner write takes no byte, and the inner writer's first fault if one
+    /// fails. Then some first bytes of `buf`, possibly none or all, were accepted: they are out or held.
+    /// Never returns `Interrupted`.
     fn write_all(&mut self, buf: &[u8]) -> Result<()>
         ensures law { WriteAllOf ⟦<Self as Write>⟧ self.old buf.now result self.new }
         ensures calls { Takes W.Write line_inner line_buffer (LineWriteAllCalls S buf.now) self.old result self.new }

@@ -60,11 +60,11 @@ impl<W: Write + Drop, const S: usize> Sender<W, S> {
         S
     }
 
-    /// Sends the held bytes: repeats the inner `write` with all that is held, and passes over
-    /// interruptions. What was taken is no longer held, whatever the result, and no byte moves.
+    /// Sends the held bytes: repeats the inner `write` with all of them, and ignores interruptions.
+    /// Bytes that the inner writer took are no longer held, whatever the result, and no byte moves.
     ///
     /// # Errors
-    /// `WriteZero` where the inner writer took no byte of some, else its first fault.
+    /// Returns `WriteZero` if an inner write takes no byte, and the inner writer's fault if one fails.
     pub(crate) fn send(&mut self) -> Result<()>
         ensures calls { Takes W.Write sender_inner sender_buffer SendCalls self.old result self.new }
         ensures unmoved { self.new.buffer.bytes ≡ self.old.buffer.bytes }
@@ -92,7 +92,7 @@ impl<W: Write + Drop, const S: usize> Sender<W, S> {
         Ok(())
     }
 
-    /// Holds `more` behind what is held.
+    /// Holds `more` after the held bytes.
     pub(crate) fn hold(&mut self, more: &[u8])
         requires { length (sender_buffer self.old) + length more.now ≤ S }
         ensures same { sender_inner self.new ≡ sender_inner self.old }
@@ -101,10 +101,10 @@ impl<W: Write + Drop, const S: usize> Sender<W, S> {
         self.buffer.push(more);
     }
 
-    /// Sends what is held, where `more` bytes don't fit beside it.
+    /// Sends the held bytes if `more` bytes do not fit beside them.
     ///
     /// # Errors
-    /// As `send`.
+    /// Returns the error of `send`.
     #[inline(always)]
     fn make_way(&mut self, more: usize) -> Result<()>
         ensures { Takes W.Write sender_inner sender_buffer (WayCalls S more) self.old result self.new }
@@ -115,7 +115,7 @@ impl<W: Write + Drop, const S: usize> Sender<W, S> {
         Ok(())
     }
 
-    /// Holds `buf` where it is shorter than the room behind what is held: the hot path of a write.
+    /// Holds `buf` if it is shorter than the room after the held bytes: the hot path of a write.
     #[inline(always)]
     fn hold_if_room(&mut self, buf: &[u8]) -> bool
         ensures held { OnTrue result ((length buf.now < S)
@@ -127,11 +127,12 @@ impl<W: Write + Drop, const S: usize> Sender<W, S> {
         self.buffer.append_if_room(buf)
     }
 
-    /// Holds `buf` where it is shorter than `S`, else hands it to the inner `write`. What is held is
-    /// sent first where both together are above `S`. Where nothing is held, handing on is a hot path too.
+    /// Holds `buf` if it is shorter than `S`, and passes it to the inner `write` if it is not. If both
+    /// together are longer than `S`, the held bytes are sent first. If nothing is held, the call of the
+    /// inner `write` is a hot path too.
     ///
     /// # Errors
-    /// As `send`, or the inner `write`'s. Nothing of `buf` was accepted then.
+    /// Returns the error of `send` or of the inner `write`. Nothing of `buf` was accepted then.
     #[inline(always)]
     pub(crate) fn write(&mut self, buf: &[u8]) -> Result<usize>
         ensures { Takes W.Write sender_inner sender_buffer (WriteCalls S buf.now) self.old result self.new }
@@ -154,7 +155,7 @@ impl<W: Write + Drop, const S: usize> Sender<W, S> {
         self.write_cold(buf)
     }
 
-    /// The whole of `write`. It stands apart, so that callers inline no more than the hot path.
+    /// The whole of `write`. It is a function of its own, so that callers inline only the hot path.
     #[cold]
     #[inline(never)]
     fn write_cold(&mut self, buf: &[u8]) -> Result<usize>
@@ -168,11 +169,11 @@ impl<W: Write + Drop, const S: usize> Sender<W, S> {
         Ok(buf.len())
     }
 
-    /// As `write`, with the inner `write_all` for a buffer of `S` bytes and more. Where nothing is held,
-    /// that is a hot path too.
+    /// Does as `write`, but passes a `buf` of `S` bytes or more to the inner `write_all`. If nothing is
+    /// held, that is a hot path too.
     ///
     /// # Errors
-    /// As `send`, or the inner `write_all`'s.
+    /// Returns the error of `send` or of the inner `write_all`.
     #[inline(always)]
     pub(crate) fn write_all(&mut self, buf: &[u8]) -> Result<()>
         ensures { Takes W.Write sender_inner sender_buffer (WriteAllCalls S buf.now) self.old result self.new }
@@ -208,10 +209,10 @@ impl<W: Write + Drop, const S: usize> Sender<W, S> {
         Ok(())
     }
 
-    /// Sends what is held, then flushes the inner writer.
+    /// Sends the held bytes, then flushes the inner writer.
     ///
     /// # Errors
-    /// As `send`, with the inner writer not flushed, or the inner `flush`'s.
+    /// Returns the error of `send`, with the inner writer not flushed, or of the inner `flush`.
     pub(crate) fn flush(&mut self) -> Result<()>
         ensures { Takes W.Write sender_inner sender_buffer FlushCalls self.old result self.new }
     {
@@ -219,10 +220,10 @@ impl<W: Write + Drop, const S: usize> Sender<W, S> {
         self.inner.flush()
     }
 
-    /// Sends what is held and returns the inner writer, which is not flushed.
+    /// Sends the held bytes and returns the inner writer, which is not flushed.
     ///
     /// # Errors
-    /// As `send`, with this writer, which holds what was not sent.
+    /// Returns the error of `send` with this writer, which holds the bytes that were not sent.
     pub(crate) fn into_inner(mut self) -> std::result::Result<W, IntoInnerError<Sender<W, S>>>
         ensures { Unwraps W.Write sender_inner sender_buffer self result }
     {

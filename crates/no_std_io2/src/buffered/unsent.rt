@@ -1,9 +1,9 @@
-//! What a writer's buffer held.
+//! The bytes of a buffered writer that was taken apart.
 ghost use Rattle.std.specs.Prelude.{◌≡◌};
 
 use super::buffer::Buffer;
 
-/// The bytes that a buffered writer held as it was taken apart, by [`BufWriter::into_parts`](super::BufWriter::into_parts).
+/// The bytes that a buffered writer held when [`BufWriter::into_parts`](super::BufWriter::into_parts) took it apart.
 #[derive(Drop)]
 pub struct Unsent<const S: usize> {
     pub(super) buffer: Buffer<S>,
@@ -12,7 +12,7 @@ pub struct Unsent<const S: usize> {
 impl<const S: usize> Unsent<S> {
     ghost use Rattle.no_std_io2.specs.Unsent.{unsent_bytes};
 
-    /// Returns the bytes.
+    /// Returns the bytes that were held.
     pub fn as_slice(&self) -> &[u8]
         ensures { result.now ≡ unsent_bytes self.now }
     {

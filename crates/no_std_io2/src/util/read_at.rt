@@ -6,12 +6,12 @@ ghost use Rattle.no_std_io2.specs.ReadAt.{ReadsAt};
 use no_std_io2_base::error::Result;
 use no_std_io2_base::traits::{Read, Seek, SeekFrom};
 
-/// Fills `buf` with the bytes at a place: a seek, and a `read_exact`. The position is behind them then. As
-/// `std::os::unix::fs::FileExt::read_exact_at`, which leaves the position.
+/// Fills `buf` with the bytes at a place, by a `seek` and a `read_exact`. Afterwards the position is right after
+/// these bytes. Follows `std::os::unix::fs::FileExt::read_exact_at`, which does not move the position.
 ///
 /// # Errors
-/// Those of `seek` and of `read_exact`: over a told store none where the place is there, and bytes enough
-/// behind it.
+/// Returns the error of `seek` or of `read_exact` if that call fails. Over a told store, neither fails if the place
+/// exists and has enough bytes after it.
 ///
 /// ```rust
 /// let mut r = Cursor::new(*b"abcdef");

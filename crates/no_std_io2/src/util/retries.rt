@@ -1,4 +1,4 @@
-//! A slice that is written and flushed, again after each of so many faults.
+//! A write and a flush that are made again after a fault.
 ghost use Rattle.std.specs.Prelude.{◌≡◌, [], OnOk, IsOk};
 ghost use Rattle.no_std_io2_base.specs.Write.{Sends};
 ghost use Rattle.no_std_io2.specs.Retries.{HasAtMost};
@@ -16,12 +16,13 @@ fn write_and_flush<W: Write>(writer: &mut W, rest: &mut &[u8]) -> Result<()>
     writer.flush()
 }
 
-/// Writes what is left in `rest` and flushes, and does so again after each of the first `retries` faults: what was
-/// accepted is gone from the front of `rest`, so no byte goes out twice. Over a writer that tells at most
-/// `retries` mishaps to come it succeeds. Rust's std has no such function.
+/// Writes `rest` and flushes, and tries again after each of the first `retries` faults. Accepted bytes are
+/// removed from the front of `rest`, so no byte goes out twice. If the writer tells that at most `retries`
+/// mishaps are to come, the call succeeds. Rust's std has no such function.
 ///
 /// # Errors
-/// The fault after the last try: what is left in `rest` was not accepted, and the same call goes on there.
+/// Returns the fault of the last try if that try fails too. The bytes that are left in `rest` were not accepted,
+/// and the same call continues with them.
 ///
 /// ```rust
 /// let mut w = BufWriter::<Vec<u8>, 64>::new(Vec::new(rt.alloc()));

@@ -7,15 +7,15 @@ use no_std_io2_base::error::Result;
 use no_std_io2_base::traits::Write;
 use std::fmt;
 
-/// A writer that takes every byte and never fails. It keeps nothing: its bytes are seen by
-/// contracts alone. As `std::io::Sink`.
+/// A writer that takes every byte and never fails. It keeps none of them; only contracts see its
+/// bytes. Follows `std::io::Sink`.
 #[derive(Drop)]
 pub struct Sink {
     taken: Trace,
 }
 
 impl Sink {
-    /// A sink that has taken nothing yet. As `std::io::sink`.
+    /// Makes a sink that has taken nothing yet. Follows `std::io::sink`.
     pub fn new() -> Sink
         ensures { sink_taken result ≡ [] }
     {
@@ -25,7 +25,7 @@ impl Sink {
     }
 }
 
-/// Every byte is out as soon as it is written, and no mishap comes.
+/// Tells that each byte is out as soon as it is written, and that no mishap is to come.
 impl Write for Sink {
     ghost use Rattle.no_std_io2.specs.Sink.{sink_told, SinkMay};
     ghost use Rattle.std.specs.Prelude.{refl};

@@ -8,7 +8,7 @@ use super::copy;
 use no_std_io2_base::error::Result;
 use no_std_io2_base::traits::{Read, Write};
 
-// Where no fault comes from the reader, all is copied and sent, and the writer is steady still.
+// If the reader has no fault, all its bytes are copied and sent, and the writer is still steady.
 fn copy_and_flush<R: Read, W: Write, const S: usize>(reader: &mut R, writer: &mut W) -> Result<u64>
     requires { S < 2 ^ 63 }
     ensures { 0 < S → R.tells reader.old → HasNoFault (R.events reader.old)

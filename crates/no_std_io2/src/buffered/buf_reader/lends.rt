@@ -19,7 +19,8 @@ use no_std_io2_base::traits::{BufRead, Read};
 use std::alloc::{Allocator, Global};
 
 impl<R: Read, const S: usize> BufReader<R, S> {
-    // Appends the line that is held first to the text, where it is whole and the text has the room: its length. Else nothing changes.
+    // Appends the first held line to the text if it is whole and the text has room for it, and returns its length. If not, nothing
+    // changes.
     #[inline(always)]
     fn take_line(&mut self, buf: &mut String) -> Option<usize>
         ensures line { IfSome result (λ n. (n ≤ length (reader_held self.old))
@@ -57,7 +58,7 @@ impl<R: Read, const S: usize> BufRead for BufReader<R, S> {
     fn fill_buf(&mut self) -> Result<&[u8]>
         ensures law { FillBufLaw ⟦<Self as BufRead>⟧ self.old result }
 
-        // Beside the trait's, what lies behind stays or is dropped.
+        // The law of the trait; and the bytes behind stay, or are dropped if nothing was held.
         ensures* after_borrow { sem 𝓛 (Rests (reader-row R.row S.row) self.entry (λ new. record {
           law : AfterLoan ⟦<Self as BufRead>⟧ self.old result new;
           behind : reader_held self.old ≡ [] → reader_behind new ≡ [];
@@ -74,7 +75,7 @@ impl<R: Read, const S: usize> BufRead for BufReader<R, S> {
         requires { amount ≤ length (reader_held self.old) }
         ensures law { ConsumeLaw ⟦<Self as BufRead>⟧ self.old amount self.new }
 
-        // Held bytes alone are dropped.
+        // It drops only held bytes.
         ensures inner { reader_inner self.new ≡ reader_inner self.old }
         ensures behind { reader_behind self.new ≡ reader_behind self.old ++ take amount (reader_held self.old) }
         ensures sound { StaysSound R.has_store R.position R.content self.old self.new }
@@ -86,11 +87,11 @@ impl<R: Read, const S: usize> BufRead for BufReader<R, S> {
     fn read_until<A: Allocator>(&mut self, delim: u8, buf: &mut Vec<u8, A>) -> Result<usize>
         ensures law { ReadUntilLaw ⟦<Self as BufRead>⟧ self.old delim buf.old result buf.new self.new }
 
-        // With a whole piece held, it takes of the held bytes alone.
+        // If a whole piece is held, it takes only held bytes.
         ensures held { (piece rest : List ℕ) → reader_held self.old ≡ piece ++ rest → EndsPiece delim piece
             → TakesHeld piece rest self.old buf.old.items result buf.new.items self.new }
 
-        // What then lies behind is an end of what lay there and what was appended.
+        // The bytes then behind are a suffix of those behind before, followed by the appended ones.
         ensures behind { IsEnd (reader_behind self.old ++ drop (vec_len buf.old) buf.new.items) (reader_behind self.new) }
         ensures sound { StaysSound R.has_store R.position R.content self.old self.new }
     {
@@ -115,11 +116,11 @@ impl<R: Read, const S: usize> BufRead for BufReader<R, S> {
     fn read_line(&mut self, alloc: Global, buf: &mut String) -> Result<usize>
         ensures law { ReadLineLaw ⟦<Self as BufRead>⟧ self.old buf.old result buf.new self.new }
 
-        // With a whole line held, it takes of the held bytes alone.
+        // If a whole line is held, it takes only held bytes.
         ensures held { (line rest : List ℕ) → reader_held self.old ≡ line ++ rest → EndsPiece 10 line
             → TakesHeldLine line rest self.old (string_bytes buf.old) result (string_bytes buf.new) self.new }
 
-        // What then lies behind is an end of what lay there and of the line, or of what was lost of it.
+        // The bytes then behind are a suffix of those behind before, followed by the line, or by what was lost of it.
         ensures behind { OnOk result (IsEnd (reader_behind self.old ++ drop (string_len buf.old) (string_bytes buf.new))
             (reader_behind self.new)) }
         ensures lost { OnErr result ((line : List ℕ) × (read : Result ℕ Error) × AnswersLine line read (string_len buf.old)

@@ -44,7 +44,7 @@ impl<R: Read, const S: usize> BufReader<R, S> {
         self.buffer.fill(&mut self.inner)
     }
 
-    // Goes on with an exact read that wants more than is held, as the trait's body does.
+    // Continues an exact read of more than the held bytes, as the trait's body does.
     #[cold]
     #[inline(never)]
     fn read_rest(&mut self, buf: &mut [u8]) -> Result<()>
@@ -63,7 +63,7 @@ impl<R: Read, const S: usize> BufReader<R, S> {
         Ok(())
     }
 
-    // The call of `read_rest`. The room for its answer is made on this way alone.
+    // Calls `read_rest`. The room for its result is made only on this path.
     #[inline(always)]
     fn read_on(&mut self, buf: &mut [u8]) -> Result<()>
         requires { length (reader_held self.old) < length buf.old }
@@ -95,7 +95,7 @@ impl<R: Read, const S: usize> Read for BufReader<R, S> {
             × (reader_held self.new ≡ drop (given result) (reader_held self.old))
             × (reader_inner self.new ≡ reader_inner self.old) }
 
-        // With none, it is one inner read, into the caller's buffer or into its own.
+        // If none are, it makes one inner read, into the caller's buffer or into its own.
         ensures asks { R.is_metered (reader_inner self.old) → R.is_metered (reader_inner self.new)
             × (R.cost (reader_inner self.new)
             ≡ R.cost (reader_inner self.old) + reads_needed (reader_held self.old)) }
@@ -132,17 +132,17 @@ impl<R: Read, const S: usize> Read for BufReader<R, S> {
 
     #[inline]
     fn read_exact(&mut self, buf: &mut [u8]) -> Result<()>
-        // Where the bytes end too early, all of them are taken.
+        // If the bytes end too early, all of them are taken.
         ensures law { ReadExactLaw ⟦<Self as Read>⟧ self.old buf.old result buf.new self.new }
 
-        // With enough bytes held, it gives of them alone.
+        // If enough bytes are held, it gives only held bytes.
         ensures held { length buf.old ≤ length (reader_held self.old) → IsOk result
             × (buf.new ≡ take (length buf.old) (reader_held self.old))
             × (reader_held self.new ≡ drop (length buf.old) (reader_held self.old))
             × (reader_behind self.new ≡ reader_behind self.old ++ buf.new)
             × (reader_inner self.new ≡ reader_inner self.old) }
 
-        // How often it reads over a filling reader, and what it then holds and has taken.
+        // How many reads of a filling reader it makes, and how many bytes are then held and left.
         ensures asks { R.is_metered (reader_inner self.old) → R.is_filling (reader_inner self.old)
             → R.is_metered (reader_inner self.new) × (R.cost (reader_inner self.new)
             ≡ R.cost (reader_inner self.old) + exact_reads (length buf.old)
@@ -153,7 +153,7 @@ impl<R: Read, const S: usize> Read for BufReader<R, S> {
             × (length (reader_events R.events self.new)
             ≡ length (reader_events R.events self.old) - length buf.old) }
 
-        // What lies behind where it went past those held: the last part of what it gave, shorter than the buffer. An error
+        // If it went past the held bytes, the last of the given bytes lie behind, fewer than the buffer has room for. An error
         // leaves nothing in the buffer.
         ensures behind { length (reader_held self.old) < length buf.old
             → OnOk result (IsEnd buf.new (reader_behind self.new) × (length (reader_behind self.new) < S)) }
@@ -169,11 +169,11 @@ impl<R: Read, const S: usize> Read for BufReader<R, S> {
         Ok(())
     }
 
-    // What is held comes first, and then what the inner reader appends in its own way.
+    // Appends the held bytes first, and then those that the inner reader's `read_to_end` appends.
     fn read_to_end<A: Allocator>(&mut self, buf: &mut Vec<u8, A>) -> Result<usize>
         ensures law { ReadToEndLaw ⟦<Self as Read>⟧ self.old buf.old result buf.new self.new }
 
-        // What was held is appended whatever the inner reader then answers, and the buffer is dropped.
+        // The held bytes are appended, whatever the inner reader then returns, and the buffer is dropped.
         ensures empties { EmptiesInto self.old buf.old.items result buf.new.items self.new }
         ensures sound { StaysSound R.has_store R.position R.content self.old self.new }
     {

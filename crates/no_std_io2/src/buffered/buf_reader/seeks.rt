@@ -12,7 +12,7 @@ use super::BufReader;
 use no_std_io2_base::error::Result;
 use no_std_io2_base::traits::{Seek, SeekFrom};
 
-// The offset from `held` bytes further on, where it is one.
+// The same offset, counted from `held` bytes further on, if it fits an `i64`.
 fn offset_behind(offset: i64, held: usize) -> Option<i64>
     requires { held < 2 ^ 63 }
     ensures { SomeIff result (FitsSigned w64 (offset -ℤ pos held)) (offset -ℤ pos held) }
@@ -21,7 +21,7 @@ fn offset_behind(offset: i64, held: usize) -> Option<i64>
 }
 
 impl<R: Seek, const S: usize> BufReader<R, S> {
-    // Seeks the inner reader. What is held is dropped where that succeeds.
+    // Seeks the inner reader, and drops the held bytes if that succeeds.
     fn seek_inner(&mut self, target: SeekFrom) -> Result<u64>
         ensures empty { OnOk result (reader_held self.new ≡ []) }
         ensures behind { OnOk result (reader_behind self.new ≡ []) }
@@ -41,7 +41,7 @@ impl<R: Seek, const S: usize> BufReader<R, S> {
         Ok(at)
     }
 
-    // Goes back to where the held bytes begin, and drops them.
+    // Seeks back to the first held byte, and drops the held bytes.
     fn seek_back(&mut self) -> Result<()>
         ensures empty { OnOk result (reader_held self.new ≡ []) }
         ensures behind { OnOk result (reader_behind self.new ≡ []) }
@@ -60,7 +60,7 @@ impl<R: Seek, const S: usize> BufReader<R, S> {
         Ok(())
     }
 
-    // The inner reader is ahead by what is held. An offset too far back for one seek takes two.
+    // The inner reader is ahead by the held bytes. An offset too far back for one seek takes two.
     fn seek_current(&mut self, offset: i64) -> Result<u64>
         ensures store { reader_has_store R.has_store R.position R.content self.old
             → reader_has_store R.has_store R.position R.content self.new
@@ -99,10 +99,10 @@ impl<R: Seek, const S: usize> BufReader<R, S> {
     /// buffer. Follows `std::io::BufReader::seek_relative`.
     ///
     /// # Errors
-    /// Those of `seek`, and none in the buffer: `InvalidInput` where the target is below 0 or above
-    /// the greatest `u64`, with the text of the inner reader's. The position is as it was, and so is
-    /// the buffer, unless the offset is too far back for one seek of the inner reader; then the
-    /// buffer is dropped.
+    /// Returns `InvalidInput`, with the inner reader's text, if the target is below 0 or above
+    /// `u64::MAX`, and else the errors of `seek`. Returns none if the target is in the buffer. After
+    /// an error the position is as it was, and so is the buffer, unless the offset is too far back
+    /// for one seek of the inner reader; then the buffer is dropped.
     pub fn seek_relative(&mut self, offset: i64) -> Result<()>
         // In the buffer the border between behind and held moves.
         ensures within { IsInBuffer offset (length (reader_behind self.old)) (length (reader_held self.old))
@@ -114,7 +114,7 @@ impl<R: Seek, const S: usize> BufReader<R, S> {
             → (events : R → List Event) → MovesEvents offset (reader_behind self.old) (reader_held self.old)
             (reader_events events self.old) (reader_events events self.new) }
 
-        // Outside it is a seek.
+        // Outside the buffer it is a seek.
         ensures outside { ¬ IsInBuffer offset (length (reader_behind self.old)) (length (reader_held self.old))
             → OnOk result (HasNoBuffer self.new) × OnErr result (KeepsBuffer self.old self.new
             ⊎ (IsTooFarBack (SeekFrom.Current offset) (length (reader_held self.old)) × HasNoBuffer self.new)) }
@@ -128,7 +128,7 @@ impl<R: Seek, const S: usize> BufReader<R, S> {
             (SeekFrom.Current offset) (led_to (reader_position R.position self.new) result)
             (reader_position R.position self.new) }
 
-        // Over a sound store it succeeds exactly where there is a target, wherever that lies.
+        // Over a sound store it succeeds if and only if there is a target, in the buffer or outside.
         ensures store { reader_is_sound R.has_store R.position R.content self.old
             → reader_is_sound R.has_store R.position R.content self.new
             × (R.content (reader_inner self.new) ≡ R.content (reader_inner self.old))
@@ -146,17 +146,18 @@ impl<R: Seek, const S: usize> BufReader<R, S> {
     }
 }
 
-/// `Current(n)` counts from the next byte that this reader would give. The inner reader is ahead of
-/// that by the held bytes, so it is sought by `n` minus their number. If this does not fit an
+/// Seeks the inner reader, and drops the buffer. `Current(n)` counts from the next byte that this
+/// reader would give. The inner reader is ahead of that byte by the held bytes, so its seek is by `n`
+/// minus their number. If this does not fit an
 /// `i64`, there are two inner seeks: back by the number of held bytes, which drops them, and then
-/// by `n`. `Start` and `End` go to the inner reader. Success drops the bytes held and those that
-/// lie behind; a refusal of the first or only inner seek keeps them. Each error is the inner
-/// reader's own, with its text.
+/// by `n`. `Start` and `End` go to the inner reader. Success drops the held bytes and those that
+/// lie behind; if the first or only inner seek is refused, they are kept. Each error is the inner
+/// reader's, with its text.
 impl<R: Seek, const S: usize> Seek for BufReader<R, S> {
     fn seek(&mut self, pos: SeekFrom) -> Result<u64>
         ensures law { SeekLaw ⟦<Self as Seek>⟧ self.old pos result self.new }
 
-        // The buffer is dropped by success, and kept by a refusal of the first or only seek.
+        // Success drops the buffer; if the first or only seek is refused, it is kept.
         ensures empty { OnOk result (reader_held self.new ≡ []) }
         ensures behind { OnOk result (reader_behind self.new ≡ []) }
         ensures kept { OnErr result (KeepsBuffer self.old self.new
@@ -193,7 +194,7 @@ impl<R: Seek, const S: usize> Seek for BufReader<R, S> {
         Ok(())
     }
 
-    // Asks the inner reader, and leaves the buffer as it is.
+    // Calls the inner reader, and leaves the buffer as it is.
     fn stream_len(&mut self) -> Result<u64>
         ensures law { StreamLenLaw ⟦<Self as Seek>⟧ self.old result self.new }
         ensures buffer { KeepsBuffer self.old self.new }

@@ -1,4 +1,4 @@
-// What a line writer stands on: its buffer has no newline, or one at the end.
+// The inner half of a line writer: its buffer has no newline, or one at the end.
 ghost use Rattle.std.specs.Prelude.{◌≡◌};
 ghost use Rattle.std.specs.Borrow.{Lends, sem};
 ghost use Rattle.std.proofs.Props.{props};
@@ -19,7 +19,7 @@ impl<W: Write + Drop, const S: usize> LineSender<W, S> {
     ghost use Rattle.no_std_io2.specs.LineWriter.{line_sender_with_inner};
     ghost use Rattle.no_std_io2.specs.contracts.buffered.line_writer.state.LineSender.{the_row as sender-row};
 
-    // Of a sender that holds such a buffer.
+    // Wraps a sender whose buffer is like that.
     pub(super) fn new(buffered: Sender<W, S>) -> LineSender<W, S>
         requires { IsLineState (sender_buffer buffered) }
         ensures { result.buffered ≡ buffered }

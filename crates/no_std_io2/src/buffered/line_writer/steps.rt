@@ -21,7 +21,7 @@ pub(super) fn lines_len(x: &[u8]) -> usize
     }
 }
 
-// Where the tail ends that is held, after `sent` bytes of x, of which the first `len` are lines.
+// Where the held tail ends if `sent` bytes of x were sent, of which the first `len` are lines.
 fn tail_end(x: &[u8], len: usize, sent: usize, room: usize) -> usize
     requires lines { IsLinesLen x.now len }
     requires some { 0 < sent }
@@ -51,7 +51,7 @@ fn ends_in_newline(bytes: &[u8]) -> bool
     bytes.last() == Some(&b'\n')
 }
 
-// What is held is sent where it ends in a newline.
+// Sends the held bytes if they end in a newline.
 fn send_line<W: Write + Drop, const S: usize>(w: &mut Sender<W, S>) -> Result<()>
     requires { IsLineState (sender_buffer w.old) }
     ensures { Takes W.Write sender_inner sender_buffer SendLineCalls w.old result w.new }
@@ -108,7 +108,7 @@ pub(super) fn write_all_plain<W: Write + Drop, const S: usize>(
     w.write_all(x)
 }
 
-// Writes all of x, which is lines: through, or behind what is held, to be sent with it.
+// Writes all of x, which is lines: straight to the inner writer, or after the held bytes, which are then sent with it.
 fn send_lines<W: Write + Drop, const S: usize>(w: &mut Sender<W, S>, x: &[u8]) -> Result<()>
     ensures { Takes W.Write sender_inner sender_buffer (SendLinesCalls S x.now) w.old result w.new }
 {
