@@ -26,7 +26,7 @@ pub trait AsSlice<T> {
     // The elements that are lent.
     ghost slice: { Self → List T };
 
-    /// The elements, in order.
+    /// Lends the elements, in order.
     fn as_slice(&self) -> &[T]
         ensures { result.now ≡ slice self.now };
 }
@@ -150,11 +150,11 @@ impl<T> Cursor<T> {
         self.pos = pos;
     }
 
-    /// Makes a cursor on a clone of the content, at the same position. It stands where Rust derives
-    /// `Clone`, which can't report refused memory.
+    /// Makes a cursor on a clone of the content, at the same position. Rust derives `Clone` in its
+    /// place, which cannot report a failed allocation.
     ///
     /// # Errors
-    /// `OutOfMemory` where the content's clone was refused.
+    /// Returns `OutOfMemory` if the content could not be cloned.
     ///
     /// ```rust
     /// let mut c = Cursor::new(*b"abc");

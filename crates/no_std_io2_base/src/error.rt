@@ -55,13 +55,13 @@ pub enum ErrorKind {
     UnexpectedEof,
     /// The operation is not supported.
     Unsupported,
-    /// Memory was refused.
+    /// An allocation failed.
     OutOfMemory,
     /// A fault of the system that has no kind.
     Uncategorized,
 }
 
-/// What it says of itself, as an error of this kind alone does. Follows `std::io::ErrorKind`'s `Display`.
+/// Prints the kind's text, as an error with only this kind does. Follows `std::io::ErrorKind`'s `Display`.
 impl fmt::Display for ErrorKind {
     ghost output = { λ kind. Some (kind_text kind) };
 
@@ -173,7 +173,7 @@ impl Error {
         }
     }
 
-    /// Gets a reference to the text, where there is one. Follows `std::io::Error::get_ref`.
+    /// Gets a reference to the text, if there is one. Follows `std::io::Error::get_ref`.
     ///
     /// ```rust
     /// let e = Error::other("no carrier");
@@ -188,7 +188,7 @@ impl Error {
         }
     }
 
-    /// Returns the text, where there is one. Follows `std::io::Error::into_inner`.
+    /// Returns the text, if there is one. Follows `std::io::Error::into_inner`.
     pub fn into_inner(self) -> Option<&'static str>
         ensures { option_map (λ s. s.now) result ≡ error_text self }
     {
@@ -198,7 +198,7 @@ impl Error {
         }
     }
 
-    /// Whether this is an interruption: the call did nothing, and may be made again. Follows the
+    /// Returns whether this is an interruption: the call did nothing, and may be made again. Follows the
     /// test of the same name inside Rust's `std::io`.
     ///
     /// ```rust
@@ -212,7 +212,7 @@ impl Error {
     }
 }
 
-/// A kind alone, with no text.
+/// Makes an error with only this kind, and no text.
 impl From<ErrorKind> for Error {
     ghost from_gives = { λ kind e. IsPlain kind e };
 
@@ -223,7 +223,7 @@ impl From<ErrorKind> for Error {
     }
 }
 
-/// Refused memory is the kind [`ErrorKind::OutOfMemory`] alone.
+/// Makes an error with only the kind [`ErrorKind::OutOfMemory`].
 impl From<AllocError> for Error {
     ghost from_gives = { λ _ e. IsOutOfMemory e };
 

@@ -42,14 +42,14 @@ fn error_prints(error: &Error)
     ensures { ⟦<Error as fmt::Display>⟧.output error.now ≡ Some (error_display error.now) }
 {}
 
-// Places are equal where they are the same.
+// Two places are equal if they are the same.
 fn place_is(a: SeekFrom, b: SeekFrom) -> bool
     ensures { IsTrue result ↔ (a ≡ b) }
 {
     a == b
 }
 
-// Cursors are equal where content and position are, by the content's own equality.
+// Two cursors are equal if their contents are, by the content's `==`, and their positions are.
 fn cursor_is<T: PartialEq>(a: &Cursor<T>, b: &Cursor<T>) -> bool
     ensures { IsTrue result ↔ IsTrue (T.eq (cursor_inner a.now) (cursor_inner b.now)) × (cursor_place a.now ≡ cursor_place b.now) }
 {

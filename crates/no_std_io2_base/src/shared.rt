@@ -8,14 +8,14 @@ pub use crate::traits::room::{LEAST_ROOM, open_room, reserve_room, rest_to_end};
 
 // The refusals that the library words itself, each in one place. Users meet them as errors alone.
 
-/// The bytes ended before the buffer was full.
+/// Makes the error of bytes that end before a buffer is full.
 pub fn failed_to_fill() -> Error
     ensures { IsUnexpectedEnd result }
 {
     Error::new(ErrorKind::UnexpectedEof, "failed to fill whole buffer")
 }
 
-/// The device took no byte of some.
+/// Makes the error of a device that takes no byte of some.
 pub fn failed_to_write() -> Error
     ensures { IsUnwritten result }
 {

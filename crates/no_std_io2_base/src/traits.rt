@@ -1,6 +1,6 @@
 //! The stream traits, with the laws that every implementation is proved to keep: [`Write`];
 //! [`Read`] and [`BufRead`], which lends what it holds; [`Seek`]; and [`Stored`], the parent of the
-//! last three, which says what bytes stand behind a stream. Methods of these traits return the
+//! last three, which tells contracts the content of a stream. Methods of these traits return the
 //! adaptors [`Chain`], [`Take`], [`Bytes`], [`Split`] and [`Lines`].
 mod buf_read;
 mod bytes;

@@ -57,7 +57,7 @@ impl<T: AsSlice<u8>> Read for Cursor<T> {
     fn read_exact(&mut self, buf: &mut [u8]) -> Result<()>
         ensures law { ReadExactLaw ⟦<Self as Read>⟧ self.old buf.old result buf.new self.new }
 
-        // It fails exactly where too few bytes are left, and changes nothing then.
+        // It fails if and only if too few bytes are left, and then changes nothing.
         ensures variant { IsOk result ↔ (length buf.old ≤ length (cursor_left T.slice self.old)) }
         ensures ok { IfOk result (λ _. (buf.new ≡ take (length buf.old) (cursor_left T.slice self.old))
             × (cursor_place self.new ≡ cursor_place self.old + length buf.old)) }

@@ -10,7 +10,7 @@ impl<T: AsSlice<u8>> Seek for Cursor<T> {
     fn seek(&mut self, pos: SeekFrom) -> Result<u64>
         ensures law { SeekLaw ⟦<Self as Seek>⟧ self.old pos result self.new }
 
-        // It goes where it should, whatever the content, which stays.
+        // It goes to its target, whatever the content is, and the content stays.
         ensures seeks { Seeks (length (T.slice (cursor_inner self.old))) (cursor_place self.old) pos result (cursor_place self.new) }
         ensures inner { cursor_inner self.new ≡ cursor_inner self.old }
     {

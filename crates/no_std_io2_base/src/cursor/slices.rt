@@ -21,13 +21,13 @@ fn write_fitting(content: &mut [u8], pos: &mut u64, buf: &[u8]) -> usize
     n
 }
 
-/// A slice keeps its length: it takes the front of a buffer that fits between the position and its
-/// end, 0 bytes past that. What stands before and behind them stays. Follows
-/// `std::io::Write for Cursor<&mut [u8]>`.
+/// Writes over the slice from the position on. The slice keeps its length: a `write` takes as many
+/// first bytes of the buffer as fit before its end, and none if the position is past the end. Other
+/// bytes of the slice stay. Follows `std::io::Write for Cursor<&mut [u8]>`.
 ///
 /// # Errors
-/// None of `write` and `flush`. `write_all` returns `WriteZero` where the buffer doesn't fit: the
-/// front that fits was written.
+/// `write_all` returns `WriteZero` if the buffer does not fit; the first bytes, as many as fit, were
+/// then written. `write` and `flush` return no error.
 impl Write for Cursor<&mut [u8]> {
     ghost told = { λ c. told_out (cursor_out (λ s. s.now) c) };
 
@@ -57,7 +57,7 @@ impl Write for Cursor<&mut [u8]> {
     fn write_all(&mut self, buf: &[u8]) -> Result<()>
         ensures law { WriteAllOf ⟦<Self as Write>⟧ self.old buf.now result self.new }
 
-        // What fits, at the position, and an error exactly where that is not all.
+        // What fits, at the position, and an error if and only if that is not all.
         ensures variant { IsOk result ↔ (length buf.now ≤ length (cursor_inner self.old).now - cursor_place self.old) }
         ensures says { IfErr result IsUnwritten }
         ensures puts { PutsFitting (cursor_inner self.old).now (cursor_place self.old) buf.now
@@ -73,10 +73,10 @@ impl Write for Cursor<&mut [u8]> {
     ghost steady = { λ c h. absurd h };
 }
 
-/// An array is written as a slice of it is. Follows `std::io::Write for Cursor<[u8; N]>`.
+/// Writes over the array, as over a slice of it. Follows `std::io::Write for Cursor<[u8; N]>`.
 ///
 /// # Errors
-/// As of a slice.
+/// Returns the errors that a cursor over a slice returns.
 impl<const N: usize> Write for Cursor<[u8; N]> {
     ghost told = { λ c. told_out (cursor_out (λ a. a) c) };
 

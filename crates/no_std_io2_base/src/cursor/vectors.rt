@@ -11,7 +11,7 @@ use crate::impls::{append, copy_bytes};
 use crate::traits::Write;
 use std::alloc::{AllocError, Allocator};
 
-// Lengthens the vector to `end` by zeros. Where it was refused nothing changes.
+// Lengthens the vector to `end` by zeros. If the allocation fails, nothing changes.
 #[cold]
 #[inline(never)]
 fn lengthen<A: Allocator>(
@@ -26,7 +26,7 @@ fn lengthen<A: Allocator>(
     content.resize(end, 0)
 }
 
-// Puts `buf` at `start`, over what stands there and on behind the end, with zeros before it where `start` is past that.
+// Puts `buf` at `start`, over the bytes there and on past the end, with zeros before it if `start` is past the end.
 #[inline(always)]
 fn put<A: Allocator>(content: &mut Vec<u8, A>, start: usize, buf: &[u8]) -> Result<()>
     ensures { IsPut content.old.items (vec_capacity content.old) start buf.now result content.new.items }
@@ -71,13 +71,13 @@ fn write_all_at<A: Allocator>(content: &mut Vec<u8, A>, pos: &mut u64, buf: &[u8
     Ok(())
 }
 
-/// A vector takes a buffer whole, at the position: zeros fill the gap up to it, for an empty buffer
-/// of `write` too, and what stands before and behind the buffer stays. Follows
-/// `std::io::Write for Cursor<Vec<u8>>`.
+/// Writes over the vector from the position on, the whole buffer or nothing. If the position is past
+/// the end, zeros fill the gap, also for a `write` of an empty buffer. Other bytes of the vector stay.
+/// Follows `std::io::Write for Cursor<Vec<u8>>`.
 ///
 /// # Errors
-/// `InvalidInput` where the buffer would end past the greatest `usize`, else `OutOfMemory` where
-/// the vector was refused the growth that it needs: content and position are as they were.
+/// Returns `InvalidInput` if the buffer would end past `usize::MAX`, and else `OutOfMemory` if the
+/// vector cannot grow as it needs to. Content and position are then as they were.
 impl<A: Allocator> Write for Cursor<Vec<u8, A>> {
     ghost told = { λ c. told_out (cursor_out (λ v. v.items) c) };
 
@@ -123,11 +123,11 @@ impl<A: Allocator> Write for Cursor<Vec<u8, A>> {
     ghost steady = { λ c h. absurd h };
 }
 
-/// A lent vector takes a buffer as an owned one does. Follows
+/// Writes over a borrowed vector, as over an owned one. Follows
 /// `std::io::Write for Cursor<&mut Vec<u8>>`.
 ///
 /// # Errors
-/// Those of an owned vector.
+/// Returns the errors that a cursor over an owned vector returns.
 impl<A: Allocator> Write for Cursor<&mut Vec<u8, A>> {
     ghost told = { λ c. told_out (cursor_out (λ v. v.now.items) c) };
 

@@ -2,7 +2,7 @@ use crate::error::Result;
 use crate::traits::{BufRead, Read, Seek, SeekFrom, Stored, Write};
 use std::alloc::Allocator;
 
-/// A box writes as what is in it does.
+/// Passes each call on to the writer in the box.
 impl<W: Write, A: Allocator> Write for Box<W, A> {
     ghost told = { λ b. W.told b.value };
 
@@ -41,7 +41,7 @@ impl<T: Stored, A: Allocator> Stored for Box<T, A> {
     ghost position = { λ b. T.position b.value };
 }
 
-/// A box reads as what is in it does.
+/// Passes each call on to the reader in the box.
 impl<T: Read, A: Allocator> Read for Box<T, A> {
     ghost tells = { λ b. T.tells b.value };
 
@@ -100,7 +100,7 @@ impl<T: BufRead, A: Allocator> BufRead for Box<T, A> {
     }
 }
 
-/// A box seeks as what is in it does.
+/// Passes each call on to the stream in the box.
 impl<T: Seek, A: Allocator> Seek for Box<T, A> {
     fn seek(&mut self, pos: SeekFrom) -> Result<u64> {
         self.as_mut().seek(pos)

@@ -2,7 +2,7 @@ use crate::error::Result;
 use crate::traits::{BufRead, Read, Seek, SeekFrom, Stored, Write};
 use std::alloc::Allocator;
 
-/// `&mut W` writes as its target does.
+/// Passes each call on to the writer behind the reference.
 impl<W: Write> Write for &mut W {
     ghost told = { λ w. W.told w.now };
 
@@ -41,7 +41,7 @@ impl<T: Stored> Stored for &mut T {
     ghost position = { λ r. T.position r.now };
 }
 
-/// `&mut T` reads as its target does.
+/// Passes each call on to the reader behind the reference.
 impl<T: Read> Read for &mut T {
     ghost tells = { λ r. T.tells r.now };
 
@@ -100,7 +100,7 @@ impl<T: BufRead> BufRead for &mut T {
     }
 }
 
-/// `&mut T` seeks as its target does.
+/// Passes each call on to the stream behind the reference.
 impl<T: Seek> Seek for &mut T {
     fn seek(&mut self, pos: SeekFrom) -> Result<u64> {
         Seek::seek(&mut **self, pos)

@@ -5,7 +5,7 @@ use crate::error::Result;
 use crate::traits::{Seek, SeekFrom, Stored, Write};
 use std::alloc::Allocator;
 
-/// A boxed trait object tells what is in the box tells, but for counts, and that it takes all.
+/// Tells what the writer in the box tells, except for counts and whether it takes all.
 impl<A: Allocator> Write for Box<dyn Write + Drop, A> {
     ghost told = { λ b. (Write-box b).told b.value };
 

@@ -14,7 +14,7 @@ impl<A: Allocator> Stored for Box<dyn Read + Drop, A> {
     ghost position = { λ _. 0 };
 }
 
-/// A boxed trait object reads as what is in the box does, and tells the same, but for counts.
+/// Passes each call on to the reader in the box, and tells what that tells, except for counts.
 impl<A: Allocator> Read for Box<dyn Read + Drop, A> {
     ghost tells = { λ b. (Read-box b).Read.tells b.value };
 

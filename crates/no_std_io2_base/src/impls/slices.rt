@@ -8,8 +8,8 @@ use crate::error::{Result, failed_to_fill};
 use crate::traits::{BufRead, LEAST_ROOM, Read, Stored, reserve_room};
 use std::alloc::Allocator;
 
-// Makes room for so many bytes to come and 32 more at once, where these would grow the vector twice. Where it is refused, the vector
-// is as it was.
+// Makes room for so many bytes to come and 32 more at once if they would otherwise make the vector grow twice. If the allocation
+// fails, the vector is as it was.
 fn reserve_ahead<A: Allocator>(buf: &mut Vec<u8, A>, coming: usize)
     ensures items { buf.new.items ≡ buf.old.items }
     ensures len { vec_len buf.new ≡ vec_len buf.old }
@@ -20,13 +20,13 @@ fn reserve_ahead<A: Allocator>(buf: &mut Vec<u8, A>, coming: usize)
     }
 }
 
-/// Takes bytes off the front of a slice and appends them: all of them, or as many as there was room
-/// for where memory is refused. Who knows its bytes asks for room for all of them and 32 more at
-/// once, or, where that is refused or they are fewer, as any reader does in `read_to_end`: for 32
-/// bytes first, and once that is full for the rest and 32 more.
+/// Moves bytes from the front of a slice to the end of a vector: all of them, or as many as fit if an
+/// allocation fails. It first asks for room for all of them and 32 more. If that fails, or if they are
+/// fewer than 32, it asks as any reader does in `read_to_end`: for 32 bytes, and once these are full
+/// for the rest and 32 more.
 ///
 /// # Errors
-/// `OutOfMemory` where a growth was refused: what was not appended is still in the slice.
+/// Returns `OutOfMemory` if the vector could not grow; bytes that were not appended are still in the slice.
 pub fn append_rest<A: Allocator>(rest: &mut &[u8], buf: &mut Vec<u8, A>) -> Result<()>
     ensures moved { HasMoved rest.old.now rest.new.now buf.old.items buf.new.items }
     ensures done { OnOk result (rest.new.now ≡ []) }
@@ -76,7 +76,7 @@ impl Read for &[u8] {
         Ok(n)
     }
 
-    // Where the bytes are too few, nothing is taken and the buffer is as it was.
+    // If the bytes are too few, nothing is taken and the buffer is as it was.
     fn read_exact(&mut self, buf: &mut [u8]) -> Result<()>
         ensures law { ReadExactLaw ⟦<Self as Read>⟧ self.old buf.old result buf.new self.new }
 

@@ -29,10 +29,10 @@ fn append_in_place<A: Allocator>(buf: &mut Vec<u8, A>, bytes: &[u8])
     buf.truncate(end);
 }
 
-/// Appends these bytes.
+/// Appends these bytes to a vector.
 ///
 /// # Errors
-/// `OutOfMemory` where the growth was refused: `buf` is as it was.
+/// Returns `OutOfMemory` if the vector could not grow; `buf` is then as it was.
 #[inline(always)]
 pub fn append<A: Allocator>(buf: &mut Vec<u8, A>, bytes: &[u8]) -> Result<()>
     ensures ok { OnOk result (buf.new.items ≡ buf.old.items ++ bytes.now) }
@@ -56,7 +56,7 @@ pub fn append<A: Allocator>(buf: &mut Vec<u8, A>, bytes: &[u8]) -> Result<()>
     Ok(())
 }
 
-/// A vector takes a buffer whole, at its end, or returns `OutOfMemory` and is as it was. Nothing is
+/// Appends a whole buffer, or returns `OutOfMemory` and leaves the vector as it was. Nothing is
 /// held. Follows `std::io::Write for Vec<u8>`.
 impl<A: Allocator> Write for Vec<u8, A> {
     ghost told = { λ v. told_out v.items };

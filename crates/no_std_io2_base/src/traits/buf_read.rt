@@ -38,27 +38,28 @@ pub trait BufRead: Read {
     /// reads once. An empty slice means the end. Follows `std::io::BufRead::fill_buf`.
     ///
     /// # Errors
-    /// The device's own errors, interruptions among them. They come only if nothing is held, and
-    /// then no byte was taken.
+    /// Returns the device's error, also an interruption, if the read fails; no byte was then taken. If
+    /// bytes are held, there is no error.
     fn fill_buf(&mut self) -> Result<&[u8]>
         ensures law { FillBufLaw ⟦<Self as BufRead>⟧ self.old result }
         ensures* after_borrow { sem 𝓛 (Rests Self.row self.entry (λ new. AfterLoan ⟦<Self as BufRead>⟧ self.old result new)) };
 
-    /// Drops the first `amount` of the bytes that are held, at most all of them. Follows
+    /// Drops the first `amount` of the held bytes, at most all of them. Follows
     /// `std::io::BufRead::consume`.
     fn consume(&mut self, amount: usize)
         requires { amount ≤ length (held self.old) }
         ensures law { ConsumeLaw ⟦<Self as BufRead>⟧ self.old amount self.new };
 
     /// Appends the bytes up to and including the first `delim`, and returns their number. If there
-    /// is no `delim`, it appends all bytes that are left. 0 means the end. It passes over
-    /// interruptions. Where `buf` has room for these bytes, it is never refused any. Follows
+    /// is no `delim`, it appends all bytes that are left. 0 means the end. It ignores interruptions.
+    /// If `buf` has room for these bytes, it never fails for lack of memory. Follows
     /// `std::io::BufRead::read_until`.
     ///
     /// # Errors
-    /// The first fault that comes before a `delim`: the reader stands right after it. `OutOfMemory`
-    /// where a growth was refused, before the `consume` that it was for. After either, `buf` has its
-    /// old content and then the bytes taken. Never `Interrupted`.
+    /// Returns the first fault that comes before a `delim`; the reader is then right after it. Returns
+    /// `OutOfMemory` if `buf` could not grow; the bytes that needed the room are not taken. After
+    /// either error, `buf` has its old content, followed by the bytes that were taken. Never returns
+    /// `Interrupted`.
     ///
     /// ```rust
     /// let mut r = Cursor::new(*b"key=value");
@@ -89,9 +90,9 @@ pub trait BufRead: Read {
     }
 
     /// Appends the next line to `buf`, with its newline, and returns the number of its bytes: 0 means
-    /// the end. The last line may have no newline. It passes over interruptions. The bytes are
-    /// gathered in a vector of their own, by `alloc`; a text with room for them is never refused any.
-    /// Follows `std::io::BufRead::read_line`.
+    /// the end. The last line may have no newline. It ignores interruptions. The bytes are first
+    /// gathered in a vector from `alloc`; a `buf` that has room for them needs no allocation. Follows
+    /// `std::io::BufRead::read_line`.
     ///
     /// # Errors
     /// Returns `InvalidData` if the line is not UTF-8; `buf` is unchanged, and the line is taken.
@@ -117,8 +118,8 @@ pub trait BufRead: Read {
         append_line(buf, &line, read)
     }
 
-    /// Turns this reader into an iterator over the pieces of its bytes, cut behind each `delim` and
-    /// without it. The items are vectors by `alloc`. Follows `std::io::BufRead::split`.
+    /// Turns this reader into an iterator over the pieces of its bytes, cut after each `delim` and
+    /// without it. The items are vectors from `alloc`. Follows `std::io::BufRead::split`.
     ///
     /// ```rust
     /// let mut lens = Vec::<usize>::new(rt.alloc());
@@ -138,7 +139,7 @@ pub trait BufRead: Read {
     }
 
     /// Turns this reader into an iterator over the lines of its text, without their line ends. The
-    /// items are texts by `alloc`. Follows `std::io::BufRead::lines`.
+    /// items are strings from `alloc`. Follows `std::io::BufRead::lines`.
     ///
     /// ```rust
     /// let mut text = String::new(rt.alloc());

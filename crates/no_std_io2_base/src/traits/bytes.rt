@@ -6,11 +6,11 @@ ghost use Rattle.no_std_io2_base.specs.Read.{bytes_reader, NextByte};
 use super::read::Read;
 use crate::error::Result;
 
-/// A reader's bytes, one at a time. Made by [`Read::bytes`]; follows Rust's `std::io::Bytes`.
+/// An iterator over a reader's bytes. Made by [`Read::bytes`]; follows Rust's `std::io::Bytes`.
 ///
-/// It yields the reader's bytes and faults in order, and leaves interruptions out. It ends where
-/// the reader does; a fault doesn't end it. Each byte costs a read: over a slow device, read from a
-/// buffered reader.
+/// It yields the reader's bytes and faults in order, and ignores interruptions. It ends when the
+/// reader does; a fault does not end it. Each byte costs a read, so put a buffer in front of a slow
+/// device.
 ///
 /// ```rust
 /// let mut content = Vec::<u8>::new(rt.alloc());

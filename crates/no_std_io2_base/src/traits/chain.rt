@@ -16,8 +16,8 @@ use std::alloc::Allocator;
 
 /// Two readers, one after the other. Made by [`Read::chain`]; follows Rust's `std::io::Chain`.
 ///
-/// The first reader is read to its end, which shows as a read of 0 bytes into a buffer that is not
-/// empty, or as an empty slice from `fill_buf`. It is then marked as done for good, and the second
+/// The first reader is read to its end: to a read of 0 bytes into a buffer that is not empty, or to
+/// an empty slice from `fill_buf`. It is then marked as done for good, and the second
 /// reader is used within the same call. A read into an empty buffer never sets the mark.
 ///
 /// ```rust
@@ -44,7 +44,7 @@ impl<T, U> Chain<T, U> {
         }
     }
 
-    /// Returns the two readers, where they stand. Follows `std::io::Chain::into_inner`.
+    /// Returns the two readers, each at its position. Follows `std::io::Chain::into_inner`.
     ///
     /// ```rust
     /// let mut r = Cursor::new(*b"ab").chain(Cursor::new(*b"cd"));
@@ -177,7 +177,7 @@ impl<T: BufRead, U: BufRead> BufRead for Chain<T, U> {
     fn fill_buf(&mut self) -> Result<&[u8]>
         ensures law { FillBufLaw ⟦<Self as BufRead>⟧ self.old result }
 
-        // Its own, in what stands after the loan: one reader after the other, and the first is done where it had nothing left.
+        // After the borrow it still has one reader after the other, and the first is done if it had nothing left.
         ensures* after_borrow { sem 𝓛 (Rests (chain-row T.row U.row) self.entry (λ new. record {
           law : AfterLoan ⟦<Self as BufRead>⟧ self.old result new;
           in_turn : InTurn self.old new;

@@ -9,8 +9,8 @@ use super::pieces::{text_of, trim_line};
 use crate::error::Result;
 use std::alloc::Global;
 
-/// The lines of a reader's text, without the newline and without a carriage return right before
-/// it. Made by [`BufRead::lines`]; follows Rust's `std::io::Lines`.
+/// An iterator over a reader's lines, without the newline and a carriage return right before it.
+/// Made by [`BufRead::lines`]; follows Rust's `std::io::Lines`.
 ///
 /// A last line without a newline is an item too, and keeps its carriage return. A line that isn't
 /// UTF-8 is the item `InvalidData`. After an error it returns `None` for good, unlike Rust's

@@ -52,7 +52,7 @@ pub(crate) fn find_piece(lent: &[u8], delim: u8) -> (usize, bool)
     (lent.len(), lent.is_empty())
 }
 
-// Drops the last byte, where it is this one; answers whether it was.
+// Drops the last byte if it is this one, and returns whether it was.
 pub(super) fn drop_last(bytes: &mut Vec<u8>, last: u8) -> bool
     ensures dropped { result ≡ ends_in last bytes.old.items }
     ensures items { bytes.new.items ≡ without last bytes.old.items }
@@ -88,12 +88,13 @@ pub(super) fn text_of(bytes: Vec<u8>) -> Result<String>
     }
 }
 
-/// Appends a line's bytes to a text, where they are UTF-8, and answers as its read did. For a reader
-/// with a `read_line` of its own.
+/// Appends a line's bytes to a string if they are UTF-8, and returns the result of their read. For a
+/// reader with a `read_line` of its own.
 ///
 /// # Errors
-/// The read's, `InvalidData` where the bytes are no text, and `OutOfMemory`. After want of memory,
-/// the read's too, and where the bytes are no text, the text is as it was.
+/// Returns the read's error if the read failed, `InvalidData` if the bytes are not UTF-8, and
+/// `OutOfMemory` if the string could not grow. The string is unchanged if the bytes are not UTF-8, and
+/// after every `OutOfMemory`, also the read's.
 pub fn append_line(buf: &mut String, line: &[u8], read: Result<usize>) -> Result<usize>
     ensures answers { AnswersLine line.now read (string_len buf.old) (string_capacity buf.old) result
         (string_bytes buf.old) (string_bytes buf.new) }
@@ -114,8 +115,8 @@ pub fn append_line(buf: &mut String, line: &[u8], read: Result<usize>) -> Result
     read
 }
 
-/// Appends a line to a text, where it is UTF-8 and the text has the room, and answers whether it did.
-/// Else the text is as it was. For a reader with a `read_line` of its own.
+/// Appends a line to a string if it is UTF-8 and the string has room for it, and returns whether it
+/// did. If not, the string is unchanged. For a reader with a `read_line` of its own.
 pub fn append_text(buf: &mut String, line: &[u8]) -> bool
     ensures appended { OnTrue result (Follows line.now (string_bytes buf.old) (string_bytes buf.new)
         × (string_len buf.new ≡ string_len buf.old + length line.now)) }

@@ -52,11 +52,12 @@ pub trait Read: Stored {
     /// events stays at its end. If `buf` is empty, nothing is read. Follows `std::io::Read::read`.
     ///
     /// # Errors
-    /// The device's own; no byte was taken then. After an interruption the call may be made again.
+    /// Returns the device's error if it fails; no byte was then taken. After an interruption the call
+    /// may be made again.
     fn read(&mut self, buf: &mut [u8]) -> Result<usize>
         ensures law { ReadLaw ⟦<Self as Read>⟧ self.old buf.old result buf.new self.new };
 
-    /// Fills the whole of `buf`, passing over interruptions. An empty buffer makes no call. Follows
+    /// Fills the whole of `buf`, and ignores interruptions. An empty buffer makes no call. Follows
     /// `std::io::Read::read_exact`.
     ///
     /// # Errors
@@ -86,16 +87,17 @@ pub trait Read: Stored {
         Ok(())
     }
 
-    /// Appends all bytes to come to `buf`, passing over interruptions, and returns their number.
+    /// Appends all remaining bytes to `buf`, and returns their number. It ignores interruptions.
     /// Before its first read, and whenever no room is left, it makes room for at least 32 bytes; a
     /// slice and a cursor make room for all of their rest once these are full. If `buf` has room
     /// for the bytes before the first fault and for 32 more, `read_to_end` never fails for lack of
     /// memory. Follows `std::io::Read::read_to_end`.
     ///
     /// # Errors
-    /// The first fault: the reader stands right after it. Returns `OutOfMemory` if `buf` could not
-    /// grow; the read that needed the room is not made. After either error, `buf` has its old
-    /// content, followed by the bytes that were taken. Never `Interrupted`.
+    /// Returns the first fault if there is one; the reader is then right after it. Returns
+    /// `OutOfMemory` if `buf` could not grow; the read that needed the room is not made. After either
+    /// error, `buf` has its old content, followed by the bytes that were taken. Never returns
+    /// `Interrupted`.
     ///
     /// ```rust
     /// let mut r = Cursor::new(*b"abcde");
@@ -128,14 +130,14 @@ pub trait Read: Stored {
         }
     }
 
-    /// Appends what is to come to `buf`, and returns the number of its bytes. It passes over interruptions. The bytes
-    /// are gathered in a vector of their own, by `alloc`. Follows `std::io::Read::read_to_string`.
+    /// Appends all remaining bytes to the string `buf`, and returns their number. It ignores interruptions. The bytes
+    /// are first gathered in a vector from `alloc`. Follows `std::io::Read::read_to_string`.
     ///
     /// # Errors
-    /// `InvalidData` where the bytes aren't UTF-8: the text is as it was, and the bytes are taken. The first
-    /// fault: the bytes before it are appended where they are UTF-8, else the text is as it was.
-    /// `OutOfMemory`, a device's own too: the text is as it was, and the bytes taken in the call are lost. Never
-    /// `Interrupted`.
+    /// Returns `InvalidData` if the bytes are not UTF-8; `buf` is unchanged, and the bytes are taken. Returns the
+    /// first fault of the reader; the bytes before it are appended if they are UTF-8, and else `buf` is unchanged.
+    /// After `OutOfMemory`, also one of the device's own, `buf` is unchanged, and the bytes that this call has taken
+    /// are lost. Never returns `Interrupted`.
     ///
     /// ```rust
     /// let mut r = Cursor::new(*b"abc");

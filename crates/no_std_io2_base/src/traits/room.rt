@@ -7,10 +7,10 @@ use super::read::Read;
 use crate::error::Result;
 use std::alloc::Allocator;
 
-/// The least room that `read_to_end` makes where there is none. For a reader with a loop of its own.
+/// The least room that `read_to_end` makes if there is none. For a reader with a loop of its own.
 pub const LEAST_ROOM: usize = 32;
 
-// The least and the most zeros that it opens for reads at a time, where there is room for them.
+// The least and the most zeros that it opens for reads at a time, if there is room for them.
 const FIRST_OPENED: usize = 8 * 1024;
 
 const MOST_OPENED: usize = 128 * 1024;
@@ -18,7 +18,7 @@ const MOST_OPENED: usize = 128 * 1024;
 /// Makes room for `wanted` more bytes.
 ///
 /// # Errors
-/// `OutOfMemory` where there was too little and the growth was refused: nothing changes.
+/// Returns `OutOfMemory` if there was too little room and the vector could not grow; nothing then changes.
 pub fn reserve_room<A: Allocator>(buf: &mut Vec<u8, A>, wanted: usize) -> Result<()>
     ensures items { buf.new.items ≡ buf.old.items }
     ensures len { vec_len buf.new ≡ vec_len buf.old }
@@ -37,7 +37,7 @@ pub fn reserve_room<A: Allocator>(buf: &mut Vec<u8, A>, wanted: usize) -> Result
 /// by at least `least`.
 ///
 /// # Errors
-/// `OutOfMemory` where that growth was refused: nothing changes.
+/// Returns `OutOfMemory` if `buf` could not grow; nothing then changes.
 pub fn open_room<A: Allocator>(
     buf: &mut Vec<u8, A>,
     filled: usize,
@@ -66,12 +66,12 @@ pub fn open_room<A: Allocator>(
     Ok(())
 }
 
-/// Reads into the room that a vector has, until that is full or the reader is at its end, and says
-/// whether it is there. It asks for no room. It passes over interruptions.
+/// Reads into the room that a vector has until the room is full or the reader is at its end, and
+/// returns whether it is at its end. It allocates nothing, and ignores interruptions.
 ///
 /// # Errors
-/// The first fault: the reader stands right after it, and the bytes before it are appended. Never
-/// `Interrupted`.
+/// Returns the first fault if there is one; the reader is then right after it, and the bytes before it
+/// are appended. Never returns `Interrupted`.
 fn fill_room<R: Read, A: Allocator>(reader: &mut R, buf: &mut Vec<u8, A>) -> Result<bool>
     ensures told { R.tells reader.old → R.tells reader.new
         × FillsRoom (R.events reader.old) result buf.old.items buf.new.items (R.events reader.new) }
@@ -111,7 +111,7 @@ fn fill_room<R: Read, A: Allocator>(reader: &mut R, buf: &mut Vec<u8, A>) -> Res
 /// for each part after the first.
 ///
 /// # Errors
-/// As those of `read_to_end`.
+/// Returns the errors that `read_to_end` returns, with the same state after them.
 pub fn rest_to_end<R: Read, A: Allocator>(reader: &mut R, buf: &mut Vec<u8, A>) -> Result<usize>
     ensures law { ReadToEndLaw R.Read reader.old buf.old result buf.new reader.new }
 {

@@ -9,12 +9,12 @@ use super::pieces::drop_last;
 use crate::error::Result;
 use std::alloc::Global;
 
-/// The pieces of a reader's bytes, each up to a delimiter and without it. Made by
+/// An iterator over the pieces of a reader's bytes, each up to a delimiter and without it. Made by
 /// [`BufRead::split`]; follows Rust's `std::io::Split`.
 ///
-/// Where the last piece has no delimiter it is an item too, unless it is empty. After an error, a
-/// fault of the reader or `OutOfMemory`, it has ended and stays ended, unlike Rust's: what was taken
-/// for that item is lost.
+/// A last piece without a delimiter is an item too, unless it is empty. After an error, which is a
+/// fault of the reader or `OutOfMemory`, it returns `None` for good, unlike Rust's `Split`; the bytes
+/// that were read for that item are lost.
 #[derive(Drop)]
 pub struct Split<R> {
     inner: R,

@@ -1,9 +1,9 @@
 ghost use Rattle.std.specs.Prelude.{ℕ, List};
 
-/// The one store behind a stream, as contracts see it: a content, and a position in it. It is the
-/// parent of [`Read`](super::Read) and [`Seek`](super::Seek), so that both speak of one store.
+/// The store of a stream, for contracts: a content, and a position in it. It is the parent of
+/// [`Read`](super::Read) and [`Seek`](super::Seek), so that both have the same store.
 ///
-/// It has no calls. A stream without a store, as a socket, tells that it has none.
+/// It has no calls. A stream without a store, such as a socket, tells that it has none.
 ///
 /// ```rust
 /// impl Stored for Broken {
@@ -15,7 +15,7 @@ ghost use Rattle.std.specs.Prelude.{ℕ, List};
 /// }
 /// ```
 pub trait Stored {
-    // That it tells a store, and then which bytes, and where in them.
+    // Whether it tells a store, and then its bytes, and the position in them.
     ghost has_store: { Self → Type 0 };
 
     ghost content: { Self → List ℕ };

@@ -19,8 +19,8 @@ use std::alloc::{Allocator, Global};
 /// A reader of at most `limit` bytes of another reader. Made by [`Read::take`]; follows Rust's
 /// `std::io::Take`.
 ///
-/// Each call lowers the limit by the bytes that it gives or drops; errors don't lower it. At limit
-/// 0 the stream is at its end, and the inner reader isn't called, so its errors aren't seen.
+/// Each call lowers the limit by the bytes that it gives or drops; errors do not lower it. At limit
+/// 0 the stream is at its end. The inner reader is then not called, so its errors do not show.
 #[derive(Debug, Drop)]
 pub struct Take<T> {
     inner: T,
@@ -34,7 +34,7 @@ impl<T> Take<T> {
         Take { inner, limit }
     }
 
-    /// Returns how many bytes may still be given; the inner reader may end earlier. Follows
+    /// Returns how many more bytes it gives at most; the inner reader may end earlier. Follows
     /// `std::io::Take::limit`.
     ///
     /// ```rust
@@ -49,7 +49,7 @@ impl<T> Take<T> {
         self.limit
     }
 
-    /// Sets how many bytes may be given from here on, whatever was given before. Follows
+    /// Sets how many bytes it gives at most from here on, whatever it gave before. Follows
     /// `std::io::Take::set_limit`.
     pub fn set_limit(&mut self, limit: u64)
         ensures limit { take_limit self.new ≡ limit }
@@ -81,7 +81,7 @@ impl<T> Take<T> {
         &mut self.inner
     }
 
-    /// Returns the inner reader, where it stands. Follows `std::io::Take::into_inner`.
+    /// Returns the inner reader, at its position. Follows `std::io::Take::into_inner`.
     pub fn into_inner(self) -> T
         ensures { result ≡ take_inner self }
     {
@@ -172,7 +172,7 @@ impl<T: Read> Read for Take<T> {
         Ok(())
     }
 
-    // Where less than 32 bytes are left under the limit, it makes room for no more than those.
+    // If fewer than 32 bytes are left under the limit, it makes room for no more than those.
     fn read_to_end<A: Allocator>(&mut self, buf: &mut Vec<u8, A>) -> Result<usize>
         ensures law { ReadToEndLaw ⟦<Self as Read>⟧ self.old buf.old result buf.new self.new }
 

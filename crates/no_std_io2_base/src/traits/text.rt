@@ -9,9 +9,9 @@ use std::fmt;
 use std::fmt::{Display, Formatter};
 use std::marker::{Brand, PhantomData};
 
-/// What a call answers that takes a text: `E` is [`Error`], the one type that there is an impl for, and each call infers
-/// it. The signature does not name `Error`, since it holds a `'static` text, and the borrow checker takes no text with
-/// several lifetimes, as `format_args!("{name}={value}")`, where a signature names `'static`.
+/// The error type of a call that prints a text. `E` is [`Error`], the only type with an impl, and each call infers it. The
+/// signature does not name `Error`, because that contains a `'static` text: if a signature names `'static`, the borrow
+/// checker takes no text with several lifetimes, such as `format_args!("{name}={value}")`.
 pub trait Answers<E> {
     ghost seen: { Result (Unit {0}) E → Result (Unit {0}) Error };
 
