@@ -11,7 +11,7 @@ use Rattle.no_std_io2_base.specs.declared.error.Error.{Error}
 use Rattle.no_std_io2_base.specs.BufRead.{BeginsWith, Lends, LendsFrom, LendingTurn}
 use Rattle.no_std_io2_base.specs.Write.{IsFront}
 use Rattle.no_std_io2_base.specs.Errors.{is_interruption, IsInterruption, IsFault, IsOutOfMemory}
-use Rattle.no_std_io2_base.specs.Read.{Event, byte, fails, events_of, bytes, HasNoFault}
+use Rattle.no_std_io2_base.specs.Read.{Event, byte, fails, events_of, bytes, HasNoFault, EndsInFault}
 use Rattle.no_std_io2_base.specs.Pieces.{Lacks, EndsPiece, FindsPiece, GivesPiece, IsByteNext, StopsInPiece}
 use Rattle.no_std_io2_base.proofs.EventLemmas.{bytes-append, bytes-events_of, events_of-append, HasNoFault-append, HasNoFault-events_of}
 
@@ -102,17 +102,29 @@ piece_ended {old} {mid} {new} {after} {rest} {k} t read (inr end) is count =
       ends = inr (t.no_end, sym left ∙ end.1);
     }
 
--- a fault that stands first stops the call: it is gone too, and is the answer
+-- a fault that stands first is gone too, behind what is gone
+pub piece_faulted : {d : ℕ} {E : List Event} {old new : List ℕ} {after : List Event} {e : Error} {rest : List Event}
+    → PieceSoFar d E old new after → after ≡ fails e ∷ rest → IsFault e
+    → (taken : List Event) × (E ≡ taken ++ rest) × Lacks d (bytes taken) × EndsInFault taken e
+piece_faulted {d} {e} {rest} t read fault = (
+  t.front ++ fails e ∷ [],
+  t.split ∙ ap (λ l. t.front ++ l) read ∙ sym (append_assoc t.front (fails e ∷ []) rest),
+  subst (Lacks d) (sym (bytes-append t.front (fails e ∷ []) ∙ append-nil (bytes t.front))) t.no_end,
+  (t.front, refl, t.no_fault, fault),
+)
+
+-- it stops the call, and is the answer
 pub piece_fault : {d : ℕ} {E : List Event} {old new : List ℕ} {after : List Event} {e : Error} {rest : List Event}
     → PieceSoFar d E old new after → after ≡ fails e ∷ rest → IsFault e → StopsInPiece d E e old new rest
-piece_fault {d} {old} {e} {rest} t read fault =
-    let same = bytes-append t.front (fails e ∷ []) ∙ append-nil (bytes t.front) in
+unfolding piece_faulted
+piece_fault {old} {e} t read fault =
+    let (taken, split, none, ends) = piece_faulted t read fault in
     record {
-      taken = t.front ++ fails e ∷ [];
-      split = t.split ∙ ap (λ l. t.front ++ l) read ∙ sym (append_assoc t.front (fails e ∷ []) rest);
-      appended = t.gave ∙ ap (λ l. old ++ l) (sym same);
-      no_end = subst (Lacks d) (sym same) t.no_end;
-      stops = inl (t.front, refl, t.no_fault, fault);
+      taken = taken;
+      split = split;
+      appended = t.gave ∙ ap (λ l. old ++ l) (sym (bytes-append t.front (fails e ∷ []) ∙ append-nil (bytes t.front)));
+      no_end = none;
+      stops = inl ends;
     }
 
 -- refused memory stops the call: nothing more is gone, and nothing more was appended

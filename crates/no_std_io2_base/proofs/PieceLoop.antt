@@ -15,6 +15,11 @@ use Rattle.no_std_io2_base.proofs.PieceLemmas.{whole_part, front_more, front_sam
 use Rattle.no_std_io2_base.proofs.PieceRoom.{part_has_room, fault_is_first}
 use Rattle.no_std_io2_base.proofs.ReadToEndTaken.{moved_read, no_error}
 
+-- where such a loop stands in a told store
+abbrev pub StoreSoFar : {X : Type 0} → Lender X → X → X → Type 0
+StoreSoFar R old now = R.has_store old → R.has_store now × (R.content now ≡ R.content old)
+    × (R.position now + length (R.events now) ≡ R.position old + length (R.events old))
+
 -- what was taken was appended, without an end so far
 pub record UntilSoFar {X A : Type 0} (R : Lender X) (d : ℕ) (old : X) (buf buf' : Vec ℕ A) (now : X) : Type 0 where
   pub grows : vec_len buf ≤ vec_len buf'
@@ -25,8 +30,7 @@ pub record UntilSoFar {X A : Type 0} (R : Lender X) (d : ℕ) (old : X) (buf buf
   pub told : R.tells old → R.tells now × PieceSoFar d (R.events old) buf.items buf'.items (R.events now)
   pub metered : R.is_metered old → R.is_metered now
   pub filling : R.is_filling old → R.is_filling now
-  pub store : R.has_store old → R.has_store now × (R.content now ≡ R.content old)
-      × (R.position now + length (R.events now) ≡ R.position old + length (R.events old))
+  pub store : StoreSoFar R old now
 
 -- at the start nothing is taken
 pub until_none : {X A : Type 0} {R : Lender X} {d : ℕ} {old : X} {buf : Vec ℕ A} → UntilSoFar R d old buf buf old
@@ -42,17 +46,41 @@ until_none = record {
   store = λ s. (s, refl, refl);
 }
 
+module _ {X : Type 0} (R : Lender X) (old : X) {now after : X} {reply : Result (Bor (List ℕ)) Error} (so_far : StoreSoFar R old now)
+    (law : (x : X) → R.has_store x → R.tells x × (R.events x ≡ events_of (drop (R.position x) (R.content x))))
+    (filled : AfterLoan R now reply after) where
+  -- no store is told of a reader that answers an error
+  pub no_store : {e : Error} → reply ≡ Err e → R.has_store old → ⊥
+  no_store is s =
+      let tells = law now (so_far s).0 in
+      no_error _ tells.1 (error_taken is (filled.told tells.0).1)
+
+  module _ {lent : Bor (List ℕ)} {n : ℕ} (is : reply ≡ Ok lent) (within : n ≤ length lent.now) {new : X}
+      (dropped : ConsumeLaw R after n new) where
+    -- what was lent and then dropped is gone
+    pub lent_gone : R.tells now → R.tells new × (R.events now ≡ events_of (take n lent.now) ++ R.events new)
+    lent_gone t =
+        let loan = filled.told t in
+        let rest = dropped.told loan.0 in
+        (rest.0, part_taken lent _ (R.events new) n is filled.lends loan.1 rest.1)
+
+    -- and the position has moved by it
+    pub lent_passed : StoreSoFar R old new
+    lent_passed s =
+        let before = so_far s in
+        let loan = filled.store before.0 in
+        let rest = dropped.store loan.0 in
+        let gone = (lent_gone (law now before.0).0).1 in (
+          rest.0,
+          rest.1 ∙ loan.1 ∙ before.1,
+          moved_read (R.events new) n lent.now _ within gone (rest.2 ∙ ap (λ p. p + n) loan.2) before.2,
+        )
+
 module _ {X A : Type 0} {R : Lender X} {d : ℕ} {old now after : X} {buf xs : Vec ℕ A} {reply : Result (Bor (List ℕ)) Error}
     (before : UntilSoFar R d old buf xs now)
     (law : (x : X) → R.has_store x → R.tells x × (R.events x ≡ events_of (drop (R.position x) (R.content x))))
     (filled : AfterLoan R now reply after) where
   module _ {e : Error} (is : reply ≡ Err e) where
-    -- no store is told of a reader that answers an error
-    no_store : R.has_store old → ⊥
-    no_store s =
-        let tells = law now (before.store s).0 in
-        no_error _ tells.1 (error_taken is (filled.told tells.0).1)
-
     -- an interruption is passed over
     pub until_interruption : IsInterruption e → UntilSoFar R d old buf xs after
     until_interruption again = record {
@@ -67,7 +95,7 @@ module _ {X A : Type 0} {R : Lender X} {d : ℕ} {old now after : X} {buf xs : V
           (loan.0, piece_interruption so_far.1 (error_taken is loan.1) again);
       metered = λ m. filled.metered (before.metered m);
       filling = λ f. filled.filling (before.filling f);
-      store = λ s. absurd (no_store s);
+      store = λ s. absurd (no_store R old before.store law filled is s);
     }
 
     -- a fault ends the loop
@@ -87,7 +115,7 @@ module _ {X A : Type 0} {R : Lender X} {d : ℕ} {old now after : X} {buf xs : V
       turn = tt;
       metered = λ m. filled.metered (before.metered m);
       filling = λ f. filled.filling (before.filling f);
-      store = λ s. absurd (no_store s);
+      store = λ s. absurd (no_store R old before.store law filled is s);
     }
 
   module _ {lent : Bor (List ℕ)} {n : ℕ} {is_whole : Bool} (is : reply ≡ Ok lent) (shows : FillBufLaw R now (Ok lent))
@@ -120,25 +148,12 @@ module _ {X A : Type 0} {R : Lender X} {d : ℕ} {old now after : X} {buf xs : V
     }
 
     module _ {new : X} (dropped : ConsumeLaw R after n new) where
-      -- what was lent and then dropped is gone
+      -- what is gone, and where the store stands
       taken : R.tells now → R.tells new × (R.events now ≡ events_of (take n lent.now) ++ R.events new)
-      taken t =
-          let loan = filled.told t in
-          let rest = dropped.told loan.0 in
-          (rest.0, part_taken lent _ (R.events new) n is filled.lends loan.1 rest.1)
+      taken = lent_gone R old before.store law filled is found.within dropped
 
-      -- and the position has moved by it
-      moved : R.has_store old → R.has_store new × (R.content new ≡ R.content old)
-          × (R.position new + length (R.events new) ≡ R.position old + length (R.events old))
-      moved s =
-          let so_far = before.store s in
-          let loan = filled.store so_far.0 in
-          let rest = dropped.store loan.0 in
-          let gone = (taken (law now so_far.0).0).1 in (
-            rest.0,
-            rest.1 ∙ loan.1 ∙ so_far.1,
-            moved_read (R.events new) n lent.now _ found.within gone (rest.2 ∙ ap (λ p. p + n) loan.2) so_far.2,
-          )
+      moved : StoreSoFar R old new
+      moved = lent_passed R old before.store law filled is found.within dropped
 
       module _ {v : Vec ℕ A} (grown : vec_capacity xs ≤ vec_capacity v) (appended : v.items ≡ xs.items ++ take n lent.now)
           (len : vec_len v ≡ vec_len xs + length (take n lent.now)) where

@@ -52,7 +52,7 @@ module _ {S : Type 0} {told : S → Told} {takes_all : S → Type 0} {cost : S �
 
 -- a formatter's calls, one after another, print what they print together
 module _ {W S : Type 0} (prints : S → List ℕ → W → Type 0) where
-  abbrev Then : W → List ℕ → W → Type 0
+  abbrev pub Then : W → List ℕ → W → Type 0
   Then s bs t = (old : S) (text : List ℕ) → prints old text s → prints old (text ++ bs) t
 
   prints_calls : (s : W) {bs : List ℕ} (t : W) (old : S) → WritesInCalls Then s bs t → prints old [] s → prints old bs t
@@ -61,6 +61,15 @@ module _ {W S : Type 0} (prints : S → List ℕ → W → Type 0) where
       (λ xs q x v so_far next. subst (λ l. prints old l v)
       (sym (concat-append xs (x ∷ []) ∙ ap (λ l. concat xs ++ l) (append-nil x))) (next old (concat xs) so_far))
       w.parts s t start w.calls)
+
+  -- a specified output was printed through a formatter, at `Ok`
+  pub prints_output : (f g : Formatter W) {s t : W} (old : S) (output : Option (List ℕ)) (formatted : Result (Unit {0}) FormatError)
+      → formatter_writer f ≡ s → IsPlainFormatter f → t ≡ formatter_writer g → DisplaysOnOk Then f formatted output g → IsOk formatted
+      → prints old [] s → IfSome output (λ bs. prints old bs t)
+  prints_output f g old None formatted over plain back shows ok start = tt
+  prints_output f g old (Some bs) formatted over plain back shows ok start =
+      subst (prints old bs) (sym back) (prints_calls (formatter_writer f) (formatter_writer g) old
+      (shows plain ok).wrote (subst (prints old []) (sym over) start))
 
   -- a text was printed through a formatter: whatever its `fmt` did, and its output where that is specified
   pub prints_shown : (f g : Formatter W) {s t : W} {old : S} (output : Option (List ℕ)) (formatted : Result (Unit {0}) FormatError)
@@ -74,8 +83,7 @@ module _ {W S : Type 0} (prints : S → List ℕ → W → Type 0) where
       ∣ (
         old,
         bs,
-        subst (prints old bs) (sym back) (prints_calls (formatter_writer f) (formatter_writer g) old
-            (shows plain refl).wrote (subst (prints old []) (sym over) start)),
+        prints_output f g old (Some bs) (Ok u) over plain back shows refl start,
         λ ok. refl,
       ) ∣₁
 

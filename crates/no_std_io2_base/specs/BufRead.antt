@@ -6,7 +6,7 @@ use Rattle.std.specs.Borrow.{follows_so, Fml, RattleType, MutBor, Bor}
 use Rattle.no_std_io2_base.specs.declared.error.Error.{Error}
 use Rattle.no_std_io2_base.specs.Read.{Event, events_of, fails, first_fault}
 use Rattle.no_std_io2_base.specs.Errors.{IsNoInterruption}
-use Rattle.no_std_io2_base.specs.Pieces.{TakesLine, TakesPiece, HasPieceRoom}
+use Rattle.no_std_io2_base.specs.Pieces.{TakesLine, TakesPiece, HasPieceRoom, SkipsPiece}
 use Rattle.no_std_io2_base.specs.Write.{IsFront}
 
 -- P holds for the value behind the `&mut` s after the borrow of it by the result has ended
@@ -127,6 +127,23 @@ pub record ReadUntilLaw {X A : Type 0} (R : Lender X) (old : X) (delim : ℕ) (b
   -- a vector with room for the piece is never refused memory: what fails is the first fault
   pub room : R.tells old → HasPieceRoom delim (R.events old) (vec_len buf) (vec_capacity buf)
       → IfErr reply (λ e. first_fault (R.events old) ≡ Some e)
+  -- no interruption is answered
+  pub fault : IsNoInterruption reply
+  -- turns are never won
+  pub turns : R.turns new ≤ R.turns old
+  -- a piece of some bytes spends one
+  pub turn : IfOk reply (λ n. 0 < n → R.turns new < R.turns old)
+  -- what the reader claims about itself still holds
+  pub metered : R.is_metered old → R.is_metered new
+  pub filling : R.is_filling old → R.is_filling new
+  -- a told store keeps its content, and its position goes on by what was taken
+  pub store : R.has_store old → R.has_store new × (R.content new ≡ R.content old)
+      × (R.position new + length (R.events new) ≡ R.position old + length (R.events old))
+
+-- `skip_until(delim)`
+pub record SkipUntilLaw {X : Type 0} (R : Lender X) (old : X) (delim : ℕ) (reply : Result ℕ Error) (new : X) : Type 0 where
+  -- a piece is taken from the events
+  pub told : R.tells old → R.tells new × SkipsPiece delim (R.events old) reply (R.events new)
   -- no interruption is answered
   pub fault : IsNoInterruption reply
   -- turns are never won

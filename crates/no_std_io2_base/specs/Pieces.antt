@@ -1,5 +1,5 @@
 -- Pieces of bytes, each ended by a delimiter, what a call that reads one does, and what `Split` and `Lines` yield.
-use Rattle.std.specs.Prelude.{◌≡◌, ◌≢◌, ℕ, ◌+◌, ◌<◌, ◌≤◌, ◌==◌, true, false, Bool, List, [], ◌∷◌, ◌++◌, length, take, filter}
+use Rattle.std.specs.Prelude.{◌≡◌, ◌≢◌, ℕ, ◌+◌, ◌-◌, ◌^◌, ◌<◌, ◌≤◌, ◌==◌, min, true, false, Bool, List, [], ◌∷◌, ◌++◌, length, take, filter}
 use Rattle.std.specs.Prelude.{if◌then◌else◌, ◌⊎◌, ⊤, Option, None, Some, Result, Ok, Err, suc, codes, IsUtf8}
 use Rattle.std.specs.List.{AllByRecursion, concat}
 use Rattle.no_std_io2_base.specs.declared.error.Error.{Error}
@@ -94,6 +94,12 @@ pub record StopsInPiece (d : ℕ) (E : List Event) (e : Error) (old new : List �
 abbrev pub TakesPiece : ℕ → List Event → Result ℕ Error → List ℕ → List ℕ → List Event → Type 0
 TakesPiece d E (Ok n) old new after = GivesPiece d E n old new after
 TakesPiece d E (Err e) old new after = StopsInPiece d E e old new after
+
+-- `skip_until(d)` turned E into after: a piece was taken, and the answer is its length, up to the greatest `usize`; a fault that
+-- stops it is taken too
+abbrev pub SkipsPiece : ℕ → List Event → Result ℕ Error → List Event → Type 0
+SkipsPiece d E (Ok n) after = (piece : List ℕ) × GivesPiece d E (length piece) [] piece after × (n ≡ min (length piece) (2 ^ 64 - 1))
+SkipsPiece d E (Err e) after = (taken : List Event) × (E ≡ taken ++ after) × Lacks d (bytes taken) × EndsInFault taken e
 
 -- the bytes up to and with the first d, all of them where there is none
 abbrev pub up_to : ℕ → List ℕ → List ℕ

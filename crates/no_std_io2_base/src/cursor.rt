@@ -3,6 +3,7 @@
 ghost use Rattle.std.specs.Prelude.{◌≡◌, List, IsOk, IfOk, IfErr, ◌↔◌, IsTrue};
 ghost use types.Logic.{sem};
 ghost use Rattle.std.specs.Borrow.{Lends};
+ghost use Rattle.std.specs.Box.{boxed_slice_items};
 ghost use Rattle.no_std_io2_base.specs.contracts.cursor.Cursor.{the_row as cursor-row};
 ghost use Rattle.no_std_io2_base.specs.Errors.{IsOutOfMemory};
 ghost use Rattle.no_std_io2_base.specs.Cursor.{cursor_place, cursor_inner, cursor_with_inner};
@@ -14,6 +15,8 @@ mod vectors;
 
 use crate::error::Result;
 use std::alloc::Allocator;
+use std::boxed::BoxedSlice;
+use std::ops::DerefSlice;
 
 /// A type that can be borrowed as one slice. The content of a [`Cursor`] has to be one;
 /// `std::io::Cursor` has the bound `AsRef<[u8]>` there. The same value always gives the same
@@ -63,6 +66,14 @@ impl<A: Allocator> AsSlice<u8> for Vec<u8, A> {
     }
 }
 
+impl<A: Allocator> AsSlice<u8> for BoxedSlice<u8, A> {
+    ghost slice = { boxed_slice_items };
+
+    fn as_slice(&self) -> &[u8] {
+        DerefSlice::deref(self)
+    }
+}
+
 impl<A: Allocator> AsSlice<u8> for &mut Vec<u8, A> {
     ghost slice = { λ v. v.now.items };
 
@@ -72,8 +83,8 @@ impl<A: Allocator> AsSlice<u8> for &mut Vec<u8, A> {
 }
 
 /// A content in memory, and a position in it. The position is from 0 to 2^64 - 1, and may be past
-/// the end. A cursor can be read and sought; over a vector or a mutable slice it can also be
-/// written. Follows `std::io::Cursor`.
+/// the end. A cursor can be read and sought; over a vector, an array, a mutable or a boxed slice
+/// it can also be written. Follows `std::io::Cursor`.
 ///
 /// ```rust
 /// let mut c = Cursor::new(Vec::<u8>::new(rt.alloc()));

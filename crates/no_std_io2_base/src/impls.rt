@@ -1,10 +1,11 @@
-//! The traits for slices and vectors, and for types that forward to another stream: references,
+//! The traits for slices, vectors and queues, and for types that forward to another stream: references,
 //! boxes, boxed trait objects. This module has no public names.
 mod boxed;
 mod copying;
 mod lending_objects;
 mod lent;
 mod objects;
+mod queues;
 mod reading_objects;
 mod slices;
 mod vectors;

@@ -6,6 +6,7 @@ pub mod cursor;
 pub mod error;
 mod impls;
 mod laws;
+mod memory_laws;
 mod piece_laws;
 pub mod shared;
 pub mod traits;

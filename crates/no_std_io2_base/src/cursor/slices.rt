@@ -1,5 +1,6 @@
 ghost use Rattle.std.specs.Prelude.{◌≡◌, ℕ, ◌+◌, ◌-◌, ◌≤◌, ◌↔◌, nat_lt, min, [], Ok, IsOk, IsOkAnd, OnOk, IfOk, IfErr};
 ghost use Rattle.std.specs.Prelude.{length, if◌then◌else◌};
+ghost use Rattle.std.specs.Box.{boxed_slice_items};
 ghost use Rattle.no_std_io2_base.specs.Cursor.{cursor_place, cursor_inner, cursor_out, PutsFitting};
 ghost use Rattle.no_std_io2_base.specs.Errors.{IsNoInterruption, IsUnwritten};
 ghost use Rattle.no_std_io2_base.specs.Writers.{FlushOf, WriteAllOf, WriteOf};
@@ -9,6 +10,8 @@ use super::Cursor;
 use crate::error::{Result, failed_to_write};
 use crate::impls::copy_prefix;
 use crate::traits::Write;
+use std::alloc::Allocator;
+use std::boxed::BoxedSlice;
 
 // Writes what fits into the slice at the position, and moves that behind it.
 fn write_fitting(content: &mut [u8], pos: &mut u64, buf: &[u8]) -> usize
@@ -89,6 +92,38 @@ impl<const N: usize> Write for Cursor<[u8; N]> {
             (cursor_inner self.new) (cursor_place self.new) }
     {
         Ok(write_fitting(&mut self.inner, &mut self.pos, buf))
+    }
+
+    fn flush(&mut self) -> Result<()>
+        ensures law { FlushOf ⟦<Self as Write>⟧ self.old result self.new }
+
+        // It does nothing.
+        ensures ok { IsOk result }
+        ensures same { self.new ≡ self.old }
+    {
+        Ok(())
+    }
+
+    ghost steady = { λ c h. absurd h };
+}
+
+/// Writes over the boxed slice, as over a lent one. Follows `std::io::Write for Cursor<Box<[u8]>>`.
+///
+/// # Errors
+/// Returns the errors that a cursor over a slice returns.
+impl<A: Allocator> Write for Cursor<BoxedSlice<u8, A>> {
+    ghost told = { λ c. told_out (cursor_out boxed_slice_items c) };
+
+    fn write(&mut self, buf: &[u8]) -> Result<usize>
+        ensures law { WriteOf ⟦<Self as Write>⟧ self.old buf.now result self.new }
+
+        // What fits, at the position.
+        ensures answer { IsOkAnd result (λ n. n
+            ≡ min (length buf.now) (length (boxed_slice_items (cursor_inner self.old)) - cursor_place self.old)) }
+        ensures puts { PutsFitting (boxed_slice_items (cursor_inner self.old)) (cursor_place self.old) buf.now
+            (boxed_slice_items (cursor_inner self.new)) (cursor_place self.new) }
+    {
+        Ok(write_fitting(self.inner.as_mut_slice(), &mut self.pos, buf))
     }
 
     fn flush(&mut self) -> Result<()>

@@ -1,6 +1,6 @@
 ghost use Rattle.std.specs.Prelude.{◌≡◌, ℕ, List, ◌≤◌, length, false};
 ghost use types.Logic.{sem};
-ghost use Rattle.no_std_io2_base.specs.BufRead.{FillBufLaw, AfterLoan, ConsumeLaw, ReadUntilLaw, ReadLineLaw, Rests};
+ghost use Rattle.no_std_io2_base.specs.BufRead.{FillBufLaw, AfterLoan, ConsumeLaw, ReadUntilLaw, SkipUntilLaw, ReadLineLaw, Rests};
 ghost use Rattle.no_std_io2_base.specs.Pieces.{split_reader, split_delim, split_is_ended, lines_reader, lines_is_ended};
 
 use super::lines::Lines;
@@ -81,6 +81,42 @@ pub trait BufRead: Read {
                     self.consume(len);
                     if is_whole {
                         return Ok(buf.len() - start);
+                    }
+                }
+                Err(e) if e.is_interrupted() => {}
+                Err(e) => return Err(e),
+            }
+        }
+    }
+
+    /// Passes over the bytes up to and including the first `delim`, and returns their number, or the
+    /// greatest `usize` if there are more. If there is no `delim`, it passes over all bytes that are
+    /// left. 0 means the end. It ignores interruptions, and allocates nothing. Follows
+    /// `std::io::BufRead::skip_until`.
+    ///
+    /// # Errors
+    /// Returns the first fault that comes before a `delim`; the reader is then right after it. Never
+    /// returns `Interrupted`.
+    ///
+    /// ```rust
+    /// let mut r = Cursor::new(*b"key=value");
+    /// assert!(rt; r.skip_until(b'=')? == 4);
+    /// assert!(rt; r.fill_buf()? == b"value".as_slice());
+    /// ```
+    final fn skip_until(&mut self, delim: u8) -> Result<usize>
+    where
+        Self: Sized,
+        ensures law { SkipUntilLaw ⟦<Self as BufRead>⟧ self.old delim result self.new }
+    {
+        let mut skipped = 0usize;
+        'pieces: loop {
+            match self.fill_buf() {
+                Ok(lent) => {
+                    let (len, is_whole) = find_piece(lent, delim);
+                    self.consume(len);
+                    skipped = skipped.saturating_add(len);
+                    if is_whole {
+                        return Ok(skipped);
                     }
                 }
                 Err(e) if e.is_interrupted() => {}

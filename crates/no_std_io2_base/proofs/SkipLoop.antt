@@ -1,0 +1,113 @@
+-- A loop that passes over one piece, by what each of its turns does, for any reader that lends.
+use Rattle.std.proofs.Common.{◌≡◌, ℕ, ◌+◌, ◌-◌, ◌^◌, ◌<◌, ◌≤◌, Bool, true, false, List, [], ◌++◌, Result, Ok, Err, min, length, take, drop}
+use Rattle.std.proofs.Common.{refl, sym, ap, ◌∙◌, arith, le_refl, le_trans, lt_of_le_of_lt, length-append, length-take-le}
+use Rattle.std.specs.Borrow.{Bor}
+use Rattle.no_std_io2_base.specs.declared.error.Error.{Error}
+use Rattle.no_std_io2_base.specs.Errors.{IsInterruption, IsFault}
+use Rattle.no_std_io2_base.specs.Read.{events_of}
+use Rattle.no_std_io2_base.specs.BufRead.{Lender, FillBufLaw, AfterLoan, ConsumeLaw, SkipUntilLaw}
+use Rattle.no_std_io2_base.specs.Pieces.{FindsPiece}
+use Rattle.no_std_io2_base.proofs.PieceLemmas.{PieceSoFar, piece_none, piece_more, piece_interruption, piece_ended}
+use Rattle.no_std_io2_base.proofs.PieceLemmas.{piece_faulted, error_taken, whole_part, spent_more}
+use Rattle.no_std_io2_base.proofs.PieceLoop.{StoreSoFar, no_store, lent_gone, lent_passed}
+
+-- so many bytes, as far as a `usize` counts, were passed over, without an end so far
+pub record SkipSoFar {X : Type 0} (R : Lender X) (d : ℕ) (old : X) (skipped : ℕ) (now : X) : Type 0 where
+  pub turns : R.turns now ≤ R.turns old
+  pub spent : 0 < skipped → R.turns now < R.turns old
+  pub told : R.tells old → R.tells now × ((piece : List ℕ) × PieceSoFar d (R.events old) [] piece (R.events now)
+      × (skipped ≡ min (length piece) (2 ^ 64 - 1)))
+  pub metered : R.is_metered old → R.is_metered now
+  pub filling : R.is_filling old → R.is_filling now
+  pub store : StoreSoFar R old now
+
+-- at the start nothing is passed over
+pub skip_none : {X : Type 0} {R : Lender X} {d : ℕ} {old : X} → SkipSoFar R d old 0 old
+skip_none = record {
+  turns = le_refl _;
+  spent = λ more. absurd (omega (arith, more));
+  told = λ t. (t, ([], piece_none refl, omega arith));
+  metered = λ m. m;
+  filling = λ f. f;
+  store = λ s. (s, refl, refl);
+}
+
+-- the count of two parts
+counted : (piece part : List ℕ) {skipped more total : ℕ} → skipped ≡ min (length piece) (2 ^ 64 - 1) → more ≡ length part
+    → total ≡ min (skipped + more) (2 ^ 64 - 1) → total ≡ min (length (piece ++ part)) (2 ^ 64 - 1)
+counted piece part before is count = omega (arith, before, is, count, length-append piece part)
+
+module _ {X : Type 0} {R : Lender X} {d : ℕ} {old now after : X} {skipped : ℕ} {reply : Result (Bor (List ℕ)) Error}
+    (before : SkipSoFar R d old skipped now)
+    (law : (x : X) → R.has_store x → R.tells x × (R.events x ≡ events_of (drop (R.position x) (R.content x))))
+    (filled : AfterLoan R now reply after) where
+  -- an interruption is passed over
+  pub skip_interruption : {e : Error} → reply ≡ Err e → IsInterruption e → SkipSoFar R d old skipped after
+  skip_interruption is again = record {
+    turns = le_trans filled.turns before.turns;
+    spent = λ more. lt_of_le_of_lt filled.turns (before.spent more);
+    told = λ t.
+        let (tells, (piece, so_far, count)) = before.told t in
+        let loan = filled.told tells in
+        (loan.0, (piece, piece_interruption so_far (error_taken is loan.1) again, count));
+    metered = λ m. filled.metered (before.metered m);
+    filling = λ f. filled.filling (before.filling f);
+    store = λ s. absurd (no_store R old before.store law filled is s);
+  }
+
+  -- a fault ends the loop
+  pub skip_fault : {e : Error} → reply ≡ Err e → IsFault e → SkipUntilLaw R old d (Err e) after
+  skip_fault is fault = record {
+    told = λ t.
+        let (tells, (piece, so_far, count)) = before.told t in
+        let loan = filled.told tells in
+        (loan.0, piece_faulted so_far (error_taken is loan.1) fault);
+    fault = fault;
+    turns = le_trans filled.turns before.turns;
+    turn = tt;
+    metered = λ m. filled.metered (before.metered m);
+    filling = λ f. filled.filling (before.filling f);
+    store = λ s. absurd (no_store R old before.store law filled is s);
+  }
+
+  module _ {lent : Bor (List ℕ)} {n total : ℕ} {is_whole : Bool} (is : reply ≡ Ok lent) (shows : FillBufLaw R now (Ok lent))
+      (found : FindsPiece d lent.now n is_whole) {new : X} (dropped : ConsumeLaw R after n new)
+      (count : total ≡ min (skipped + n) (2 ^ 64 - 1)) where
+    -- what was dropped has this length
+    part : n ≡ length (take n lent.now)
+    part = sym (length-take-le n lent.now found.within)
+
+    -- a turn was spent where any was passed over
+    spent : 0 < total → R.turns new < R.turns old
+    spent some = spent_more before.spent before.turns filled.turns dropped.turns dropped.turn (omega (arith, count)) some
+
+    -- a part without the end, and the loop goes on
+    pub skip_more : is_whole ≡ false → SkipSoFar R d old total new
+    skip_more going = record {
+      turns = omega (arith, dropped.turns, filled.turns, before.turns);
+      spent = spent;
+      told = λ t.
+          let (tells, (piece, so_far, before_count)) = before.told t in
+          let rest = lent_gone R old before.store law filled is found.within dropped tells in
+          let more = counted piece (take n lent.now) before_count part count in
+          (rest.0, (piece ++ take n lent.now, piece_more _ so_far rest.1 (found.open_ended going).1 refl, more));
+      metered = λ m. (dropped.cost (filled.metered (before.metered m))).0;
+      filling = λ f. dropped.filling (filled.filling (before.filling f));
+      store = lent_passed R old before.store law filled is found.within dropped;
+    }
+
+    -- the part that makes the piece whole, and the loop ends
+    pub skip_whole : is_whole ≡ true → SkipUntilLaw R old d (Ok total) new
+    skip_whole whole = record {
+      told = λ t.
+          let (tells, (piece, so_far, before_count)) = before.told t in
+          let rest = lent_gone R old before.store law filled is found.within dropped tells in
+          let ended = piece_ended so_far rest.1 (whole_part found whole (shows.end tells)) refl (omega arith) in
+          (rest.0, (piece ++ take n lent.now, ended, counted piece (take n lent.now) before_count part count));
+      fault = tt;
+      turns = omega (arith, dropped.turns, filled.turns, before.turns);
+      turn = spent;
+      metered = λ m. (dropped.cost (filled.metered (before.metered m))).0;
+      filling = λ f. dropped.filling (filled.filling (before.filling f));
+      store = lent_passed R old before.store law filled is found.within dropped;
+    }

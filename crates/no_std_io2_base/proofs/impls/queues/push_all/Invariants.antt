@@ -1,0 +1,9 @@
+-- The bytes so far stand at the back, and the others have room.
+use Rattle.std.proofs.Common.{◌≡◌, ◌+◌, ◌≤◌, ◌++◌, take}
+use Rattle.std.specs.VecDeque.{deque_len, deque_capacity}
+use Rattle.no_std_io2_base.proofs.impls.queues.push_all.Given as goal
+
+abbrev pub invariant-bytes : goal.invariant-bytes
+invariant-bytes g l =
+    (l.queue.items ≡ l.fn.queue.items ++ take l.b-index l.bytes) × (deque_len l.queue ≡ deque_len l.fn.queue + l.b-index)
+    × (deque_capacity l.fn.queue ≤ deque_capacity l.queue)

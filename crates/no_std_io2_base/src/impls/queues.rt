@@ -1,0 +1,104 @@
+ghost use Rattle.std.specs.Prelude.{◌≡◌, ◌+◌, ◌-◌, ◌<◌, ◌≤◌, ◌++◌, [], length, drop, IsOk, OnErr, IfOk, IfErr};
+ghost use Rattle.std.specs.VecDeque.{deque_len, deque_capacity};
+ghost use Rattle.no_std_io2_base.specs.Errors.{IsOutOfMemory};
+ghost use Rattle.no_std_io2_base.specs.Read.{events_of, given, ReadLaw};
+ghost use Rattle.no_std_io2_base.specs.Write.{told_out};
+ghost use Rattle.no_std_io2_base.specs.Writers.{FlushOf, WriteOf};
+
+use super::copying::copy_prefix;
+use crate::error::Result;
+use crate::traits::{Read, Stored, Write};
+use std::alloc::Allocator;
+use std::collections::VecDeque;
+
+// Drops the first `n` bytes.
+fn drop_front<A: Allocator>(queue: &mut VecDeque<u8, A>, n: usize)
+    requires { n ≤ deque_len queue.old }
+    ensures { queue.new.items ≡ drop n queue.old.items }
+{
+    let left = queue.len() - n;
+    queue.rotate_left(n);
+    queue.truncate(left);
+}
+
+// Appends bytes for which there is room.
+fn push_all<A: Allocator>(queue: &mut VecDeque<u8, A>, bytes: &[u8])
+    requires { deque_len queue.old + length bytes.now ≤ deque_capacity queue.old }
+    ensures { queue.new.items ≡ queue.old.items ++ bytes.now }
+{
+    'bytes: for b in bytes {
+        // There is room, so no memory is asked for.
+        let _ = queue.push_back(*b);
+    }
+}
+
+// A queue tells no store, because it does not keep the bytes that were read from it.
+impl<A: Allocator> Stored for VecDeque<u8, A> {
+    ghost has_store = { λ _. ⊥ };
+
+    ghost content = { λ _. [] };
+
+    ghost position = { λ _. 0 };
+}
+
+/// Reads from the front of a queue. A `read` gives what lies in one piece there, so it may give fewer bytes than
+/// fit. Follows `std::io::Read for VecDeque<u8>`.
+impl<A: Allocator> Read for VecDeque<u8, A> {
+    ghost tells = { λ _. Unit {0} };
+
+    ghost events = { λ q. events_of q.items };
+
+    ghost turns = { λ q. length q.items };
+
+    fn read(&mut self, buf: &mut [u8]) -> Result<usize>
+        ensures law { ReadLaw ⟦<Self as Read>⟧ self.old buf.old result buf.new self.new }
+
+        // It never fails.
+        ensures ok { IsOk result }
+        ensures rest { self.new.items ≡ drop (given result) self.old.items }
+    {
+        let (front, _) = self.as_slices();
+        let n = copy_prefix(front, buf);
+        drop_front(self, n);
+        Ok(n)
+    }
+
+    ghost filling_tells = { λ q h. absurd h };
+
+    ghost store_tells = { λ q h. absurd h };
+
+    ghost store_fits = { λ q h. absurd h };
+}
+
+/// Appends a whole buffer at the back, or returns `OutOfMemory` and leaves the queue as it was. Follows
+/// `std::io::Write for VecDeque<u8>`.
+impl<A: Allocator> Write for VecDeque<u8, A> {
+    ghost told = { λ q. told_out q.items };
+
+    fn write(&mut self, buf: &[u8]) -> Result<usize>
+        ensures law { WriteOf ⟦<Self as Write>⟧ self.old buf.now result self.new }
+
+        // It appends the whole buffer or nothing. It fails only if the capacity was too small and
+        // memory was refused.
+        ensures whole { IfOk result (λ n. n ≡ length buf.now) }
+        ensures err { IfErr result IsOutOfMemory }
+        ensures same { OnErr result (self.new.items ≡ self.old.items) }
+        ensures full { OnErr result (deque_capacity self.old < deque_len self.old + length buf.now) }
+    {
+        self.reserve(buf.len())?;
+        push_all(self, buf);
+        Ok(buf.len())
+    }
+
+    fn flush(&mut self) -> Result<()>
+        ensures law { FlushOf ⟦<Self as Write>⟧ self.old result self.new }
+
+        // It does nothing.
+        ensures ok { IsOk result }
+        ensures same { self.new ≡ self.old }
+    {
+        Ok(())
+    }
+
+    ghost steady = { λ w h. absurd h };
+}
