@@ -1,6 +1,6 @@
 -- A buffer that is emptied into a vector, before the inner reader appends the rest.
-use Rattle.std.proofs.Common.{◌≡◌, ℕ, ◌+◌, ◌-◌, ◌*◌, ◌<◌, ◌≤◌, Some, List, [], ◌++◌, length, take, drop, Ok, Err}
-use Rattle.std.proofs.Common.{refl, sym, ap, subst, ◌∙◌, arith, take_all, take-append-drop, append-nil, append_assoc}
+use Rattle.std.proofs.Common.{◌≡◌, ℕ, ◌+◌, ◌-◌, ◌*◌, ◌<◌, ◌≤◌, Some, List, [], ◌++◌, length, take, drop, Ok, Err, Result, IfErr}
+use Rattle.std.proofs.Common.{inl, refl, sym, ap, subst, ◌∙◌, arith, take_all, take-append-drop, append-nil, append_assoc}
 use Rattle.std.proofs.Common.{length-append}
 use lib.Seq.{take-append-le}
 use Rattle.std.proofs.Math.Seq.{drop-append_seam}
@@ -16,6 +16,8 @@ use Rattle.no_std_io2_base.proofs.ReadToEndGathered.{Gathered, gathered_all, gat
 use Rattle.no_std_io2_base.proofs.ReadToEndExits.{front_then, stopped_first}
 use Rattle.no_std_io2_base.proofs.SliceReads.{moved_part}
 use Rattle.no_std_io2.specs.Buffer.{IsSound}
+use Rattle.no_std_io2.specs.BufReader.{reader_held, HasNoBuffer, EmptiesInto}
+use Rattle.no_std_io2.specs.declared.buffered.buf_reader.BufReader.{BufReader}
 use Rattle.no_std_io2.proofs.BufReaderBehind.{sound_held}
 use Rattle.no_std_io2.proofs.BufReaderExact.{length-events}
 
@@ -64,6 +66,26 @@ pub emptied_stop : (held held' old : List ℕ) {mid new : List ℕ} {E E' : List
 emptied_stop held held' old {mid} {new} {E} {E'} {e} is none read =
     subst (λ l. ReadsToEnd (events_of held ++ E) (Err e) old new (events_of l ++ E')) (sym none)
     (gathered_stop e (emptied held old mid E is) read)
+
+-- with nothing held the inner reader gives all
+pub none_told : (held held' : List ℕ) (E E' : List Event) (reply : Result ℕ Error) (old new : List ℕ) → held ≡ [] → held' ≡ []
+    → ReadsToEnd E reply old new E' → ReadsToEnd (events_of held ++ E) reply old new (events_of held' ++ E')
+none_told held held' E E' reply old new none left read =
+    subst (λ l. ReadsToEnd (events_of l ++ E) reply old new (events_of held' ++ E')) (sym none)
+    (subst (λ l. ReadsToEnd E reply old new (events_of l ++ E')) (sym left) read)
+
+-- and fails for want of room where the inner reader does
+pub none_room : (held : List ℕ) (E : List Event) (reply : Result ℕ Error) (len capacity : ℕ) → held ≡ []
+    → (HasRoom 32 E len capacity → IfErr reply (λ e. first_fault E ≡ Some e))
+    → HasRoom 32 (events_of held ++ E) len capacity → IfErr reply (λ e. first_fault (events_of held ++ E) ≡ Some e)
+none_room held E reply len capacity none =
+    subst (λ l. HasRoom 32 (events_of l ++ E) len capacity → IfErr reply (λ e. first_fault (events_of l ++ E) ≡ Some e)) (sym none)
+
+-- whatever it answers
+pub none_empties : {R : Type 0} {S : ℕ} (old new : BufReader R S) (before after : List ℕ) (reply : Result ℕ Error)
+    → IsFront (before ++ reader_held old) after × HasNoBuffer new → EmptiesInto old before reply after new
+none_empties old new before after (Ok n) did = did
+none_empties old new before after (Err e) did = inl did
 
 -- what the vector had stays at its front
 pub emptied_front : (held : List ℕ) {old mid : List ℕ} (new : List ℕ) {len n : ℕ} → len ≡ length old → n ≡ length mid

@@ -169,7 +169,7 @@ impl<R: Read, const S: usize> Read for BufReader<R, S> {
         Ok(())
     }
 
-    // Appends the held bytes first, and then those that the inner reader's `read_to_end` appends.
+    // Appends the held bytes first, and then those that the inner reader's `read_to_end` appends. With nothing held it is that call.
     fn read_to_end<A: Allocator>(&mut self, buf: &mut Vec<u8, A>) -> Result<usize>
         ensures law { ReadToEndLaw ⟦<Self as Read>⟧ self.old buf.old result buf.new self.new }
 
@@ -177,6 +177,10 @@ impl<R: Read, const S: usize> Read for BufReader<R, S> {
         ensures empties { EmptiesInto self.old buf.old.items result buf.new.items self.new }
         ensures sound { StaysSound R.has_store R.position R.content self.old self.new }
     {
+        if self.buffer().is_empty() {
+            self.buffer.clear();
+            return self.inner.read_to_end(buf);
+        }
         let start = buf.len();
         self.buffer.append_to(buf)?;
         rest_to_end(&mut self.inner, buf)?;

@@ -1,5 +1,5 @@
--- A read to the end, by its three ends: no room for what is held, an error of the inner reader, or its end.
-use Rattle.std.proofs.Common.{◌≡◌, ◌-◌, ◌≤◌, length, arith, ap, refl, inl, inr, le_trans}
+-- A read to the end, by its four ends: nothing held, no room for what is held, an error of the inner reader, or its end.
+use Rattle.std.proofs.Common.{◌≡◌, ◌-◌, ◌≤◌, [], ◌++◌, length, arith, ap, refl, sym, ◌∙◌, inl, inr, le_trans, append-nil, rules}
 use Rattle.std.proofs.lemmas.Result.{err_from_is_err_and}
 use Rattle.no_std_io2_base.proofs.PieceLemmas.{memory_fault}
 use Rattle.no_std_io2_base.proofs.SliceReads.{fewer_left}
@@ -8,10 +8,42 @@ use Rattle.no_std_io2.specs.BufReader.{reader_held}
 use Rattle.no_std_io2.proofs.BufReaderBehind.{sound_empty, sound_stayed}
 use Rattle.no_std_io2.proofs.BufReaderEmptied.{moved_all, emptied_all, emptied_stop, emptied_front, emptied_shown, emptied_on}
 use Rattle.no_std_io2.proofs.BufReaderEmptied.{emptied_moved, emptied_again, part_refused, part_front, part_moved, part_sound}
-use Rattle.no_std_io2.proofs.BufReaderEmptied.{part_turns, room_held, held_fault}
+use Rattle.no_std_io2.proofs.BufReaderEmptied.{part_turns, room_held, held_fault, none_told, none_room, none_empties}
+use Rattle.no_std_io2.proofs.BufWriterLemmas.{none_of_length}
 use Rattle.no_std_io2.proofs.BufReaderCalls.{sound_none}
 use Rattle.no_std_io2.proofs.BufReaderTurns.{turns_read, appended_turn}
 use Rattle.no_std_io2.proofs.buffered.buf_reader.reads.BufReaderRead.read_to_end.Goals as goal
+
+pub returns-then-is_empty : goal.returns-then-is_empty
+returns-then-is_empty g c =
+    let held = reader_held c.args.self.now in
+    let none : held ≡ [] = none_of_length _ (search rules) in
+    let left = buffer_held c.clear.new.self in
+    let clear = c.clear.ensures in
+    let read = c.read_to_end.ensures.law in
+    let few : length left ≤ g.row.S = omega (arith, ap length clear.held) in
+    let same = sym (ap (λ l. c.args.buf.now.items ++ l) none ∙ append-nil c.args.buf.now.items) in
+    record {
+      law = record {
+        told = λ t. let now = read.told t in (now.0, none_told held left _ _ _ _ _ none clear.held now.1);
+        appends = read.appends;
+        count = read.count;
+        capacity = read.capacity;
+        room = λ t. none_room held _ _ _ _ none (read.room t);
+        fault = read.fault;
+        turns =
+            turns_read g.row.S (length held) (length left) few read.turns
+            (λ some. absurd (omega (arith, some, ap length clear.held)));
+        turn = appended_turn g.row.S (length held) (length left) (ap length clear.held) (omega (arith, ap length none)) read.turn read.turns;
+        metered = λ h. h;
+        filling = λ h. h;
+        store = λ s.
+            let now = read.store s.0 in
+            ((now.0, sound_none left _ _ clear.held), now.1, emptied_moved held left _ _ _ s.1.0 clear.held now.2);
+      };
+      empties = none_empties c.args.self.now _ c.args.buf.now.items _ _ (emptied_shown _ same read.appends, (clear.held, clear.behind));
+      sound = λ s. ((read.store s.0).0, sound_empty (buffer_behind c.clear.new.self) left _ _ clear.behind clear.held);
+    }
 
 pub returns-in_err-append_to : goal.returns-in_err-append_to
 returns-in_err-append_to g c =
