@@ -1,5 +1,5 @@
 -- What went out, and what is read of it.
-use Rattle.std.proofs.Common.{◌≡◌, ◌⊎◌, ℕ, zero, suc, ◌<◌, ◌≤◌, ◌^◌, List, [], ◌∷◌, ◌++◌, length, take, drop, get_or}
+use Rattle.std.proofs.Common.{◌≡◌, ◌⊎◌, ℕ, zero, suc, ◌+◌, ◌<◌, ◌≤◌, ◌^◌, List, [], ◌∷◌, ◌++◌, length, take, drop, get_or}
 use Rattle.std.proofs.Common.{map, All, ◌-◌, length-drop, Ok, Err, refl, sym, ap, ◌∙◌, subst, inl, inr, arith}
 use Rattle.std.proofs.Common.{append-nil}
 use Rattle.std.proofs.Math.Seq.{drop-append_seam}
@@ -8,9 +8,9 @@ use Rattle.std.proofs.lemmas.List.Elements.{All-head}
 use Rattle.no_std_io2.specs.declared.io.Error.{Error}
 use Rattle.no_std_io2.specs.Errors.{IsOutOfMemory}
 use Rattle.no_std_io2.specs.Read.{Event, fails, events_of, bytes, bytes-events_of}
-use Rattle.framing.specs.Frames.{frames, IsRefusal}
+use Rattle.framing.specs.Frames.{frames, IsRefusal, IsTooLongToSend}
 use Rattle.no_std_io2.specs.Write.{Told}
-use Rattle.framing.specs.Sending.{TakesOff}
+use Rattle.framing.specs.Sending.{TakesOff, HasLongFrame}
 use Rattle.pending.specs.Pending.{RefusesFirst}
 use Rattle.framing.specs.Delivering.{Delivers}
 use Rattle.framing.specs.Taking.{ComesBack, IsFirstFault, appended}
@@ -24,16 +24,14 @@ drop_none n bs e = ap (drop n) e ∙ none n
     none zero = refl
     none (suc k) = refl
 
--- what is out behind what was out is what was sent
+-- what is out is what was out, and then what was sent
 pub went_out : (a b : Told) (to_go left sent : List ℕ) → Delivers a (to_go ++ sent) b left → to_go ≡ [] → left ≡ []
-    → a.held ≡ [] → b.held ≡ [] → drop (length a.out) b.out ≡ sent
+    → a.held ≡ [] → b.held ≡ [] → b.out ≡ a.out ++ sent
 went_out a b to_go left sent d none all before after =
     let is : d.sent ≡ sent = sym (append-nil d.sent) ∙ ap (λ l. d.sent ++ l) (sym all) ∙ sym d.split ∙ ap (λ l. l ++ sent) none in
-    let whole : b.out ≡ a.out ++ sent =
     sym (append-nil b.out) ∙ ap (λ l. b.out ++ l) (sym after) ∙ d.moves.bytes
     ∙ ap (λ l. (a.out ++ l) ++ d.sent) before ∙ ap (λ l. l ++ d.sent) (append-nil a.out)
-    ∙ ap (λ l. a.out ++ l) is in
-    ap (drop (length a.out)) whole ∙ drop-append_seam a.out sent
+    ∙ ap (λ l. a.out ++ l) is
 
 -- all payloads were taken off, so each is short enough
 pub all_short : (most : ℕ) (old new : List (List ℕ)) → TakesOff old new → new ≡ [] → most ≡ 4294967295 → All (λ p. length p ≤ most) old
@@ -43,16 +41,30 @@ all_short most old new t none is = λ k d lt.
     let at : length (get_or old k d) < 2 ^ 32 = short k d lt in
     omega arith
 
--- payloads that are short enough are refused for want of memory alone
+-- payloads that are short enough are refused for want of memory alone, for a frame that is longer than the room
 pub only_memory : (room : ℕ) (old new : List (List ℕ)) (e : Error) → TakesOff old new → All (λ p. length p < 2 ^ 32) old
-    → RefusesFirst (IsRefusal room) new e → IsOutOfMemory e
+    → RefusesFirst (IsRefusal room) new e → IsOutOfMemory e × HasLongFrame room old
 only_memory room old [] e t short h = absurd h
 only_memory room old (p ∷ ps) e t short (inl long) =
     let others : All (λ q. length q < 2 ^ 32) (p ∷ ps) =
     All-right (λ q. length q < 2 ^ 32) t.front (p ∷ ps) (subst (All (λ q. length q < 2 ^ 32)) t.split short) in
     let fits : length p < 2 ^ 32 = All-head (λ q. length q < 2 ^ 32) p ps others in
     absurd (omega (arith, long.0))
-only_memory room old (p ∷ ps) e t short (inr memory) = memory.0
+only_memory room old (p ∷ ps) e t short (inr memory) = (
+  memory.0,
+  λ fit.
+      let fits : List ℕ → Type 0 = λ q. 4 + length q ≤ room in
+      let here : 4 + length p ≤ room = All-head fits p ps (All-right fits t.front (p ∷ ps) (subst (All fits) t.split fit)) in
+      omega (arith, here, memory.1),
+)
+
+-- a first payload was refused for want of memory or for its length
+pub refused_as : (room : ℕ) (left : List (List ℕ)) (e : Error) (rest : Type 0) → RefusesFirst (IsRefusal room) left e ⊎ rest
+    → IsOutOfMemory e ⊎ ((payload : List ℕ) × IsTooLongToSend payload e) ⊎ rest
+refused_as room [] e rest (inl h) = absurd h
+refused_as room (p ∷ ps) e rest (inl (inl long)) = inr (inl (p, long))
+refused_as room (p ∷ ps) e rest (inl (inr memory)) = inl memory.0
+refused_as room left e rest (inr stops) = inr (inr stops)
 
 -- bytes alone have no fault
 no_fault : (bs : List ℕ) (E front rest : List Event) (e : Error) → E ≡ events_of bs → E ≡ front ++ fails e ∷ rest → ⊥
@@ -88,7 +100,9 @@ pub shown_frames : (a b : Told) (to_go to_go' : List ℕ) (payloads left : List 
     → drop (length before) after ≡ frames payloads
 shown_frames a b to_go to_go' payloads left before after d none none' all held held' was is =
     ap (λ l. drop (length l) after) was ∙ ap (drop (length a.out)) is
-    ∙ went_out a b to_go (to_go' ++ frames left) (frames payloads) d none (ap (λ l. l ++ frames left) none' ∙ ap frames all) held held'
+    ∙ ap (drop (length a.out))
+    (went_out a b to_go (to_go' ++ frames left) (frames payloads) d none (ap (λ l. l ++ frames left) none' ∙ ap frames all) held held')
+    ∙ drop-append_seam a.out (frames payloads)
 
 -- and so are the bytes to come of a reader over them
 pub come_frames : (E : List Event) (bs : List ℕ) (payloads : List (List ℕ)) → E ≡ events_of bs → bs ≡ frames payloads

@@ -1,5 +1,5 @@
 -- What a clause reads of a writer of frames, and what its calls do.
-use Rattle.std.specs.Prelude.{◌<◌, ◌^◌, List, ℕ, length}
+use Rattle.std.specs.Prelude.{◌<◌, ◌≤◌, ◌+◌, ◌^◌, All, List, ℕ, length}
 use Rattle.no_std_io2.specs.Write.{Told}
 use Rattle.no_std_io2.specs.BufWriter.{writer_inner, writer_buffer, writer_told}
 use Rattle.pending.specs.Pending.{pending_bytes, pending_rest, pending_room}
@@ -34,6 +34,10 @@ still_to_go w = pending_rest w.pending
 -- for how many bytes of a frame there is room
 abbrev pub frame_room : {W : Type 0} {S : ℕ} → FrameWriter W S → ℕ
 frame_room w = pending_room w.pending
+
+-- some of these payloads has a frame that is longer than the room
+abbrev pub HasLongFrame : ℕ → List (List ℕ) → Type 0
+HasLongFrame room payloads = All (λ p. 4 + length p ≤ room) payloads → ⊥
 
 -- these payloads were taken off the front, and each is short enough for a frame
 abbrev pub TakesOff : List (List ℕ) → List (List ℕ) → Type 0

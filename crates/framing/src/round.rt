@@ -1,7 +1,9 @@
 //! What a writer of frames sent, a reader of frames gives back.
-ghost use Rattle.std.specs.Prelude.{◌≡◌, ◌<◌, ◌^◌, [], map, All, length, IfOk, IfErr};
+ghost use Rattle.std.specs.Prelude.{◌≡◌, ◌⊎◌, ◌<◌, ◌^◌, ℕ, List, [], ◌++◌, map, All, length, IfOk, IfErr};
 ghost use Rattle.no_std_io2.specs.Errors.{IsOutOfMemory};
-ghost use Rattle.framing.specs.Sending.{writer_tells, under_way};
+ghost use Rattle.framing.specs.Frames.{frames, IsTooLongToSend};
+ghost use Rattle.pending.specs.Pending.{RestFlushLaw, StopsWith};
+ghost use Rattle.framing.specs.Sending.{writer_tells, writes_to, frame_writer, frame_room, under_way, still_to_go, HasLongFrame};
 ghost use Rattle.framing.specs.Delivering.{HasAtMost};
 
 use crate::reader::FrameReader;
@@ -57,7 +59,9 @@ impl<W: Shown> Shown for Box<W> {
 /// Sends these payloads, with at most `tries` tries after faults, and gives what a reader of frames reads
 /// of the bytes that went out: these payloads, in order, each once, whatever tower of buffers and whatever
 /// device is below. Over a device that tells at most `tries` mishaps to come, and with payloads of fewer
-/// than 2^32 bytes, it fails for want of memory alone. The writer is to be flushed, with no frame under way.
+/// than 2^32 bytes, it fails for want of memory alone: if a frame is longer than the room that the writer has
+/// for one, or, with all frames out, if there is none for what is read. The writer is to be flushed, with no
+/// frame under way.
 ///
 /// # Errors
 /// Those of [`FrameWriter::deliver`], and `OutOfMemory` of the reader.
@@ -77,7 +81,11 @@ pub fn round_trip<W: Shown + Drop, const S: usize>(
     requires flushed { (writer_tells W.told w.old).held ≡ [] }
     ensures came { IfOk result (λ given. map (λ v. v.items) given.items ≡ map (λ v. v.items) payloads.now) }
     ensures enough { HasAtMost tries (writer_tells W.told w.old).mishaps
-        → All (λ p. length p < 2 ^ 32) (map (λ v. v.items) payloads.now) → IfErr result IsOutOfMemory }
+        → All (λ p. length p < 2 ^ 32) (map (λ v. v.items) payloads.now)
+        → IfErr result (λ e. IsOutOfMemory e × (HasLongFrame (frame_room w.old) (map (λ v. v.items) payloads.now)
+        ⊎ ((W.told (writes_to w.new)).out ≡ (W.told (writes_to w.old)).out ++ frames (map (λ v. v.items) payloads.now)))) }
+    ensures last { IfErr result (λ e. IsOutOfMemory e ⊎ ((payload : List ℕ) × IsTooLongToSend payload e)
+        ⊎ StopsWith (RestFlushLaw ⟦<BufWriter<W, S> as Write>⟧) e (frame_writer w.new) (still_to_go w.new)) }
 {
     let before = w.get_ref().shown().len();
     let mut rest = payloads;

@@ -1,12 +1,14 @@
 -- How the items of a run of `split` or `lines` come to be all pieces: once, by what one `next` yields.
 use Rattle.std.proofs.Common.{◌≡◌, ℕ, true, false, Bool, if◌then◌else◌, Option, Some, None, Result, Ok, Err, List, []}
 use Rattle.std.proofs.Common.{◌∷◌, ◌++◌, map, filter, refl, sym, ap, ◌∙◌, subst, append-nil, append_assoc, inl, inr}
-use Rattle.std.proofs.Common.{⊎_elim}
+use Rattle.std.proofs.Common.{⊎_elim, ◌<◌, length, length-append, arith}
+use Rattle.std.specs.List.{concat}
+use Rattle.std.proofs.lemmas.List.Folds.{concat-append}
 use Rattle.no_std_io2_base.specs.declared.error.Error.{Error}
 use Rattle.no_std_io2_base.specs.Errors.{error_kind, is_interruption, IsFault}
 use Rattle.no_std_io2_base.specs.Read.{Event, byte, fails, bytes, HasNoFault, bytes_to_fault, first_fault}
-use Rattle.no_std_io2_base.specs.Pieces.{ends_in, pieces, pieces_before, pieces_given, YieldsPiece}
-use Rattle.no_std_io2_base.proofs.GivenPieces.{given_next, given_none, given_fault}
+use Rattle.no_std_io2_base.specs.Pieces.{ends_in, pieces, pieces_before, pieces_given, GivesPiece, IsByteNext, YieldsPiece}
+use Rattle.no_std_io2_base.proofs.GivenPieces.{given_next, given_none, given_fault, bytes_to_fault-append}
 use Rattle.io_bench.specs.Runs.{appended}
 use Rattle.io_bench.specs.PieceRuns.{AllPieces, GathersPieces}
 
@@ -15,11 +17,12 @@ pub record GatheredSoFar (trim : List ℕ → List ℕ) (d : ℕ) (E : List Even
   pub before : List (List ℕ)
   pub given : pieces_given d E ≡ before ++ pieces_given d after
   pub fault : first_fault E ≡ first_fault after
+  pub bytes : bytes_to_fault E ≡ concat before ++ bytes_to_fault after
   pub are : items ≡ map trim before
 
 -- at the start no piece is gathered, and all are to come
 pub none_gathered : (trim : List ℕ → List ℕ) (d : ℕ) (E : List Event) → GatheredSoFar trim d E [] E
-none_gathered trim d E = record { before = []; given = refl; fault = refl; are = refl }
+none_gathered trim d E = record { before = []; given = refl; fault = refl; bytes = refl; are = refl }
 
 -- mapping a list with p at its end gives the mapped list with the mapped p at its end
 map-end : {T : Type 0} (trim : T → List ℕ) (ps : List T) (p : T) → map trim (ps ++ p ∷ []) ≡ map trim ps ++ trim p ∷ []
@@ -58,6 +61,13 @@ yields_at view trim refuses d' d E r' r after same is h =
     subst (λ a. YieldsPiece view (trim d) refuses d E a after) is
     (subst (λ n. YieldsPiece view (trim n) refuses n E r' after) same h)
 
+-- of the bytes before the first fault, a piece that was given is the first
+piece_bytes : {d n : ℕ} {E after : List Event} {piece : List ℕ} → GivesPiece d E n [] piece after
+    → bytes_to_fault E ≡ piece ++ bytes_to_fault after
+piece_bytes {after = after} g =
+    ap bytes_to_fault g.split ∙ bytes_to_fault-append g.taken after g.no_fault
+    ∙ ap (λ l. l ++ bytes_to_fault after) (sym g.appended)
+
 -- one item more
 pub one_gathered : {T : Type 0} (view : T → List ℕ) (trim : List ℕ → List ℕ) (refuses : List ℕ → Error → Type 0) (d : ℕ)
     (E : List Event) (items shown : List (List ℕ)) (mid : List Event) (item : T) (after : List Event)
@@ -69,6 +79,10 @@ one_gathered view trim refuses d E items shown mid item after same t (piece, tak
       before = t.before ++ piece ∷ [];
       given = t.given ∙ ap (λ l. t.before ++ l) next.0 ∙ sym (append_assoc t.before (piece ∷ []) (pieces_given d after));
       fault = t.fault ∙ next.1;
+      bytes = t.bytes ∙ ap (λ l. concat t.before ++ l) (piece_bytes takes.gives)
+          ∙ sym (append_assoc (concat t.before) piece (bytes_to_fault after))
+          ∙ ap (λ l. l ++ bytes_to_fault after)
+          (sym (concat-append t.before (piece ∷ []) ∙ ap (λ l. concat t.before ++ l) (append-nil piece)));
       are = same ∙ ap (λ l. l ++ view item ∷ []) t.are ∙ ap (λ x. map trim t.before ++ x ∷ []) trimmed ∙ sym (map-end trim t.before piece);
     }
 
@@ -145,13 +159,21 @@ all_gathered view trim refuses d E items shown mid after same t (piece, gives) =
     ∙ ap (λ l. t.before ++ l) end.0 ∙ append-nil t.before in
     record { no_fault = free.0; are = same ∙ t.are ∙ ap (map trim) (sym given) }
 
+-- where a byte comes next behind events without a fault, some byte stands before the first fault
+some_byte : (E taken after : List Event) → E ≡ taken ++ after → HasNoFault taken → IsByteNext after → 0 < length (bytes_to_fault E)
+some_byte E taken [] is free next = absurd next
+some_byte E taken (fails e ∷ rest) is free next = absurd next
+some_byte E taken (byte b ∷ rest) is free next =
+    let shown = ap bytes_to_fault is ∙ bytes_to_fault-append taken (byte b ∷ rest) free in
+    omega (arith, ap length shown, length-append (bytes taken) (b ∷ bytes_to_fault rest))
+
 -- an error ends it
 pub gathered_to : {T : Type 0} (A : Type 0) (view : T → List ℕ) (trim : List ℕ → List ℕ)
-    (refuses : List ℕ → Error → Type 0) (d : ℕ) (E : List Event) (items shown : List (List ℕ)) (mid : List Event)
+    (refuses : List ℕ → Error → Type 0) (full : Type 0) (d : ℕ) (E : List Event) (items shown : List (List ℕ)) (mid : List Event)
     (e : Error) (after : List Event)
     → shown ≡ items → GatheredSoFar trim d E items mid → YieldsPiece view trim refuses d mid (Some (Err e)) after
-    → GathersPieces {A = A} trim refuses d E (Err e) shown
-gathered_to A view trim refuses d E items shown mid e after same t (piece, inr refused) =
+    → GathersPieces {A = A} trim refuses full d E (Err e) shown
+gathered_to A view trim refuses full d E items shown mid e after same t (piece, inr refused) =
     let next = given_next d mid refused.0.count piece after refused.0.gives refused.0.some in
     inr
     (inl
@@ -163,7 +185,7 @@ gathered_to A view trim refuses d E items shown mid e after same t (piece, inr r
       refused = refused.1;
       are = same ∙ t.are;
     }))
-gathered_to A view trim refuses d E items shown mid e after same t (piece, inl stops) = ⊎_elim
+gathered_to A view trim refuses full d E items shown mid e after same t (piece, inl stops) = ⊎_elim
     (λ ends.
     let end = given_fault d mid e stops.taken after stops.split stops.no_end ends in
     let first = t.fault ∙ end.1 in
@@ -180,8 +202,17 @@ gathered_to A view trim refuses d E items shown mid e after same t (piece, inl s
       fault = r.fault;
       are = same ∙ t.are ∙ ap (map trim) (sym given);
     }))
-    (λ memory. inr
-    (inr
-    (record
-    { before = t.before; behind = pieces_given d mid; given = t.given; refused = memory.1; are = same ∙ t.are })))
+    (λ memory. inr (inr (record {
+      before = t.before;
+      behind = pieces_given d mid;
+      given = t.given;
+      refused = memory.1;
+      short = inr (omega (
+        arith,
+        ap length t.bytes,
+        length-append (concat t.before) (bytes_to_fault mid),
+        some_byte mid stops.taken after stops.split memory.0 memory.2,
+      ));
+      are = same ∙ t.are;
+    })))
     stops.stops

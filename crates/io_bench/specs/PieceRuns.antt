@@ -1,8 +1,9 @@
 -- What a whole run of `split` or `lines` gathers.
-use Rattle.std.specs.Prelude.{◌≡◌, ℕ, ◌⊎◌, List, ◌∷◌, ◌++◌, map, filter, Result, Ok, Err}
+use Rattle.std.specs.Prelude.{◌≡◌, ℕ, ◌⊎◌, ◌<◌, List, ◌∷◌, ◌++◌, length, map, filter, Result, Ok, Err}
+use Rattle.std.specs.List.{concat}
 use Rattle.no_std_io2_base.specs.declared.error.Error.{Error}
 use Rattle.no_std_io2_base.specs.Errors.{IsFault, IsOutOfMemory}
-use Rattle.no_std_io2_base.specs.Read.{Event, fails, bytes, HasNoFault}
+use Rattle.no_std_io2_base.specs.Read.{Event, fails, bytes, bytes_to_fault, HasNoFault}
 use Rattle.no_std_io2_base.specs.Pieces.{ends_in, pieces, pieces_given}
 
 -- no fault was to come, and these are the pieces of all bytes, trimmed
@@ -29,17 +30,19 @@ pub record PiecesToRefused (trim : List ℕ → List ℕ) (refuses : List ℕ �
   pub refused : refuses piece e
   pub are : items ≡ map trim before
 
--- memory was refused, and these are the first pieces, trimmed
-pub record PiecesToMemory (trim : List ℕ → List ℕ) (d : ℕ) (E : List Event) (e : Error) (items : List (List ℕ)) : Type 0 where
+-- memory was refused, and these are the first pieces, trimmed: the list of them was full, or a byte was to come, for which a new piece has no room
+pub record PiecesToMemory (trim : List ℕ → List ℕ) (full : Type 0) (d : ℕ) (E : List Event) (e : Error) (items : List (List ℕ))
+    : Type 0 where
   pub before : List (List ℕ)
   pub behind : List (List ℕ)
   pub given : pieces_given d E ≡ before ++ behind
   pub refused : IsOutOfMemory e
+  pub short : full ⊎ (length (concat before) < length (bytes_to_fault E))
   pub are : items ≡ map trim before
 
 -- a whole run over a reader with these events to come gathered these items and ended so
-abbrev pub GathersPieces : {A : Type 0} → (List ℕ → List ℕ) → (List ℕ → Error → Type 0) → ℕ → List Event
+abbrev pub GathersPieces : {A : Type 0} → (List ℕ → List ℕ) → (List ℕ → Error → Type 0) → Type 0 → ℕ → List Event
     → Result A Error → List (List ℕ) → Type 0
-GathersPieces trim refuses d E (Ok _) items = AllPieces trim d E items
-GathersPieces trim refuses d E (Err e) items =
-    PiecesToFault trim d E e items ⊎ (PiecesToRefused trim refuses d E e items ⊎ PiecesToMemory trim d E e items)
+GathersPieces trim refuses full d E (Ok _) items = AllPieces trim d E items
+GathersPieces trim refuses full d E (Err e) items =
+    PiecesToFault trim d E e items ⊎ (PiecesToRefused trim refuses d E e items ⊎ PiecesToMemory trim full d E e items)

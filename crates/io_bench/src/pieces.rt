@@ -15,7 +15,7 @@ fn make_room<T>(items: &mut Vec<T>) -> Result<()>
     ensures room { OnOk result (vec_len items.new < vec_capacity items.new) }
     ensures refused { IfErr result IsOutOfMemory }
     // Nothing is refused where there is room.
-    ensures full { OnErr result (vec_capacity items.old < vec_len items.old + 1) }
+    ensures full { OnErr result (vec_capacity items.new < vec_len items.new + 1) }
 {
     items.reserve(1)?;
     Ok(())
@@ -28,10 +28,11 @@ fn make_room<T>(items: &mut Vec<T>) -> Result<()>
 ///
 /// # Errors
 /// The reader's first fault: the items are the pieces that a delimiter ended before it.
-/// `OutOfMemory`: they are the first pieces, as far as memory reached.
+/// `OutOfMemory`: they are the first pieces, as far as memory reached. Then `items` is full, or a byte
+/// was to come for which the next piece had no room.
 pub fn run_split<R: BufRead + Drop>(mut split: Split<R>, items: &mut Vec<Vec<u8>>) -> Result<()>
     ensures told { split_is_ended split ≡ false → R.tells (split_reader split)
-        → GathersPieces (without (split_delim split)) (λ _ _. ⊥) (split_delim split)
+        → GathersPieces (without (split_delim split)) (λ _ _. ⊥) (vec_capacity items.new < vec_len items.new + 1) (split_delim split)
         (R.events (split_reader split)) result (map vec_items (appended items.old.items items.new.items)) }
     ensures appends { items.new.items ≡ items.old.items ++ appended items.old.items items.new.items }
     ensures fault { IfErr result IsFault }
@@ -54,10 +55,10 @@ pub fn run_split<R: BufRead + Drop>(mut split: Split<R>, items: &mut Vec<Vec<u8>
 /// # Errors
 /// The reader's first fault: the items are the lines that a newline ended before it. `InvalidData`:
 /// they are the lines before one that isn't UTF-8. `OutOfMemory`: they are the first lines, as far
-/// as memory reached.
+/// as memory reached. Then `items` is full, or a byte was to come for which the next line had no room.
 pub fn run_lines<R: BufRead + Drop>(mut lines: Lines<R>, items: &mut Vec<String>) -> Result<()>
     ensures told { lines_is_ended lines ≡ false → R.tells (lines_reader lines)
-        → GathersPieces line_text RefusesLine 10
+        → GathersPieces line_text RefusesLine (vec_capacity items.new < vec_len items.new + 1) 10
         (R.events (lines_reader lines)) result (map string_bytes (appended items.old.items items.new.items)) }
     ensures appends { items.new.items ≡ items.old.items ++ appended items.old.items items.new.items }
     ensures fault { IfErr result IsFault }

@@ -79,9 +79,9 @@ pub stopped : {d : ℕ} {E mid after : List Event} {lines : List (List ℕ)} {e 
     → YieldsPiece (vec_items {X = ℕ} {Z = Global}) (without d) (λ _ _. ⊥) d mid (Some (Err e)) after
     → HasFirstFault E e ⊎ IsOutOfMemory e
 stopped {d} {E} {mid} {after} {lines} {e} so no_line =
-    why (gathered_to (Unit {0}) (vec_items {X = ℕ} {Z = Global}) (without d) (λ _ _. ⊥) d E lines lines mid e after refl so no_line)
+    why (gathered_to (Unit {0}) (vec_items {X = ℕ} {Z = Global}) (without d) (λ _ _. ⊥) ⊥ d E lines lines mid e after refl so no_line)
   where
-    why : GathersPieces {A = Unit {0}} (without d) (λ _ _. ⊥) d E (Err e) lines → HasFirstFault E e ⊎ IsOutOfMemory e
+    why : GathersPieces {A = Unit {0}} (without d) (λ _ _. ⊥) ⊥ d E (Err e) lines → HasFirstFault E e ⊎ IsOutOfMemory e
     why (inl fault) = inl (record {
       front = fault.before ++ fails e ∷ [];
       rest = fault.behind;

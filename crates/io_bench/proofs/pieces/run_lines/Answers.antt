@@ -1,4 +1,4 @@
-use Rattle.std.proofs.Common.{◌≡◌, ◌∙◌, ap, refl, map, string_bytes, Global, [], ◌∷◌, ◌++◌, Some, Ok}
+use Rattle.std.proofs.Common.{◌≡◌, ◌<◌, ◌+◌, ◌∙◌, ap, refl, map, string_bytes, vec_len, vec_capacity, Global, [], ◌∷◌, ◌++◌, Some, Ok}
 use Rattle.no_std_io2_base.specs.Pieces.{line_text, lines_reader, RefusesLine, ends_at}
 use Rattle.io_bench.specs.Runs.{appended}
 use Rattle.io_bench.proofs.PieceRunLemmas.{one_gathered, all_gathered, gathered_to, appended-more, shown-one, yields_at}
@@ -49,7 +49,9 @@ returns-in-Some-Err-clause-told g c = λ fresh t.
     let so_far = c.items.invariant.told fresh t in
     let told = (c.next.ensures.steps.1 so_far.0).1 so_far.1 in
     let e = c.in-Some-Err.e in
-    gathered_to (Unit {0}) (string_bytes {Z = Global}) line_text RefusesLine 10 (events (lines_reader c.args.lines))
+    gathered_to (Unit {0}) (string_bytes {Z = Global}) line_text RefusesLine
+    (vec_capacity c.make_room.new.items < vec_len c.make_room.new.items + 1) 10
+    (events (lines_reader c.args.lines))
     (map (string_bytes {Z = Global}) (appended c.args.items.now.items c.items.items.items))
     (map (string_bytes {Z = Global}) (appended c.args.items.now.items c.make_room.new.items.items))
     (events (lines_reader c.items.lines)) e (events (lines_reader c.next.new.self))

@@ -1,4 +1,4 @@
-use Rattle.std.proofs.Common.{◌≡◌, ℕ, ◌∙◌, ap, map, vec_items, Global, [], ◌∷◌, ◌++◌, Some, Ok}
+use Rattle.std.proofs.Common.{◌≡◌, ℕ, ◌<◌, ◌+◌, ◌∙◌, ap, map, vec_items, vec_len, vec_capacity, Global, [], ◌∷◌, ◌++◌, Some, Ok}
 use Rattle.no_std_io2_base.specs.Pieces.{without, split_reader, split_delim, ends_at}
 use Rattle.io_bench.specs.Runs.{appended}
 use Rattle.io_bench.proofs.PieceRunLemmas.{one_gathered, all_gathered, gathered_to, appended-more, shown-one, yields_at}
@@ -55,7 +55,8 @@ returns-in-Some-Err-clause-told g c = λ fresh t.
     let so_far = c.items.invariant.told fresh t in
     let told = (c.next.ensures.steps.1 so_far.0).1 so_far.2 in
     let e = c.in-Some-Err.e in
-    gathered_to (Unit {0}) (vec_items {X = ℕ} {Z = Global}) (without d) (λ _ _. ⊥) d
+    gathered_to (Unit {0}) (vec_items {X = ℕ} {Z = Global}) (without d) (λ _ _. ⊥)
+    (vec_capacity c.make_room.new.items < vec_len c.make_room.new.items + 1) d
     (events (split_reader c.args.split))
     (map (vec_items {X = ℕ} {Z = Global}) (appended c.args.items.now.items c.items.items.items))
     (map (vec_items {X = ℕ} {Z = Global}) (appended c.args.items.now.items c.make_room.new.items.items))
