@@ -1,11 +1,13 @@
 -- How tries follow one another.
-use Rattle.std.proofs.Common.{◌≡◌, ℕ, ◌+◌, List, [], ◌∷◌, length, true, Option, None, Some, Result, Ok, refl, arith, count_by}
+use Rattle.std.proofs.Common.{◌≡◌, ℕ, ◌+◌, List, [], ◌∷◌, length, true, Option, None, Some, Result, Ok, Err, IfErr, inr, refl, arith, count_by}
 use Rattle.std.proofs.lemmas.List.Recursion.{is_count_by}
 use Rattle.no_std_io2_base.specs.declared.error.Error.{Error}
 use Rattle.no_std_io2_base.specs.declared.error.ErrorKind.{ErrorKind}
 use Rattle.no_std_io2_base.specs.Write.{Told, Moves, Sends, HasSpent, call_mishap}
 use Rattle.no_std_io2_base.proofs.MovesLemmas.{Moves-refl, Moves-ends}
-use Rattle.no_std_io2.specs.Retries.{HasAtMost, HasSpentTries}
+use Rattle.no_std_io2_base.specs.declared.traits.write.Write.{Ghosts as Writer}
+use Rattle.no_std_io2_base.specs.Writers.{FlushOf}
+use Rattle.no_std_io2.specs.Retries.{HasAtMost, HasSpentTries, StopsWith}
 
 -- at the start nothing went, and all is still to go
 pub sends_none : (a : Told) (to_go : List ℕ) → Sends a to_go (Ok tt) a to_go
@@ -40,3 +42,9 @@ spent_all n None mid new k f g most = most
 spent_all n (Some old) None new k f g most = f
 spent_all n (Some old) (Some mid) None k f g most = g
 spent_all n (Some old) (Some mid) (Some new) k f g most = omega (arith, f, g (λ _. true), count_all mid, count_all new, most)
+
+-- a flush that failed is the last call
+pub flush_stops : {W : Type 0} (I : Writer W) (old : W) (reply : Result (Unit {0}) Error) (new : W) (left : List ℕ)
+    → FlushOf I old reply new → IfErr reply (λ e. StopsWith I e new left)
+flush_stops I old (Ok u) new left law = tt
+flush_stops I old (Err e) new left law = (old, inr law)

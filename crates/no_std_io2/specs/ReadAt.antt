@@ -1,6 +1,8 @@
 -- What a read at a place does.
-use Rattle.std.specs.Prelude.{◌≡◌, ℕ, ◌+◌, List, length, take, drop}
-use Rattle.no_std_io2_base.specs.Seek.{IsTarget}
+use Rattle.std.specs.Prelude.{◌≡◌, ◌⊎◌, ℕ, ◌+◌, List, length, take, drop, Result, Ok, Err}
+use Rattle.no_std_io2_base.specs.declared.error.Error.{Error}
+use Rattle.no_std_io2_base.specs.Seek.{IsTarget, Seeker, SeekLaw}
+use Rattle.no_std_io2_base.specs.Read.{Reader, ReadExactLaw}
 use Rattle.no_std_io2_base.specs.declared.traits.seek.SeekFrom.{SeekFrom}
 
 -- so many bytes of the content were read from where this seek goes, and the position is behind them
@@ -9,3 +11,8 @@ pub record ReadsAt (content : List ℕ) (old : ℕ) (at : SeekFrom) (n : ℕ) (b
   pub target : IsTarget (length content) old at place
   pub there : bs ≡ take n (drop place content)
   pub behind : new ≡ place + n
+
+-- a seek failed and its error is the answer, or it moved and a `read_exact` behind it answered so
+abbrev pub SeeksThenReads : {X : Type 0} → Seeker X → Reader X → X → SeekFrom → List ℕ → Result (Unit {0}) Error → List ℕ → X → Type 0
+SeeksThenReads {X} S R old at buf reply buf' new = ((e : Error) × (reply ≡ Err e) × SeekLaw S old at (Err e) new)
+    ⊎ ((mid : X) × (n : ℕ) × SeekLaw S old at (Ok n) mid × ReadExactLaw R mid buf reply buf' new)

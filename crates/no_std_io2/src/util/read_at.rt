@@ -1,7 +1,7 @@
 //! A read at a place.
 ghost use Rattle.std.specs.Prelude.{◌≡◌, ◌+◌, ◌≤◌, ℕ, length, IfOk, IsOk};
 ghost use Rattle.no_std_io2_base.specs.Seek.{IsTarget};
-ghost use Rattle.no_std_io2.specs.ReadAt.{ReadsAt};
+ghost use Rattle.no_std_io2.specs.ReadAt.{ReadsAt, SeeksThenReads};
 
 use no_std_io2_base::error::Result;
 use no_std_io2_base::traits::{Read, Seek, SeekFrom};
@@ -25,6 +25,7 @@ pub fn read_exact_at<R: Read + Seek>(reader: &mut R, at: SeekFrom, buf: &mut [u8
         (R.position reader.new)) }
     ensures enough { R.has_store reader.old → (place : ℕ) → IsTarget (length (R.content reader.old)) (R.position reader.old) at place
         → place + length buf.old ≤ length (R.content reader.old) → IsOk result }
+    ensures calls { SeeksThenReads R.Seek R.Read reader.old at buf.old result buf.new reader.new }
 {
     reader.seek(at)?;
     reader.read_exact(buf)

@@ -20,3 +20,9 @@ returns-in-Err-clause-enough g c = λ most.
     let tried = rw c.in-Err.is at c.write_and_flush.ensures.sends in
     let last = rw c.if-left-eq0.true at c.tries.invariant.spent in
     absurd (spent_all c.args.retries _ _ _ _ last tried.moves.mishaps most)
+
+pub returns-in-Err-clause-last : goal.returns-in-Err-clause-last
+returns-in-Err-clause-last g c = rw c.in-Err.is at c.write_and_flush.ensures.last
+
+pub returns-in-Err-clause-sends : goal.returns-in-Err-clause-sends
+returns-in-Err-clause-sends g c = Sends-then c.tries.invariant.sends (rw c.in-Err.is at c.write_and_flush.ensures.sends)
