@@ -1,6 +1,8 @@
 -- How calls of a writer follow one another, for a crate that lists this one alone. Those of the base are stated again: `rt lemma` finds
 -- none behind a `pub use`.
 use Rattle.std.proofs.Common.{◌≡◌, ◌⊎◌, Some, IsErrAnd, Result, Ok, Err, subst, refl, ap, ◌∙◌, append-nil, List, [], ◌++◌, ℕ}
+use Rattle.std.proofs.Common.{length, length-append, arith}
+use Rattle.std.proofs.lemmas.List.{nil_from_length}
 use Rattle.std.specs.List.{concat}
 use Rattle.std.specs.Result.{OnOk}
 use Rattle.no_std_io2_base.specs.declared.error.Error.{Error}
@@ -42,15 +44,19 @@ Moves-device {b = b} {x = x} {k = k} told w device inner none is m =
 bare : (t : Told) → with_buffer t [] ≡ t
 bare t = ap (λ held. record t { held = held }) (append-nil t.held)
 
--- what a buffer accepted at `Ok` that was empty, and is, its device did
+-- what a buffer accepted at `Ok` that was empty, and holds nothing then, its device did
 pub MovesFront-device : {W : Type 0} {S : ℕ} (told : W → Told) (w v : BufWriter W S) (x : List ℕ) (r : Result (Unit {0}) Error)
-    → MovesFront (writer_told told w) x r (writer_told told v) → writer_buffer w ≡ [] → OnOk r (writer_buffer v ≡ [])
+    → MovesFront (writer_told told w) x r (writer_told told v) → writer_buffer w ≡ []
+    → OnOk r ((writer_told told v).held ≡ [])
     → OnOk r (Moves (told (writer_inner w)) x [] (told (writer_inner v)))
-MovesFront-device told w v x (Ok u) f none sent =
+MovesFront-device told w v x (Ok u) f none flushed =
+    let below = (told (writer_inner v)).held in
+    let buffer = writer_buffer v in
+    let sent : buffer ≡ [] = nil_from_length buffer (omega (arith, ap length flushed, length-append below buffer)) in
     subst (λ b. Moves (told (writer_inner w)) x [] b)
     (ap (λ held. with_buffer (told (writer_inner v)) held) sent ∙ bare (told (writer_inner v)))
     (Moves-device told w (writer_inner w) refl none refl (lines.MovesFront-whole x u f))
-MovesFront-device told w v x (Err e) f none sent = tt
+MovesFront-device told w v x (Err e) f none flushed = tt
 
 -- `write_all(x)?; write_all(y)`, where the first answered `Ok`
 pub MovesFront-join : {a b c : Told} (x y : List ℕ) (r : Result (Unit {0}) Error) → MovesFront a x (Ok tt) b
