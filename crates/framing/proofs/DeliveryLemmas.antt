@@ -1,17 +1,15 @@
 -- How tries follow one another.
-use Rattle.std.proofs.Common.{◌≡◌, ℕ, ◌+◌, ◌≤◌, List, [], ◌∷◌, ◌++◌, length, true, Option, None, Some, Result, Ok, OnOk}
-use Rattle.std.proofs.Common.{Err, refl, sym, ap, ◌∙◌, subst, inl, inr, arith, append_assoc, count_by}
+use Rattle.std.proofs.Common.{◌≡◌, ℕ, ◌≤◌, List, ◌++◌, Option, None, Result, Ok, OnOk, []}
+use Rattle.std.proofs.Common.{Err, sym, ap, ◌∙◌, subst, inl, inr, arith, append_assoc}
 use Rattle.std.specs.Result.{result_err}
-use Rattle.std.proofs.lemmas.List.Recursion.{is_count_by}
 use Rattle.no_std_io2.specs.declared.io.Error.{Error}
-use Rattle.no_std_io2.specs.declared.io.ErrorKind.{ErrorKind}
-use Rattle.no_std_io2.specs.Write.{Told, Moves, Sends, HasSpent, call_mishap}
+use Rattle.no_std_io2.specs.Write.{Told, Moves, Sends, call_mishap}
 use Rattle.no_std_io2.proofs.MovesLemmas.{Moves-then, Moves-quiet}
 use Rattle.no_std_io2.specs.declared.io.Write.{Ghosts as Writer}
 use Rattle.pending.specs.Pending.{RestLaw, SendsAll, SendsRecords}
 use Rattle.pending.proofs.RecordLemmas.{all_sends}
 use Rattle.framing.specs.Frames.{frame, frames, IsRefusal}
-use Rattle.framing.specs.Delivering.{TriesOnce, Delivers, HasAtMost, HasSpentTries, tried_mishap}
+use Rattle.framing.specs.Delivering.{TriesOnce, Delivers, tried_mishap}
 
 -- the mishap of a flush
 flushed_mishap : (reply : Result (Unit {0}) Error) (fault : Option Error) → fault ≡ result_err reply
@@ -49,10 +47,6 @@ pub refusal_less : {less room : ℕ} (payload : List ℕ) (e : Error) → less �
 refusal_less payload e h (inl long) = inl long
 refusal_less payload e h (inr memory) = inr (memory.0, omega (arith, memory.1, h))
 
--- what was left out of a list of kinds, counted
-count_all : (xs : List ErrorKind) → length xs ≡ count_by (λ _. true) xs
-count_all = is_count_by length (λ _. true) refl (λ x xs. omega arith)
-
 -- one try more
 pub delivers_more : {a b c : Told} {whole to_go left : List ℕ} (reply : Result (Option Error) Error)
     → Delivers a whole b to_go → TriesOnce b to_go reply c left → Delivers a whole c left
@@ -61,24 +55,3 @@ delivers_more {left = left} reply f s = record {
   split = f.split ∙ ap (λ l. f.sent ++ l) s.split ∙ sym (append_assoc f.sent s.sent left);
   moves = Moves-quiet (Moves-then f.moves s.moves);
 }
-
--- no try was made, and no mishap spent
-pub spent_none : (n : ℕ) (old : Option (List ErrorKind)) → HasSpentTries n n old old
-spent_none n None = tt
-spent_none n (Some old) = omega arith
-
--- a mishap more was spent
-pub spent_more : (n left less : ℕ) (old mid new : Option (List ErrorKind)) (k : ErrorKind)
-    → HasSpentTries n left old mid → HasSpent mid (k ∷ []) new → left ≡ less + 1 → HasSpentTries n less old new
-spent_more n left less None mid new k f g is = tt
-spent_more n left less (Some old) None new k f g is = absurd f
-spent_more n left less (Some old) (Some mid) None k f g is = absurd g
-spent_more n left less (Some old) (Some mid) (Some new) k f g is = omega (arith, f, g (λ _. true), count_all mid, count_all new)
-
--- no more mishaps than were told
-pub spent_all : (n : ℕ) (old mid new : Option (List ErrorKind)) (k : ErrorKind) → HasSpentTries n 0 old mid
-    → HasSpent mid (k ∷ []) new → HasAtMost n old → ⊥
-spent_all n None mid new k f g most = most
-spent_all n (Some old) None new k f g most = f
-spent_all n (Some old) (Some mid) None k f g most = g
-spent_all n (Some old) (Some mid) (Some new) k f g most = omega (arith, f, g (λ _. true), count_all mid, count_all new, most)

@@ -1,20 +1,9 @@
 -- What sending again and again does.
-use Rattle.std.specs.Prelude.{◌≡◌, ◌≤◌, ◌+◌, ℕ, List, [], ◌∷◌, ◌++◌, length, Option, Some, None, Result, Ok, Err, ⊤}
+use Rattle.std.specs.Prelude.{◌≡◌, ℕ, List, [], ◌∷◌, ◌++◌, Option, Some, None, Result, Ok, Err}
 use Rattle.no_std_io2.specs.Errors.{error_kind}
 use Rattle.no_std_io2.specs.Write.{Told, Moves, Sends}
 use Rattle.no_std_io2.specs.declared.io.Error.{Error}
 use Rattle.no_std_io2.specs.declared.io.ErrorKind.{ErrorKind}
-
--- at most n mishaps are told to come
-abbrev pub HasAtMost : ℕ → Option (List ErrorKind) → Type 0
-HasAtMost n None = ⊥
-HasAtMost n (Some mishaps) = length mishaps ≤ n
-
--- told mishaps stay told, and at least n - left of them are gone
-abbrev pub HasSpentTries : ℕ → ℕ → Option (List ErrorKind) → Option (List ErrorKind) → Type 0
-HasSpentTries n left None new = ⊤
-HasSpentTries n left (Some old) None = ⊥
-HasSpentTries n left (Some old) (Some new) = length new + n ≤ length old + left
 
 -- the mishap that one try is: a fault of the device's is one, a refusal is none
 abbrev pub tried_mishap : Result (Option Error) Error → List ErrorKind

@@ -2,7 +2,8 @@
 ghost use Rattle.std.specs.Prelude.{◌≡◌, ◌≤◌, ◌⊎◌, [], ◌++◌, None, map, OnOk, IfOk, IfErr, IfSome};
 ghost use Rattle.framing.specs.Frames.{frames, IsRefusal};
 ghost use Rattle.framing.specs.Sending.{writer_tells, frame_writer, frame_room, under_way, still_to_go, TakesOff};
-ghost use Rattle.framing.specs.Delivering.{TriesOnce, Delivers, HasAtMost};
+ghost use Rattle.no_std_io2.specs.Retries.{HasAtMost};
+ghost use Rattle.framing.specs.Delivering.{TriesOnce, Delivers};
 ghost use Rattle.pending.specs.Pending.{RefusesFirst, RestFlushLaw, StopsWith};
 
 use crate::writer::FrameWriter;

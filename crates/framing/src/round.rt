@@ -4,7 +4,7 @@ ghost use Rattle.no_std_io2.specs.Errors.{IsOutOfMemory};
 ghost use Rattle.framing.specs.Frames.{frames, IsTooLongToSend};
 ghost use Rattle.pending.specs.Pending.{RestFlushLaw, StopsWith};
 ghost use Rattle.framing.specs.Sending.{writer_tells, writes_to, frame_writer, frame_room, under_way, still_to_go, HasLongFrame};
-ghost use Rattle.framing.specs.Delivering.{HasAtMost};
+ghost use Rattle.no_std_io2.specs.Retries.{HasAtMost};
 
 use crate::reader::FrameReader;
 use crate::writer::FrameWriter;

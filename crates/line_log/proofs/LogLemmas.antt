@@ -1,5 +1,5 @@
 -- How lines go, piece by piece.
-use Rattle.std.proofs.Common.{◌≡◌, ℕ, ◌+◌, ◌<◌, ◌≤◌, List, [], ◌∷◌, ◌++◌, length, get_or, Result, Ok, refl, sym, ap, ◌∙◌, subst}
+use Rattle.std.proofs.Common.{◌≡◌, ℕ, ◌+◌, ◌<◌, ◌≤◌, List, [], ◌∷◌, ◌++◌, length, get_or, Result, Ok, Err, OnOk, OnErr, Option, None, Some, take, take_at, ◌-◌, refl, sym, ap, ◌∙◌, subst}
 use Rattle.std.proofs.Common.{inl, inr, arith, append_assoc, append-nil, length-append}
 use Rattle.std.proofs.lemmas.List.{get_or-append-add}
 use Rattle.no_std_io2.specs.declared.io.Error.{Error}
@@ -7,10 +7,13 @@ use Rattle.no_std_io2.specs.Write.{Told, Moves, MovesFront, Sends, call_mishap}
 use Rattle.no_std_io2.specs.BufWriter.{with_buffer}
 use Rattle.no_std_io2.specs.Lines.{HasNoNewline}
 use Rattle.no_std_io2.specs.declared.io.Write.{Ghosts as Writer}
-use Rattle.pending.proofs.RecordLemmas.{sends_ends, all_sends}
-use Rattle.pending.specs.Pending.{SendsAll, SendsRecords}
+use Rattle.no_std_io2.proofs.RetryLemmas.{sends_ends}
+use Rattle.pending.proofs.RecordLemmas.{all_sends, record_sent}
+use Rattle.pending.specs.Pending.{Law, SendsAll, SendsRecords}
+use Rattle.pending.specs.Text.{IsPrintRefusal}
 use Rattle.line_log.specs.Lines.{line_of, lines_of, IsRefusal}
 use Rattle.line_log.specs.Log.{LineLaw}
+use Rattle.line_log.specs.Text.{IsTextRefusal, StagesLine, LogsText}
 
 -- a write of nothing accepts nothing
 wrote_nothing : {a b : Told} (reply : Result (Unit {0}) Error) (x : List ℕ) → x ≡ [] → MovesFront a x reply b
@@ -68,3 +71,31 @@ ends_line before text to_go is = ap (λ l. before ++ l) is ∙ sym (append_assoc
 -- a line as it goes out is not empty
 pub some_line : (text line : List ℕ) → line ≡ line_of text → 0 < length line
 some_line text line is = omega (arith, ap length is, length-append text (10 ∷ []))
+
+-- a text that was put under way as a line was sent, or is under way
+pub logs_text : {W : Type 0} (law : Law W) {room : ℕ} {output : Option (List ℕ)} {old new : W} {staged to_go left under_way : List ℕ}
+    (reply : Result (Unit {0}) Error) → StagesLine room output (Ok tt) staged to_go → law old to_go reply new left
+    → OnOk reply (under_way ≡ []) → OnOk reply (left ≡ []) → OnErr reply (under_way ≡ staged)
+    → LogsText law room output old reply under_way left new
+logs_text law {room} {output} {under_way = under_way} reply (text, is, whole, same, plain) calls done none err = record {
+  text = text;
+  is = is;
+  sends = record_sent law (IsTextRefusal room output text) under_way reply calls same whole done none err;
+  plain = on_ok reply plain;
+  started = λ some. plain;
+}
+  where
+    on_ok : {P : Type 0} (r : Result (Unit {0}) Error) → P → OnOk r P
+    on_ok (Ok u) p = p
+    on_ok (Err e) p = tt
+
+-- a text was refused before it was printed whole
+pub refused_text : (room : ℕ) (output : Option (List ℕ)) (e : Error) {under_way to_go : List ℕ} → IsPrintRefusal room output 1 e
+    → under_way ≡ [] → to_go ≡ [] → StagesLine room output (Err e) under_way to_go
+refused_text room None e why none idle = ([], tt, inr why, none, idle)
+refused_text room (Some bs) e why none idle = (bs, refl, inr why, none, idle)
+
+-- a line without its newline is its text
+pub line_front : (text line : List ℕ) → line ≡ line_of text → take (length line - 1) line ≡ text
+line_front text line is =
+    ap (take (length line - 1)) is ∙ take_at text (10 ∷ []) (length line - 1) (omega (arith, ap length is, length-append text (10 ∷ [])))

@@ -14,7 +14,11 @@ line_of text = text ++ 10 ∷ []
 abbrev pub lines_of : List (List ℕ) → List ℕ
 lines_of texts = concat (map line_of texts)
 
+-- an error that says that a newline stands in a text
+abbrev pub SaysNewline : Error → Type 0
+SaysNewline e = SaysError InvalidInput (codes "a newline stands in a line") e
+
 -- a text was refused: a newline stands in it; or none does, there was room for so many bytes, too few, and no memory for more
 abbrev pub IsRefusal : ℕ → List ℕ → Error → Type 0
-IsRefusal room text e = (HasNewline text × SaysError InvalidInput (codes "a newline stands in a line") e)
+IsRefusal room text e = (HasNewline text × SaysNewline e)
     ⊎ (HasNoNewline text × IsOutOfMemory e × (room < length text + 1))

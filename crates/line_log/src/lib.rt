@@ -13,12 +13,14 @@ ghost use Rattle.no_std_io2.specs.Lines.{HasNoNewline};
 ghost use Rattle.no_std_io2.specs.LineWriter.{line_inner, line_buffer};
 ghost use Rattle.pending.specs.Pending.{pending_bytes, pending_rest, pending_room, FlushedLaw, Then};
 ghost use Rattle.pending.specs.Pending.{SendsRecord, SendsRecords, SendsAll, RefusesFirst};
-ghost use Rattle.line_log.specs.Lines.{line_of, lines_of, IsRefusal};
+ghost use Rattle.line_log.specs.Lines.{line_of, lines_of, IsRefusal, SaysNewline};
+ghost use Rattle.line_log.specs.Text.{StagesLine, LogsText};
 ghost use Rattle.line_log.specs.Log.{log_inner, log_writer, log_told, log_buffer, log_room, under_way, still_to_go, LineLaw, TakesOff};
 
-use no_std_io2::io::{Error, ErrorKind, IntoInnerError, LineWriter, Result, Write};
+use no_std_io2::io::{Answers, Error, ErrorKind, IntoInnerError, LineWriter, Result, Write};
 use pending::Pending;
 use std::alloc::Global;
+use std::fmt::Display;
 
 /// A log of lines, through a `LineWriter` of `S` bytes in front of any writer.
 ///
@@ -118,6 +120,43 @@ impl<W: Write + Drop, const S: usize> LineLog<W, S> {
         self.retry()
     }
 
+    /// Logs a text as it is printed, and a newline behind it, as `log` does a line. The text is printed into the memory
+    /// that earlier lines left here, so it allocates only if that is too small. A text that fails sends nothing. No
+    /// other line may be under way: `retry` first if [`is_under_way`](LineLog::is_under_way).
+    ///
+    /// # Errors
+    /// Returns `InvalidInput` if there is a newline in the text, `Other`, `formatter error`, if the value's own `fmt`
+    /// failed, and `OutOfMemory` if an allocation failed. Nothing was then accepted, and no line is under way.
+    /// Otherwise it returns the errors of `retry`, and the line is under way.
+    ///
+    /// ```rust
+    /// let mut log = LineLog::<Vec<u8>, 64>::new(rt.alloc(), Vec::new(rt.alloc()));
+    /// let (name, value) = ("volts", 12);
+    /// log.log_text(format_args!("{name}={value}"))?;
+    /// assert!(rt; log.get_ref().as_slice() == b"volts=12\n".as_slice());
+    /// ```
+    pub fn log_text<D: Display + Drop, E>(&mut self, text: D) -> std::result::Result<(), E>
+    where
+        ErrorKind: Answers<E>,
+        requires { under_way self.old ≡ [] }
+        ensures logs { LogsText (LineLaw ⟦<LineWriter<W, S> as Write>⟧) (log_room self.old) (D.output text) (log_writer self.old)
+            (⟦<ErrorKind as Answers<E>>⟧.seen result) (under_way self.new) (still_to_go self.new) (log_writer self.new) }
+        ensures passed { OnOk (⟦<ErrorKind as Answers<E>>⟧.seen result) (log_buffer self.new ≡ []) }
+    {
+        <ErrorKind as Answers<E>>::answer(self.print_line(text))
+    }
+
+    // The same, with an answer of the one type that there is.
+    fn print_line<D: Display + Drop>(&mut self, text: D) -> Result<()>
+        requires { under_way self.old ≡ [] }
+        ensures logs { LogsText (LineLaw ⟦<LineWriter<W, S> as Write>⟧) (log_room self.old) (D.output text) (log_writer self.old)
+            result (under_way self.new) (still_to_go self.new) (log_writer self.new) }
+        ensures passed { OnOk result (log_buffer self.new ≡ []) }
+    {
+        stage_text(&mut self.pending, text)?;
+        self.retry()
+    }
+
     /// Goes on with the line under way, then logs these lines in order, and takes each off the front of
     /// `rest` once it is accepted or under way. So after an error the same call goes on: each line goes out
     /// once.
@@ -202,8 +241,27 @@ fn stage(pending: &mut Pending, text: &str) -> Result<()>
 {
     pending.clear();
     if text.as_bytes().contains(&b'\n') {
-        let message = "a newline stands in a line";
-        return Err(Error::new(ErrorKind::InvalidInput, message));
+        return Err(newline_inside());
     }
     pending.stage(text.as_bytes(), b"\n")
+}
+
+// Puts the line of this text under way as it is printed, with none of it gone; at an `Err` none is.
+fn stage_text<D: Display + Drop>(pending: &mut Pending, text: D) -> Result<()>
+    ensures { StagesLine (pending_room pending.old) (D.output text) result (pending_bytes pending.new) (pending_rest pending.new) }
+{
+    pending.stage_text(text, b"\n")?;
+    let line = pending.as_slice();
+    if line[..line.len() - 1].contains(&b'\n') {
+        pending.clear();
+        return Err(newline_inside());
+    }
+    Ok(())
+}
+
+fn newline_inside() -> Error
+    ensures { SaysNewline result }
+{
+    let message = "a newline stands in a line";
+    Error::new(ErrorKind::InvalidInput, message)
 }

@@ -13,18 +13,10 @@ use Rattle.no_std_io2.specs.declared.io.Error.{Error}
 use Rattle.no_std_io2.specs.declared.io.ErrorKind.{ErrorKind}
 use Rattle.no_std_io2.specs.declared.io.Write.{Ghosts as Writer}
 use Rattle.no_std_io2.specs.Write.{Told, Moves, Sends, call_mishap, none as no_writes}
-use Rattle.no_std_io2.proofs.MovesLemmas.{Moves-refl, Moves-ends, Moves-then, Moves-quiet}
+use Rattle.no_std_io2.proofs.MovesLemmas.{Moves-refl, Moves-then, Moves-quiet}
+use Rattle.no_std_io2.proofs.RetryLemmas.{sends_none, sends_ends}
 use Rattle.pending.specs.Pending.{Law, RestLaw, NoneLaw, FlushedLaw, Then, StopsWith, SendsEach, ComesTo, SendsAll, SendsRecord}
 use Rattle.pending.specs.Pending.{record_mishap, SendsRecords, TakesOff, RefusesFirst}
-
--- at the start nothing went, and all is still to go
-pub sends_none : (a : Told) (to_go : List ℕ) → Sends a to_go (Ok tt) a to_go
-sends_none a to_go = record { sent = []; split = refl; moves = Moves-refl a }
-
--- a call that accepts nothing, behind what went
-pub sends_ends : {a b c : Told} {to_go left : List ℕ} (reply : Result (Unit {0}) Error)
-    → Sends a to_go (Ok tt) b left → Moves b [] (call_mishap reply) c → Sends a to_go reply c left
-sends_ends reply s m = record { sent = s.sent; split = s.split; moves = Moves-ends s.moves m }
 
 -- a slice from k on has all that lies there
 pub slice_rest : (k : ℕ) (bs : List ℕ) → take (length bs - k) (drop k bs) ≡ drop k bs

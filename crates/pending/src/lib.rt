@@ -4,8 +4,12 @@
 ghost use Rattle.std.specs.Prelude.{◌≡◌, ◌≤◌, ◌<◌, ◌+◌, [], ◌++◌, length, vec_len, nat_lt, OnOk, OnErr, IfErr};
 ghost use Rattle.no_std_io2.specs.Errors.{IsOutOfMemory};
 
+mod text;
+
 use no_std_io2::io::{Result, Write};
 use std::alloc::Global;
+use std::fmt::Display;
+use text::append_text;
 
 /// A record that is being sent. If it has no bytes, no record is under way.
 ///
@@ -20,6 +24,7 @@ pub struct Pending {
 
 impl Pending {
     ghost use Rattle.pending.specs.Pending.{pending_bytes, pending_rest, pending_room, RestLaw};
+    ghost use Rattle.pending.specs.Text.{IsPrintRefusal, StagesText};
 
     /// No record. Its bytes will be kept by `alloc`.
     pub fn new(alloc: Global) -> Pending
@@ -59,6 +64,42 @@ impl Pending {
         let _ = self.bytes.extend_from_slice(head);
         let _ = self.bytes.extend_from_slice(tail);
         Ok(())
+    }
+
+    /// Puts a text under way as it is printed, and a tail behind it, with none of it gone. One that was under way is
+    /// cut off. It allocates only if the room of earlier records is too small.
+    ///
+    /// # Errors
+    /// Returns `Other`, `formatter error`, if the value's own `fmt` failed, and `OutOfMemory` if an allocation failed.
+    /// No record is then under way.
+    pub fn stage_text<D: Display + Drop>(&mut self, text: D, tail: &[u8]) -> Result<()>
+        ensures { StagesText (pending_room self.old) (D.output text) tail.now result (pending_bytes self.new) (pending_rest self.new) }
+    {
+        self.clear();
+        let printed = self.print(text, tail);
+        if printed.is_err() {
+            self.clear();
+        }
+        printed
+    }
+
+    // Appends a text as it is printed, and a tail behind it.
+    fn print<D: Display + Drop>(&mut self, text: D, tail: &[u8]) -> Result<()>
+        requires { (pending_bytes self.old ≡ []) × (pending_rest self.old ≡ []) }
+        ensures ok { OnOk result (StagesText (pending_room self.old) (D.output text) tail.now result (pending_bytes self.new)
+            (pending_rest self.new)) }
+        ensures err { IfErr result (IsPrintRefusal (pending_room self.old) (D.output text) (length tail.now)) }
+    {
+        append_text(&mut self.bytes, text)?;
+        self.bytes.extend_from_slice(tail)?;
+        Ok(())
+    }
+
+    /// The record that is under way, whole.
+    pub fn as_slice(&self) -> &[u8]
+        ensures { result.now ≡ pending_bytes self.now }
+    {
+        self.bytes.as_slice()
     }
 
     /// Sends what is still to go, by one `write_rest`. After `Ok` nothing is, and the record is under way until

@@ -1,4 +1,4 @@
-use Rattle.std.proofs.Common.{Err, Ok, refl, sym, ◌∙◌, inl, inr}
+use Rattle.std.proofs.Common.{Ok, refl, sym, ◌∙◌, inl, inr}
 use Rattle.std.proofs.lemmas.Result.{err_from_is_err_and}
 use Rattle.no_std_io2.specs.LineWriter.{line_inner}
 use Rattle.line_log.specs.Log.{log_told, still_to_go}

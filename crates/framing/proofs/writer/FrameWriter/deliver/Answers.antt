@@ -1,8 +1,9 @@
 use Rattle.std.proofs.Common.{ℕ, List, inl, inr, arith}
 use Rattle.std.proofs.lemmas.Result.{err_from_is_err_and}
 use Rattle.framing.specs.Frames.{IsRefusal}
-use Rattle.framing.proofs.DeliveryLemmas.{delivers_more, spent_none, spent_more, spent_all, refusal_less}
-use Rattle.pending.proofs.RecordLemmas.{sends_none, off_none, off_then, refuses_as}
+use Rattle.framing.proofs.DeliveryLemmas.{delivers_more, refusal_less}
+use Rattle.no_std_io2.proofs.RetryLemmas.{sends_none, spent_none, spent_more, spent_all}
+use Rattle.pending.proofs.RecordLemmas.{off_none, off_then, refuses_as}
 use Rattle.framing.proofs.writer.FrameWriter.deliver.Goals as goal
 
 pub tries-init : goal.tries-init

@@ -2,7 +2,8 @@
 use Rattle.std.proofs.Common.{◌++◌, ◌≤◌, map}
 use Rattle.framing.specs.Frames.{frames}
 use Rattle.framing.specs.Sending.{writer_tells, frame_room, still_to_go, TakesOff}
-use Rattle.framing.specs.Delivering.{Delivers, HasSpentTries}
+use Rattle.no_std_io2.specs.Retries.{HasSpentTries}
+use Rattle.framing.specs.Delivering.{Delivers}
 use Rattle.framing.proofs.writer.FrameWriter.deliver.Given as goal
 
 abbrev pub invariant-tries : goal.invariant-tries
