@@ -141,6 +141,15 @@ fn lines_are_logged(rt: HostRuntime) -> std::result::Result<(), Fail> {
 }
 
 #[test]
+fn a_text_is_logged(rt: HostRuntime) -> std::result::Result<(), Fail> {
+    let mut log = LineLog::<Vec<u8>, 64>::new(rt.alloc(), Vec::new(rt.alloc()));
+    let (name, value) = ("volts", 12);
+    log.log_text(format_args!("{name}={value}"))?;
+    assert!(rt; log.get_ref().as_slice() == b"volts=12\n".as_slice());
+    Ok(())
+}
+
+#[test]
 fn a_line_that_was_cut_goes_on(rt: HostRuntime) -> std::result::Result<(), Fail> {
     let mut room = [0u8; 4];
     let mut log = LineLog::<_, 8>::new(rt.alloc(), Cursor::new(&mut room[..]));

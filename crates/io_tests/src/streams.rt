@@ -181,6 +181,14 @@ fn bytes_up_to_a_delimiter(rt: HostRuntime) -> Result<(), Fail> {
 }
 
 #[test]
+fn bytes_before_a_value_are_passed_over(rt: HostRuntime) -> Result<(), Fail> {
+    let mut r = Cursor::new(*b"key=value");
+    assert!(rt; r.skip_until(b'=')? == 4);
+    assert!(rt; r.fill_buf()? == b"value".as_slice());
+    Ok(())
+}
+
+#[test]
 fn a_line_is_read(rt: HostRuntime) -> Result<(), Fail> {
     let mut r = Cursor::new(*b"one\ntwo");
     let mut line = String::new(rt.alloc());
