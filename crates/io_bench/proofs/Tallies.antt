@@ -17,4 +17,5 @@ tally_reader inner = record {
   is_metered = λ _. ⊤;
   is_filling = λ t. inner.is_filling (tally_inner t);
   may_take_none = λ _. ⊥;
+  may = λ old call new. inner.may (tally_inner old) call (tally_inner new);
 }

@@ -158,6 +158,8 @@ impl<T: Read> Read for Tally<T> {
 
     ghost may_take_none = { λ _. ⊥ };
 
+    ghost may = { λ old call new. T.may (tally_inner old) call (tally_inner new) };
+
     fn read(&mut self, buf: &mut [u8]) -> Result<usize>
         ensures law { ReadLaw ⟦<Self as Read>⟧ self.old buf.old result buf.new self.new }
 

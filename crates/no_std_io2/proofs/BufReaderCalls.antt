@@ -1,10 +1,17 @@
 -- What one inner read does to a reader with a buffer in front that held nothing.
-use Rattle.std.proofs.Common.{◌≡◌, ℕ, ◌+◌, ◌*◌, ◌<◌, ◌≤◌, if◌then◌else◌, List, [], ◌∷◌, ◌++◌, Ok}
+use Rattle.std.proofs.Common.{◌≡◌, ℕ, zero, suc, ◌+◌, ◌*◌, ◌<◌, ◌≤◌, if◌then◌else◌, List, [], ◌∷◌, ◌++◌, Ok}
 use Rattle.std.proofs.Common.{Err, Result, length, refl, sym, ap, subst, ◌∙◌, arith}
 use Rattle.std.specs.Result.{OnOk, OnErr, IsOk}
 use Rattle.std.proofs.Math.Nat.{mul-le-mul_left}
 use Rattle.no_std_io2_base.specs.declared.error.Error.{Error}
-use Rattle.no_std_io2_base.specs.Read.{Event, events_of, fails, Reads, SpendsTurn}
+use Rattle.no_std_io2_base.specs.Read.{Event, events_of, fails, Reads, SpendsTurn, ReadCall, Gave, Gathers, no_read, and_gave, IsRest}
+use Rattle.no_std_io2_base.specs.Read.{ToEndMade}
+use Rattle.no_std_io2_base.specs.Write.{Made}
+use Rattle.std.proofs.Common.{take, drop, min, append_assoc, length-take-le, take_all, drop_of_length-le, ◌⊎◌, inl, inr}
+use Rattle.std.proofs.lemmas.Bool.{cases_lt}
+use Rattle.std.proofs.Math.Seq.{drop-append_seam}
+use Rattle.no_std_io2.specs.declared.buffered.buf_reader.BufReader.{BufReader}
+use Rattle.no_std_io2.specs.BufReader.{reader_held, reader_inner, PassesOn, ReaderMay}
 use Rattle.no_std_io2.specs.Buffer.{ReadsAhead, IsSound}
 use Rattle.no_std_io2.specs.BufReader.{FillsFrom, behind_anew}
 use Rattle.no_std_io2.proofs.BufferTests.{is_past, is_own}
@@ -65,3 +72,51 @@ behind_own room len got behind own is = is ∙ sym (ap (λ b. if b then [] else 
 -- an error is no `Ok`
 pub not_ok : (e : Error) → IsOk {T = Unit {0}} {E = Error} (Err e) → ⊥
 not_ok e is = let no : ⊥ = cc in no
+
+-- of the bytes that were read into the buffer as many were given as both have
+pub passes_on : (n room : ℕ) (read shown held : List ℕ) → n ≡ min (length read) room → take n shown ≡ take n read → held ≡ drop n read
+    → PassesOn (Ok read) room (Ok (take n shown)) held
+passes_on n room read shown held is gave left = elim (cases_lt (length read) room) [
+  | inl few ↦
+      let all : n ≡ length read = omega (arith, is, few) in (
+        ap Ok (gave ∙ take_all n read (omega (arith, all)) ∙ sym (take_all room read (omega (arith, few)))),
+        left ∙ drop_of_length-le read {i = n} (omega (arith, all)) ∙ sym (drop_of_length-le read {i = room} (omega (arith, few))),
+      )
+  | inr many ↦
+      let same : n ≡ room = omega (arith, is, many) in
+      (ap Ok (gave ∙ ap (λ k. take k read) same), left ∙ ap (λ k. drop k read) same)
+]
+
+-- what was held is given first, without a call of the inner reader
+pub gives_first : {R : Type 0} {S : ℕ} (may : R → ReadCall → R → Type 0) (old new : BufReader R S) (n size : ℕ) (buf : List ℕ)
+    → n ≤ length buf → length buf ≡ size → 0 < size → n ≡ length (reader_held old) → reader_inner new ≡ reader_inner old
+    → (reader_held old ≡ [] → new ≡ old)
+    → (C : List ReadCall) × Made (ReaderMay may) old C new × Gathers (IsRest size) C (take n buf)
+gives_first may old new zero size buf within long some is same none = ([], none (no_bytes _ (sym is)), no_read)
+gives_first may old new (suc k) size buf within long some is same none =
+    let given = take (suc k) buf in
+    let more : 0 < length given = omega (arith, length-take-le (suc k) buf within) in (
+      Gave (length buf) (Ok given) ∷ [],
+      (
+        new,
+        record {
+          held = λ h. same;
+          direct = λ empty past. absurd (omega (arith, empty, is));
+          filled = λ empty short. absurd (omega (arith, empty, is));
+        },
+        refl,
+      ),
+      and_gave [] [] given (length buf) no_read (omega (arith, long), omega (arith, long, some)) more,
+    )
+
+-- what was held was appended, and then what the inner reader's `read_to_end` gave
+pub drained : {R : Type 0} {may : R → ReadCall → R → Type 0} {a b : R} {mid new : List ℕ} {reply : Result ℕ Error} (old held : List ℕ) (len : ℕ)
+    → ToEndMade may a mid reply new b → mid ≡ old ++ held → len ≡ length old → ToEndMade may a held reply (drop len new) b
+drained old held len m is long = record {
+  calls = m.calls;
+  given = m.given;
+  made = m.made;
+  appended = ap (drop len) (m.appended ∙ ap (λ l. l ++ m.given) is ∙ append_assoc old held m.given)
+      ∙ ap (λ k. drop k (old ++ (held ++ m.given))) long ∙ drop-append_seam old (held ++ m.given);
+  are = m.are;
+}

@@ -7,7 +7,7 @@ use Rattle.no_std_io2_base.specs.BufRead.{Lender}
 use Rattle.no_std_io2_base.proofs.Readers.{lends_as}
 use Rattle.no_std_io2.specs.declared.buffered.buf_reader.BufReader.{BufReader}
 use Rattle.no_std_io2.specs.BufReader.{reader_held, reader_inner, reader_events, reader_turns, reader_has_store, reader_position}
-use Rattle.no_std_io2.specs.BufReader.{reader_lent_length, sound_tells}
+use Rattle.no_std_io2.specs.BufReader.{reader_lent_length, sound_tells, ReaderMay}
 
 -- what it tells as a reader
 abbrev pub buf_reader : {R : Type 0} {S : ℕ} → Stores R → Reads R → Reader (BufReader R S)
@@ -22,6 +22,7 @@ buf_reader stored read = record {
   is_metered = λ _. ⊥;
   is_filling = λ _. ⊥;
   may_take_none = λ _. ⊥;
+  may = ReaderMay read.may;
 }
 
 -- and as one that lends

@@ -1,13 +1,20 @@
 -- What one read into the whole of a buffer holds afterwards.
-use Rattle.std.proofs.Common.{◌≡◌, ℕ, ◌+◌, ◌-◌, ◌*◌, ◌<◌, ◌≤◌, List, [], ◌++◌, length, take, Ok, sym, ap, ◌∙◌, arith, length-take-le, inl}
+use Rattle.std.proofs.Common.{◌≡◌, ℕ, ◌+◌, ◌-◌, ◌*◌, ◌<◌, ◌≤◌, List, [], ◌++◌, length, take, Ok, sym, ap, subst, ◌∙◌, arith, length-take-le, inl}
 use Rattle.std.proofs.Common.{inr}
 use Rattle.std.proofs.Math.Nat.{mul-le-mul_left}
 use Rattle.std.proofs.lemmas.Bool.{cases_lt}
-use Rattle.no_std_io2_base.specs.Read.{Event, events_of, Reads}
+use Rattle.no_std_io2_base.specs.Read.{Event, events_of, Reads, ReadCall, Gave}
 
 -- a buffer read from its start
 pub held_read : (n : ℕ) (buf : List ℕ) → take (n - 0) buf ≡ take n buf
 held_read n buf = let same : n - 0 ≡ n = omega arith in ap (λ k. take k buf) same
+
+-- what the read into the buffer gave is held
+pub read_call : {R : Type 0} (may : R → ReadCall → R → Type 0) {a b : R} (n : ℕ) (buf : List ℕ) {room : ℕ} → length buf ≡ room
+    → may a (Gave (length buf) (Ok (take n buf))) b → may a (Gave room (Ok (take (n - 0) buf))) b
+read_call may {a} {b} n buf long call =
+    subst (λ k. may a (Gave k (Ok (take (n - 0) buf))) b) long
+    (subst (λ x. may a (Gave (length buf) (Ok x)) b) (sym (held_read n buf)) call)
 
 -- n bytes read into the start of a buffer are n bytes held, where it is that long
 pub read_length : (n : ℕ) (buf : List ℕ) → n ≤ length buf → length (take (n - 0) buf) ≡ n

@@ -11,7 +11,8 @@ use Rattle.no_std_io2_base.specs.Errors.{IsFault, IsOutOfMemory}
 use Rattle.no_std_io2_base.specs.Cursor.{HasMoved}
 use Rattle.no_std_io2_base.specs.Write.{IsFront, Made}
 use Rattle.no_std_io2_base.specs.Seek.{SeekCall, Sought, Measured, LenCalls}
-use Rattle.no_std_io2_base.specs.Read.{Event, events_of, fails, ReadsExact, bytes, bytes-events_of}
+use Rattle.no_std_io2_base.specs.Read.{Event, events_of, fails, ReadsExact, bytes, bytes-events_of, Reader, ReadCall, Gave}
+use Rattle.no_std_io2_base.specs.Read.{GaveExactly, GaveAll, gave_whole, ended, ExactMade, ToEndMade}
 use Rattle.no_std_io2.specs.contracts.buffered.buf_reader.BufReader.{the_row as reader-row}
 use Rattle.no_std_io2.specs.declared.buffered.buf_reader.BufReader.{BufReader}
 use Rattle.no_std_io2.specs.Buffer.{buffer_held, buffer_behind, IsEnd, IsSound}
@@ -137,23 +138,29 @@ TakesHeldLine line rest old before (Err e) after new =
 abbrev pub reader_with_inner : {R : Type 0} {S : ℕ} → BufReader R S → R → BufReader R S
 reader_with_inner r x = record r { inner = x }
 
--- what a type tells of itself as a reader: the members of `Read`, and first those of `Stored`
-abbrev pub ReaderWords : Type 0 → Type 1
-ReaderWords R = record {
-  has_store : R → Type 0;
-  content : R → List ℕ;
-  position : R → ℕ;
-  tells : R → Type 0;
-  events : R → List Event;
-  turns : R → ℕ;
-  cost : R → ℕ;
-  is_metered : R → Type 0;
-  is_filling : R → Type 0;
-  may_take_none : R → Type 0;
-}
+-- what is given of the bytes that a read into the buffer gave, and what is then held; or its error, with nothing held
+abbrev pub PassesOn : Result (List ℕ) Error → ℕ → Result (List ℕ) Error → List ℕ → Type 0
+PassesOn (Ok x) room answer held = (answer ≡ Ok (take room x)) × (held ≡ drop room x)
+PassesOn (Err e) room answer held = (answer ≡ Err e) × (held ≡ [])
+
+-- What a `read` of a `BufReader` does below. It gives of what is held without a call. If nothing is held, it reads once: into the caller's
+-- room if that is the buffer's size or more, and else into the buffer.
+pub record ReadsBelow {R : Type 0} {S : ℕ} (may : R → ReadCall → R → Type 0) (old : BufReader R S) (room : ℕ)
+    (answer : Result (List ℕ) Error) (new : BufReader R S) : Type 0 where
+  pub held : 0 < length (reader_held old) → reader_inner new ≡ reader_inner old
+  pub direct : length (reader_held old) ≡ 0 → S ≤ room → may (reader_inner old) (Gave room answer) (reader_inner new)
+  pub filled : length (reader_held old) ≡ 0 → room < S → (read : Result (List ℕ) Error)
+      × may (reader_inner old) (Gave S read) (reader_inner new) × PassesOn read room answer (reader_held new)
+
+-- A `read_exact` of its own gives of held bytes alone, and a `read_to_end` drains what is held and then the inner reader, in its way.
+abbrev pub ReaderMay : {R : Type 0} {S : ℕ} → (R → ReadCall → R → Type 0) → BufReader R S → ReadCall → BufReader R S → Type 0
+ReaderMay may old (Gave room answer) new = ReadsBelow may old room answer new
+ReaderMay may old (GaveExactly room answer) new = (room ≤ length (reader_held old)) × (reader_inner new ≡ reader_inner old)
+ReaderMay may old (GaveAll x answer) new = (reader_inner new ≡ reader_inner old)
+    ⊎ ((reply : Result ℕ Error) × (ended reply ≡ answer) × ToEndMade may (reader_inner old) (reader_held old) reply x (reader_inner new))
 
 -- Where nothing was held, the inner reader was read once into the buffer.
-pub record FillsBuffer {R : Type 0} {S : ℕ} (inner : ReaderWords R) (old : BufReader R S) (reply : Result (Unit {0}) Error)
+pub record FillsBuffer {R : Type 0} {S : ℕ} (inner : Reader R) (old : BufReader R S) (reply : Result (Unit {0}) Error)
     (new : BufReader R S) : Type 0 where
   pub held : OnErr reply (reader_held new ≡ [])
   pub behind : reader_behind new ≡ []
@@ -166,6 +173,7 @@ pub record FillsBuffer {R : Type 0} {S : ℕ} (inner : ReaderWords R) (old : Buf
   pub turn : OnErr reply (reader_turns inner.turns new < reader_turns inner.turns old)
   pub asks : inner.is_metered (reader_inner old) → inner.is_metered (reader_inner new)
       × (inner.cost (reader_inner new) ≡ inner.cost (reader_inner old) + 1)
+  pub call : inner.may (reader_inner old) (Gave S (gave_whole reply (reader_held new))) (reader_inner new)
   pub fills : inner.is_filling (reader_inner old) → inner.is_filling (reader_inner new) × IsOk reply
       × (length (reader_held new) ≡ min S (length (inner.events (reader_inner old))))
   pub store : reader_has_store inner.has_store inner.position inner.content old
@@ -174,7 +182,7 @@ pub record FillsBuffer {R : Type 0} {S : ℕ} (inner : ReaderWords R) (old : Buf
       × (reader_position inner.position new ≡ reader_position inner.position old)
 
 -- More room than there were bytes held was filled, or the bytes ended, or a fault came.
-pub record ReadsOn {R : Type 0} {S : ℕ} (inner : ReaderWords R) (old : BufReader R S) (room : ℕ) (reply : Result (Unit {0}) Error)
+pub record ReadsOn {R : Type 0} {S : ℕ} (inner : Reader R) (old : BufReader R S) (room : ℕ) (reply : Result (Unit {0}) Error)
     (buf : List ℕ) (new : BufReader R S) : Type 0 where
   pub told : inner.tells (reader_inner old) → inner.tells (reader_inner new)
       × ReadsExact ⊥ (reader_events inner.events old) reply buf (reader_events inner.events new)
@@ -200,6 +208,7 @@ pub record ReadsOn {R : Type 0} {S : ℕ} (inner : ReaderWords R) (old : BufRead
       × (length (reader_events inner.events new) ≡ length (reader_events inner.events old) - room)
   pub behind_length : inner.is_filling (reader_inner old)
       → OnOk reply (length (reader_behind new) ≡ exact_behind S room (length (reader_held old)))
+  pub calls : ExactMade (ReaderMay inner.may) old reply buf new
 
 -- the answer of a seek without its number, which led to `place`
 abbrev pub led_to : ℕ → Result (Unit {0}) Error → Result ℕ Error

@@ -2,13 +2,13 @@
 //! every promise about it would be empty.
 ghost use Rattle.std.specs.Prelude.{◌≡◌, ◌+◌, ◌-◌, ◌<◌, ◌≤◌, min, nat_lt, if◌then◌else◌, [], length, drop, ◌++◌, Some, IsOk, IfOk, OnOk};
 ghost use Rattle.std.specs.Prelude.{IsOkAnd};
-ghost use Rattle.no_std_io2_base.specs.Read.{events_of};
+ghost use Rattle.no_std_io2_base.specs.Read.{events_of, ReadCall};
 ghost use Rattle.no_std_io2_base.specs.BufRead.{BeginsWith};
 ghost use Rattle.no_std_io2_base.specs.Write.{Told, WriteCall};
 ghost use Rattle.no_std_io2.specs.Buffer.{IsInBuffer, MovesEvents, IsSound};
 ghost use Rattle.no_std_io2_base.specs.Seek.{SeekCall};
 ghost use Rattle.no_std_io2.specs.BufWriter.{writer_inner, writer_buffer, with_buffer, BufferMay, WriterMaySeek};
-ghost use Rattle.no_std_io2.specs.BufReader.{reader_held, reader_behind, reader_inner, reader_is_sound, ReaderMaySeek};
+ghost use Rattle.no_std_io2.specs.BufReader.{reader_held, reader_behind, reader_inner, reader_is_sound, ReaderMay, ReaderMaySeek};
 ghost use Rattle.no_std_io2.specs.LineWriter.{line_inner, line_buffer, LineMay};
 ghost use Rattle.no_std_io2.specs.Sink.{sink_taken};
 
@@ -143,6 +143,11 @@ fn consume_counted<R: Read, const S: usize>(r: &mut BufReader<R, S>, amount: usi
 {
     r.consume(amount);
 }
+
+// A read of it makes one read of the inner reader, or none while it holds bytes.
+fn reader_reads_tell<R: Read, const S: usize>(old: &BufReader<R, S>, new: &BufReader<R, S>)
+    ensures { (call : ReadCall) → ⟦<BufReader<R, S> as Read>⟧.may old.now call new.now → ReaderMay R.may old.now call new.now }
+{}
 
 // A seek of it makes one or two seeks of the inner reader.
 fn reader_seeks_tell<R: Seek, const S: usize>(old: &BufReader<R, S>, new: &BufReader<R, S>)

@@ -1,40 +1,88 @@
 -- A boxed object after a call on the value in it.
-use Rattle.std.proofs.Common.{◌≡◌, ℕ, ◌<◌, ◌≤◌, List, [], length, Result, OnOk, IfOk, IsOk, IsOkAnd, refl, sym, subst, ap}
+use Rattle.std.proofs.Common.{◌≡◌, ℕ, ◌<◌, ◌≤◌, List, [], ◌++◌, length, take, drop, Result, OnOk, IfOk, IsOk, IsOkAnd, refl, sym, subst, ap}
 use Rattle.std.specs.Borrow.{Bor}
 use Rattle.std.specs.declared.dyn_box.DynBox.{DynBox}
 use Rattle.no_std_io2_base.specs.declared.error.Error.{Error}
 use Rattle.no_std_io2_base.specs.Errors.{IsNoInterruption}
-use Rattle.no_std_io2_base.specs.Read.{Event, ReadsExact, ReadExactLaw}
-use Rattle.no_std_io2_base.specs.BufRead.{IsNotEmpty, BeginsWith, LendsFrom, LendingTurn}
-use Rattle.no_std_io2_base.proofs.Readers.{box_reader}
+use Rattle.no_std_io2_base.specs.Read.{Event, events_of, Reads, ReadsExact, SpendsTurn, ReadLaw, ReadExactLaw, ReadCall, Gave, gave, ExactMade}
+use Rattle.no_std_io2_base.proofs.ReadCalls.{exact_map}
+use Rattle.no_std_io2_base.specs.BufRead.{ConsumeLaw, IsNotEmpty, BeginsWith, LendsFrom, LendingTurn}
+use Rattle.no_std_io2_base.proofs.Readers.{box_reader, holds_alone, lends_as}
 use Rattle.no_std_io2_base.proofs.CallsLemmas.{made_map}
 use Rattle.no_std_io2_base.specs.Write.{Told, WriteCall, Wrote, WroteAll, WroteRest, Flushed, Made, CallLaw, BoxMay}
 use Rattle.no_std_io2_base.specs.Write.{WriteAllLaw, WriteRestLaw}
 
 module _ {I A : Type 0} {V : I → Type 0} (tells : ((x : I) × V x) → Type 0) (events : ((x : I) × V x) → List Event)
-    (turns : ((x : I) × V x) → ℕ) (may_take_none : ((x : I) × V x) → Type 0) (box : DynBox I A V)
-    (buf buf' : List ℕ) (reply : Result (Unit {0}) Error) where
-  -- what a `read_exact` did to the value that was lent, it did to the box
-  abbrev pub Exact : ((x : I) × V x) → Type 0
-  Exact lent = (new : V lent.0)
+    (turns : ((x : I) × V x) → ℕ) (may_take_none : ((x : I) × V x) → Type 0) (may : (i : I) → V i → ReadCall → V i → Type 0)
+    (box : DynBox I A V) where
+  -- the box with another value
+  abbrev read_box : (i : I) → V i → DynBox I A V
+  read_box i new = record { ptr = box.ptr; vtable = i; alloc = box.alloc; value = new }
+
+  -- what a `read` did to the value that was lent, it did to the box
+  abbrev pub ReadIn : List ℕ → List ℕ → Result ℕ Error → ((x : I) × V x) → Type 0
+  ReadIn buf buf' reply lent = (new : V lent.0) → IfOk reply (λ n. n ≤ length buf')
+      → (tells lent → tells (lent.0, new) × Reads (events lent) reply buf' (events (lent.0, new)))
+      → turns (lent.0, new) ≤ turns lent → SpendsTurn reply (turns lent) (turns (lent.0, new))
+      → may lent.0 lent.1 (Gave (length buf') (gave reply buf')) new
+      → ReadLaw (box_reader tells events turns may_take_none may) box buf reply buf' (read_box lent.0 new)
+
+  -- and a `read_exact`
+  abbrev pub Exact : List ℕ → List ℕ → Result (Unit {0}) Error → ((x : I) × V x) → Type 0
+  Exact buf buf' reply lent = (new : V lent.0)
       → (tells lent → tells (lent.0, new) × ReadsExact (may_take_none lent) (events lent) reply buf' (events (lent.0, new)))
       → IsNoInterruption reply → (length buf ≡ 0 → IsOk reply × (new ≡ lent.1)) → turns (lent.0, new) ≤ turns lent
       → (0 < length buf → OnOk reply (turns (lent.0, new) < turns lent))
-      → ReadExactLaw (box_reader tells events turns may_take_none) box buf reply buf'
-      (record { ptr = box.ptr; vtable = lent.0; alloc = box.alloc; value = new })
+      → ExactMade (may lent.0) lent.1 reply buf' new
+      → ReadExactLaw (box_reader tells events turns may_take_none may) box buf reply buf' (read_box lent.0 new)
 
   -- the value that was lent is that in the box
-  pub exact_box : (lent : (x : I) × V x) → lent ≡ (box.vtable, box.value) → Exact lent
-  exact_box lent back = subst Exact (sym back) (λ new told fault empty less spent. record {
+  pub call_in_box : (buf buf' : List ℕ) (reply : Result ℕ Error) (lent : (x : I) × V x) → lent ≡ (box.vtable, box.value)
+      → ReadIn buf buf' reply lent
+  call_in_box buf buf' reply lent back = subst (ReadIn buf buf' reply) (sym back) (λ new bound told less spent call. record {
+    bound = bound;
+    told = told;
+    turns = less;
+    turn = spent;
+    counts = λ m. absurd m;
+    fills = λ f. absurd f;
+    store = λ s. absurd s;
+    call = (new, refl, call);
+  })
+
+  pub exact_box : (buf buf' : List ℕ) (reply : Result (Unit {0}) Error) (lent : (x : I) × V x) → lent ≡ (box.vtable, box.value)
+      → Exact buf buf' reply lent
+  exact_box buf buf' reply lent back = subst (Exact buf buf' reply) (sym back) (λ new told fault empty less spent calls. record {
     told = told;
     fault = fault;
-    empty = λ none.
-        let done = empty none in
-        (done.0, ap (λ v. record { ptr = box.ptr; vtable = box.vtable; alloc = box.alloc; value = v }) done.1);
+    empty = λ none. let done = empty none in (done.0, ap (read_box box.vtable) done.1);
     turns = less;
     turn = spent;
     metered = λ m. m;
     filling = λ f. f;
+    store = λ s. absurd s;
+    calls = exact_map (read_box box.vtable) (λ a b call made. (b, refl, made)) calls;
+  })
+
+  -- a `consume` of the value that was lent, and of the box
+  abbrev pub ConsumeIn : (((x : I) × V x) → List ℕ) → ℕ → ((x : I) × V x) → Type 0
+  ConsumeIn held amount lent = (new : V lent.0) → held (lent.0, new) ≡ drop amount (held lent)
+      → (tells lent → tells (lent.0, new) × (events lent ≡ events_of (take amount (held lent)) ++ events (lent.0, new)))
+      → turns (lent.0, new) ≤ turns lent → (0 < amount → turns (lent.0, new) < turns lent)
+      → ConsumeLaw (lends_as (box_reader tells events turns may_take_none may) (holds_alone (λ b. held (b.vtable, b.value)))) box amount
+      (read_box lent.0 new)
+
+  pub consume_box : (held : ((x : I) × V x) → List ℕ) (amount : ℕ) (lent : (x : I) × V x) → lent ≡ (box.vtable, box.value)
+      → ConsumeIn held amount lent
+  consume_box held amount lent back = subst (ConsumeIn held amount) (sym back) (λ new dropped told less spent. record {
+    held = dropped;
+    told = told;
+    turns = less;
+    turn = spent;
+    cost = λ m. absurd m;
+    counts = λ c. absurd c;
+    filling = λ f. f;
+    lends_surely = λ l. l;
     store = λ s. absurd s;
   })
 

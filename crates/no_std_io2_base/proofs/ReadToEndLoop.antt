@@ -1,9 +1,13 @@
 -- What a loop that reads to the end into a vector has done so far, and what it has done at each of its ends.
-use Rattle.std.proofs.Common.{◌≡◌, ℕ, ◌+◌, ◌-◌, ◌<◌, ◌≤◌, List, ◌++◌, Result, Ok, Err, length, take, drop, refl, ap, ◌∙◌}
-use Rattle.std.proofs.Common.{arith, le_refl, le_trans, length-take, length-drop, Vec, vec_len, vec_capacity}
+use Rattle.std.proofs.Common.{◌≡◌, ℕ, ◌+◌, ◌-◌, ◌<◌, ◌≤◌, List, [], ◌∷◌, ◌++◌, Result, Ok, Err, length, take, drop, refl, sym, ap, ◌∙◌}
+use Rattle.std.proofs.Common.{arith, le_refl, le_trans, length-take, length-take-le, length-drop, Vec, vec_len, vec_capacity, inl, inr}
+use Rattle.std.proofs.Common.{append_assoc, append-nil}
 use Rattle.no_std_io2_base.specs.declared.error.Error.{Error}
 use Rattle.no_std_io2_base.specs.Errors.{IsInterruption, IsFault, IsOutOfMemory}
-use Rattle.no_std_io2_base.specs.Read.{Reader, GoesOn, ReadLaw, ReadToEndLaw}
+use Rattle.no_std_io2_base.specs.Read.{Reader, GoesOn, ReadLaw, ReadToEndLaw, ReadCall, Gave, Gathers, no_read, and_gave, and_again, IsSome}
+use Rattle.no_std_io2_base.specs.Write.{Made}
+use Rattle.no_std_io2_base.proofs.CallsLemmas.{made_more}
+use Rattle.no_std_io2_base.proofs.ReadCalls.{gave_nothing}
 use Rattle.no_std_io2_base.proofs.ReadToEndGathered.{Gathered, gathered_none, gathered_same, gathered_read, gathered_interruption}
 use Rattle.no_std_io2_base.proofs.ReadToEndGathered.{gathered_fault, gathered_first_fault, gathered_memory, gathered_fits}
 use Rattle.no_std_io2_base.proofs.ReadParts.{written, take-written, take-written_below, take-stays}
@@ -26,22 +30,25 @@ pub record ToEndSoFar {S A : Type 0} (R : Reader S) (old : S) (buf : Vec ℕ A) 
   pub metered : R.is_metered old → R.is_metered now
   pub filling : R.is_filling old → R.is_filling now
   pub store : GoesOn R old now
+  pub calls : (C : List ReadCall) × (x : List ℕ) × Made R.may old C now × (take filled buf'.items ≡ buf.items ++ x) × Gathers IsSome C x
 
 -- room was opened behind the filled bytes, and a read wrote `part` there
 pub record Wrote (filled len : ℕ) (was now part : List ℕ) : Type 0 where
   pub fits : filled + length part ≡ len
+  pub some : 0 < length part
   pub kept : take filled now ≡ take filled was
   pub shown : (n : ℕ) → n ≤ length part → take (filled + n) now ≡ take filled was ++ take n part
 
 -- as the vector and its slice say it
 pub wrote : {filled len : ℕ} {slice items part was : List ℕ} → filled ≤ len → len ≡ length items → slice ≡ items
     → length part ≡ length (take (length slice - filled) (drop filled slice)) → take filled items ≡ take filled was
-    → Wrote filled len was (written len filled slice items part) part
-wrote {filled} {len} {slice} {items} {part} within long is room front =
+    → filled < len → Wrote filled len was (written len filled slice items part) part
+wrote {filled} {len} {slice} {items} {part} within long is room front opened =
     let fits : filled + length part ≡ len =
     omega (arith, within, long, ap length is, room, length-take (length slice - filled) (drop filled slice), length-drop filled slice) in
     record {
       fits = fits;
+      some = omega (arith, fits, opened);
       kept = take-written_below filled len filled slice items part (le_refl _) within long is ∙ front;
       shown = λ n small.
           take-written n len filled slice items part (omega (arith, fits, small)) small long is ∙ ap (λ l. l ++ take n part) front;
@@ -61,6 +68,7 @@ to_end_none {buf = buf} is same len grown = record {
   metered = λ m. m;
   filling = λ f. f;
   store = λ s. (s, refl, refl);
+  calls = ([], [], refl, front_whole (is ∙ buf.ok.0) same ∙ sym (append-nil buf.items), no_read);
 }
 
 -- there was no room for the first read, and memory was refused
@@ -79,6 +87,7 @@ to_end_no_room {buf = buf} refused same len grown full = record {
   metered = λ m. m;
   filling = λ f. f;
   store = λ s. (s, refl, refl);
+  calls = record { calls = []; given = []; made = refl; appended = same ∙ sym (append-nil buf.items); are = inr (inr (refused, no_read)) };
 }
 
 module _ {S A : Type 0} {R : Reader S} {old now : S} {buf xs : Vec ℕ A} {filled : ℕ} (before : ToEndSoFar R old buf filled xs now) where
@@ -101,6 +110,15 @@ module _ {S A : Type 0} {R : Reader S} {old now : S} {buf xs : Vec ℕ A} {fille
         metered = before.metered;
         filling = before.filling;
         store = before.store;
+        calls =
+            let so_far = before.calls in
+            record {
+              calls = so_far.0;
+              given = so_far.1;
+              made = so_far.2;
+              appended = same ∙ so_far.3;
+              are = inr (inr (refused, so_far.4));
+            };
       }
 
   module _ (law : StoreTells R) {new : S} {room part : List ℕ} where
@@ -128,13 +146,23 @@ module _ {S A : Type 0} {R : Reader S} {old now : S} {buf xs : Vec ℕ A} {fille
               let then = read.store so_far.0 in
               let tells = law now so_far.0 in
               (then.0, then.1 ∙ so_far.1, moved_read _ n part _ read.bound (read.told tells.0).1.0 then.2 so_far.2);
+          calls =
+              let so_far = before.calls in
+              let given = take n part in
+              let some : 0 < length given = omega (arith, length-take-le n part read.bound, some_bytes n some) in (
+                so_far.0 ++ Gave (length part) (Ok given) ∷ [],
+                so_far.1 ++ given,
+                made_more R.may so_far.0 old so_far.2 read.call,
+                w.shown n read.bound ∙ ap (λ l. l ++ given) so_far.3 ∙ append_assoc buf.items so_far.1 given,
+                and_gave _ _ _ _ so_far.4 w.some some,
+              );
         }
 
     -- a read was interrupted
     pub to_end_interruption : {xs' : Vec ℕ A} {e : Error} → ReadLaw R now room (Err e) part new → IsInterruption e
         → Wrote filled (vec_len xs') xs.items xs'.items part
         → vec_capacity xs ≤ vec_capacity xs' → ToEndSoFar R old buf filled xs' new
-    to_end_interruption read again w grown = record {
+    to_end_interruption {e = e} read interrupted w grown = record {
       grows = before.grows;
       within = omega (arith, w.fits);
       capacity = le_trans before.capacity grown;
@@ -142,7 +170,7 @@ module _ {S A : Type 0} {R : Reader S} {old now : S} {buf xs : Vec ℕ A} {fille
       told = λ t.
           let so_far = before.told t in
           let then = read.told so_far.0 in
-          (then.0, gathered_interruption (gathered_same so_far.1 w.kept) then.1 again);
+          (then.0, gathered_interruption (gathered_same so_far.1 w.kept) then.1 interrupted);
       turns = le_trans read.turns before.turns;
       turn = λ more. omega (arith, read.turn, before.turns);
       metered = λ m. (read.counts (before.metered m)).0;
@@ -151,6 +179,14 @@ module _ {S A : Type 0} {R : Reader S} {old now : S} {buf xs : Vec ℕ A} {fille
           let so_far = before.store s in
           let tells = law now so_far.0 in
           absurd (no_error _ tells.1 (read.told tells.0).1);
+      calls =
+          let so_far = before.calls in (
+            so_far.0 ++ Gave (length part) (Err e) ∷ [],
+            so_far.1,
+            made_more R.may so_far.0 old so_far.2 read.call,
+            w.kept ∙ so_far.3,
+            and_again _ _ _ _ so_far.4 w.some interrupted,
+          );
     }
 
     module _ {len : ℕ} {items : List ℕ} {v : Vec ℕ A} (w : Wrote filled len xs.items items part) (cut : v.items ≡ take filled items)
@@ -158,7 +194,7 @@ module _ {S A : Type 0} {R : Reader S} {old now : S} {buf xs : Vec ℕ A} {fille
       -- a read met the end
       pub to_end_done : {reply : Result ℕ Error} {n start : ℕ} → ReadLaw R now room reply part new → reply ≡ Ok n → n ≡ 0 → filled < len
           → start ≡ vec_len buf → ReadToEndLaw R old buf (Ok (filled - start)) v new
-      to_end_done {start = start} read is none room from =
+      to_end_done {start = start} read is zero room from =
           let same = cut ∙ w.kept in
           let some : 0 < length part = omega (arith, room, w.fits) in
           let within : filled ≤ length xs.items = omega (arith, before.within, xs.ok.0) in
@@ -168,7 +204,7 @@ module _ {S A : Type 0} {R : Reader S} {old now : S} {buf xs : Vec ℕ A} {fille
             told = λ t.
                 let so_far = before.told t in
                 let then = read.told so_far.0 in
-                (then.0, gathered_stops part (gathered_same so_far.1 same) then.1 is none some count);
+                (then.0, gathered_stops part (gathered_same so_far.1 same) then.1 is zero some count);
             appends = front_cut _ filled xs.items before.grows same before.front;
             count = len_cut start filled (vec_len v) _ v.items xs.items from before.grows v.ok.0 same within;
             capacity = le_trans before.capacity grown;
@@ -182,12 +218,21 @@ module _ {S A : Type 0} {R : Reader S} {old now : S} {buf xs : Vec ℕ A} {fille
                 let so_far = before.store s in
                 let then = read.store so_far.0 in
                 let tells = law now so_far.0 in
-                (then.0, then.1 ∙ so_far.1, stays_at_end _ _ part _ (read.told tells.0).1 is none then.2 so_far.2);
+                (then.0, then.1 ∙ so_far.1, stays_at_end _ _ part _ (read.told tells.0).1 is zero then.2 so_far.2);
+            calls =
+                let so_far = before.calls in
+                record {
+                  calls = so_far.0 ++ Gave (length part) (Ok []) ∷ [];
+                  given = so_far.1;
+                  made = made_more R.may so_far.0 old so_far.2 (gave_nothing R.may part read.call is zero);
+                  appended = same ∙ so_far.3;
+                  are = inr (so_far.0, length part, so_far.4, w.some, refl);
+                };
           }
 
       -- a read met a fault
       pub to_end_fault : {e : Error} → ReadLaw R now room (Err e) part new → IsFault e → ReadToEndLaw R old buf (Err e) v new
-      to_end_fault read fault =
+      to_end_fault {e} read fault =
           let same = cut ∙ w.kept in
           record {
             told = λ t.
@@ -207,4 +252,13 @@ module _ {S A : Type 0} {R : Reader S} {old now : S} {buf xs : Vec ℕ A} {fille
                 let so_far = before.store s in
                 let tells = law now so_far.0 in
                 absurd (no_error _ tells.1 (read.told tells.0).1);
+            calls =
+                let so_far = before.calls in
+                record {
+                  calls = so_far.0 ++ Gave (length part) (Err e) ∷ [];
+                  given = so_far.1;
+                  made = made_more R.may so_far.0 old so_far.2 read.call;
+                  appended = same ∙ so_far.3;
+                  are = inr (inl (fault, (so_far.0, length part, so_far.4, w.some, refl)));
+                };
           }

@@ -7,7 +7,8 @@ use Rattle.no_std_io2_base.specs.declared.traits.buf_read.BufRead.{Ghosts as Buf
 use Rattle.no_std_io2_base.specs.declared.traits.chain.Chain.{Chain}
 use Rattle.no_std_io2_base.specs.declared.traits.take.Take.{Take}
 use Rattle.no_std_io2_base.specs.Chain.{chain_tells, chain_events, chain_turns}
-use Rattle.no_std_io2_base.specs.Read.{Event, events_of, Reader}
+use Rattle.no_std_io2_base.specs.Read.{Event, events_of, Reader, ReadCall}
+use Rattle.no_std_io2_base.specs.Write.{BoxMay}
 use Rattle.no_std_io2_base.specs.BufRead.{Lender}
 use Rattle.no_std_io2_base.specs.Take.{take_inner, take_events}
 
@@ -24,6 +25,7 @@ reader stored read = record {
   is_metered = read.is_metered;
   is_filling = read.is_filling;
   may_take_none = read.may_take_none;
+  may = read.may;
 }
 
 -- a chain of two readers
@@ -39,6 +41,7 @@ chain_reader first second = record {
   is_metered = λ _. ⊥;
   is_filling = λ _. ⊥;
   may_take_none = λ _. ⊥;
+  may = λ _ _ _. Unit {0};
 }
 
 -- a reader that is cut
@@ -54,12 +57,13 @@ take_reader inner = record {
   is_metered = λ _. ⊥;
   is_filling = λ t. inner.is_filling (take_inner t);
   may_take_none = λ _. ⊥;
+  may = λ _ _ _. Unit {0};
 }
 
 -- a boxed trait object, by what is told of the value with its table
 abbrev pub box_reader : {I A : Type 0} {V : I → Type 0} → ((p : (x : I) × V x) → Type 0) → ((p : (x : I) × V x) → List Event)
-    → ((p : (x : I) × V x) → ℕ) → ((p : (x : I) × V x) → Type 0) → Reader (DynBox I A V)
-box_reader tells events turns may_take_none = record {
+    → ((p : (x : I) × V x) → ℕ) → ((p : (x : I) × V x) → Type 0) → ((i : I) → V i → ReadCall → V i → Type 0) → Reader (DynBox I A V)
+box_reader tells events turns may_take_none may = record {
   has_store = λ _. ⊥;
   content = λ _. [];
   position = λ _. 0;
@@ -70,6 +74,7 @@ box_reader tells events turns may_take_none = record {
   is_metered = λ _. ⊥;
   is_filling = λ _. ⊥;
   may_take_none = λ b. may_take_none (b.vtable, b.value);
+  may = λ b. BoxMay b (may b.vtable);
 }
 
 -- the law that a told store tells what is to come
@@ -99,6 +104,7 @@ lends_as read lends = record {
   is_metered = read.is_metered;
   is_filling = read.is_filling;
   may_take_none = read.may_take_none;
+  may = read.may;
   held = lends.held;
   counts_fills = lends.counts_fills;
   fills = lends.fills;

@@ -4,7 +4,7 @@ use Rattle.std.specs.Prelude.{vec_len, vec_capacity, string_bytes, string_len, s
 use mathlib.Core.Option.{none}
 use Rattle.std.specs.Borrow.{follows_so, Fml, RattleType, MutBor, Bor}
 use Rattle.no_std_io2_base.specs.declared.error.Error.{Error}
-use Rattle.no_std_io2_base.specs.Read.{Event, events_of, fails, first_fault}
+use Rattle.no_std_io2_base.specs.Read.{Event, events_of, fails, first_fault, ReadCall}
 use Rattle.no_std_io2_base.specs.Errors.{IsNoInterruption}
 use Rattle.no_std_io2_base.specs.Pieces.{TakesLine, TakesPiece, HasPieceRoom, SkipsPiece}
 use Rattle.no_std_io2_base.specs.Write.{IsFront}
@@ -54,6 +54,7 @@ Lender X = record {
   is_metered : X → Type 0;
   is_filling : X → Type 0;
   may_take_none : X → Type 0;
+  may : X → ReadCall → X → Type 0;
   held : X → List ℕ;
   counts_fills : X → Type 0;
   fills : X → ℕ;

@@ -1,10 +1,11 @@
 -- What a reader has left to give, what its calls do to that, and the law of each call of `Read`; what `Bytes` yields.
-use Rattle.std.specs.Prelude.{◌≡◌, ℕ, zero, suc, ◌<◌, Bool, true, List, [], ◌∷◌, ◌++◌, length, take, ⊤, Ok, Err, Result, ◌⊎◌, ◌+◌, ◌≤◌}
+use Rattle.std.specs.Prelude.{◌≡◌, ℕ, zero, suc, ◌<◌, Bool, true, false, List, [], ◌∷◌, ◌++◌, length, take, ⊤, Ok, Err, Result, ◌⊎◌, ◌+◌, ◌≤◌}
 use Rattle.std.specs.Prelude.{min, Vec, vec_len, vec_capacity, Some, IfOk, IfErr, OnOk, IsOk, IsOkAnd, Option, None, refl, if◌then◌else◌}
 use Rattle.no_std_io2_base.specs.declared.error.Error.{Error}
 use Rattle.no_std_io2_base.specs.Errors.{IsInterruption, IsFault, IsUnexpectedEnd, IsOutOfMemory, IsNoInterruption, error_kind}
 use Rattle.no_std_io2_base.specs.Errors.{is_interruption}
 use Rattle.no_std_io2_base.specs.declared.traits.bytes.Bytes.{Bytes}
+use Rattle.no_std_io2_base.specs.Write.{Made}
 use Rattle.std.proofs.Common.{ap, sym, ◌∙◌}
 
 -- one thing that a reader is going to give: a byte, or an error that a call returns
@@ -107,6 +108,93 @@ first_fault [] = None
 first_fault (byte b ∷ E) = first_fault E
 first_fault (fails e ∷ E) = if is_interruption (error_kind e) then first_fault E else Some e
 
+-- A call of a reader, with its answer.
+pub data ReadCall : Type 0 where
+  -- a `read` into so much room: the bytes that it gave, or its error
+  Gave : ℕ → Result (List ℕ) Error → ReadCall
+  -- a `read_exact` of so many bytes that is no loop of reads
+  GaveExactly : ℕ → Result (List ℕ) Error → ReadCall
+  -- a `read_to_end` that is none: the bytes that it appended, and how it ended
+  GaveAll : List ℕ → Result (Unit {0}) Error → ReadCall
+
+-- the bytes that `read` gave at the front of buf, or its error
+abbrev pub gave : Result ℕ Error → List ℕ → Result (List ℕ) Error
+gave (Ok n) buf = Ok (take n buf)
+gave (Err e) buf = Err e
+
+-- all of buf, or the error
+abbrev pub gave_whole : Result (Unit {0}) Error → List ℕ → Result (List ℕ) Error
+gave_whole (Ok u) buf = Ok buf
+gave_whole (Err e) buf = Err e
+
+-- the answer without its number
+abbrev pub ended : Result ℕ Error → Result (Unit {0}) Error
+ended (Ok n) = Ok tt
+ended (Err e) = Err e
+
+-- C are reads in a row that gave x: each gave some bytes, or was interrupted. `asks` says into how much room one reads behind so many
+-- bytes.
+pub data Gathers (asks : ℕ → ℕ → Type 0) : List ReadCall → List ℕ → Type 0 where
+  no_read : Gathers asks [] []
+  and_gave : (C : List ReadCall) (x y : List ℕ) (room : ℕ) → Gathers asks C x → asks (length x) room → 0 < length y
+      → Gathers asks (C ++ Gave room (Ok y) ∷ []) (x ++ y)
+  and_again : (C : List ReadCall) (x : List ℕ) (room : ℕ) (e : Error) → Gathers asks C x → asks (length x) room → IsInterruption e
+      → Gathers asks (C ++ Gave room (Err e) ∷ []) x
+
+-- C are such reads, and then one that ended them with this answer
+abbrev pub GathersUntil : (ℕ → ℕ → Type 0) → List ReadCall → List ℕ → Result (List ℕ) Error → Type 0
+GathersUntil asks C x answer = (D : List ReadCall) × (room : ℕ) × Gathers asks D x × asks (length x) room × (C ≡ D ++ Gave room answer ∷ [])
+
+-- the room behind so many bytes of `size` is all of the rest, and some
+abbrev pub IsRest : ℕ → ℕ → ℕ → Type 0
+IsRest size at room = (at + room ≡ size) × (0 < room)
+
+-- there is some room
+abbrev pub IsSome : ℕ → ℕ → Type 0
+IsSome at room = 0 < room
+
+-- C are the reads of a `read_exact(buf)`: they fill it; or the end, or a fault, comes first
+abbrev pub FillCalls : List ReadCall → Result (Unit {0}) Error → List ℕ → Type 0
+FillCalls C (Ok u) buf = Gathers (IsRest (length buf)) C buf
+FillCalls C (Err e) buf = (x : List ℕ) × ((IsUnexpectedEnd e × GathersUntil (IsRest (length buf)) C x (Ok []))
+    ⊎ (IsFault e × GathersUntil (IsRest (length buf)) C x (Err e)))
+
+-- C are the calls of a `read_exact(buf)`: these reads, or a call of its own
+abbrev pub ExactCalls : List ReadCall → Result (Unit {0}) Error → List ℕ → Type 0
+ExactCalls C reply buf = (C ≡ GaveExactly (length buf) (gave_whole reply buf) ∷ []) ⊎ FillCalls C reply buf
+
+-- C are the reads of a `read_to_end` that appends x: up to the end, or to a fault, or to where memory was refused
+abbrev pub DrainCalls : List ReadCall → List ℕ → Result ℕ Error → Type 0
+DrainCalls C x (Ok n) = GathersUntil IsSome C x (Ok [])
+DrainCalls C x (Err e) = (IsFault e × GathersUntil IsSome C x (Err e)) ⊎ (IsOutOfMemory e × Gathers IsSome C x)
+
+-- C are the calls of a `read_to_end` that appends x: these reads, or some and then a call of its own
+abbrev pub ToEndCalls : List ReadCall → List ℕ → Result ℕ Error → Type 0
+ToEndCalls C x reply = ((D : List ReadCall) × (y : List ℕ) × (z : List ℕ) × Gathers IsSome D y × (x ≡ y ++ z)
+    × (C ≡ D ++ GaveAll z (ended reply) ∷ [])) ⊎ DrainCalls C x reply
+
+-- C are the reads into the room that a vector has, and x what they gave: up to the end, if the answer is that it was met, or to a fault
+abbrev pub RoomCalls : List ReadCall → List ℕ → Result Bool Error → Type 0
+RoomCalls C x (Ok true) = GathersUntil IsSome C x (Ok [])
+RoomCalls C x (Ok false) = Gathers IsSome C x
+RoomCalls C x (Err e) = IsFault e × GathersUntil IsSome C x (Err e)
+
+-- The calls that a `read_exact(buf)` made.
+pub record ExactMade {S : Type 0} (may : S → ReadCall → S → Type 0) (old : S) (reply : Result (Unit {0}) Error) (buf : List ℕ) (new : S)
+    : Type 0 where
+  pub calls : List ReadCall
+  pub made : Made may old calls new
+  pub are : ExactCalls calls reply buf
+
+-- The calls that a `read_to_end` made, and the bytes that they gave, which were appended.
+pub record ToEndMade {S : Type 0} (may : S → ReadCall → S → Type 0) (old : S) (buf : List ℕ) (reply : Result ℕ Error) (buf' : List ℕ)
+    (new : S) : Type 0 where
+  pub calls : List ReadCall
+  pub given : List ℕ
+  pub made : Made may old calls new
+  pub appended : buf' ≡ buf ++ given
+  pub are : ToEndCalls calls given reply
+
 -- what a reader tells, as `⟦<R as Read>⟧` names it: the members of its store, and its own
 abbrev pub Reader : Type 0 → Type 1
 Reader S = record {
@@ -120,6 +208,7 @@ Reader S = record {
   is_metered : S → Type 0;
   is_filling : S → Type 0;
   may_take_none : S → Type 0;
+  may : S → ReadCall → S → Type 0;
 }
 
 -- a told store keeps its content, and the position moves on by as many bytes as are gone from the events
@@ -147,6 +236,8 @@ pub record ReadLaw {S : Type 0} (R : Reader S) (old : S) (buf : List ℕ) (reply
   pub fills : R.is_filling old → R.is_filling new × IsOkAnd reply (λ n. n ≡ min (length buf) (length (R.events old)))
   -- a told store keeps its content, and the position moves by what was given
   pub store : R.has_store old → R.has_store new × (R.content new ≡ R.content old) × (R.position new ≡ R.position old + given reply)
+  -- it is one call
+  pub call : R.may old (Gave (length buf') (gave reply buf')) new
 
 -- `read_exact(buf)`
 pub record ReadExactLaw {S : Type 0} (R : Reader S) (old : S) (buf : List ℕ) (reply : Result (Unit {0}) Error) (buf' : List ℕ)
@@ -167,6 +258,8 @@ pub record ReadExactLaw {S : Type 0} (R : Reader S) (old : S) (buf : List ℕ) (
   pub filling : R.is_filling old → R.is_filling new
   -- a told store keeps its content, and the position moves by what was taken
   pub store : GoesOn R old new
+  -- which calls it made
+  pub calls : ExactMade R.may old reply buf' new
 
 -- `read_to_end(&mut buf)`
 pub record ReadToEndLaw {S A : Type 0} (R : Reader S) (old : S) (buf : Vec ℕ A) (reply : Result ℕ Error) (buf' : Vec ℕ A)
@@ -194,6 +287,8 @@ pub record ReadToEndLaw {S A : Type 0} (R : Reader S) (old : S) (buf : Vec ℕ A
   pub filling : R.is_filling old → R.is_filling new
   -- a told store keeps its content, and the position moves by what was taken
   pub store : GoesOn R old new
+  -- which calls it made, and the bytes that they gave
+  pub calls : ToEndMade R.may old buf.items reply buf'.items new
 
 -- the reader behind
 abbrev pub bytes_reader : {R : Type 0} → Bytes R → R

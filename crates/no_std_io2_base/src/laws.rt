@@ -7,7 +7,7 @@ ghost use Rattle.std.specs.Prelude.{IsTrue, IsOk, IsOkAnd, IfOk, IfErr, IfSome, 
 ghost use Rattle.no_std_io2_base.specs.Chain.{chain_first, chain_second, chain_is_done};
 ghost use Rattle.no_std_io2_base.specs.Cursor.{cursor_inner, cursor_place};
 ghost use Rattle.no_std_io2_base.specs.Errors.{IsFault, error_display, kind_number};
-ghost use Rattle.no_std_io2_base.specs.Read.{events_of, cut, bytes_reader, NextByte};
+ghost use Rattle.no_std_io2_base.specs.Read.{events_of, cut, bytes_reader, NextByte, ReadCall};
 ghost use Rattle.no_std_io2_base.specs.Seek.{SeekCall};
 ghost use Rattle.no_std_io2_base.specs.Take.{take_inner, take_limit};
 ghost use Rattle.no_std_io2_base.specs.Write.{told_out, WriteCall, BoxMay};
@@ -158,6 +158,19 @@ fn lent_reader_tells<'a, R: Read>(r: &&'a mut R)
     ensures metered { R.is_metered r.now.now → ⟦<&'a mut R as Read>⟧.is_metered r.now }
     ensures filling { R.is_filling r.now.now → ⟦<&'a mut R as Read>⟧.is_filling r.now }
     ensures short { ⟦<&'a mut R as Read>⟧.may_take_none r.now → R.may_take_none r.now.now }
+{}
+
+fn lent_reader_calls<'a, R: Read>(old: &&'a mut R, new: &&'a mut R)
+    ensures { (call : ReadCall) → ⟦<&'a mut R as Read>⟧.may old.now call new.now → R.may old.now.now call new.now.now }
+{}
+
+fn boxed_reader_calls<R: Read>(old: &Box<R>, new: &Box<R>)
+    ensures { (call : ReadCall) → ⟦<Box<R> as Read>⟧.may old.now call new.now → R.may old.now.value call new.now.value }
+{}
+
+fn reading_object_calls(old: &Box<dyn Read + Drop>, new: &Box<dyn Read + Drop>)
+    ensures { (call : ReadCall) → ⟦<Box<dyn Read + Drop> as Read>⟧.may old.now call new.now
+        → BoxMay old.now (Read-box old.now).Read.may call new.now }
 {}
 
 fn boxed_reader_tells<R: Read>(r: &Box<R>)

@@ -27,6 +27,7 @@ patient_reader = record {
   is_metered = λ _. ⊥;
   is_filling = λ _. ⊥;
   may_take_none = λ _. ⊥;
+  may = λ _ _ _. Unit {0};
 }
 
 -- known bytes stay as they were where nothing happens to them

@@ -4,6 +4,7 @@ ghost use Rattle.std.specs.Prelude.{vec_len, vec_capacity};
 ghost use Rattle.std.specs.Bool.{OnTrue, OnFalse};
 ghost use Rattle.no_std_io2_base.specs.Errors.{IsOutOfMemory};
 ghost use Rattle.no_std_io2_base.specs.Cursor.{HasMoved};
+ghost use Rattle.no_std_io2_base.specs.Read.{Gave, gave_whole};
 
 use no_std_io2_base::error::Result;
 use no_std_io2_base::shared::{append_rest, copy_bytes};
@@ -124,6 +125,7 @@ impl<const S: usize> Buffer<S> {
         ensures gave { take result buf.new ≡ take result (buffer_held self.old) }
         ensures held { buffer_held self.new ≡ drop result (buffer_held self.old) }
         ensures behind { buffer_behind self.new ≡ buffer_behind self.old ++ take result buf.new }
+        ensures none { buffer_held self.old ≡ [] → self.new ≡ self.old }
     {
         if self.start == self.end {
             return 0;
@@ -179,6 +181,7 @@ impl<const S: usize> Buffer<S> {
         ensures store { R.has_store from.old → R.has_store from.new
             × (R.content from.new ≡ R.content from.old)
             × (R.position from.new ≡ R.position from.old + length (buffer_held self.new)) }
+        ensures call { R.may from.old (Gave S (gave_whole result (buffer_held self.new))) from.new }
     {
         self.start = 0;
         self.end = 0;

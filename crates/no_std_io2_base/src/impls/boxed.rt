@@ -57,6 +57,8 @@ impl<T: Read, A: Allocator> Read for Box<T, A> {
 
     ghost may_take_none = { λ b. T.may_take_none b.value };
 
+    ghost may = { λ old call new. T.may old.value call new.value };
+
     fn read(&mut self, buf: &mut [u8]) -> Result<usize> {
         self.as_mut().read(buf)
     }

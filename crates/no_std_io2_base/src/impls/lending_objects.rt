@@ -1,4 +1,5 @@
 ghost use Rattle.std.specs.Prelude.{[]};
+ghost use Rattle.no_std_io2_base.specs.Write.{BoxMay};
 
 use super::vectors::append;
 use crate::error::Result;
@@ -24,6 +25,8 @@ impl<A: Allocator> Read for Box<dyn BufRead + Drop, A> {
     ghost turns = { λ b. (BufRead-box b).Read.turns b.value };
 
     ghost may_take_none = { λ b. (BufRead-box b).Read.may_take_none b.value };
+
+    ghost may = { λ b call new. BoxMay b (BufRead-box b).Read.may call new };
 
     fn read(&mut self, buf: &mut [u8]) -> Result<usize> {
         (**self).read(buf)

@@ -57,6 +57,8 @@ impl<T: Read> Read for &mut T {
 
     ghost may_take_none = { λ r. T.may_take_none r.now };
 
+    ghost may = { λ old call new. T.may old.now call new.now };
+
     fn read(&mut self, buf: &mut [u8]) -> Result<usize> {
         Read::read(&mut **self, buf)
     }

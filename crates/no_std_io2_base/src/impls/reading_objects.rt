@@ -1,4 +1,5 @@
 ghost use Rattle.std.specs.Prelude.{[]};
+ghost use Rattle.no_std_io2_base.specs.Write.{BoxMay};
 
 use crate::error::Result;
 use crate::traits::{LEAST_ROOM, Read, Stored, open_room, reserve_room};
@@ -23,6 +24,8 @@ impl<A: Allocator> Read for Box<dyn Read + Drop, A> {
     ghost turns = { λ b. (Read-box b).Read.turns b.value };
 
     ghost may_take_none = { λ b. (Read-box b).Read.may_take_none b.value };
+
+    ghost may = { λ b call new. BoxMay b (Read-box b).Read.may call new };
 
     fn read(&mut self, buf: &mut [u8]) -> Result<usize> {
         (**self).read(buf)

@@ -1,6 +1,6 @@
 ghost use Rattle.std.specs.Prelude.{◌≡◌, ℕ, false, List, ◌++◌, drop, ◌<◌, ◌^◌, length};
 ghost use Rattle.no_std_io2_base.specs.Chain.{chain_first, chain_second, chain_is_done, chain_tells, chain_events};
-ghost use Rattle.no_std_io2_base.specs.Read.{Event, cut, bytes, events_of, ReadLaw, ReadExactLaw, ReadToEndLaw, bytes_reader};
+ghost use Rattle.no_std_io2_base.specs.Read.{Event, cut, bytes, events_of, ReadLaw, ReadExactLaw, ReadToEndLaw, ReadCall, bytes_reader};
 ghost use Rattle.no_std_io2_base.specs.ReadToString.{ReadToStringLaw};
 ghost use Rattle.no_std_io2_base.specs.Take.{take_inner, take_limit, take_events};
 
@@ -46,6 +46,9 @@ pub trait Read: Stored {
     // Whether a `read_exact` may take nothing if too few bytes are left. If this is `⊥`, it takes
     // all of them.
     ghost may_take_none: { Self → Type 0 } = { λ _. Unit {0} };
+
+    // What one call, with its answer, may do to it. Left out, anything.
+    ghost may: { Self → ReadCall → Self → Type 0 } = { λ _ _ _. Unit {0} };
 
     /// Reads some bytes into the front of `buf` and returns their number, which is at most the
     /// length of `buf`. If `buf` is not empty, `Ok(0)` means the end, and a reader that tells its

@@ -1,7 +1,8 @@
 // Room in a vector for the reads of `read_to_end`.
-ghost use Rattle.std.specs.Prelude.{◌≡◌, take, ◌+◌, ◌≤◌, ◌<◌, false, IfOk, IfErr, OnOk, OnErr, vec_len, vec_capacity};
+ghost use Rattle.std.specs.Prelude.{◌≡◌, ℕ, List, ◌++◌, take, ◌+◌, ◌≤◌, ◌<◌, false, IfOk, IfErr, OnOk, OnErr, vec_len, vec_capacity};
 ghost use Rattle.no_std_io2_base.specs.Errors.{IsFault, IsOutOfMemory};
-ghost use Rattle.no_std_io2_base.specs.Read.{FillsRoom, ReadToEndLaw, GoesOn};
+ghost use Rattle.no_std_io2_base.specs.Read.{FillsRoom, ReadToEndLaw, GoesOn, ReadCall, RoomCalls};
+ghost use Rattle.no_std_io2_base.specs.Write.{Made};
 
 use super::read::Read;
 use crate::error::Result;
@@ -85,6 +86,8 @@ fn fill_room<R: Read, A: Allocator>(reader: &mut R, buf: &mut Vec<u8, A>) -> Res
     ensures metered { R.is_metered reader.old → R.is_metered reader.new }
     ensures filling { R.is_filling reader.old → R.is_filling reader.new }
     ensures store { GoesOn R.Read reader.old reader.new }
+    ensures calls { (C : List ReadCall) × (x : List ℕ) × Made R.may reader.old C reader.new
+        × (buf.new.items ≡ buf.old.items ++ x) × RoomCalls C x result }
 {
     let start = buf.len();
     let mut filled = start;

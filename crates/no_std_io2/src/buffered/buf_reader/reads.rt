@@ -6,7 +6,7 @@ ghost use Rattle.no_std_io2_base.specs.BufRead.{IsNotEmpty, reads_needed};
 ghost use Rattle.no_std_io2.specs.BufReader.{reader_held, reader_behind, reader_inner, reader_events, reader_turns};
 ghost use Rattle.no_std_io2.specs.BufReader.{reader_has_store, StaysSound, reader_position, behind_anew};
 ghost use Rattle.no_std_io2.specs.BufReader.{held_or_to_come, exact_reads, exact_left, exact_behind, EmptiesInto};
-ghost use Rattle.no_std_io2.specs.BufReader.{HasNoBuffer, FillsBuffer, ReadsOn, sound_tells, sound_fits};
+ghost use Rattle.no_std_io2.specs.BufReader.{HasNoBuffer, FillsBuffer, ReadsOn, ReaderMay, sound_tells, sound_fits};
 ghost use Rattle.no_std_io2.specs.Buffer.{IsEnd};
 
 use super::BufReader;
@@ -25,6 +25,7 @@ impl<R: Read, const S: usize> BufReader<R, S> {
         ensures behind { reader_behind self.new ≡ reader_behind self.old ++ take result buf.new }
         ensures sound { StaysSound R.has_store R.position R.content self.old self.new }
         ensures inner { reader_inner self.new ≡ reader_inner self.old }
+        ensures none { reader_held self.old ≡ [] → self.new ≡ self.old }
         ensures told { reader_events R.events self.old
             ≡ events_of (take result buf.new) ++ reader_events R.events self.new }
         ensures turns { reader_turns R.turns self.new + result ≡ reader_turns R.turns self.old }
@@ -83,6 +84,8 @@ impl<R: Read, const S: usize> Read for BufReader<R, S> {
     ghost cost = { λ r. R.cost (reader_inner r) };
 
     ghost may_take_none = { λ _. ⊥ };
+
+    ghost may = { ReaderMay R.may };
 
     #[inline(always)]
     fn read(&mut self, buf: &mut [u8]) -> Result<usize>

@@ -31,7 +31,7 @@ impl<R: Seek, const S: usize> BufReader<R, S> {
             × (R.content (reader_inner self.new) ≡ R.content (reader_inner self.old))
             × Seeks (length (R.content (reader_inner self.old))) (R.position (reader_inner self.old))
             target result (R.position (reader_inner self.new)) }
-        ensures sought { R.may (reader_inner self.old) (Sought target result) (reader_inner self.new) }
+        ensures sought { R.Seek.may (reader_inner self.old) (Sought target result) (reader_inner self.new) }
         ensures position { IfOk result (λ n. R.has_store (reader_inner self.new)
             → R.position (reader_inner self.new) ≡ n) }
         ensures sound { StaysSound R.has_store R.position R.content self.old self.new }
@@ -51,7 +51,7 @@ impl<R: Seek, const S: usize> BufReader<R, S> {
             → R.has_store (reader_inner self.new) × IsOk result
             × (R.content (reader_inner self.new) ≡ R.content (reader_inner self.old))
             × (R.position (reader_inner self.new) ≡ reader_position R.position self.old) }
-        ensures sought { WithoutPosition (λ answer. R.may (reader_inner self.old)
+        ensures sought { WithoutPosition (λ answer. R.Seek.may (reader_inner self.old)
             (Sought (back_by (length (reader_held self.old))) answer) (reader_inner self.new)) result }
         ensures sound { StaysSound R.has_store R.position R.content self.old self.new }
     {
@@ -67,7 +67,7 @@ impl<R: Seek, const S: usize> BufReader<R, S> {
             × (R.content (reader_inner self.new) ≡ R.content (reader_inner self.old))
             × Seeks (length (R.content (reader_inner self.old))) (reader_position R.position self.old)
             (SeekFrom.Current offset) result (reader_position R.position self.new) }
-        ensures sought { SeeksInner R.may (length (reader_held self.old)) (reader_inner self.old)
+        ensures sought { SeeksInner R.Seek.may (length (reader_held self.old)) (reader_inner self.old)
             (SeekFrom.Current offset) (reader_inner self.new) result }
         ensures position { IfOk result (λ n. R.has_store (reader_inner self.new)
             → R.position (reader_inner self.new) ≡ n) }
@@ -119,7 +119,7 @@ impl<R: Seek, const S: usize> BufReader<R, S> {
             → OnOk result (HasNoBuffer self.new) × OnErr result (KeepsBuffer self.old self.new
             ⊎ (IsTooFarBack (SeekFrom.Current offset) (length (reader_held self.old)) × HasNoBuffer self.new)) }
         ensures far { ¬ IsInBuffer offset (length (reader_behind self.old)) (length (reader_held self.old))
-            → WithoutPosition (ReaderSeeks R.may self.old (SeekFrom.Current offset) self.new) result }
+            → WithoutPosition (ReaderSeeks R.Seek.may self.old (SeekFrom.Current offset) self.new) result }
         ensures sought { ¬ IsInBuffer offset (length (reader_behind self.old)) (length (reader_held self.old))
             → reader_has_store R.has_store R.position R.content self.old
             → reader_has_store R.has_store R.position R.content self.new
@@ -207,7 +207,7 @@ impl<R: Seek, const S: usize> Seek for BufReader<R, S> {
         self.inner.stream_len()
     }
 
-    ghost may = { ReaderMaySeek R.may };
+    ghost may = { ReaderMaySeek R.Seek.may };
 
     ghost seek_fits = { λ r h. sound_fits _ (reader_held r) _ (R.seek_fits (reader_inner r) h.0) };
 }

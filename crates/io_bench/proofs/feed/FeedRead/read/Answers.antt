@@ -21,4 +21,5 @@ returns-in-None-clause-law c =
       counts = λ m. absurd m;
       fills = λ f. absurd f;
       store = λ s. absurd s;
+      call = tt;
     }

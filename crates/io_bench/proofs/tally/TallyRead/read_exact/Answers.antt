@@ -1,8 +1,11 @@
 use Rattle.std.proofs.Common.{rules, arith, refl, sym, ◌∙◌}
-use Rattle.no_std_io2_base.proofs.ReadExactLoop.{exact_read, exact_interruption, exact_end, exact_fault, exact_all}
+use Rattle.no_std_io2_base.proofs.ReadExactLoop.{exact_none, exact_read, exact_interruption, exact_end, exact_fault, exact_all}
 use Rattle.no_std_io2_base.proofs.ReadExactExits.{some_bytes, some_part}
-use Rattle.io_bench.proofs.CountLemmas.{counted_stop, counted_done, counted_more, handed_once, one_read}
+use Rattle.io_bench.proofs.CountLemmas.{counted_none, counted_stop, counted_done, counted_more, handed_once, one_read}
 use Rattle.io_bench.proofs.tally.TallyRead.read_exact.Goals as goal
+
+pub reads-init : goal.reads-init
+reads-init g c = record { law = exact_none; counts = counted_none (omega arith); handed = λ m. (m, refl); writes = refl }
 
 pub returns-in-Ok-eq0 : goal.returns-in-Ok-eq0
 returns-in-Ok-eq0 g c =

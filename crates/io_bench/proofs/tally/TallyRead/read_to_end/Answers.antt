@@ -47,7 +47,8 @@ returns-in-Ok-eq0 g c =
     let before = c.reads.invariant in
     let read = c.read.ensures in
     let room = c.open_room.ensures in
-    let w = wrote room.within c.open_room.new.buf.ok.0 c.deref_mut.ensures.value c.read.auto.buf room.front in
+    let w = wrote room.within c.open_room.new.buf.ok.0 c.deref_mut.ensures.value c.read.auto.buf room.front
+    c.in_ok-open_room.ensures.room in
     let one = one_read _ (some_part c.reads.filled c.deref_mut.result.now _
     (omega (arith, c.in_ok-open_room.ensures.room, c.deref_mut.ensures.len)) refl) read.reads in
     record {
@@ -64,7 +65,8 @@ returns-in-Err-2 g c =
     let before = c.reads.invariant in
     let read = c.in-Err.ensures in
     let room = c.open_room.ensures in
-    let w = wrote room.within c.open_room.new.buf.ok.0 c.deref_mut.ensures.value c.read.auto.buf room.front in
+    let w = wrote room.within c.open_room.new.buf.ok.0 c.deref_mut.ensures.value c.read.auto.buf room.front
+    c.in_ok-open_room.ensures.room in
     let one = one_read _ (some_part c.reads.filled c.deref_mut.result.now _
     (omega (arith, c.in_ok-open_room.ensures.room, c.deref_mut.ensures.len)) refl) read.reads in
     record {
@@ -81,7 +83,8 @@ reads-preserved-in-Ok g c =
     let before = c.reads.invariant in
     let read = c.in-Ok.ensures in
     let room = c.open_room.ensures in
-    let w = wrote room.within c.open_room.new.buf.ok.0 c.deref_mut.ensures.value c.read.auto.buf room.front in
+    let w = wrote room.within c.open_room.new.buf.ok.0 c.deref_mut.ensures.value c.read.auto.buf room.front
+    c.in_ok-open_room.ensures.room in
     let one = one_read _ (some_part c.reads.filled c.deref_mut.result.now _
     (omega (arith, c.in_ok-open_room.ensures.room, c.deref_mut.ensures.len)) refl) read.reads in
     record {
@@ -96,7 +99,8 @@ reads-preserved g c =
     let before = c.reads.invariant in
     let read = c.in-Err.ensures in
     let room = c.open_room.ensures in
-    let w = wrote room.within c.open_room.new.buf.ok.0 c.deref_mut.ensures.value c.read.auto.buf room.front in
+    let w = wrote room.within c.open_room.new.buf.ok.0 c.deref_mut.ensures.value c.read.auto.buf room.front
+    c.in_ok-open_room.ensures.room in
     let one = one_read _ (some_part c.reads.filled c.deref_mut.result.now _
     (omega (arith, c.in_ok-open_room.ensures.room, c.deref_mut.ensures.len)) refl) read.reads in
     record {

@@ -1,11 +1,17 @@
 -- As the trait's `read_to_end`, but for the room, which is what there is.
-use Rattle.std.proofs.Common.{◌<◌, ◌≤◌, false, true, true≢false, length, arith, sym, ◌∙◌, le_trans}
+use Rattle.std.proofs.Common.{◌<◌, ◌≤◌, [], ◌∷◌, ◌++◌, Ok, Err, false, true, true≢false, length, arith, refl, sym, ◌∙◌, le_refl, le_trans}
+use Rattle.no_std_io2_base.specs.Read.{Gave}
+use Rattle.no_std_io2_base.proofs.CallsLemmas.{made_more}
+use Rattle.no_std_io2_base.proofs.ReadCalls.{gave_nothing}
 use Rattle.no_std_io2_base.proofs.ReadToEndGathered.{gathered_same, gathered_room, gathered_failed, gathered_over}
 use Rattle.no_std_io2_base.proofs.ReadToEndExits.{front_cut, filled_length, whole_room, stays_at_end}
 use Rattle.no_std_io2_base.proofs.ReadToEndTaken.{no_error}
 use Rattle.no_std_io2_base.proofs.TakeToEnd.{nothing_read}
-use Rattle.no_std_io2_base.proofs.ReadToEndLoop.{wrote, to_end_read, to_end_interruption}
+use Rattle.no_std_io2_base.proofs.ReadToEndLoop.{wrote, to_end_none, to_end_read, to_end_interruption}
 use Rattle.no_std_io2_base.proofs.traits.room.fill_room.Goals as goal
+
+pub reads-init : goal.reads-init
+reads-init g c = to_end_none c.len-start.ensures refl refl (le_refl _)
 
 pub returns-in_err-open_room : goal.returns-in_err-open_room
 returns-in_err-open_room g c =
@@ -21,7 +27,8 @@ returns-in-Ok-eq0 g c =
     let room = c.open_room.ensures in
     let mid = c.reads.buf.items in
     let new = c.truncate.new.self in
-    let w = wrote room.within c.open_room.new.buf.ok.0 c.deref_mut.ensures.value c.read.auto.buf room.front in
+    let w = wrote room.within c.open_room.new.buf.ok.0 c.deref_mut.ensures.value c.read.auto.buf room.front
+    c.in_ok-open_room.ensures.room in
     let same = c.truncate.ensures.items ∙ w.kept in
     let within : filled ≤ length mid = omega (arith, before.within, c.reads.buf.ok.0) in
     let long = filled_length filled new.len new.items mid new.ok.0 same within in
@@ -46,6 +53,14 @@ returns-in-Ok-eq0 g c =
           let now = read.store so_far.0 in
           let tells = g.met.R.Read.store_tells _ so_far.0 in
           (now.0, now.1 ∙ so_far.1, stays_at_end _ _ _ _ (read.told tells.0).1 is none now.2 so_far.2);
+      calls =
+          let so_far = before.calls in (
+            so_far.0 ++ Gave (length c.read.new.buf) (Ok []) ∷ [],
+            so_far.1,
+            made_more g.R.Read.may so_far.0 _ so_far.2 (gave_nothing g.R.Read.may c.read.new.buf read.call is none),
+            same ∙ so_far.3,
+            (so_far.0, length c.read.new.buf, so_far.4, w.some, refl),
+          );
     }
 
 pub returns-in-Err-2 : goal.returns-in-Err-2
@@ -56,7 +71,8 @@ returns-in-Err-2 g c =
     let room = c.open_room.ensures in
     let mid = c.reads.buf.items in
     let new = c.truncate-in-Err-2.new.self in
-    let w = wrote room.within c.open_room.new.buf.ok.0 c.deref_mut.ensures.value c.read.auto.buf room.front in
+    let w = wrote room.within c.open_room.new.buf.ok.0 c.deref_mut.ensures.value c.read.auto.buf room.front
+    c.in_ok-open_room.ensures.room in
     let same = c.truncate-in-Err-2.ensures.items ∙ w.kept in
     let fault = sym c.is_interrupted.ensures ∙ c.if-is_interrupted.false in
     let within : filled ≤ length mid = omega (arith, before.within, c.reads.buf.ok.0) in
@@ -78,18 +94,28 @@ returns-in-Err-2 g c =
           let so_far = before.store s in
           let tells = g.met.R.Read.store_tells _ so_far.0 in
           absurd (no_error _ tells.1 (read.told tells.0).1);
+      calls =
+          let so_far = before.calls in (
+            so_far.0 ++ Gave (length c.read.new.buf) (Err c.in-Err.e) ∷ [],
+            so_far.1,
+            made_more g.R.Read.may so_far.0 _ so_far.2 read.call,
+            same ∙ so_far.3,
+            (fault, (so_far.0, length c.read.new.buf, so_far.4, w.some, refl)),
+          );
     }
 
 pub reads-preserved-in-Ok : goal.reads-preserved-in-Ok
 reads-preserved-in-Ok g c =
     let room = c.open_room.ensures in
-    let w = wrote room.within c.open_room.new.buf.ok.0 c.deref_mut.ensures.value c.read.auto.buf room.front in
+    let w = wrote room.within c.open_room.new.buf.ok.0 c.deref_mut.ensures.value c.read.auto.buf room.front
+    c.in_ok-open_room.ensures.room in
     to_end_read c.reads.invariant g.met.R.Read.store_tells c.in-Ok.ensures.law c.in-Ok.n-test.1 w room.grows
 
 pub reads-preserved : goal.reads-preserved
 reads-preserved g c =
     let room = c.open_room.ensures in
-    let w = wrote room.within c.open_room.new.buf.ok.0 c.deref_mut.ensures.value c.read.auto.buf room.front in
+    let w = wrote room.within c.open_room.new.buf.ok.0 c.deref_mut.ensures.value c.read.auto.buf room.front
+    c.in_ok-open_room.ensures.room in
     to_end_interruption c.reads.invariant g.met.R.Read.store_tells c.in-Err.ensures.law
     (sym c.is_interrupted.ensures ∙ c.if-is_interrupted.true) w room.grows
 
@@ -112,4 +138,5 @@ returns g c =
       metered = before.metered;
       filling = before.filling;
       store = before.store;
+      calls = let so_far = before.calls in (so_far.0, so_far.1, so_far.2, sym whole ∙ so_far.3, so_far.4);
     }

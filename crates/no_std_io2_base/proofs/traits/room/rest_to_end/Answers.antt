@@ -1,7 +1,8 @@
 -- A fault or the end while the room is filled, and then an error or the end of the reader's own read to the end.
-use Rattle.std.proofs.Common.{◌≡◌, ◌-◌, length, ap, ◌∙◌, arith, inl, le_trans}
+use Rattle.std.proofs.Common.{◌≡◌, ◌-◌, Ok, length, ap, subst, refl, ◌∙◌, arith, inl, inr, le_trans}
 use Rattle.std.proofs.lemmas.Result.{err_from_is_err_and}
-use Rattle.no_std_io2_base.specs.Read.{first_fault}
+use Rattle.no_std_io2_base.specs.Read.{first_fault, RoomCalls}
+use Rattle.no_std_io2_base.proofs.ReadCalls.{to_end_after}
 use Rattle.no_std_io2_base.proofs.GivenPieces.{first_fault-append}
 use Rattle.no_std_io2_base.proofs.ChainReads.{spent_then}
 use Rattle.no_std_io2_base.proofs.ReadToEndExits.{front_then}
@@ -26,6 +27,8 @@ returns-in_err-is_at_end g c =
         metered = read.metered;
         filling = read.filling;
         store = read.store;
+        calls = let so_far = read.calls in
+            record { calls = so_far.0; given = so_far.1; made = so_far.2; appended = so_far.3; are = inr (inl so_far.4) };
       };
     })
 
@@ -49,6 +52,14 @@ returns-then-is_at_end g c =
         metered = read.metered;
         filling = read.filling;
         store = read.store;
+        calls = let so_far = read.calls in
+            record {
+              calls = so_far.0;
+              given = so_far.1;
+              made = so_far.2;
+              appended = so_far.3;
+              are = inr (subst (λ b. RoomCalls so_far.0 so_far.1 (Ok b)) c.if-is_at_end.true so_far.4);
+            };
       };
     }
 
@@ -79,6 +90,9 @@ returns-in_err-read_to_end g c =
             let then = read.store s in
             let now = last.store then.0 in
             (now.0, now.1 ∙ then.1, now.2 ∙ then.2);
+        calls = let so_far = read.calls in
+            to_end_after g.R.Read.may so_far.0 so_far.1 so_far.2 so_far.3
+            (subst (λ b. RoomCalls so_far.0 so_far.1 (Ok b)) c.if-is_at_end.false so_far.4) last.calls refl;
       };
     })
 
@@ -106,5 +120,8 @@ returns g c =
             let then = read.store s in
             let now = last.store then.0 in
             (now.0, now.1 ∙ then.1, now.2 ∙ then.2);
+        calls = let so_far = read.calls in
+            to_end_after g.R.Read.may so_far.0 so_far.1 so_far.2 so_far.3
+            (subst (λ b. RoomCalls so_far.0 so_far.1 (Ok b)) c.if-is_at_end.false so_far.4) last.calls refl;
       };
     }

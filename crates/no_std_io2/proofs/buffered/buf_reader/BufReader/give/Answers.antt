@@ -2,6 +2,7 @@ use Rattle.std.proofs.Common.{◌≤◌, length, arith}
 use Rattle.no_std_io2.specs.Buffer.{buffer_held, buffer_behind}
 use Rattle.no_std_io2.specs.BufReader.{reader_held, reader_behind}
 use Rattle.no_std_io2.proofs.BufReaderBehind.{sound_moved}
+use Rattle.no_std_io2.proofs.BufReaderRoom.{same_buffer}
 use Rattle.no_std_io2.proofs.BufReaderSound.{give_events, give_sound}
 use Rattle.no_std_io2.proofs.buffered.buf_reader.BufReader.give.Goals as goal
 
@@ -22,3 +23,6 @@ returns-clause-sound g c = λ s.
       sound_moved (reader_behind c.args.self.now) (reader_held c.args.self.now) (buffer_behind c.give.new.self)
           (buffer_held c.give.new.self) _ c.give.result gave.behind gave.gave gave.held s.1,
     )
+
+pub returns-clause-none : goal.returns-clause-none
+returns-clause-none g c = λ none. same_buffer c.args.self.now _ _ _ (c.give.ensures.none none)

@@ -28,6 +28,7 @@ returns g c =
       turn = fill_turn c.fill.result g.row.S (length old) (length held) _ _ read.bound read.fault_turn;
       asks = read.cost;
       fills = read.fills;
+      call = read.call;
       store = λ s.
           let now = read.store s.0 in
           let tells = g.met.R.Read.store_tells _ s.0 in

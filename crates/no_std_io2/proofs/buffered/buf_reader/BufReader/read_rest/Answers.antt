@@ -8,6 +8,7 @@ use Rattle.no_std_io2.proofs.BufReaderExact.{exact_begins, exact_first, exact_re
 use Rattle.no_std_io2.proofs.BufReaderExact.{exact_short, exact_left-end}
 use Rattle.no_std_io2.proofs.BufReaderExact.{exact_left-full, taken_first, nothing_read, length-events, no_bytes}
 use Rattle.no_std_io2.proofs.BufReaderExact.{moved_length, read_ends, read_behind, none_behind, gives_to_come}
+use Rattle.no_std_io2.proofs.BufReaderCalls.{gives_first}
 use Rattle.no_std_io2.proofs.BufReaderLends.{buf_tells}
 use Rattle.no_std_io2.proofs.BufWriterLemmas.{IsEnd-none}
 use Rattle.no_std_io2.proofs.buffered.buf_reader.BufReader.read_rest.Goals as goal
@@ -41,6 +42,8 @@ reads-init g c =
         store = λ s.
             let now = gave.store s in
             (now.0, ap g.R.Stored.content gave.inner, omega (arith, now.1, moved, before, after));
+        calls = gives_first g.R.Read.may old new n _ c.give-at.new.buf most (c.give-at.auto.buf) (omega (arith, c.requires)) all
+            gave.inner gave.none;
       };
       none = λ more. left;
       behind = λ more. absurd (omega (arith, more, all));
@@ -140,6 +143,7 @@ returns-in-Err-2 g c =
       asks = λ m f. absurd (read.gives (c.reads.invariant.filling f).0).1;
       left = λ f. absurd (read.gives (c.reads.invariant.filling f).0).1;
       behind_length = λ f. tt;
+      calls = law.calls;
     }
 
 -- the inner reader's end, before the buffer was full
@@ -185,6 +189,7 @@ returns-in-Ok-eq0 g c =
           (λ h. omega (arith, read.filled so_far.0 none (omega (arith, h)), zero)) (omega (arith, c.requires)) in
           (gives.0, left.0, ap length (sym (nothing_read _ _ _ _ told zero) ∙ end) ∙ left.1);
       behind_length = λ f. tt;
+      calls = law.calls;
     }
 
 pub returns : goal.returns
@@ -211,5 +216,6 @@ returns g c =
           let left = exact_left-full (length (reader_events g.R.Read.events c.reads.self)) now.1 (omega arith) (omega
           (arith, c.requires)) to_come in
           (now.0, left.0, left.1);
+      calls = law.calls;
       behind_length = λ f. rw full at (all.filling f).2 (omega (arith, full, c.requires));
     }

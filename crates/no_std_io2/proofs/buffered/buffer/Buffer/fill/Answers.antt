@@ -1,5 +1,5 @@
 use Rattle.std.proofs.Common.{◌≡◌, length, rules, arith}
-use Rattle.no_std_io2.proofs.BufReaderTurns.{read_length, read_held}
+use Rattle.no_std_io2.proofs.BufReaderTurns.{read_length, read_held, read_call}
 use Rattle.no_std_io2.proofs.buffered.buffer.Buffer.fill.Goals as goal
 
 pub returns-clause-told : goal.returns-clause-told
@@ -17,3 +17,6 @@ pub returns-clause-store : goal.returns-clause-store
 returns-clause-store g c = λ s.
     let now = c.in_ok-n.ensures.law.store s in
     (now.0, now.1, omega (arith, now.2, read_length c.in_ok-n.n c.read.new.buf c.in_ok-n.ensures.law.bound))
+
+pub returns-clause-call : goal.returns-clause-call
+returns-clause-call g c = read_call g.R.Read.may c.in_ok-n.n c.read.new.buf (search rules) c.in_ok-n.ensures.law.call

@@ -1,4 +1,4 @@
-use Rattle.std.proofs.Common.{◌≡◌, ◌-◌, ◌<◌, length, drop, slice_index_or, rules, arith, sym, ap, ◌∙◌, ◌++◌, take, length-take}
+use Rattle.std.proofs.Common.{◌≡◌, ◌-◌, ◌<◌, length, drop, slice_index_or, rules, arith, sym, ap, ◌∙◌, ◌++◌, take, length-take, length-drop}
 use Rattle.std.proofs.Math.Seq.{take-suc-set}
 use Rattle.no_std_io2.proofs.BufReaderBehind.{behind_more}
 use Rattle.no_std_io2.proofs.BufReaderSound.{held_rest, held_first}
@@ -28,3 +28,16 @@ returns-then-buf-eq1-clause-behind g c =
     let self = c.args.self.now in
     behind_more self.bytes self.start self.end 1 (omega (arith, length-take (self.end - self.start) (drop self.start self.bytes)))
     ∙ ap (λ l. take self.start self.bytes ++ l) (sym (given g c))
+
+-- it holds some
+pub returns-then-buf-eq1-clause-none : goal.returns-then-buf-eq1-clause-none
+returns-then-buf-eq1-clause-none g c = λ none.
+    let self = c.args.self.now in
+    let part = length-take (self.end - self.start) (drop self.start self.bytes) in
+    absurd (omega (arith, part, length-drop self.start self.bytes, ap length none))
+
+pub returns-clause-none : goal.returns-clause-none
+returns-clause-none g c = λ none.
+    let self = c.args.self.now in
+    let part = length-take (self.end - self.start) (drop self.start self.bytes) in
+    absurd (omega (arith, part, length-drop self.start self.bytes, ap length none))

@@ -4,6 +4,7 @@ use Rattle.no_std_io2_base.specs.Cursor.{cursor_left}
 use Rattle.no_std_io2_base.specs.Read.{bytes-events_of}
 use Rattle.no_std_io2_base.proofs.SliceEvents.{fill_bytes}
 use Rattle.no_std_io2_base.proofs.SliceReads.{fewer_behind, spent_behind}
+use Rattle.no_std_io2_base.proofs.ReadCalls.{exact_own}
 use Rattle.no_std_io2_base.proofs.EventLemmas.{length-events_of, HasNoFault-events_of}
 use Rattle.no_std_io2_base.proofs.CursorLemmas.{left_after}
 use Rattle.no_std_io2_base.proofs.cursor.reading.CursorRead.read_exact.Goals as goal
@@ -28,6 +29,7 @@ returns-then-left-buf-clause-law g c =
       metered = λ m. m;
       filling = λ f. f;
       store = λ s. (s, refl, refl);
+      calls = exact_own tt;
     }
 
 pub returns-clause-law : goal.returns-clause-law
@@ -68,4 +70,5 @@ returns-clause-law g c =
           length-events_of (drop (here.pos + n) all),
         ),
       );
+      calls = exact_own tt;
     }

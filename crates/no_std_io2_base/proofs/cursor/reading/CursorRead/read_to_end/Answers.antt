@@ -1,6 +1,7 @@
 -- What was appended is a front of what the cursor had left, and it stands right behind that.
 use Rattle.std.proofs.Common.{◌+◌, ◌<◌, length, vec_len, vec_capacity, refl, sym, ap, subst, arith}
 use Rattle.std.proofs.lemmas.Result.{err_from_is_err_and}
+use Rattle.no_std_io2_base.proofs.ReadCalls.{to_end_own}
 use Rattle.no_std_io2_base.proofs.PieceLemmas.{memory_fault}
 use Rattle.no_std_io2_base.proofs.SliceReads.{moved_whole, moved_part, never_refused, left_behind, place_behind}
 use Rattle.no_std_io2_base.proofs.SliceReads.{front_stays, longer_by, fewer_behind, fewer_left}
@@ -32,6 +33,7 @@ returns-in_err-answer g c =
         store = λ h.
             let place = place_behind content start _ h.0 h.1 left said.moved in
             ((h.0, place.0), refl, place.1);
+        calls = to_end_own c.args.buf.now (front_stays said.moved c.args.buf.now.ok.0) tt;
       };
     })
 
@@ -59,5 +61,6 @@ returns g c =
         store = λ h.
             let place = place_behind content start _ h.0 h.1 left said.moved in
             ((h.0, place.0), refl, place.1);
+        calls = to_end_own c.args.buf.now (front_stays said.moved c.args.buf.now.ok.0) tt;
       };
     }

@@ -1,6 +1,8 @@
--- An empty buffer makes no call.
-use Rattle.std.proofs.Common.{ap, rules, ◌∙◌}
+-- What the call did to the value in the box, it did to the box.
+use Rattle.std.proofs.Common.{ap, rules, subst, ◌∙◌}
 use Rattle.std.specs.Box.{with_value}
+use Rattle.no_std_io2_base.specs.Read.{ExactMade}
+use Rattle.no_std_io2_base.proofs.ReadCalls.{exact_map}
 use Rattle.no_std_io2_base.proofs.impls.boxed.BoxRead.read_exact.Goals as goal
 
 pub returns : goal.returns
@@ -17,5 +19,8 @@ returns g c =
         metered = search rules;
         filling = search rules;
         store = search rules;
+        calls = exact_map (with_value c.args.self.now) (λ a b call made. made) (subst
+            (λ v. ExactMade g.T.Read.may v c.read_exact.result c.read_exact.new.buf c.read_exact.new.self) c.as_mut.ensures.value
+            read.calls);
       };
     }

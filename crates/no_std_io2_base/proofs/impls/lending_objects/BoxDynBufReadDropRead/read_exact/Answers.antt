@@ -9,7 +9,7 @@ returns g c =
     let read = c.read_exact.ensures in
     record {
       law = exact_box (λ p. (o p).Read.tells p.1) (λ p. (o p).Read.events p.1) (λ p. (o p).Read.turns p.1)
-          (λ p. (o p).Read.may_take_none p.1) c.args.self.now c.args.buf.now c.read_exact.new.buf c.read_exact.result
-          c.deref_box_mut-1.result.now (search rules) c.read_exact.new.self
-          read.told read.fault read.empty read.turns read.turn;
+          (λ p. (o p).Read.may_take_none p.1) (λ i v. (o (i, v)).Read.may v) c.args.self.now
+          c.args.buf.now c.read_exact.new.buf c.read_exact.result c.deref_box_mut-1.result.now (search rules) c.read_exact.new.self
+          read.told read.fault read.empty read.turns read.turn read.calls;
     }

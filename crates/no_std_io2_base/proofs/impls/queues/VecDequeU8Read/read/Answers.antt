@@ -24,4 +24,5 @@ returns-clause-law g c =
       counts = λ m. absurd m;
       fills = λ f. absurd f;
       store = λ s. absurd s;
+      call = tt;
     }

@@ -26,7 +26,8 @@ returns-in_err-open_room g c =
 pub returns-in-Ok-eq0 : goal.returns-in-Ok-eq0
 returns-in-Ok-eq0 g c =
     let room = c.open_room.ensures in
-    let w = wrote room.within c.open_room.new.buf.ok.0 c.deref_mut.ensures.value c.read.auto.buf room.front in
+    let w = wrote room.within c.open_room.new.buf.ok.0 c.deref_mut.ensures.value c.read.auto.buf room.front
+    c.in_ok-open_room.ensures.room in
     record {
       law = to_end_done c.reads.invariant (λ x told. absurd told) w c.truncate.ensures.items
           (omega (arith, room.grows, c.truncate.ensures.capacity)) c.read.ensures.law c.in-Ok-eq0.is c.in-Ok-eq0.field-0-test
@@ -36,7 +37,8 @@ returns-in-Ok-eq0 g c =
 pub returns-in-Err-2 : goal.returns-in-Err-2
 returns-in-Err-2 g c =
     let room = c.open_room.ensures in
-    let w = wrote room.within c.open_room.new.buf.ok.0 c.deref_mut.ensures.value c.read.auto.buf room.front in
+    let w = wrote room.within c.open_room.new.buf.ok.0 c.deref_mut.ensures.value c.read.auto.buf room.front
+    c.in_ok-open_room.ensures.room in
     record {
       law = to_end_fault c.reads.invariant (λ x told. absurd told) w c.truncate-in-Err-2.ensures.items
           (omega (arith, room.grows, c.truncate-in-Err-2.ensures.capacity)) c.in-Err.ensures.law
@@ -46,13 +48,15 @@ returns-in-Err-2 g c =
 pub reads-preserved-in-Ok : goal.reads-preserved-in-Ok
 reads-preserved-in-Ok g c =
     let room = c.open_room.ensures in
-    let w = wrote room.within c.open_room.new.buf.ok.0 c.deref_mut.ensures.value c.read.auto.buf room.front in
+    let w = wrote room.within c.open_room.new.buf.ok.0 c.deref_mut.ensures.value c.read.auto.buf room.front
+    c.in_ok-open_room.ensures.room in
     to_end_read c.reads.invariant (λ x told. absurd told) c.in-Ok.ensures.law c.in-Ok.n-test.1 w room.grows
 
 pub reads-preserved : goal.reads-preserved
 reads-preserved g c =
     let room = c.open_room.ensures in
-    let w = wrote room.within c.open_room.new.buf.ok.0 c.deref_mut.ensures.value c.read.auto.buf room.front in
+    let w = wrote room.within c.open_room.new.buf.ok.0 c.deref_mut.ensures.value c.read.auto.buf room.front
+    c.in_ok-open_room.ensures.room in
     to_end_interruption c.reads.invariant (λ x told. absurd told) c.in-Err.ensures.law
     (sym c.is_interrupted.ensures ∙ c.if-is_interrupted.true) w
     room.grows

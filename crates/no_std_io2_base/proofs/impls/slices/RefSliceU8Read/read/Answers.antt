@@ -20,5 +20,6 @@ returns c =
         counts = λ m. absurd m;
         fills = λ _. (tt, omega (arith, length-events_of all));
         store = λ s. absurd s;
+        call = tt;
       };
     }

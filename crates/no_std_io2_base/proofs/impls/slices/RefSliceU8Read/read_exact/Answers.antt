@@ -3,6 +3,7 @@ use Rattle.std.proofs.lemmas.Grind.{common_steps}
 use Rattle.std.proofs.lemmas.List.{take_rest, get_or_read}
 use Rattle.no_std_io2_base.specs.Read.{bytes-events_of}
 use Rattle.no_std_io2_base.proofs.SliceEvents.{fill_bytes}
+use Rattle.no_std_io2_base.proofs.ReadCalls.{exact_own}
 use Rattle.no_std_io2_base.proofs.EventLemmas.{HasNoFault-events_of}
 use Rattle.no_std_io2_base.proofs.impls.slices.RefSliceU8Read.read_exact.Goals as goal
 
@@ -26,6 +27,7 @@ returns-then-all-buf-clause-law c =
       metered = λ m. m;
       filling = λ f. f;
       store = λ s. absurd s;
+      calls = exact_own tt;
     }
 
 pub returns-clause-law : goal.returns-clause-law
@@ -46,4 +48,5 @@ returns-clause-law c =
       metered = λ m. m;
       filling = λ f. f;
       store = λ s. absurd s;
+      calls = exact_own tt;
     }

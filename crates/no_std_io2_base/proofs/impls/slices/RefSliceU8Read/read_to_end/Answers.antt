@@ -1,5 +1,6 @@
 -- What was appended is a front of the slice, and the rest stays.
 use Rattle.std.proofs.lemmas.Result.{err_from_is_err_and}
+use Rattle.no_std_io2_base.proofs.ReadCalls.{to_end_own}
 use Rattle.no_std_io2_base.proofs.PieceLemmas.{memory_fault}
 use Rattle.no_std_io2_base.proofs.SliceReads.{moved_whole, moved_part, never_refused, front_stays, longer_by, left_of, fewer_left}
 use Rattle.no_std_io2_base.proofs.impls.slices.RefSliceU8Read.read_to_end.Goals as goal
@@ -22,6 +23,7 @@ returns-in_err-append_rest g c =
         metered = λ m. m;
         filling = λ f. f;
         store = λ s. absurd s;
+        calls = to_end_own c.args.buf.now (front_stays said.moved c.args.buf.now.ok.0) tt;
       };
     })
 
@@ -42,5 +44,6 @@ returns g c =
         metered = λ m. m;
         filling = λ f. f;
         store = λ s. absurd s;
+        calls = to_end_own c.args.buf.now (front_stays said.moved c.args.buf.now.ok.0) tt;
       };
     }

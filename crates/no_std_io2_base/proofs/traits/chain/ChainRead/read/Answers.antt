@@ -24,6 +24,7 @@ returns-in_err-n g c =
         counts = λ m. absurd m;
         fills = λ f. absurd f;
         store = λ s. absurd s;
+        call = tt;
       };
       in_turn = turn_of_first _ _ going refl;
       empty = λ nothing. refl;
@@ -50,6 +51,7 @@ returns-in_default-clause-law g c =
       counts = λ m. absurd m;
       fills = λ f. absurd f;
       store = λ s. absurd s;
+      call = tt;
     }
 
 pub returns-in_default-clause-ended : goal.returns-in_default-clause-ended
@@ -93,6 +95,7 @@ returns g c =
         counts = λ m. absurd m;
         fills = λ f. absurd f;
         store = λ s. absurd s;
+        call = tt;
       };
       in_turn = turn_past c.if-not-self.self (record c.if-not-self.self { second = c.read-2.new.self }) past refl refl;
       empty = marked;

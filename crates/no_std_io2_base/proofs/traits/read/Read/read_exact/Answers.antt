@@ -1,6 +1,9 @@
 use Rattle.std.proofs.Common.{rules, sym, ◌∙◌}
-use Rattle.no_std_io2_base.proofs.ReadExactLoop.{exact_read, exact_interruption, exact_end, exact_fault, exact_all}
+use Rattle.no_std_io2_base.proofs.ReadExactLoop.{exact_none, exact_read, exact_interruption, exact_end, exact_fault, exact_all}
 use Rattle.no_std_io2_base.proofs.traits.read.Read.read_exact.Goals as goal
+
+pub reads-init : goal.reads-init
+reads-init g c = exact_none
 
 pub returns-in-Ok-eq0 : goal.returns-in-Ok-eq0
 returns-in-Ok-eq0 g c = record {

@@ -21,6 +21,7 @@ returns-then-self-eq0 g c =
         counts = λ m. absurd m;
         fills = λ f. (f, omega (arith, ap (λ k. length (cut k E)) zero));
         store = λ s. absurd s;
+        call = tt;
       };
       limit = omega arith;
       at_limit = λ _. (refl, refl);
@@ -41,6 +42,7 @@ returns-in_err-n g c =
         counts = λ m. absurd m;
         fills = λ f. absurd (read.fills f).1;
         store = λ s. absurd s;
+        call = tt;
       };
       limit = omega arith;
       at_limit = λ zero. absurd (c.if-self-eq0.false zero);
@@ -75,6 +77,7 @@ returns g c =
             let long = length-take-le most buf (omega arith) in
             (now.0, omega (arith, long, now.1, cut-length limit _ alone.1));
         store = λ s. absurd s;
+        call = tt;
       };
       limit = falls;
       at_limit = λ zero. absurd (c.if-self-eq0.false zero);
@@ -93,6 +96,7 @@ returns-in_err-given-clause-law g c =
       counts = λ m. absurd m;
       fills = λ f. absurd (read.fills f).1;
       store = λ s. absurd s;
+      call = tt;
     })
 
 pub returns-in_err-given-clause-along : goal.returns-in_err-given-clause-along
@@ -116,6 +120,7 @@ returns-then-buf-self-clause-law g c =
           let alone = g.met.T.Read.filling_tells _ f in
           (now.0, omega (arith, now.1, c.if-buf-self.true, cut-length limit _ alone.1));
       store = λ s. absurd s;
+      call = tt;
     }
 
 pub returns-then-buf-self-clause-along : goal.returns-then-buf-self-clause-along

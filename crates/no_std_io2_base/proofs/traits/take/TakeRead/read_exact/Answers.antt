@@ -1,7 +1,10 @@
-use Rattle.std.proofs.Common.{rules, arith, sym, ◌∙◌}
-use Rattle.no_std_io2_base.proofs.TakeAlong.{along_then}
-use Rattle.no_std_io2_base.proofs.ReadExactLoop.{exact_read, exact_interruption, exact_end, exact_fault, exact_all}
+use Rattle.std.proofs.Common.{rules, arith, refl, sym, ◌∙◌}
+use Rattle.no_std_io2_base.proofs.TakeAlong.{along_none, along_then}
+use Rattle.no_std_io2_base.proofs.ReadExactLoop.{exact_none, exact_read, exact_interruption, exact_end, exact_fault, exact_all}
 use Rattle.no_std_io2_base.proofs.traits.take.TakeRead.read_exact.Goals as goal
+
+pub reads-init : goal.reads-init
+reads-init g c = record { law = exact_none; limit = omega arith; at_limit = λ none. refl; along = λ t. along_none refl refl }
 
 pub returns-in-Ok-eq0 : goal.returns-in-Ok-eq0
 returns-in-Ok-eq0 g c =

@@ -3,6 +3,7 @@ use Rattle.std.proofs.lemmas.Result.{err_from_is_err_and}
 use Rattle.no_std_io2_base.proofs.TakeAlong.{along_none, along_then}
 use Rattle.no_std_io2_base.proofs.ReadToEndGathered.{gathered_same, gathered_first_fault, gathered_fits}
 use Rattle.no_std_io2_base.proofs.ReadToEndExits.{filled_bytes, front_cut, count_cut, len_cut, filled_length}
+use Rattle.no_std_io2_base.proofs.ReadCalls.{to_end_own}
 use Rattle.no_std_io2_base.proofs.TakeToEnd.{Ended, ended_at_limit, nothing_read, given_none, gathered_done}
 use Rattle.no_std_io2_base.proofs.TakeToEnd.{limit_same, limit_cut, no_turn, none_filled}
 use Rattle.no_std_io2_base.proofs.ReadToEndLoop.{wrote, to_end_none, to_end_no_room, to_end_refused, to_end_read}
@@ -57,7 +58,8 @@ reads-preserved-in-Ok g c =
     let before = c.reads.invariant in
     let read = c.in-Ok.ensures in
     let room = c.open_room.ensures in
-    let w = wrote room.within c.open_room.new.buf.ok.0 c.deref_mut.ensures.value c.read.auto.buf room.front in
+    let w = wrote room.within c.open_room.new.buf.ok.0 c.deref_mut.ensures.value c.read.auto.buf room.front
+    c.in_ok-open_room.ensures.room in
     record {
       law = to_end_read before.law (λ x told. absurd told) read.law c.in-Ok.n-test.1 w room.grows;
       limit = omega (arith, before.limit, read.limit);
@@ -71,7 +73,8 @@ returns-in-Err-2 g c =
     let read = c.in-Err.ensures in
     let room = c.open_room.ensures in
     let within : c.reads.filled ≤ length c.reads.buf.items = omega (arith, before.law.within, c.reads.buf.ok.0) in
-    let w = wrote room.within c.open_room.new.buf.ok.0 c.deref_mut.ensures.value c.read.auto.buf room.front in
+    let w = wrote room.within c.open_room.new.buf.ok.0 c.deref_mut.ensures.value c.read.auto.buf room.front
+    c.in_ok-open_room.ensures.room in
     let fault = sym c.is_interrupted.ensures ∙ c.if-is_interrupted.false in
     let new = c.truncate.new.self in
     let cut = c.truncate.ensures.items in
@@ -91,7 +94,8 @@ reads-preserved g c =
     let before = c.reads.invariant in
     let read = c.in-Err.ensures in
     let room = c.open_room.ensures in
-    let w = wrote room.within c.open_room.new.buf.ok.0 c.deref_mut.ensures.value c.read.auto.buf room.front in
+    let w = wrote room.within c.open_room.new.buf.ok.0 c.deref_mut.ensures.value c.read.auto.buf room.front
+    c.in_ok-open_room.ensures.room in
     record {
       law = to_end_interruption before.law (λ x told. absurd told) read.law (sym c.is_interrupted.ensures ∙ c.if-is_interrupted.true) w
           room.grows;
@@ -112,7 +116,7 @@ returns g c =
       | then-reads-test+in_ok-open_room+in-Ok-eq0 w ↦
           let room = w.open_room.ensures in
           ap (λ b. take filled b.items) w.buf-is
-          ∙ (wrote room.within w.open_room.new.buf.ok.0 w.deref_mut.ensures.value w.read.auto.buf room.front).kept
+          ∙ (wrote room.within w.open_room.new.buf.ok.0 w.deref_mut.ensures.value w.read.auto.buf room.front w.in_ok-open_room.ensures.room).kept
     ] in
     let grown : vec_capacity c.reads.buf ≤ vec_capacity c.reads-test.buf = elim c.reads-test.branch [
       | else-reads-test w ↦ omega (arith, ap vec_capacity w.buf-is)
@@ -125,7 +129,8 @@ returns g c =
           let is = w.in-Ok-eq0.is in
           let none = w.in-Ok-eq0.field-0-test in
           let room = w.open_room.ensures in
-          let part = wrote room.within w.open_room.new.buf.ok.0 w.deref_mut.ensures.value w.read.auto.buf room.front in
+          let part = wrote room.within w.open_room.new.buf.ok.0 w.deref_mut.ensures.value w.read.auto.buf room.front
+          w.in_ok-open_room.ensures.room in
           let some : 0 < length w.read.new.buf = omega (arith, part.fits, w.in_ok-open_room.ensures.room) in
           subst (Ended T.tells T.is_filling T.turns T.events c.reads.self) (sym w.self-is) (record {
             spent = read.turns;
@@ -159,6 +164,7 @@ returns g c =
         metered = λ m. m;
         filling = λ f. ended.fill (before.law.filling f);
         store = λ s. absurd s;
+        calls = to_end_own c.args.buf.now (front_cut _ filled mid before.law.grows same before.law.front) tt;
       };
       small_room = λ t enough. tt;
       limit = limit_cut _ _ ended.same long before.limit;

@@ -1,12 +1,13 @@
 -- A read, by its ends: past the buffer, a fill that failed, out of the filled buffer, and out of what was held.
-use Rattle.std.proofs.Common.{◌≡◌, ◌≤◌, ◌<◌, ◌++◌, length, take, arith, sym, ap, subst, ◌∙◌, length-drop, IsOkAnd, min}
+use Rattle.std.proofs.Common.{◌≡◌, ◌≤◌, ◌<◌, ◌++◌, length, take, arith, Ok, refl, sym, ap, subst, ◌∙◌, length-drop, IsOkAnd, min}
 use Rattle.std.proofs.lemmas.Result.{err_from_is_err_and}
 use Rattle.no_std_io2.specs.Buffer.{buffer_held, buffer_behind}
 use Rattle.no_std_io2.specs.BufReader.{reader_held, reader_inner}
 use Rattle.no_std_io2.proofs.BufReaderBehind.{sound_empty}
 use Rattle.no_std_io2.proofs.BufReaderExact.{no_bytes, gives_to_come, gives_held}
 use Rattle.no_std_io2.proofs.BufReaderTurns.{turns_read}
-use Rattle.no_std_io2.proofs.BufReaderCalls.{through_told, through_turn, sound_none, behind_past, behind_own, not_ok}
+use Rattle.no_std_io2.proofs.BufReaderCalls.{through_told, through_turn, sound_none, behind_past, behind_own, not_ok, passes_on}
+use Rattle.no_std_io2_base.specs.Read.{Gave}
 use Rattle.no_std_io2.proofs.buffered.buf_reader.reads.BufReaderRead.read.Goals as goal
 
 -- past the buffer
@@ -31,6 +32,11 @@ returns-then-buf g c =
             ((now.0, sound_none new _ _ empty), now.1, omega (arith, now.2, none, ap length empty));
         counts = λ h. absurd h;
         fills = λ h. absurd h;
+        call = record {
+          held = λ some. absurd (omega (arith, some, none));
+          direct = λ empty long. read.call;
+          filled = λ empty short. absurd (omega (arith, short, past));
+        };
       };
       held = λ some. absurd (omega (arith, some, none));
       asks = λ m. let now = read.counts m in (now.0, omega (arith, now.1, past, none, g.row.S));
@@ -65,6 +71,11 @@ returns-in_err-read_ahead g c =
         store = λ s. let now = fill.store s in (now.0, now.1, omega (arith, now.2));
         counts = λ h. absurd h;
         fills = λ h. absurd h;
+        call = record {
+          held = λ some. absurd (omega (arith, some, none));
+          direct = λ empty long. absurd (omega (arith, short, long));
+          filled = λ empty less. (_, fill.call, (refl, fill.held));
+        };
       };
       held = λ some. absurd (omega (arith, some, none));
       asks = λ m. let now = fill.asks m in (now.0, omega (arith, now.1, none));
@@ -104,6 +115,15 @@ returns g c =
             (now.0, ap g.R.Stored.content gave.inner ∙ filled.1, omega (arith, now.1, filled.2));
         counts = λ h. absurd h;
         fills = λ h. absurd h;
+        call = record {
+          held = λ some. absurd (omega (arith, some, none));
+          direct = λ empty long. absurd (omega (arith, short, long, c.give-2.auto.buf));
+          filled = λ empty less. (
+            Ok mid,
+            subst (λ i. g.R.Read.may (reader_inner c.args.self.now) (Gave g.row.S (Ok mid)) i) (sym gave.inner) fill.call,
+            passes_on n (length c.give-2.new.buf) mid c.give-2.new.buf _ (omega (arith, gave.count, c.give-2.auto.buf)) gave.gave gave.held,
+          );
+        };
       };
       held = λ some. absurd (omega (arith, some, none));
       asks = λ m.
@@ -141,6 +161,11 @@ returns-then-len-gt0 g c =
         store = λ s. let now = gave.store s in (now.0, ap g.R.Stored.content gave.inner, now.1);
         counts = λ h. absurd h;
         fills = λ h. absurd h;
+        call = record {
+          held = λ more. gave.inner;
+          direct = λ empty long. absurd (omega (arith, empty, some));
+          filled = λ empty less. absurd (omega (arith, empty, some));
+        };
       };
       held = λ more. (gave.count, gave.gave, gave.held, gave.inner);
       asks = λ m. (subst g.R.Read.is_metered same m, omega (arith, ap g.R.Read.cost gave.inner, some));

@@ -1,6 +1,7 @@
 -- An exact read, by its two ends: past what is held, and out of it.
 use Rattle.std.proofs.Common.{◌≡◌, ◌-◌, ◌<◌, ◌≤◌, ◌++◌, length, arith, ap, refl, ◌∙◌, length-drop, length-take-le}
 use Rattle.no_std_io2_base.specs.Read.{events_of}
+use Rattle.no_std_io2_base.proofs.ReadCalls.{exact_own}
 use Rattle.no_std_io2.specs.Buffer.{buffer_held, buffer_behind}
 use Rattle.no_std_io2.specs.BufReader.{reader_held, reader_behind, reader_inner}
 use Rattle.no_std_io2.proofs.BufReaderBehind.{sound_moved}
@@ -23,6 +24,7 @@ returns-then-buf-len g c =
         filling = λ h. h;
         store = read.store;
         empty = λ none. absurd (omega (arith, none, more));
+        calls = read.calls;
       };
       held = λ fits. absurd (omega (arith, fits, more));
       asks = read.asks;
@@ -56,6 +58,7 @@ returns g c =
             let moved = moved_length old new c.give_whole.new.buf inner inner n told (ap length gave.gave ∙ length-take-le n old most) in
             ((s.0, sound.0), refl, omega (arith, sound.1, moved, length-events old inner, length-events new inner));
         empty = λ none. (refl, same_buffer c.args.self.now _ _ _ (gave.empty none));
+        calls = exact_own (omega (arith, most, ap length gave.gave, length-take-le n old most), refl);
       };
       held = λ fits. (refl, gave.gave, gave.held, gave.behind, refl);
       asks = λ m f. (m, omega (arith, exact_reads-held n (length old) (length (events_of old ++ inner)) most));

@@ -10,7 +10,8 @@ use Rattle.no_std_io2.proofs.BufReaderEmptied.{moved_all, emptied_all, emptied_s
 use Rattle.no_std_io2.proofs.BufReaderEmptied.{emptied_moved, emptied_again, part_refused, part_front, part_moved, part_sound}
 use Rattle.no_std_io2.proofs.BufReaderEmptied.{part_turns, room_held, held_fault, none_told, none_room, none_empties}
 use Rattle.no_std_io2.proofs.BufWriterLemmas.{none_of_length}
-use Rattle.no_std_io2.proofs.BufReaderCalls.{sound_none}
+use Rattle.no_std_io2.proofs.BufReaderCalls.{sound_none, drained}
+use Rattle.no_std_io2_base.proofs.ReadCalls.{to_end_own}
 use Rattle.no_std_io2.proofs.BufReaderTurns.{turns_read, appended_turn}
 use Rattle.no_std_io2.proofs.buffered.buf_reader.reads.BufReaderRead.read_to_end.Goals as goal
 
@@ -40,6 +41,8 @@ returns-then-is_empty g c =
         store = λ s.
             let now = read.store s.0 in
             ((now.0, sound_none left _ _ clear.held), now.1, emptied_moved held left _ _ _ s.1.0 clear.held now.2);
+        calls = to_end_own c.args.buf.now read.appends
+            (inr (_, refl, drained c.args.buf.now.items held _ read.calls same c.args.buf.now.ok.0));
       };
       empties = none_empties c.args.self.now _ c.args.buf.now.items _ _ (emptied_shown _ same read.appends, (clear.held, clear.behind));
       sound = λ s. ((read.store s.0).0, sound_empty (buffer_behind c.clear.new.self) left _ _ clear.behind clear.held);
@@ -66,6 +69,7 @@ returns-in_err-append_to g c =
         metered = λ h. h;
         filling = λ h. h;
         store = λ s. ((s.0, part_sound held left _ _ moved s.1), refl, part_moved held left _ _ s.1.0 moved);
+        calls = to_end_own c.args.buf.now (part_front held left c.args.buf.now.ok.0 moved) (inl refl);
       };
       empties = inr (refused.refused, refl, moved);
       sound = λ s. (s.0, sound_stayed _ _ _ _ _ _ refused.kept refl refl s.1);
@@ -100,6 +104,9 @@ returns-in_err-rest_to_end g c =
         store = λ s.
             let now = read.store s.0 in
             ((now.0, sound_none none _ _ done.done.0), now.1, emptied_moved held none _ _ _ s.1.0 done.done.0 now.2);
+        calls = to_end_own c.args.buf.now
+            (emptied_front held _ c.args.buf.now.ok.0 c.append_to.new.buf.ok.0 first read.appends)
+            (inr (_, refl, drained c.args.buf.now.items held _ read.calls first c.args.buf.now.ok.0));
       };
       empties = inl (emptied_shown _ first read.appends, done.done);
       sound = λ s. ((read.store s.0).0, sound_empty (buffer_behind c.append_to.new.self) none _ _ done.done.1 done.done.0);
@@ -132,6 +139,9 @@ returns g c =
         store = λ s.
             let now = read.store s.0 in
             ((now.0, sound_none none _ _ done.done.0), now.1, emptied_moved held none _ _ _ s.1.0 done.done.0 now.2);
+        calls = to_end_own c.args.buf.now
+            (emptied_front held _ c.args.buf.now.ok.0 c.append_to.new.buf.ok.0 first read.appends)
+            (inr (_, refl, drained c.args.buf.now.items held _ read.calls first c.args.buf.now.ok.0));
       };
       empties = (emptied_shown _ first read.appends, done.done);
       sound = λ s. ((read.store s.0).0, sound_empty (buffer_behind c.append_to.new.self) none _ _ done.done.1 done.done.0);

@@ -1,0 +1,110 @@
+-- The calls of a reader, one after another.
+use Rattle.std.proofs.Common.{◌≡◌, ℕ, List, [], ◌∷◌, ◌++◌, Result, Ok, Err, length, take, drop, Vec, vec_len}
+use Rattle.std.proofs.Common.{refl, sym, ap, subst, ◌∙◌, append_assoc, append-nil, take-append-drop, inl, inr}
+use Rattle.no_std_io2_base.specs.declared.error.Error.{Error}
+use Rattle.no_std_io2_base.specs.Write.{Made}
+use Rattle.no_std_io2_base.proofs.CallsLemmas.{made_then, made_map}
+use Rattle.no_std_io2_base.specs.Read.{ReadCall, Gave, GaveExactly, GaveAll, gave, gave_whole, ended, Gathers, no_read, and_gave, and_again}
+use Rattle.no_std_io2_base.specs.Read.{GathersUntil, IsSome, ToEndCalls, ExactMade, ToEndMade}
+
+-- a read of no bytes
+pub gave_nothing : {S : Type 0} (may : S → ReadCall → S → Type 0) {old new : S} {reply : Result ℕ Error} {n : ℕ} (buf : List ℕ)
+    → may old (Gave (length buf) (gave reply buf)) new → reply ≡ Ok n → n ≡ 0 → may old (Gave (length buf) (Ok [])) new
+gave_nothing may {old} {new} buf call is zero =
+    subst (λ answer. may old (Gave (length buf) answer) new) (ap (λ r. gave r buf) is ∙ ap (λ k. Ok (take k buf)) zero) call
+
+-- `read_exact` is one call of its own
+pub exact_own : {S : Type 0} {may : S → ReadCall → S → Type 0} {old new : S} {reply : Result (Unit {0}) Error} {buf : List ℕ}
+    → may old (GaveExactly (length buf) (gave_whole reply buf)) new → ExactMade may old reply buf new
+exact_own {new = new} own = record { calls = _; made = (new, own, refl); are = inl refl }
+
+-- and so may a `read_to_end` be
+pub to_end_own : {S A : Type 0} {may : S → ReadCall → S → Type 0} {old new : S} {buf' : List ℕ} {reply : Result ℕ Error} (buf : Vec ℕ A)
+    → take (vec_len buf) buf' ≡ buf.items → may old (GaveAll (drop (vec_len buf) buf') (ended reply)) new
+    → ToEndMade may old buf.items reply buf' new
+to_end_own {new = new} {buf' = buf'} buf front own =
+    let x = drop (vec_len buf) buf' in
+    record {
+      calls = _;
+      given = x;
+      made = (new, own, refl);
+      appended = sym (take-append-drop (vec_len buf) buf') ∙ ap (λ l. l ++ x) front;
+      are = inl ([], [], x, no_read, refl, refl);
+    }
+
+-- the calls of a part are calls of the whole
+pub exact_map : {S T : Type 0} {may : S → ReadCall → S → Type 0} {may' : T → ReadCall → T → Type 0} {old new : S}
+    {reply : Result (Unit {0}) Error} {buf : List ℕ} (put : S → T)
+    → ((a b : S) (call : ReadCall) → may a call b → may' (put a) call (put b)) → ExactMade may old reply buf new
+    → ExactMade may' (put old) reply buf (put new)
+exact_map {may = may} {may' = may'} put each m =
+    record { calls = m.calls; made = made_map may may' put each m.calls _ _ m.made; are = m.are }
+
+pub to_end_map : {S T : Type 0} {may : S → ReadCall → S → Type 0} {may' : T → ReadCall → T → Type 0} {old new : S}
+    {buf buf' : List ℕ} {reply : Result ℕ Error} (put : S → T)
+    → ((a b : S) (call : ReadCall) → may a call b → may' (put a) call (put b)) → ToEndMade may old buf reply buf' new
+    → ToEndMade may' (put old) buf reply buf' (put new)
+to_end_map {may = may} {may' = may'} put each m = record {
+  calls = m.calls;
+  given = m.given;
+  made = made_map may may' put each m.calls _ _ m.made;
+  appended = m.appended;
+  are = m.are;
+}
+
+-- reads and then others
+pub gathers_then : {C D : List ReadCall} {x y : List ℕ} → Gathers IsSome C x → Gathers IsSome D y → Gathers IsSome (C ++ D) (x ++ y)
+gathers_then {C} {x = x} first no_read =
+    subst (Gathers IsSome (C ++ [])) (sym (append-nil x)) (subst (λ c. Gathers IsSome c x) (sym (append-nil C)) first)
+gathers_then {C} {x = x} first (and_gave D y z room second some gives) =
+    subst (Gathers IsSome (C ++ (D ++ Gave room (Ok z) ∷ []))) (append_assoc x y z)
+    (subst (λ c. Gathers IsSome c ((x ++ y) ++ z)) (append_assoc C D (Gave room (Ok z) ∷ []))
+    (and_gave (C ++ D) (x ++ y) z room (gathers_then first second) some gives))
+gathers_then {C} {x = x} first (and_again D y room e second some interrupted) =
+    subst (λ c. Gathers IsSome c (x ++ y)) (append_assoc C D (Gave room (Err e) ∷ []))
+    (and_again (C ++ D) (x ++ y) room e (gathers_then first second) some interrupted)
+
+-- and until one ends them
+pub until_then : {C D : List ReadCall} {x y : List ℕ} {answer : Result (List ℕ) Error} → Gathers IsSome C x → GathersUntil IsSome D y answer
+    → GathersUntil IsSome (C ++ D) (x ++ y) answer
+until_then {C} {answer = answer} first then = (
+  C ++ then.0,
+  then.1,
+  gathers_then first then.2,
+  then.3,
+  ap (λ d. C ++ d) then.4 ∙ sym (append_assoc C then.0 (Gave then.1 answer ∷ [])),
+)
+
+-- reads and then a `read_to_end`, whose answer counts its own bytes alone
+pub to_end_then : {C D : List ReadCall} {x y : List ℕ} (reply reply' : Result ℕ Error) → ended reply ≡ ended reply' → Gathers IsSome C x
+    → ToEndCalls D y reply → ToEndCalls (C ++ D) (x ++ y) reply'
+to_end_then {C} {x = x} reply reply' same first (inl own) = inl (
+  C ++ own.0,
+  x ++ own.1,
+  own.2,
+  gathers_then first own.3,
+  ap (λ l. x ++ l) own.4 ∙ sym (append_assoc x own.1 own.2),
+  ap (λ d. C ++ d) own.5 ∙ sym (append_assoc C own.0 (GaveAll own.2 (ended reply) ∷ []))
+      ∙ ap (λ r. (C ++ own.0) ++ GaveAll own.2 r ∷ []) same,
+)
+to_end_then (Ok n) (Ok m) same first (inr reads) = inr (until_then first reads)
+to_end_then (Ok n) (Err e) same first (inr reads) = absurd (let no : ⊥ = cc in no)
+to_end_then (Err e) (Ok n) same first (inr reads) = absurd (let no : ⊥ = cc in no)
+to_end_then {C} {D} {x} {y} (Err e) (Err f) same first (inr (inl fault)) =
+    let is : e ≡ f = cc in
+    subst (λ k. ToEndCalls (C ++ D) (x ++ y) (Err k)) is (inr (inl (fault.0, until_then first fault.1)))
+to_end_then {C} {D} {x} {y} (Err e) (Err f) same first (inr (inr refused)) =
+    let is : e ≡ f = cc in
+    subst (λ k. ToEndCalls (C ++ D) (x ++ y) (Err k)) is (inr (inr (refused.0, gathers_then first refused.1)))
+
+-- what they made of the reader and of the vector
+pub to_end_after : {S : Type 0} (may : S → ReadCall → S → Type 0) {old mid new : S} {buf v v' : List ℕ} {reply reply' : Result ℕ Error}
+    (C : List ReadCall) (x : List ℕ) → Made may old C mid → v ≡ buf ++ x → Gathers IsSome C x
+    → ToEndMade may mid v reply v' new → ended reply ≡ ended reply' → ToEndMade may old buf reply' v' new
+to_end_after may {old} {mid} {new} {buf} {reply = reply} {reply' = reply'} C x made is first last same = record {
+  calls = C ++ last.calls;
+  given = x ++ last.given;
+  made = made_then may C old last.calls mid new made last.made;
+  appended = last.appended ∙ ap (λ l. l ++ last.given) is ∙ append_assoc buf x last.given;
+  are = to_end_then reply reply' same first last.are;
+}

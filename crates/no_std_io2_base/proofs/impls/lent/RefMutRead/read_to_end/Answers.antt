@@ -1,0 +1,24 @@
+-- What the call did to the target, it did to the reference.
+use Rattle.no_std_io2_base.proofs.ReadCalls.{to_end_map}
+use Rattle.no_std_io2_base.proofs.impls.lent.RefMutRead.read_to_end.Goals as goal
+
+pub returns : goal.returns
+returns g c =
+    let read = c.read_to_end.ensures.law in
+    let put = λ (v : g.row.T.Denot). record c.args.self.now { now = v } in
+    record {
+      law = record {
+        told = read.told;
+        appends = read.appends;
+        count = read.count;
+        capacity = read.capacity;
+        room = read.room;
+        fault = read.fault;
+        turns = read.turns;
+        turn = read.turn;
+        metered = read.metered;
+        filling = read.filling;
+        store = read.store;
+        calls = to_end_map put (λ a b call made. made) read.calls;
+      };
+    }
