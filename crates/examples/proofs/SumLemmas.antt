@@ -4,7 +4,8 @@ use Rattle.std.specs.List.{sum}
 use Rattle.std.proofs.lemmas.List.Sums.{sum_by-append}
 use Rattle.no_std_io2.proofs.CallsAdd.{Joins}
 use Rattle.examples.specs.declared.summed.Summed.{Summed}
-use Rattle.examples.specs.Summed.{summed_sum, Sums}
+use Rattle.no_std_io2.proofs.ReadsAdd.{EachAdds}
+use Rattle.examples.specs.Summed.{summed_sum, Sums, ReadSums}
 
 then : (s a b t u : ℕ) → t % 2 ^ 64 ≡ (s + a) % 2 ^ 64 → u % 2 ^ 64 ≡ (t + b) % 2 ^ 64 → u % 2 ^ 64 ≡ (s + (a + b)) % 2 ^ 64
 then s a b t u first next = omega arith
@@ -15,4 +16,14 @@ sums_join = record {
   more = λ a b c x y first next.
       then (summed_sum a) (sum x) (sum y) (summed_sum b) (summed_sum c) first next
       ∙ ap (λ n. (summed_sum a + n) % 2 ^ 64) (sym (sum_by-append (λ b. b) x y));
+}
+
+-- each read adds what it gave
+pub reads_sum : {R : Type 0} → EachAdds {R = Summed R} ReadSums Sums
+reads_sum = record {
+  joins = sums_join;
+  gave = λ a b room x call. call;
+  failed = λ a b room e call. call;
+  exactly = λ a b room x call. absurd call;
+  all = λ a b x answer call. absurd call;
 }

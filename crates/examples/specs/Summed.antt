@@ -1,8 +1,9 @@
--- A writer with a checksum.
-use Rattle.std.specs.Prelude.{◌≡◌, ℕ, List, ◌+◌, ◌%◌, ◌^◌, sum}
+-- A writer or a reader with a checksum.
+use Rattle.std.specs.Prelude.{◌≡◌, ℕ, List, [], Ok, Err, ◌+◌, ◌%◌, ◌^◌, sum}
+use Rattle.no_std_io2.specs.Read.{ReadCall, Gave, GaveExactly, GaveAll}
 use Rattle.examples.specs.declared.summed.Summed.{Summed}
 
--- the inner writer
+-- the inner writer or reader
 abbrev pub summed_inner : {W : Type 0} → Summed W → W
 summed_inner s = s.inner
 
@@ -13,3 +14,10 @@ summed_sum s = s.sum
 -- the sum grew by these bytes, modulo 2^64
 abbrev pub Sums : {W : Type 0} → Summed W → List ℕ → Summed W → Type 0
 Sums old bytes new = summed_sum new % 2 ^ 64 ≡ (summed_sum old + sum bytes) % 2 ^ 64
+
+-- A read adds the bytes that it gave, and none if it failed. A `read_exact` and a `read_to_end` are reads.
+abbrev pub ReadSums : {R : Type 0} → Summed R → ReadCall → Summed R → Type 0
+ReadSums old (Gave room (Ok x)) new = Sums old x new
+ReadSums old (Gave room (Err e)) new = Sums old [] new
+ReadSums old (GaveExactly room answer) new = ⊥
+ReadSums old (GaveAll x answer) new = ⊥

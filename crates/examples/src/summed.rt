@@ -1,12 +1,12 @@
 //! An adaptor with a state of its own: it keeps its promise through the trait's own loops and through a buffer.
-ghost use Rattle.std.specs.Prelude.{◌≡◌, ◌+◌, ◌%◌, ◌^◌, sum};
+ghost use Rattle.std.specs.Prelude.{◌≡◌, ℕ, List, [], ◌++◌, ◌+◌, ◌%◌, ◌^◌, sum, OnOk};
 ghost use Rattle.no_std_io2.specs.BufWriter.{writer_inner, writer_buffer};
 ghost use Rattle.no_std_io2.specs.Write.{CallAdds, WroteRest};
-ghost use Rattle.examples.specs.Summed.{summed_inner, summed_sum, Sums};
+ghost use Rattle.examples.specs.Summed.{summed_inner, summed_sum, Sums, ReadSums};
 
-use no_std_io2::io::{BufWriter, Result, Write};
+use no_std_io2::io::{BufWriter, Read, Result, Stored, Write};
 
-/// A writer with a checksum: the sum of the bytes that were accepted, modulo 2^64.
+/// A writer or a reader with a checksum: the sum of the bytes that were accepted or given, modulo 2^64.
 #[derive(Drop)]
 pub struct Summed<W> {
     inner: W,
@@ -65,4 +65,49 @@ pub fn flush_summed<W: Write + Drop, const S: usize>(w: &mut BufWriter<Summed<W>
     ensures { CallAdds Sums (writer_inner w.old) (WroteRest (writer_buffer w.old) result (writer_buffer w.new)) (writer_inner w.new) }
 {
     w.flush()
+}
+
+impl<R> Stored for Summed<R> {
+    ghost has_store = { λ _. ⊥ };
+
+    ghost content = { λ _. [] };
+
+    ghost position = { λ _. 0 };
+}
+
+impl<R: Read> Read for Summed<R> {
+    ghost tells = { λ s. R.tells (summed_inner s) };
+
+    ghost events = { λ s. R.events (summed_inner s) };
+
+    ghost turns = { λ s. R.turns (summed_inner s) };
+
+    // Each read adds the bytes that it gave.
+    ghost may = { ReadSums };
+
+    fn read(&mut self, buf: &mut [u8]) -> Result<usize> {
+        let n = self.inner.read(buf)?;
+        self.sum = add_all(self.sum, &buf[..n]);
+        Ok(n)
+    }
+
+    ghost filling_tells = { λ s h. absurd h };
+
+    ghost store_tells = { λ s h. absurd h };
+
+    ghost store_fits = { λ s h. absurd h };
+}
+
+/// Fills `buf` by the trait's own loop: after `Ok` its bytes are in the sum.
+pub fn read_summed<R: Read>(r: &mut Summed<R>, buf: &mut [u8]) -> Result<()>
+    ensures { OnOk result (Sums r.old buf.new r.new) }
+{
+    r.read_exact(buf)
+}
+
+/// Reads to the end by the trait's own loop: what it appended is in the sum, after an error too.
+pub fn drain_summed<R: Read>(r: &mut Summed<R>, buf: &mut Vec<u8>) -> Result<usize>
+    ensures { (x : List ℕ) × (buf.new.items ≡ buf.old.items ++ x) × Sums r.old x r.new }
+{
+    r.read_to_end(buf)
 }
