@@ -1,10 +1,9 @@
--- What sending again and again after faults does.
-use Rattle.std.specs.Prelude.{◌≤◌, ◌+◌, ◌⊎◌, ℕ, List, length, Option, Some, None, Err, ⊤}
+-- What sending again and again after faults does, and which calls it makes.
+use Rattle.std.specs.Prelude.{◌≡◌, ◌⊎◌, ◌≤◌, ◌+◌, ℕ, suc, List, length, Option, Some, None, ⊤, Result, Ok, Err, IsErr}
 use Rattle.no_std_io2_base.specs.declared.error.Error.{Error}
 use Rattle.no_std_io2_base.specs.declared.error.ErrorKind.{ErrorKind}
 use Rattle.no_std_io2_base.specs.declared.traits.write.Write.{Ghosts as Writer}
-use Rattle.no_std_io2_base.specs.Write.{WriteRestLaw}
-use Rattle.no_std_io2_base.specs.Writers.{FlushOf}
+use Rattle.no_std_io2_base.specs.Write.{WriteRestLaw, FlushLaw}
 
 -- at most n mishaps are told to come
 abbrev pub HasAtMost : ℕ → Option (List ErrorKind) → Type 0
@@ -17,7 +16,31 @@ HasSpentTries n left None new = ⊤
 HasSpentTries n left (Some old) None = ⊥
 HasSpentTries n left (Some old) (Some new) = length new + n ≤ length old + left
 
--- the last call of this writer, a `write_rest` that left so much or a flush, answered e
-abbrev pub StopsWith : {W : Type 0} → Writer W → Error → W → List ℕ → Type 0
-StopsWith {W} I e new left = (old : W)
-    × (((x : List ℕ) × WriteRestLaw I.told I.takes_all I.cost I.is_metered I.may old x (Err e) new left) ⊎ FlushOf I old (Err e) new)
+-- what a call that sends x does to a writer, what it answers, and what it leaves of x
+abbrev pub Law : Type 0 → Type 1
+Law W = W → List ℕ → Result (Unit {0}) Error → W → List ℕ → Type 0
+
+-- a `write_rest`, by its law
+abbrev pub RestLaw : {W : Type 0} → Writer W → Law W
+RestLaw I old x reply new left = WriteRestLaw I.told I.takes_all I.cost I.is_metered I.may old x reply new left
+
+-- a `flush`, by its law
+abbrev pub FlushedLaw : {W : Type 0} → Writer W → W → Result (Unit {0}) Error → W → Type 0
+FlushedLaw I old reply new = FlushLaw I.told I.takes_all I.cost I.is_metered I.may old reply new
+
+-- such a call and, if it succeeded, one more: the result is that of the last
+abbrev pub AndThen : {W : Type 0} → Law W → (W → Result (Unit {0}) Error → W → Type 0) → Law W
+AndThen {W} law last old x reply new left =
+    (IsErr reply × law old x reply new left) ⊎ ((mid : W) × law old x (Ok tt) mid left × last mid reply new)
+
+-- a `write_rest`, and a `flush` if it succeeded
+abbrev pub RestFlushLaw : {W : Type 0} → Writer W → Law W
+RestFlushLaw I = AndThen (RestLaw I) (FlushedLaw I)
+
+-- Such calls were made again and again, with so many retries: each failed but the last, and the result is that of the last. If the last
+-- one failed, no retry was left.
+pub data Tries {W : Type 0} (law : Law W) : ℕ → W → List ℕ → Result (Unit {0}) Error → W → List ℕ → Type 0 where
+  last : {retries : ℕ} {old new : W} {x left : List ℕ} {reply : Result (Unit {0}) Error} → law old x reply new left
+      → (IsErr reply → retries ≡ 0) → Tries law retries old x reply new left
+  again : {retries : ℕ} {old mid new : W} {x rest left : List ℕ} {e : Error} {reply : Result (Unit {0}) Error}
+      → law old x (Err e) mid rest → Tries law retries mid rest reply new left → Tries law (suc retries) old x reply new left

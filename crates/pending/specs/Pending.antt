@@ -1,7 +1,8 @@
 -- What a clause reads of the record that is under way, and what a client that sends records may say of its calls.
-use Rattle.std.specs.Prelude.{◌≡◌, ◌⊎◌, All, Result, Ok, Err, IsErr, List, ℕ, [], ◌∷◌, ◌++◌, map, drop, vec_capacity}
+use Rattle.std.specs.Prelude.{◌≡◌, ◌⊎◌, All, Result, Ok, Err, List, ℕ, [], ◌∷◌, ◌++◌, map, drop, vec_capacity}
 use Rattle.no_std_io2.specs.Errors.{error_kind}
-use Rattle.no_std_io2.specs.Write.{Told, Moves, WriteRestLaw, WriteAllLaw, FlushLaw}
+use Rattle.no_std_io2.specs.Write.{Told, Moves, WriteAllLaw}
+pub use Rattle.no_std_io2.specs.Retries.{Law, RestLaw, FlushedLaw, AndThen, RestFlushLaw}
 use Rattle.no_std_io2.specs.declared.io.Write.{Ghosts as Writer}
 use Rattle.no_std_io2.specs.declared.io.Error.{Error}
 use Rattle.no_std_io2.specs.declared.io.ErrorKind.{ErrorKind}
@@ -19,30 +20,9 @@ pending_rest p = drop p.sent p.bytes.items
 abbrev pub pending_room : Pending → ℕ
 pending_room p = vec_capacity p.bytes
 
--- what a call that sends x does to a writer, what it answers, and what it leaves of x
-abbrev pub Law : Type 0 → Type 1
-Law W = W → List ℕ → Result (Unit {0}) Error → W → List ℕ → Type 0
-
--- a `write_rest`, by its law
-abbrev pub RestLaw : {W : Type 0} → Writer W → Law W
-RestLaw I old x reply new left = WriteRestLaw I.told I.takes_all I.cost I.is_metered I.may old x reply new left
-
 -- a `write_all` of no bytes, by its law
 abbrev pub NoneLaw : {W : Type 0} → Writer W → W → Result (Unit {0}) Error → W → Type 0
 NoneLaw I old reply new = WriteAllLaw I.told I.takes_all I.cost I.is_metered I.may old [] reply new
-
--- a `flush`, by its law
-abbrev pub FlushedLaw : {W : Type 0} → Writer W → W → Result (Unit {0}) Error → W → Type 0
-FlushedLaw I old reply new = FlushLaw I.told I.takes_all I.cost I.is_metered I.may old reply new
-
--- such a call and then, where it answered `Ok`, one more: the answer is that of the last
-abbrev pub Then : {W : Type 0} → Law W → (W → Result (Unit {0}) Error → W → Type 0) → Law W
-Then {W} law last old x reply new left =
-    (IsErr reply × law old x reply new left) ⊎ ((mid : W) × law old x (Ok tt) mid left × last mid reply new)
-
--- a `write_rest`, and a flush behind it
-abbrev pub RestFlushLaw : {W : Type 0} → Writer W → Law W
-RestFlushLaw I = Then (RestLaw I) (FlushedLaw I)
 
 -- the last of these calls answered this error, and left the writer and what is to go so
 abbrev pub StopsWith : {W : Type 0} → Law W → Error → W → List ℕ → Type 0

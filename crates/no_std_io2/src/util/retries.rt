@@ -1,7 +1,7 @@
 //! A write and a flush that are made again after a fault.
-ghost use Rattle.std.specs.Prelude.{◌≡◌, [], OnOk, IfErr, IsOk};
+ghost use Rattle.std.specs.Prelude.{◌≡◌, [], OnOk, IsOk};
 ghost use Rattle.no_std_io2_base.specs.Write.{Sends};
-ghost use Rattle.no_std_io2.specs.Retries.{HasAtMost, StopsWith};
+ghost use Rattle.no_std_io2.specs.Retries.{HasAtMost, RestFlushLaw, Tries};
 
 use no_std_io2_base::error::Result;
 use no_std_io2_base::traits::Write;
@@ -11,7 +11,7 @@ fn write_and_flush<W: Write>(writer: &mut W, rest: &mut &[u8]) -> Result<()>
     ensures sends { Sends (W.told writer.old) rest.old.now result (W.told writer.new) rest.new.now }
     ensures done { OnOk result (rest.new.now ≡ []) }
     ensures flushed { OnOk result ((W.told writer.new).held ≡ []) }
-    ensures last { IfErr result (λ e. StopsWith W.Write e writer.new rest.new.now) }
+    ensures calls { RestFlushLaw W.Write writer.old rest.old.now result writer.new rest.new.now }
 {
     writer.write_rest(rest)?;
     writer.flush()
@@ -22,7 +22,7 @@ fn write_and_flush<W: Write>(writer: &mut W, rest: &mut &[u8]) -> Result<()>
 /// mishaps are to come, the call succeeds. Rust's std has no such function.
 ///
 /// # Errors
-/// Returns the fault of the last try, with its text, if that try fails too. The bytes that are left in `rest` were not accepted,
+/// Returns the fault of the last try if that try fails too. The bytes that are left in `rest` were not accepted,
 /// and the same call continues with them.
 ///
 /// ```rust
@@ -36,7 +36,8 @@ pub fn write_with_retries<W: Write>(writer: &mut W, rest: &mut &[u8], retries: u
     ensures done { OnOk result (rest.new.now ≡ []) }
     ensures flushed { OnOk result ((W.told writer.new).held ≡ []) }
     ensures enough { HasAtMost retries (W.told writer.old).mishaps → IsOk result }
-    ensures last { IfErr result (λ e. StopsWith W.Write e writer.new rest.new.now) }
+    // Each try is a `write_rest` and, if that succeeded, a `flush`. No other call is made.
+    ensures calls { Tries (RestFlushLaw W.Write) retries writer.old rest.old.now result writer.new rest.new.now }
 {
     let mut left = retries;
     'tries: loop {

@@ -1,7 +1,8 @@
 -- What is gone was accepted, and each try but the first has spent a mishap, where they are told.
-use Rattle.std.proofs.Common.{Ok}
+use Rattle.std.proofs.Common.{Ok, Result, List, ℕ}
+use Rattle.no_std_io2_base.specs.declared.error.Error.{Error}
 use Rattle.no_std_io2_base.specs.Write.{Sends}
-use Rattle.no_std_io2.specs.Retries.{HasSpentTries}
+use Rattle.no_std_io2.specs.Retries.{HasSpentTries, RestFlushLaw, Tries}
 use Rattle.no_std_io2.proofs.util.retries.write_with_retries.Given as goal
 
 abbrev pub invariant-tries : goal.invariant-tries
@@ -10,6 +11,9 @@ invariant-tries g l =
     record {
       sends : Sends (told l.initial.writer) l.initial.rest.now (Ok tt) (told l.writer) l.rest.now;
       spent : HasSpentTries l.fn.retries l.left (told l.initial.writer).mishaps (told l.writer).mishaps;
+      so_far : (reply : Result (Unit {0}) Error) (new : _) (left : List ℕ)
+          → Tries (RestFlushLaw g.W.Write) l.left l.writer l.rest.now reply new left
+          → Tries (RestFlushLaw g.W.Write) l.fn.retries l.initial.writer l.initial.rest.now reply new left;
     }
 
 abbrev pub decreases-tries : goal.decreases-tries
