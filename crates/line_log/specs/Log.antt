@@ -3,7 +3,7 @@ use Rattle.std.specs.Prelude.{ℕ, List}
 use Rattle.no_std_io2.specs.Write.{Told}
 use Rattle.no_std_io2.specs.Lines.{HasNoNewline}
 use Rattle.no_std_io2.specs.LineWriter.{line_inner, line_told, line_buffer}
-use Rattle.pending.specs.Pending.{pending_bytes, pending_rest, pending_room, Law, RestLaw, NoneLaw, Then}
+use Rattle.pending.specs.Pending.{pending_bytes, pending_rest, pending_room, Law, RestLaw, NoneLaw, AndThen}
 use Rattle.pending.specs.Pending as records
 use Rattle.no_std_io2.specs.declared.io.LineWriter.{LineWriter}
 use Rattle.no_std_io2.specs.declared.io.Write.{Ghosts as Writer}
@@ -39,7 +39,7 @@ log_room l = pending_room l.pending
 
 -- a `write_rest`, and a `write_all` of nothing behind it: what a `LineWriter` holds of a line goes then
 abbrev pub LineLaw : {W : Type 0} → Writer W → Law W
-LineLaw I = Then (RestLaw I) (NoneLaw I)
+LineLaw I = AndThen (RestLaw I) (NoneLaw I)
 
 -- these texts were taken off the front, and no newline stands in any
 abbrev pub TakesOff : List (List ℕ) → List (List ℕ) → Type 0

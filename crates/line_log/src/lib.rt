@@ -11,7 +11,7 @@ ghost use Rattle.std.specs.Prelude.{◌≡◌, ◌<◌, ◌≤◌, [], ◌∷◌
 ghost use Rattle.no_std_io2.specs.BufWriter.{Unwraps};
 ghost use Rattle.no_std_io2.specs.Lines.{HasNoNewline};
 ghost use Rattle.no_std_io2.specs.LineWriter.{line_inner, line_buffer};
-ghost use Rattle.pending.specs.Pending.{pending_bytes, pending_rest, pending_room, FlushedLaw, Then};
+ghost use Rattle.pending.specs.Pending.{pending_bytes, pending_rest, pending_room, FlushedLaw, AndThen};
 ghost use Rattle.pending.specs.Pending.{SendsRecord, SendsRecords, SendsAll, RefusesFirst};
 ghost use Rattle.line_log.specs.Lines.{line_of, lines_of, IsRefusal, SaysNewline};
 ghost use Rattle.line_log.specs.Text.{StagesLine, LogsText};
@@ -202,7 +202,7 @@ impl<W: Write + Drop, const S: usize> LineLog<W, S> {
     /// Those of `retry`, or the device's own. What was not handed on is still held or to go, and a later
     /// call goes on there.
     pub fn flush(&mut self) -> Result<()>
-        ensures calls { let L = ⟦<LineWriter<W, S> as Write>⟧ in Then (LineLaw L) (FlushedLaw L) (log_writer self.old)
+        ensures calls { let L = ⟦<LineWriter<W, S> as Write>⟧ in AndThen (LineLaw L) (FlushedLaw L) (log_writer self.old)
             (still_to_go self.old) result (log_writer self.new) (still_to_go self.new) }
         ensures done { OnOk result ((under_way self.new ≡ []) × (still_to_go self.new ≡ [])
             × ((log_told W.told self.new).held ≡ [])) }

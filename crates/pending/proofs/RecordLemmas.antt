@@ -15,7 +15,7 @@ use Rattle.no_std_io2.specs.declared.io.Write.{Ghosts as Writer}
 use Rattle.no_std_io2.specs.Write.{Told, Moves, Sends, call_mishap, none as no_writes}
 use Rattle.no_std_io2.proofs.MovesLemmas.{Moves-refl, Moves-then, Moves-quiet}
 use Rattle.no_std_io2.proofs.RetryLemmas.{sends_none, sends_ends}
-use Rattle.pending.specs.Pending.{Law, RestLaw, NoneLaw, FlushedLaw, Then, StopsWith, SendsEach, ComesTo, SendsAll, SendsRecord}
+use Rattle.pending.specs.Pending.{Law, RestLaw, NoneLaw, FlushedLaw, AndThen, StopsWith, SendsEach, ComesTo, SendsAll, SendsRecord}
 use Rattle.pending.specs.Pending.{record_mishap, SendsRecords, TakesOff, RefusesFirst}
 
 -- a slice from k on has all that lies there
@@ -61,13 +61,13 @@ all_none I w = record {
 -- what such calls send, where there is a flush behind them
 pub flush_sends : {W : Type 0} (I : Writer W) (law : Law W) {a b : W} {x left : List ℕ} (reply : Result (Unit {0}) Error)
     → ((w : W) (r : Result (Unit {0}) Error) → law a x r w left → Sends (I.told a) x r (I.told w) left)
-    → Then law (FlushedLaw I) a x reply b left → Sends (I.told a) x reply (I.told b) left
+    → AndThen law (FlushedLaw I) a x reply b left → Sends (I.told a) x reply (I.told b) left
 flush_sends I law {b = b} reply sends (inl (err, calls)) = sends b reply calls
 flush_sends I law reply sends (inr (mid, calls, flush)) = sends_ends reply (sends mid (Ok tt) calls) flush.moves
 
 -- what stopped these calls stopped those with one more behind them
 pub then_stops : {W : Type 0} (law : Law W) (last : W → Result (Unit {0}) Error → W → Type 0) {e : Error} {new : W} {left : List ℕ}
-    → StopsWith law e new left → StopsWith (Then law last) e new left
+    → StopsWith law e new left → StopsWith (AndThen law last) e new left
 then_stops law last s = (s.0, s.1, inl (refl, s.2))
 
 -- a fault that these calls answered stopped them
