@@ -1,5 +1,5 @@
 -- How tries follow one another.
-use Rattle.std.proofs.Common.{◌≡◌, ℕ, ◌+◌, List, [], ◌∷◌, length, true, Option, None, Some, Result, Ok, Err, IfErr, inr, refl, arith, count_by}
+use Rattle.std.proofs.Common.{◌≡◌, ℕ, ◌+◌, List, [], ◌∷◌, length, true, Option, None, Some, Result, Ok, Err, refl, subst, arith, count_by}
 use Rattle.std.proofs.Common.{zero, suc, replicate, cond}
 use Rattle.std.proofs.lemmas.List.Sums.{sum_by-cons}
 use Rattle.std.proofs.lemmas.List.Recursion.{is_count_by}
@@ -7,9 +7,7 @@ use Rattle.no_std_io2_base.specs.declared.error.Error.{Error}
 use Rattle.no_std_io2_base.specs.declared.error.ErrorKind.{ErrorKind}
 use Rattle.no_std_io2_base.specs.Write.{Told, Moves, Sends, HasSpent, call_mishap}
 use Rattle.no_std_io2_base.proofs.MovesLemmas.{Moves-refl, Moves-ends}
-use Rattle.no_std_io2_base.specs.declared.traits.write.Write.{Ghosts as Writer}
-use Rattle.no_std_io2_base.specs.Writers.{FlushOf}
-use Rattle.no_std_io2.specs.Retries.{HasAtMost, HasSpentTries, StopsWith}
+use Rattle.no_std_io2.specs.Retries.{HasAtMost, HasSpentTries, Law, Tries, again}
 
 -- at the start nothing went, and all is still to go
 pub sends_none : (a : Told) (to_go : List ℕ) → Sends a to_go (Ok tt) a to_go
@@ -52,8 +50,9 @@ spent_all n (Some old) None new k f g most = f
 spent_all n (Some old) (Some mid) None k f g most = g
 spent_all n (Some old) (Some mid) (Some new) k f g most = omega (arith, f, g (λ _. true), count_all mid, count_all new, most)
 
--- a flush that failed is the last call
-pub flush_stops : {W : Type 0} (I : Writer W) (old : W) (reply : Result (Unit {0}) Error) (new : W) (left : List ℕ)
-    → FlushOf I old reply new → IfErr reply (λ e. StopsWith I e new left)
-flush_stops I old (Ok u) new left law = tt
-flush_stops I old (Err e) new left law = (old, inr law)
+-- a try that failed, and then the others, of which there is one less
+pub tries_again : {W : Type 0} (law : Law W) (retries less : ℕ) {old mid new : W} {x rest left : List ℕ} {e : Error}
+    {reply : Result (Unit {0}) Error} → retries ≡ less + 1 → law old x (Err e) mid rest → Tries law less mid rest reply new left
+    → Tries law retries old x reply new left
+tries_again law retries less {old} {new = new} {x = x} {left = left} {reply = reply} is failed tries =
+    subst (λ n. Tries law n old x reply new left) (omega (arith, is)) (again failed tries)

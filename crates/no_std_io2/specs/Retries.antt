@@ -1,5 +1,5 @@
 -- What sending again and again after faults does, and which calls it makes.
-use Rattle.std.specs.Prelude.{◌≡◌, ◌⊎◌, ◌≤◌, ◌+◌, ℕ, suc, List, length, Option, Some, None, ⊤, Result, Ok, Err, IsErr}
+use Rattle.std.specs.Prelude.{◌≡◌, ◌⊎◌, ◌≤◌, ◌+◌, ℕ, suc, List, length, Option, Some, None, ⊤, Result, Ok, Err, IsErr, OnErr}
 use Rattle.no_std_io2_base.specs.declared.error.Error.{Error}
 use Rattle.no_std_io2_base.specs.declared.error.ErrorKind.{ErrorKind}
 use Rattle.no_std_io2_base.specs.declared.traits.write.Write.{Ghosts as Writer}
@@ -41,6 +41,6 @@ RestFlushLaw I = AndThen (RestLaw I) (FlushedLaw I)
 -- one failed, no retry was left.
 pub data Tries {W : Type 0} (law : Law W) : ℕ → W → List ℕ → Result (Unit {0}) Error → W → List ℕ → Type 0 where
   last : {retries : ℕ} {old new : W} {x left : List ℕ} {reply : Result (Unit {0}) Error} → law old x reply new left
-      → (IsErr reply → retries ≡ 0) → Tries law retries old x reply new left
+      → OnErr reply (retries ≡ 0) → Tries law retries old x reply new left
   again : {retries : ℕ} {old mid new : W} {x rest left : List ℕ} {e : Error} {reply : Result (Unit {0}) Error}
       → law old x (Err e) mid rest → Tries law retries mid rest reply new left → Tries law (suc retries) old x reply new left

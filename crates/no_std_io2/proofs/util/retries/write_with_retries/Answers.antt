@@ -1,10 +1,11 @@
 use Rattle.std.proofs.Common.{arith}
 use Rattle.no_std_io2_base.proofs.MovesLemmas.{Sends-then, Moves-quiet}
-use Rattle.no_std_io2.proofs.RetryLemmas.{sends_none, spent_none, spent_more, spent_all}
+use Rattle.no_std_io2.specs.Retries.{last}
+use Rattle.no_std_io2.proofs.RetryLemmas.{sends_none, spent_none, spent_more, spent_all, tries_again}
 use Rattle.no_std_io2.proofs.util.retries.write_with_retries.Goals as goal
 
 pub tries-init : goal.tries-init
-tries-init g c = record { sends = sends_none _ _; spent = spent_none _ _ }
+tries-init g c = record { sends = sends_none _ _; spent = spent_none _ _; so_far = λ reply new left tries. tries }
 
 pub tries-preserved : goal.tries-preserved
 tries-preserved g c =
@@ -13,6 +14,8 @@ tries-preserved g c =
     record {
       sends = record { sent = went.sent; split = went.split; moves = Moves-quiet went.moves };
       spent = spent_more c.args.retries c.tries.left _ _ _ _ _ c.tries.invariant.spent tried.moves.mishaps (omega arith);
+      so_far = λ reply new left tries. c.tries.invariant.so_far reply new left
+          (tries_again _ c.tries.left _ (omega arith) (rw c.in-Err-2.is at c.write_and_flush.ensures.calls) tries);
     }
 
 pub returns-in-Err-clause-enough : goal.returns-in-Err-clause-enough
@@ -21,8 +24,13 @@ returns-in-Err-clause-enough g c = λ most.
     let last = rw c.if-left-eq0.true at c.tries.invariant.spent in
     absurd (spent_all c.args.retries _ _ _ _ last tried.moves.mishaps most)
 
-pub returns-in-Err-clause-last : goal.returns-in-Err-clause-last
-returns-in-Err-clause-last g c = rw c.in-Err.is at c.write_and_flush.ensures.last
+pub returns-in-Ok-clause-calls : goal.returns-in-Ok-clause-calls
+returns-in-Ok-clause-calls g c =
+    c.tries.invariant.so_far _ _ _ (last (rw c.in-Ok.is at c.write_and_flush.ensures.calls) tt)
+
+pub returns-in-Err-clause-calls : goal.returns-in-Err-clause-calls
+returns-in-Err-clause-calls g c =
+    c.tries.invariant.so_far _ _ _ (last (rw c.in-Err.is at c.write_and_flush.ensures.calls) c.if-left-eq0.true)
 
 pub returns-in-Err-clause-sends : goal.returns-in-Err-clause-sends
 returns-in-Err-clause-sends g c = Sends-then c.tries.invariant.sends (rw c.in-Err.is at c.write_and_flush.ensures.sends)
