@@ -4,7 +4,7 @@ use Rattle.std.proofs.Common.{arith, append_assoc, length-append, take-append-dr
 use Rattle.std.proofs.lemmas.Bool.{cases_lt}
 use Rattle.std.proofs.lemmas.List.{length-take-le}
 use Rattle.std.proofs.Math.Seq.{take-append_seam, drop-append_seam, drop-append-add}
-use Rattle.no_std_io2.specs.Buffer.{IsEnd}
+use Rattle.no_std_io2.specs.Buffer.{IsSuffix}
 use Rattle.no_std_io2.specs.Write.{IsFront}
 
 -- one list, cut at one place, has the same two parts
@@ -33,7 +33,7 @@ stepped_back n behind held {header} {behind1} {held1} {behind2} {held2} is enoug
     (cut.1, cut.0)
 
 -- the whole of a list is an end of it that has as many items
-whole_end : (n : ℕ) (header behind : List ℕ) → IsEnd header behind → length header ≡ n → n ≤ length behind → header ≡ behind
+whole_end : (n : ℕ) (header behind : List ℕ) → IsSuffix header behind → length header ≡ n → n ≤ length behind → header ≡ behind
 whole_end n header behind end long enough =
     all_of end.0 end.1 (omega (arith, ap length end.1, length-append end.0 behind, long, enough))
   where
@@ -43,14 +43,14 @@ whole_end n header behind end long enough =
 
 -- where n bytes lie behind after a read of n, they are the last of these
 pub ends_in_header : (n : ℕ) (behind held header behind1 : List ℕ) → (n ≤ length held → behind1 ≡ behind ++ header)
-    → (length held < n → IsEnd header behind1) → length header ≡ n → n ≤ length behind1 → IsEnd behind1 header
+    → (length held < n → IsSuffix header behind1) → length header ≡ n → n ≤ length behind1 → IsSuffix behind1 header
 ends_in_header n behind held header behind1 near past long enough = ⊎_elim
     (λ less. ([], sym (whole_end n header behind1 (past less) long enough)))
     (λ all. (behind, near all))
     (cases_lt (length held) n)
 
 -- the border went back over them, so that they are held again
-pub held_again : (n : ℕ) (behind held header behind1 held1 : List ℕ) → IsEnd behind header → length header ≡ n
+pub held_again : (n : ℕ) (behind held header behind1 held1 : List ℕ) → IsSuffix behind header → length header ≡ n
     → behind1 ++ held1 ≡ behind ++ held → length behind1 + n ≡ length behind → IsFront header held1
 held_again n behind held header behind1 held1 end long whole back = (
   held,

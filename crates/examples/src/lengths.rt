@@ -11,7 +11,7 @@ use no_std_io2::io::{BufRead, Result, skip};
 /// The reader's first fault, and `UnexpectedEof` where the bytes end inside a record.
 pub fn pass_records<B: BufRead>(r: &mut B) -> Result<()>
     ensures told { B.tells r.old → B.tells r.new × PassesRecords (B.events r.old) result (B.events r.new) }
-    ensures fault { IfErr result IsFault }
+    ensures never_interrupted { IfErr result IsFault }
 {
     'records: loop {
         match r.fill_buf() {

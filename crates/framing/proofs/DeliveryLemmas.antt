@@ -8,7 +8,7 @@ use Rattle.no_std_io2.proofs.MovesLemmas.{Moves-then, Moves-quiet}
 use Rattle.no_std_io2.specs.declared.io.Write.{Ghosts as Writer}
 use Rattle.pending.specs.Pending.{RestLaw, SendsAll, SendsRecords}
 use Rattle.pending.proofs.RecordLemmas.{all_sends}
-use Rattle.framing.specs.Frames.{frame, frames, IsRefusal}
+use Rattle.framing.specs.Frames.{frame, frames, IsPayloadRefusal}
 use Rattle.framing.specs.Delivering.{TriesOnce, Delivers, tried_mishap}
 
 -- the mishap of a flush
@@ -43,7 +43,7 @@ flushed_done (Ok u) fault is none done = done
 flushed_done (Err e) fault is none done = let no : ⊥ = cc in absurd no
 
 -- where there was less room, the room was too small too
-pub refusal_less : {less room : ℕ} (payload : List ℕ) (e : Error) → less ≤ room → IsRefusal room payload e → IsRefusal less payload e
+pub refusal_less : {less room : ℕ} (payload : List ℕ) (e : Error) → less ≤ room → IsPayloadRefusal room payload e → IsPayloadRefusal less payload e
 refusal_less payload e h (inl long) = inl long
 refusal_less payload e h (inr memory) = inr (memory.0, omega (arith, memory.1, h))
 

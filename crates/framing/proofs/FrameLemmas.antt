@@ -9,7 +9,7 @@ use Rattle.no_std_io2.specs.Errors.{SaysError}
 use Rattle.no_std_io2.specs.Read.{Event, events_of, bytes}
 use Rattle.framing.specs.Frames.{frame, told_length, IsPart}
 use Rattle.no_std_io2.specs.Passing.{Passes, Gathered}
-use Rattle.framing.specs.Taking.{Gathers, TakesNone}
+use Rattle.framing.specs.Taking.{GathersPart, TakesNone}
 use Rattle.no_std_io2.proofs.EventLemmas.{bytes-behind, Passes-all}
 use Rattle.no_std_io2.proofs.EventLemmas.{Gathered-then, Gathered-passes}
 
@@ -21,7 +21,7 @@ told_behind header payload four =
 -- an error came, of the reader's or for want of memory
 pub stopped : (less lacks : Type 0) (limit want : ℕ) (why : less → lacks) {I mid after : List Event} {was part new : List ℕ} (e : Error)
     → Gathered I was part mid
-    → Gathers want less mid (Err e) part new after → (length new < want → IsPart new)
+    → GathersPart want less mid (Err e) part new after → (length new < want → IsPart new)
     → TakesNone limit lacks (events_of was ++ I) e (events_of new ++ after)
 stopped less lacks limit want why {I = I} {after = after} {part = part} {new = new} e g (inl h) short =
     inl
@@ -46,7 +46,7 @@ stopped less lacks limit want why {I = I} {after = after} {new = new} e g (inr h
 -- the bytes ended inside the frame
 pub ended : (less lacks : Type 0) (limit want : ℕ) {I mid : List Event} (after : List Event) {was part : List ℕ}
     (new : List ℕ) (b : Bool) (e : Error) → b ≡ false
-    → Gathered I was part mid → Gathers want less mid (Ok b) part new after → (length new < want → IsPart new)
+    → Gathered I was part mid → GathersPart want less mid (Ok b) part new after → (length new < want → IsPart new)
     → 0 < length new
     → SaysError UnexpectedEof (codes "the bytes end inside a frame") e
     → TakesNone limit lacks (events_of was ++ I) e (events_of new ++ after)
@@ -62,14 +62,14 @@ ended less lacks limit want {I = I} after {was = was} {part = part} new false e 
 
 -- no byte of a frame came, and none will
 pub no_frame : (less : Type 0) (want : ℕ) (I : List Event) {after : List Event} (was : List ℕ) {new : List ℕ} (b : Bool) → b ≡ false
-    → Gathers want less I (Ok b) was new after → new ≡ []
+    → GathersPart want less I (Ok b) was new after → new ≡ []
     → Passes (events_of was ++ I) [] after × (after ≡ []) × (new ≡ [])
 no_frame less want I was true is h none = let no : ⊥ = cc in absurd no
 no_frame less want I {after} was false is h none = (subst (λ l. Passes (events_of was ++ I) l after) none (Gathered-passes h.0), h.2, none)
 
 -- the part that was asked for is there
 pub whole_part : (less : Type 0) (want : ℕ) {I after : List Event} {was new : List ℕ} (b : Bool) → b ≡ true
-    → Gathers want less I (Ok b) was new after → Gathered I was new after × (want ≤ length new)
+    → GathersPart want less I (Ok b) was new after → Gathered I was new after × (want ≤ length new)
 whole_part less want {I = I} true is h = h
 whole_part less want {I = I} false is h = let no : ⊥ = cc in absurd no
 

@@ -11,7 +11,9 @@ use Rattle.no_std_io2.specs.Errors.{IsOutOfMemory}
 use Rattle.no_std_io2.specs.Read.{Event}
 use Rattle.no_std_io2.specs.Passing.{Passes}
 use Rattle.framing.specs.Frames.{frame, frames}
-use Rattle.framing.specs.Taking.{PassesFrames, TakesNone, TakesFrames, appended}
+use Rattle.no_std_io2.specs.Appended.{appended}
+use Rattle.no_std_io2.proofs.AppendedLemmas.{appended-one}
+use Rattle.framing.specs.Taking.{PassesFrames, TakesNone, TakesFrames}
 use Rattle.no_std_io2.proofs.EventLemmas.{Passes-none, Passes-then}
 use Rattle.framing.proofs.FrameLemmas.{passes_as, none_as}
 
@@ -20,20 +22,6 @@ frames_push : (ps : List (List ℕ)) (p : List ℕ) → frames (ps ++ p ∷ []) 
 frames_push ps p =
     ap concat (map-append frame ps (p ∷ [])) ∙ concat-append (map frame ps) (frame p ∷ []) ∙ ap (λ l. frames ps ++ l) (append-nil (frame p))
 
--- where x is pushed to a list that begins with the old items, it stands behind those appended before
-appended_push : {X : Type 0} (old mid new : List X) (x : X) → mid ≡ old ++ appended old mid → new ≡ mid ++ x ∷ []
-    → appended old new ≡ appended old mid ++ x ∷ []
-appended_push old mid new x e is =
-    ap (drop (length old)) (is ∙ ap (λ l. l ++ x ∷ []) e ∙ append_assoc old (appended old mid) (x ∷ []))
-    ∙ drop-append_seam old (appended old mid ++ x ∷ [])
-
--- where x is pushed to a list that begins with the old items, the list still begins with them
-pub appends_push : {X : Type 0} (old mid new : List X) (x : X) → mid ≡ old ++ appended old mid → new ≡ mid ++ x ∷ []
-    → new ≡ old ++ appended old new
-appends_push old mid new x e is =
-    is ∙ ap (λ l. l ++ x ∷ []) e ∙ append_assoc old (appended old mid) (x ∷ [])
-    ∙ ap (λ l. old ++ l) (sym (appended_push old mid new x e is))
-
 -- one frame more
 pub run_more : {X : Type 0} (f : X → List ℕ) (limit : ℕ) {E mid after : List Event} (old had new : List X) (x : X)
     → had ≡ old ++ appended old had → new ≡ had ++ x ∷ []
@@ -41,7 +29,7 @@ pub run_more : {X : Type 0} (f : X → List ℕ) (limit : ℕ) {E mid after : Li
     → PassesFrames limit E (map f (appended old new)) after
 run_more f limit {E = E} {after = after} old had new x e is run h =
     let all : map f (appended old new) ≡ map f (appended old had) ++ f x ∷ [] =
-    ap (map f) (appended_push old had new x e is) ∙ map-append f (appended old had) (x ∷ []) in
+    ap (map f) (appended-one old had new x e is) ∙ map-append f (appended old had) (x ∷ []) in
     subst (λ ps. PassesFrames limit E ps after) (sym all) (record {
       passes = passes_as (Passes-then run.passes h.0) (sym (frames_push (map f (appended old had)) (f x)));
       each = All-push (λ p. length p ≤ limit) (map f (appended old had)) (f x) run.each h.1;

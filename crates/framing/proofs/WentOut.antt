@@ -8,12 +8,13 @@ use Rattle.std.proofs.lemmas.List.Elements.{All-head}
 use Rattle.no_std_io2.specs.declared.io.Error.{Error}
 use Rattle.no_std_io2.specs.Errors.{IsOutOfMemory}
 use Rattle.no_std_io2.specs.Read.{Event, fails, events_of, bytes, bytes-events_of}
-use Rattle.framing.specs.Frames.{frames, IsRefusal, IsTooLongToSend}
+use Rattle.framing.specs.Frames.{frames, IsPayloadRefusal, IsTooLongToSend}
 use Rattle.no_std_io2.specs.Write.{Told}
-use Rattle.framing.specs.Sending.{TakesOff, HasLongFrame}
+use Rattle.framing.specs.Sending.{TakesPayloads, HasLongFrame}
 use Rattle.pending.specs.Pending.{RefusesFirst}
 use Rattle.framing.specs.Delivering.{Delivers}
-use Rattle.framing.specs.Taking.{ComesBack, IsFirstFault, appended}
+use Rattle.no_std_io2.specs.Appended.{appended}
+use Rattle.framing.specs.Taking.{ComesBack, IsFirstFault}
 use Rattle.framing.proofs.RoundTrip.{All-right}
 
 -- where no byte is, none is left behind the first n
@@ -34,7 +35,7 @@ went_out a b to_go left sent d none all before after =
     ∙ ap (λ l. a.out ++ l) is
 
 -- all payloads were taken off, so each is short enough
-pub all_short : (most : ℕ) (old new : List (List ℕ)) → TakesOff old new → new ≡ [] → most ≡ 4294967295 → All (λ p. length p ≤ most) old
+pub all_short : (most : ℕ) (old new : List (List ℕ)) → TakesPayloads old new → new ≡ [] → most ≡ 4294967295 → All (λ p. length p ≤ most) old
 all_short most old new t none is = λ k d lt.
     let same : old ≡ t.front = t.split ∙ ap (λ l. t.front ++ l) none ∙ append-nil t.front in
     let short : All (λ p. length p < 2 ^ 32) old = subst (All (λ p. length p < 2 ^ 32)) (sym same) t.each in
@@ -42,8 +43,8 @@ all_short most old new t none is = λ k d lt.
     omega arith
 
 -- payloads that are short enough are refused for want of memory alone, for a frame that is longer than the room
-pub only_memory : (room : ℕ) (old new : List (List ℕ)) (e : Error) → TakesOff old new → All (λ p. length p < 2 ^ 32) old
-    → RefusesFirst (IsRefusal room) new e → IsOutOfMemory e × HasLongFrame room old
+pub only_memory : (room : ℕ) (old new : List (List ℕ)) (e : Error) → TakesPayloads old new → All (λ p. length p < 2 ^ 32) old
+    → RefusesFirst (IsPayloadRefusal room) new e → IsOutOfMemory e × HasLongFrame room old
 only_memory room old [] e t short h = absurd h
 only_memory room old (p ∷ ps) e t short (inl long) =
     let others : All (λ q. length q < 2 ^ 32) (p ∷ ps) =
@@ -59,7 +60,7 @@ only_memory room old (p ∷ ps) e t short (inr memory) = (
 )
 
 -- a first payload was refused for want of memory or for its length
-pub refused_as : (room : ℕ) (left : List (List ℕ)) (e : Error) (rest : Type 0) → RefusesFirst (IsRefusal room) left e ⊎ rest
+pub refused_as : (room : ℕ) (left : List (List ℕ)) (e : Error) (rest : Type 0) → RefusesFirst (IsPayloadRefusal room) left e ⊎ rest
     → IsOutOfMemory e ⊎ ((payload : List ℕ) × IsTooLongToSend payload e) ⊎ rest
 refused_as room [] e rest (inl h) = absurd h
 refused_as room (p ∷ ps) e rest (inl (inl long)) = inr (inl (p, long))

@@ -31,5 +31,5 @@ abbrev pub IsTooLongToSend : List ℕ → Error → Type 0
 IsTooLongToSend payload e = (2 ^ 32 ≤ length payload) × SaysError InvalidInput (codes "a frame has fewer than 2^32 bytes") e
 
 -- a payload was refused: it is too long for a frame, or there was room for so many bytes, too few, and no memory for more
-abbrev pub IsRefusal : ℕ → List ℕ → Error → Type 0
-IsRefusal room payload e = IsTooLongToSend payload e ⊎ (IsOutOfMemory e × (room < 4 + length payload))
+abbrev pub IsPayloadRefusal : ℕ → List ℕ → Error → Type 0
+IsPayloadRefusal room payload e = IsTooLongToSend payload e ⊎ (IsOutOfMemory e × (room < 4 + length payload))

@@ -40,5 +40,5 @@ abbrev pub HasLongFrame : ℕ → List (List ℕ) → Type 0
 HasLongFrame room payloads = All (λ p. 4 + length p ≤ room) payloads → ⊥
 
 -- these payloads were taken off the front, and each is short enough for a frame
-abbrev pub TakesOff : List (List ℕ) → List (List ℕ) → Type 0
-TakesOff = records.TakesOff (λ p. length p < 2 ^ 32)
+abbrev pub TakesPayloads : List (List ℕ) → List (List ℕ) → Type 0
+TakesPayloads = records.TakesOff (λ p. length p < 2 ^ 32)

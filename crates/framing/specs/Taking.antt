@@ -10,10 +10,10 @@ use Rattle.no_std_io2.specs.declared.io.ErrorKind.TheVariants.{InvalidData, Unex
 use Rattle.framing.specs.Frames.{frame, frames, told_length, IsPart}
 
 -- A part was gathered up to `want` bytes: it has them; or the end came before, or a fault, or memory was refused where room is short.
-abbrev pub Gathers : ℕ → Type 0 → List Event → Result Bool Error → List ℕ → List ℕ → List Event → Type 0
-Gathers want short E (Ok true) old new after = Gathered E old new after × (want ≤ length new)
-Gathers want short E (Ok false) old new after = Gathered E old new after × (length new < want) × (after ≡ [])
-Gathers want short E (Err e) old new after =
+abbrev pub GathersPart : ℕ → Type 0 → List Event → Result Bool Error → List ℕ → List ℕ → List Event → Type 0
+GathersPart want short E (Ok true) old new after = Gathered E old new after × (want ≤ length new)
+GathersPart want short E (Ok false) old new after = Gathered E old new after × (length new < want) × (after ≡ [])
+GathersPart want short E (Err e) old new after =
     (Gathered E old new (fails e ∷ after) × (length new < want) × IsFault e) ⊎ (Gathered E old new after × IsOutOfMemory e × short)
 
 -- A fault came before the next frame was whole: the fault is gone, and the bytes before it are still to come.
@@ -45,7 +45,7 @@ pub record IsTooLong (limit : ℕ) (E : List Event) (e : Error) (after : List Ev
   pub says : SaysError InvalidData (codes "a frame is longer than the limit") e
 
 -- Memory was refused where room is short: the next frame is still to come.
-pub record HasNoRoom (lacks : Type 0) (E : List Event) (e : Error) (after : List Event) : Type 0 where
+pub record KeepsFrame (lacks : Type 0) (E : List Event) (e : Error) (after : List Event) : Type 0 where
   pub seen : List ℕ
   pub rest : List Event
   pub passes : Passes E seen rest
@@ -56,7 +56,7 @@ pub record HasNoRoom (lacks : Type 0) (E : List Event) (e : Error) (after : List
 -- no frame was taken, and no byte is lost
 abbrev pub TakesNone : ℕ → Type 0 → List Event → Error → List Event → Type 0
 TakesNone limit short E e after =
-    (Stops limit E e after ⊎ EndsInside E e after) ⊎ (IsTooLong limit E e after ⊎ HasNoRoom short E e after)
+    (Stops limit E e after ⊎ EndsInside E e after) ⊎ (IsTooLong limit E e after ⊎ KeepsFrame short E e after)
 
 -- The next frame was gathered as a whole, with this payload; or there is none; or an error came.
 abbrev pub GathersFrame : ℕ → Type 0 → List Event → Result Bool Error → List ℕ → List ℕ → List Event → Type 0
@@ -99,9 +99,5 @@ pub record ComesBack (short : Type 0) (sent : List (List ℕ)) (E : List Event) 
   pub err : IfErr reply (λ e. IsFirstFault E e ⊎ (IsOutOfMemory e × short))
 
 -- there is no room for one more
-abbrev pub IsFull : {X : Type 0} → Vec X → Type 0
-IsFull v = vec_capacity v < vec_len v + 1
-
--- what stands behind the old items
-abbrev pub appended : {X : Type 0} → List X → List X → List X
-appended old new = drop (length old) new
+abbrev pub HasNoSpare : {X : Type 0} → Vec X → Type 0
+HasNoSpare v = vec_capacity v < vec_len v + 1

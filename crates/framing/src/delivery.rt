@@ -1,7 +1,7 @@
 //! Frames that are sent until the device has them all.
 ghost use Rattle.std.specs.Prelude.{◌≡◌, ◌≤◌, ◌⊎◌, [], ◌++◌, None, map, OnOk, IfOk, IfErr, IfSome};
-ghost use Rattle.framing.specs.Frames.{frames, IsRefusal};
-ghost use Rattle.framing.specs.Sending.{writer_tells, frame_writer, frame_room, under_way, still_to_go, TakesOff};
+ghost use Rattle.framing.specs.Frames.{frames, IsPayloadRefusal};
+ghost use Rattle.framing.specs.Sending.{writer_tells, frame_writer, frame_room, under_way, still_to_go, TakesPayloads};
 ghost use Rattle.no_std_io2.specs.Retries.{HasAtMost};
 ghost use Rattle.framing.specs.Delivering.{TriesOnce, Delivers};
 ghost use Rattle.pending.specs.Pending.{RefusesFirst, RestFlushLaw, StopsWith};
@@ -15,10 +15,10 @@ impl<W: Write + Drop, const S: usize> FrameWriter<W, S> {
         ensures sends { TriesOnce (writer_tells W.told self.old)
             (still_to_go self.old ++ frames (map (λ v. v.items) rest.old.now)) result
             (writer_tells W.told self.new) (still_to_go self.new ++ frames (map (λ v. v.items) rest.new.now)) }
-        ensures rest { TakesOff (map (λ v. v.items) rest.old.now) (map (λ v. v.items) rest.new.now) }
+        ensures rest { TakesPayloads (map (λ v. v.items) rest.old.now) (map (λ v. v.items) rest.new.now) }
         ensures done { IfOk result (λ fault. fault ≡ None → (under_way self.new ≡ []) × (still_to_go self.new ≡ [])
             × (rest.new.now ≡ []) × ((writer_tells W.told self.new).held ≡ [])) }
-        ensures refused { IfErr result (RefusesFirst (IsRefusal (frame_room self.old)) (map (λ v. v.items) rest.new.now)) }
+        ensures refused { IfErr result (RefusesFirst (IsPayloadRefusal (frame_room self.old)) (map (λ v. v.items) rest.new.now)) }
         ensures stopped { IfOk result (λ fault. IfSome fault (λ e. StopsWith (RestFlushLaw ⟦<BufWriter<W, S> as Write>⟧) e
             (frame_writer self.new) (still_to_go self.new))) }
         ensures room { frame_room self.old ≤ frame_room self.new }
@@ -49,12 +49,12 @@ impl<W: Write + Drop, const S: usize> FrameWriter<W, S> {
         ensures sends { Delivers (writer_tells W.told self.old)
             (still_to_go self.old ++ frames (map (λ v. v.items) rest.old.now))
             (writer_tells W.told self.new) (still_to_go self.new ++ frames (map (λ v. v.items) rest.new.now)) }
-        ensures rest { TakesOff (map (λ v. v.items) rest.old.now) (map (λ v. v.items) rest.new.now) }
+        ensures rest { TakesPayloads (map (λ v. v.items) rest.old.now) (map (λ v. v.items) rest.new.now) }
         ensures done { OnOk result ((under_way self.new ≡ []) × (still_to_go self.new ≡ [])
             × (rest.new.now ≡ []) × ((writer_tells W.told self.new).held ≡ [])) }
         ensures enough { HasAtMost tries (writer_tells W.told self.old).mishaps
-            → IfErr result (RefusesFirst (IsRefusal (frame_room self.old)) (map (λ v. v.items) rest.new.now)) }
-        ensures last { IfErr result (λ e. RefusesFirst (IsRefusal (frame_room self.old)) (map (λ v. v.items) rest.new.now) e
+            → IfErr result (RefusesFirst (IsPayloadRefusal (frame_room self.old)) (map (λ v. v.items) rest.new.now)) }
+        ensures last { IfErr result (λ e. RefusesFirst (IsPayloadRefusal (frame_room self.old)) (map (λ v. v.items) rest.new.now) e
             ⊎ StopsWith (RestFlushLaw ⟦<BufWriter<W, S> as Write>⟧) e (frame_writer self.new) (still_to_go self.new)) }
     {
         let mut left = tries;

@@ -7,7 +7,8 @@ ghost use Rattle.framing.specs.Frames.{frames};
 ghost use Rattle.framing.specs.Part.{reads_from, frame_events, frame_turns, most, part_of, part_bytes, part_payload};
 ghost use Rattle.framing.specs.Part.{told_by, payload_room, LacksRoom};
 ghost use Rattle.no_std_io2.specs.BufReader.{reader_events, reader_turns};
-ghost use Rattle.framing.specs.Taking.{GathersFrame, TakesFrame, TakesFrames, appended, IsFull, ComesBack};
+ghost use Rattle.no_std_io2.specs.Appended.{appended};
+ghost use Rattle.framing.specs.Taking.{GathersFrame, TakesFrame, TakesFrames, HasNoSpare, ComesBack};
 
 mod part;
 
@@ -85,9 +86,9 @@ impl<R: Read, const S: usize> FrameReader<R, S> {
         ensures unasked { OnErr result (most self.old < told_by self.new.part
             → payload_room self.new.part ≡ payload_room self.old.part) }
         ensures limit { most self.new ≡ most self.old }
-        ensures fault { IfErr result IsFault }
+        ensures never_interrupted { IfErr result IsFault }
         ensures within { IfOk result (λ b. b ≡ true → length (part_payload self.new.part) ≤ most self.old) }
-        ensures turn { IfOk result (λ b. b ≡ true → reader_turns R.turns self.new.inner < frame_turns R.turns self.old) }
+        ensures spends_turn { IfOk result (λ b. b ≡ true → reader_turns R.turns self.new.inner < frame_turns R.turns self.old) }
     {
         if !self.part.fill_header(&mut self.inner)? {
             if self.part.is_empty() {
@@ -124,8 +125,8 @@ impl<R: Read, const S: usize> FrameReader<R, S> {
         ensures kept { R.tells (reads_from self.old)
             → IfErr result (λ _. bytes (frame_events R.events self.new) ≡ bytes (frame_events R.events self.old)) }
         ensures limit { most self.new ≡ most self.old }
-        ensures fault { IfErr result IsFault }
-        ensures turn { IfOk result (λ o. IfSome o (λ _. frame_turns R.turns self.new < frame_turns R.turns self.old)) }
+        ensures never_interrupted { IfErr result IsFault }
+        ensures spends_turn { IfOk result (λ o. IfSome o (λ _. frame_turns R.turns self.new < frame_turns R.turns self.old)) }
     {
         if !self.gather_frame()? {
             return Ok(None);
@@ -149,15 +150,15 @@ impl<R: Read, const S: usize> FrameReader<R, S> {
     pub fn read_all(&mut self, payloads: &mut Vec<Vec<u8>>) -> Result<()>
         ensures appends { payloads.new.items ≡ payloads.old.items ++ appended payloads.old.items payloads.new.items }
         ensures told { R.tells (reads_from self.old) → R.tells (reads_from self.new)
-            × TakesFrames (most self.old) (LacksRoom (most self.old) (part_of self.new) ⊎ IsFull payloads.new)
+            × TakesFrames (most self.old) (LacksRoom (most self.old) (part_of self.new) ⊎ HasNoSpare payloads.new)
             (frame_events R.events self.old) result
             (map (λ v. v.items) (appended payloads.old.items payloads.new.items)) (frame_events R.events self.new) }
         ensures back { (sent : List (List ℕ)) → R.tells (reads_from self.old)
             → bytes (frame_events R.events self.old) ≡ frames sent → All (λ p. length p ≤ most self.old) sent
-            → ComesBack (LacksRoom (most self.old) (part_of self.new) ⊎ IsFull payloads.new) sent (frame_events R.events self.old) result
+            → ComesBack (LacksRoom (most self.old) (part_of self.new) ⊎ HasNoSpare payloads.new) sent (frame_events R.events self.old) result
             (map (λ v. v.items) (appended payloads.old.items payloads.new.items)) (bytes (frame_events R.events self.new)) }
         ensures limit { most self.new ≡ most self.old }
-        ensures fault { IfErr result IsFault }
+        ensures never_interrupted { IfErr result IsFault }
     {
         // Read here so that its range is known.
         let _limit = self.limit;

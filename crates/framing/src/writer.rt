@@ -3,9 +3,9 @@ ghost use Rattle.std.specs.Prelude.{◌≡◌, ◌<◌, ◌≤◌, ◌^◌, [], 
 ghost use Rattle.no_std_io2.specs.BufWriter.{writer_inner, writer_buffer, Unwraps};
 ghost use Rattle.pending.specs.Pending.{pending_bytes, pending_rest, pending_room, RestLaw, RestFlushLaw};
 ghost use Rattle.pending.specs.Pending.{SendsRecord, SendsRecords, SendsAll, RefusesFirst};
-ghost use Rattle.framing.specs.Frames.{frame, frames, IsRefusal};
+ghost use Rattle.framing.specs.Frames.{frame, frames, IsPayloadRefusal};
 ghost use Rattle.framing.specs.Sending.{writes_to, frames_held, writer_tells, frame_writer, frame_room};
-ghost use Rattle.framing.specs.Sending.{under_way, still_to_go, TakesOff};
+ghost use Rattle.framing.specs.Sending.{under_way, still_to_go, TakesPayloads};
 
 use no_std_io2::io::{BufWriter, Error, ErrorKind, IntoInnerError, Result, Write};
 use pending::Pending;
@@ -91,7 +91,7 @@ impl<W: Write + Drop, const S: usize> FrameWriter<W, S> {
     /// no frame is under way. Else those of `retry`, and the frame is under way.
     pub fn send(&mut self, payload: &[u8]) -> Result<()>
         requires { under_way self.old ≡ [] }
-        ensures sends { SendsRecord (RestLaw ⟦<BufWriter<W, S> as Write>⟧) (frame payload.now) (IsRefusal (frame_room self.old) payload.now)
+        ensures sends { SendsRecord (RestLaw ⟦<BufWriter<W, S> as Write>⟧) (frame payload.now) (IsPayloadRefusal (frame_room self.old) payload.now)
             (frame_writer self.old) result (under_way self.new) (still_to_go self.new) (frame_writer self.new) }
         ensures small { OnOk result (length payload.now < 2 ^ 32) }
     {
@@ -119,9 +119,9 @@ impl<W: Write + Drop, const S: usize> FrameWriter<W, S> {
         ensures sends { SendsRecords (writer_tells W.told self.old)
             (still_to_go self.old ++ frames (map (λ v. v.items) rest.old.now)) result (under_way self.new)
             (writer_tells W.told self.new) (still_to_go self.new ++ frames (map (λ v. v.items) rest.new.now)) }
-        ensures rest { TakesOff (map (λ v. v.items) rest.old.now) (map (λ v. v.items) rest.new.now) }
+        ensures rest { TakesPayloads (map (λ v. v.items) rest.old.now) (map (λ v. v.items) rest.new.now) }
         ensures refused { IfErr result (λ e. under_way self.new ≡ []
-            → RefusesFirst (IsRefusal (frame_room self.old)) (map (λ v. v.items) rest.new.now) e) }
+            → RefusesFirst (IsPayloadRefusal (frame_room self.old)) (map (λ v. v.items) rest.new.now) e) }
         ensures calls { SendsAll (RestLaw ⟦<BufWriter<W, S> as Write>⟧) frame (frame_writer self.old) (still_to_go self.old)
             (map (λ v. v.items) rest.old.now) result (under_way self.new) (still_to_go self.new) (frame_writer self.new)
             (map (λ v. v.items) rest.new.now) }
@@ -180,7 +180,7 @@ fn stage(pending: &mut Pending, payload: &[u8]) -> Result<()>
     ensures err { OnErr result (pending_bytes pending.new ≡ []) }
     ensures none { OnErr result (pending_rest pending.new ≡ []) }
     ensures small { OnOk result (length payload.now < 2 ^ 32) }
-    ensures refused { IfErr result (IsRefusal (pending_room pending.old) payload.now) }
+    ensures refused { IfErr result (IsPayloadRefusal (pending_room pending.old) payload.now) }
     ensures room { pending_room pending.old ≤ pending_room pending.new }
 {
     pending.clear();

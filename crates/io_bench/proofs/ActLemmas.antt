@@ -4,15 +4,15 @@ use Rattle.std.proofs.Common.{refl, sym, ap, ◌∙◌, subst, arith, append-nil
 use Rattle.std.proofs.Common.{Ok, Err, IfOk, length-take, take-take, take_all, ⊎_elim}
 use Rattle.std.proofs.lemmas.Bool.{cases_lt}
 use Rattle.std.proofs.lemmas.Bool.Decides.{nat_tests}
-use Rattle.no_std_io2_base.specs.declared.error.Error.{Error}
-use Rattle.no_std_io2_base.specs.declared.error.ErrorKind.TheVariants.{WriteZero}
+use Rattle.no_std_io2.specs.declared.io.Error.{Error}
+use Rattle.no_std_io2.specs.declared.io.ErrorKind.TheVariants.{WriteZero}
 use Rattle.std.specs.Option.{option_map}
-use Rattle.no_std_io2_base.specs.declared.error.ErrorKind.{ErrorKind}
-use Rattle.no_std_io2_base.specs.Errors.{is_interruption}
-use Rattle.no_std_io2_base.specs.Write.{Told, Moves, HasSpent, taken, write_mishap, zero_write, Wrote}
-use Rattle.no_std_io2_base.specs.declared.traits.write.Write.{Ghosts as Writer}
+use Rattle.no_std_io2.specs.declared.io.ErrorKind.{ErrorKind}
+use Rattle.no_std_io2.specs.Errors.{is_interruption}
+use Rattle.no_std_io2.specs.Write.{Told, Moves, HasSpent, taken, write_mishap, zero_write, Wrote}
+use Rattle.no_std_io2.specs.declared.io.Write.{Ghosts as Writer}
 use Rattle.no_std_io2.specs.BufWriter.{CallOf}
-use Rattle.no_std_io2_base.proofs.MovesLemmas.{Moves-refl, Moves-forget, count_by-append}
+use Rattle.no_std_io2.proofs.MovesLemmas.{Moves-refl, Moves-forget, count_by-append}
 use Rattle.io_bench.specs.declared.faulty.Act.{Act}
 use Rattle.io_bench.specs.declared.faulty.Act.TheVariants.{Take}
 use Rattle.io_bench.specs.Faulty.{act_mishap, act_mishaps, first_act, with_acts, WritesBehind}

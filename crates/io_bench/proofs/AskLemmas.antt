@@ -7,15 +7,15 @@ use Rattle.std.proofs.lemmas.List.{take_more, take_min}
 use Rattle.std.proofs.lemmas.Bool.Decides.{nat_tests}
 use Rattle.std.proofs.lemmas.Bool.{cases_lt}
 use Rattle.std.proofs.Math.Seq.{drop-append_seam}
-use Rattle.no_std_io2_base.specs.Read.{Event, byte, fails, cut, events_of, bytes, HasNoFault, Reads, ReadsExact, Fills}
-use Rattle.no_std_io2_base.specs.Read.{Reader, StopsAtFault, FallsShort}
+use Rattle.no_std_io2.specs.Read.{Event, byte, fails, cut, events_of, bytes, HasNoFault, Reads, ReadsExact, Fills}
+use Rattle.no_std_io2.specs.Read.{Reader, StopsAtFault, FallsShort}
 use Rattle.io_bench.specs.declared.asks.Ask.{Ask}
 use Rattle.io_bench.specs.declared.asks.Ask.TheVariants.{Read, Exact, Fill}
-use Rattle.no_std_io2_base.specs.declared.error.Error.{Error}
-use Rattle.no_std_io2_base.specs.declared.error.ErrorKind.TheVariants.{UnexpectedEof}
-use Rattle.no_std_io2_base.specs.Errors.{error_kind}
-use Rattle.no_std_io2_base.specs.BufRead.{Lends, LendsFrom}
-use Rattle.no_std_io2_base.proofs.EventLemmas.{bytes-events_of, length-events_of, events_of-append, HasNoFault-events_of, HasNoFault-front}
+use Rattle.no_std_io2.specs.declared.io.Error.{Error}
+use Rattle.no_std_io2.specs.declared.io.ErrorKind.TheVariants.{UnexpectedEof}
+use Rattle.no_std_io2.specs.Errors.{error_kind}
+use Rattle.no_std_io2.specs.BufRead.{Lends, LendsFrom}
+use Rattle.no_std_io2.proofs.EventLemmas.{bytes-events_of, length-events_of, events_of-append, HasNoFault-events_of, HasNoFault-front}
 use Rattle.no_std_io2.proofs.BufReaderExact.{length-events, no_bytes}
 use Rattle.no_std_io2.proofs.CopyLemmas.{no_fault_at_end}
 use Rattle.no_std_io2.specs.declared.buffered.buf_reader.BufReader.{BufReader}
@@ -24,8 +24,8 @@ use Rattle.no_std_io2.proofs.BufReaderRoom.{some_room, held-le}
 use Rattle.io_bench.specs.declared.tally.Tally.{Tally}
 use Rattle.io_bench.specs.Tally.{tally_reads}
 use Rattle.io_bench.proofs.ReadsPaid.{ReadsPaid, paid_none, paid_ask, paid_same, paid_bound, asked-le}
-use Rattle.io_bench.specs.Asks.{Drops, Step, Steps, TakesFront, Fits, AllFit, Asked, meets_end, asked_bytes, asked_reads, asked_left}
-use Rattle.io_bench.specs.Asks.{Answers, Answered, CameTo, met_end, asked_reader, asked_events}
+use Rattle.io_bench.specs.Asks.{Drops, AskStep, Steps, TakesFront, Fits, AllFit, Asked, meets_end, asked_bytes, asked_reads, asked_left}
+use Rattle.io_bench.specs.Asks.{AskTakes, Answered, CameTo, met_end, asked_reader, asked_events}
 use Rattle.std.proofs.Common.{◌/◌, ◌≢◌, true, ◌&&◌, is_err}
 
 -- where a buffer has room for each ask of a list, it has room for the one at i
@@ -178,7 +178,7 @@ lent_taken after most n {lent = lent} same rest held is =
 
 -- an ask takes a front of what was to come
 front_answered : (ask : Ask) (E : List Event) (answer : Result Bool Error) (held : List ℕ) (after : List Event)
-    → Answers ask E answer held after → TakesFront E after
+    → AskTakes ask E answer held after → TakesFront E after
 front_answered (Read len) E (Ok is_end) held after t = (events_of (take t.0 t.1), t.4.0)
 front_answered (Read len) E (Err e) held after t = (fails e ∷ [], t)
 front_answered (Exact len) E (Ok false) held after t = (cut _ _, t.2.split)
@@ -190,7 +190,7 @@ front_answered (Fill most) E (Err e) held after t = (fails e ∷ [], t)
 
 -- the step that an ask took
 asked_step : (S : ℕ) (ask : Ask) (h r h' r' : ℕ) (E E' : List Event) (is_end : Bool) → 0 < S → h ≤ length E
-    → Asked S ask h r E is_end h' r' E' → Step ask E E'
+    → Asked S ask h r E is_end h' r' E' → AskStep ask E E'
 asked_step S (Read len) h r h' r' E E' is_end room fits a =
     drops S len h E E' (if nat_lt 0 h then h else length E) (grind (arith, nat_tests)) a.events
 asked_step S (Fill most) h r h' r' E E' is_end room fits a =

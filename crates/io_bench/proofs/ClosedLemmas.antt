@@ -4,7 +4,7 @@ use Rattle.std.proofs.Common.{length, take, get_or, List, [], ◌∷◌, ◌++�
 use Rattle.std.proofs.Common.{append-nil}
 use Rattle.std.proofs.lemmas.List.{take_more, length-append}
 use Rattle.no_std_io2.specs.BufWriter.{writing_calls, buffer_after}
-use Rattle.no_std_io2_base.specs.Write.{calls_for}
+use Rattle.no_std_io2.specs.Write.{calls_for}
 use Rattle.io_bench.specs.declared.runs.Op.{Op}
 use Rattle.io_bench.specs.declared.runs.Op.TheVariants.{Write, WriteAll, Flush}
 use Rattle.io_bench.specs.declared.runs.Reply.{Reply}

@@ -1,7 +1,7 @@
 -- How many calls a loop of writes or of reads made.
 use Rattle.std.proofs.Common.{◌≡◌, ℕ, ◌+◌, ◌<◌, ◌≤◌, Ok, Err, min, arith, inl, inr}
-use Rattle.no_std_io2_base.specs.declared.error.Error.{Error}
-use Rattle.no_std_io2_base.specs.Errors.{IsOutOfMemory}
+use Rattle.no_std_io2.specs.declared.io.Error.{Error}
+use Rattle.no_std_io2.specs.Errors.{IsOutOfMemory}
 use Rattle.io_bench.specs.Calls.{CountsLoop, CountsToEnd}
 
 -- what a loop has counted so far, with `left` still to do

@@ -3,7 +3,7 @@ use Rattle.std.proofs.Common.{◌≡◌, ℕ, zero, suc, ◌+◌, ◌<◌, ◌�
 use Rattle.std.proofs.Common.{None, Ok, refl, sym, ap, ◌∙◌, arith, add-one, length-drop}
 use Rattle.std.proofs.Math.Seq.{take-add}
 use Rattle.std.proofs.lemmas.List.{take_more_set}
-use Rattle.no_std_io2_base.specs.Read.{byte, events_of, Reads}
+use Rattle.no_std_io2.specs.Read.{byte, events_of, Reads}
 use Rattle.io_bench.specs.declared.feed.Event.{Event}
 use Rattle.io_bench.specs.declared.feed.Event.TheVariants.{Byte, Fail}
 use Rattle.io_bench.specs.Feed.{all_to_come, leading_bytes, first_failure}

@@ -2,7 +2,7 @@
 use Rattle.std.proofs.Common.{◌≡◌, ℕ, zero, suc, arith, min, ◌+◌, ◌<◌, ◌≤◌, take_all, length, take, get_or, List, []}
 use Rattle.std.proofs.Common.{◌∷◌, ◌++◌, refl, sym, ap, ◌∙◌, subst, append_assoc, append-nil, inl, inr, Result, Ok, Err}
 use Rattle.std.specs.Result.{IsErrAnd, IfErr}
-use Rattle.no_std_io2_base.specs.declared.error.Error.{Error}
+use Rattle.no_std_io2.specs.declared.io.Error.{Error}
 use Rattle.std.proofs.lemmas.List.{take_more, length-take, length-append, append_cancel_left, nil_from_length}
 use Rattle.io_bench.specs.declared.runs.Op.{Op}
 use Rattle.io_bench.specs.declared.runs.Op.TheVariants.{Write, WriteAll, Flush}

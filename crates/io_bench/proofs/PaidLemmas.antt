@@ -3,7 +3,7 @@ use Rattle.std.proofs.Common.{◌≡◌, ℕ, ◌+◌, ◌*◌, ◌/◌, ◌<◌
 use Rattle.std.proofs.Math.Nat.{le-div_iff_mul-le}
 use Rattle.std.proofs.lemmas.List.{length-append}
 use Rattle.no_std_io2.specs.BufWriter.{writing_calls, buffer_after}
-use Rattle.no_std_io2_base.specs.Write.{calls_for}
+use Rattle.no_std_io2.specs.Write.{calls_for}
 use Rattle.std.proofs.lemmas.Bool.Decides.{nat_tests}
 use Rattle.std.proofs.lemmas.Bool.{cases_lt}
 

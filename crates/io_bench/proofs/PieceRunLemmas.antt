@@ -4,12 +4,13 @@ use Rattle.std.proofs.Common.{◌∷◌, ◌++◌, map, filter, refl, sym, ap, �
 use Rattle.std.proofs.Common.{⊎_elim, ◌<◌, length, length-append, arith}
 use Rattle.std.specs.List.{concat}
 use Rattle.std.proofs.lemmas.List.Folds.{concat-append}
-use Rattle.no_std_io2_base.specs.declared.error.Error.{Error}
-use Rattle.no_std_io2_base.specs.Errors.{error_kind, is_interruption, IsFault}
-use Rattle.no_std_io2_base.specs.Read.{Event, byte, fails, bytes, HasNoFault, bytes_to_fault, first_fault}
-use Rattle.no_std_io2_base.specs.Pieces.{ends_in, pieces, pieces_before, pieces_given, GivesPiece, IsByteNext, YieldsPiece}
-use Rattle.no_std_io2_base.proofs.GivenPieces.{given_next, given_none, given_fault, bytes_to_fault-append}
-use Rattle.io_bench.specs.Runs.{appended}
+use Rattle.no_std_io2.specs.declared.io.Error.{Error}
+use Rattle.no_std_io2.specs.Errors.{error_kind, is_interruption, IsFault}
+use Rattle.no_std_io2.specs.Read.{Event, byte, fails, bytes, HasNoFault, bytes_to_fault, first_fault}
+use Rattle.no_std_io2.specs.Pieces.{ends_in, pieces, pieces_before, pieces_given, GivesPiece, IsByteNext, YieldsPiece}
+use Rattle.no_std_io2.proofs.GivenPieces.{given_next, given_none, given_fault, bytes_to_fault-append}
+use Rattle.no_std_io2.specs.Appended.{appended}
+use Rattle.no_std_io2.proofs.AppendedLemmas.{appended-one}
 use Rattle.io_bench.specs.PieceRuns.{AllPieces, GathersPieces}
 
 -- the pieces in front are gathered, trimmed, and the others are to come
@@ -28,25 +29,6 @@ none_gathered trim d E = record { before = []; given = refl; fault = refl; bytes
 map-end : {T : Type 0} (trim : T → List ℕ) (ps : List T) (p : T) → map trim (ps ++ p ∷ []) ≡ map trim ps ++ trim p ∷ []
 map-end trim [] p = refl
 map-end trim (q ∷ ps) p = ap (λ l. trim q ∷ l) (map-end trim ps p)
-
--- what was appended
-appended-are : {T : Type 0} (old got : List T) → appended old (old ++ got) ≡ got
-appended-are [] got = refl
-appended-are (x ∷ old) got = appended-are old got
-
--- and one more
-pub appended-one : {T : Type 0} (old mid new : List T) (x : T) → mid ≡ old ++ appended old mid → new ≡ mid ++ x ∷ []
-    → appended old new ≡ appended old mid ++ x ∷ []
-appended-one old mid new x h is =
-    let whole : new ≡ old ++ (appended old mid ++ x ∷ []) = is ∙ ap (λ l. l ++ x ∷ []) h ∙ append_assoc old (appended old mid) (x ∷ []) in
-    ap (appended old) whole ∙ appended-are old (appended old mid ++ x ∷ [])
-
--- where mid is the old list and then what was appended, so is mid with one more behind it
-pub appended-more : {T : Type 0} (old : List T) {mid new : List T} (x : T) → mid ≡ old ++ appended old mid → new ≡ mid ++ x ∷ []
-    → new ≡ old ++ appended old new
-appended-more old {mid} {new} x h is =
-    is ∙ ap (λ l. l ++ x ∷ []) h ∙ append_assoc old (appended old mid) (x ∷ [])
-    ∙ ap (λ l. old ++ l) (sym (appended-one old mid new x h is))
 
 -- what is shown of one item more
 pub shown-one : {T : Type 0} (view : T → List ℕ) (old : List T) {mid new : List T} (x : T) → mid ≡ old ++ appended old mid

@@ -3,19 +3,20 @@ use Rattle.std.proofs.Common.{◌≡◌, ℕ, Bor, Ok, ◌+◌, ◌<◌, ◌≤�
 use Rattle.std.proofs.Common.{refl, sym, ap, ◌∙◌, subst, append_assoc, append-nil}
 use Rattle.std.proofs.Math.Seq.{drop-append_seam}
 use Rattle.std.proofs.lemmas.List.{take_more}
-use Rattle.no_std_io2_base.specs.declared.traits.write.Write.{Ghosts as Writer}
-use Rattle.no_std_io2_base.specs.Write.{Told, Moves, MovesFront, WriteCall, Made}
-use Rattle.no_std_io2_base.proofs.CallsLemmas.{made_then}
+use Rattle.no_std_io2.specs.declared.io.Write.{Ghosts as Writer}
+use Rattle.no_std_io2.specs.Write.{Told, Moves, MovesFront, WriteCall, Made}
+use Rattle.no_std_io2.proofs.CallsLemmas.{made_then}
 use Rattle.no_std_io2.specs.BufWriter.{CallOf}
 use Rattle.no_std_io2.specs.Towers.{Through}
 use Rattle.no_std_io2.proofs.TowerCalls.{through}
-use Rattle.no_std_io2_base.proofs.MovesLemmas.{Moves-trans, Moves-refl}
+use Rattle.no_std_io2.proofs.MovesLemmas.{Moves-trans, Moves-refl}
 use Rattle.io_bench.specs.declared.runs.Op.{Op}
 use Rattle.io_bench.specs.declared.runs.Op.TheVariants.{WriteAll}
 use Rattle.io_bench.specs.declared.runs.Reply.{Reply}
 use Rattle.io_bench.specs.declared.runs.Reply.TheVariants.{Done}
-use Rattle.io_bench.specs.Runs.{appended, Accepts, Run, mishap_of, mishaps_of, IsFlushed, EndsFlushed, IsWhole}
-use Rattle.io_bench.specs.Runs.{AreWhole, Answers, Ran, JoinsEach, OpCalls, RunCalls, RunBelow}
+use Rattle.no_std_io2.specs.Appended.{appended}
+use Rattle.io_bench.specs.Runs.{Accepts, Run, mishap_of, mishaps_of, IsFlushed, EndsFlushed, IsWhole}
+use Rattle.io_bench.specs.Runs.{AreWhole, CallReplies, Ran, JoinsEach, OpCalls, RunCalls, RunBelow}
 
 -- one call more
 pub JoinsEach-more : {A : Type 0} (gives : Op → Reply → List A → Type 0) (ops : List Op) (replies : List Reply) (xs : List A)
@@ -67,7 +68,7 @@ Ran-none a = record { accepted = []; run = refl; moves = Moves-refl a }
 
 -- a run, and one call more from where it left the writer, are a run together
 pub Ran-more : {a b c : Told} {op : Op} {reply : Reply} (ops : List Op) (replies : List Reply) → Ran a ops replies b
-    → Answers b op reply c → Ran a (ops ++ op ∷ []) (replies ++ reply ∷ []) c
+    → CallReplies b op reply c → Ran a (ops ++ op ∷ []) (replies ++ reply ∷ []) c
 Ran-more {a} {b} {c} {op} {reply} ops replies r s = record {
   accepted = r.accepted ++ s.accepted;
   run = JoinsEach-more Accepts ops replies r.accepted op reply s.accepted r.run s.accepts;
@@ -78,7 +79,7 @@ Ran-more {a} {b} {c} {op} {reply} ops replies r s = record {
 
 -- the next of a list of calls
 pub Ran-next : {a b c : Told} {reply : Reply} (ops : List Op) (i : ℕ) (d : Op) (replies : List Reply) → i < length ops
-    → Ran a (take i ops) replies b → Answers b (get_or ops i d) reply c
+    → Ran a (take i ops) replies b → CallReplies b (get_or ops i d) reply c
     → Ran a (take (i + 1) ops) (replies ++ reply ∷ []) c
 Ran-next {a} {b} {c} {reply} ops i d replies h r s =
     subst (λ made. Ran a made (replies ++ reply ∷ []) c) (sym (take_more ops i d h)) (Ran-more (take i ops) replies r s)
@@ -93,7 +94,7 @@ AreWhole-next reply ops i d replies h r s =
 
 -- a last flush that succeeded is the last call
 pub EndsFlushed-next : {a b c : Told} {reply : Reply} (ops : List Op) (i : ℕ) (d : Op) (replies : List Reply)
-    → i < length ops → Ran a (take i ops) replies b → Answers b (get_or ops i d) reply c
+    → i < length ops → Ran a (take i ops) replies b → CallReplies b (get_or ops i d) reply c
     → EndsFlushed (take (i + 1) ops) (replies ++ reply ∷ []) → c.held ≡ []
 EndsFlushed-next {reply} ops i d replies h r s e =
     s.flushed
@@ -109,7 +110,7 @@ all_made P {ops = ops} i old {new = new} more h e p =
     (subst (P (take i ops)) (sym (ap (drop (length old)) e ∙ drop-append_seam old more)) p)
 
 -- a `write_all` that answered `Ok`
-pub Answers-write_all : {a b : Told} (x : Bor (List ℕ)) (u : Unit {0}) → MovesFront a x.now (Ok u) b → Answers a (WriteAll x) Done b
+pub Answers-write_all : {a b : Told} (x : Bor (List ℕ)) (u : Unit {0}) → MovesFront a x.now (Ok u) b → CallReplies a (WriteAll x) Done b
 Answers-write_all {a} {b} x u moves = record {
   accepted = x.now;
   accepts = refl;

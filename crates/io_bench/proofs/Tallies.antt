@@ -1,6 +1,6 @@
 -- A `Tally` as a reader, as the laws of its calls take it.
 use Rattle.std.specs.Bool.{⊤}
-use Rattle.no_std_io2_base.specs.Read.{Reader}
+use Rattle.no_std_io2.specs.Read.{Reader}
 use Rattle.io_bench.specs.declared.tally.Tally.{Tally}
 use Rattle.io_bench.specs.Tally.{tally_inner, tally_reads}
 

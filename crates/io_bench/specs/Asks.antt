@@ -1,11 +1,11 @@
 -- What asks do to a buffered reader, and what they cost where it gives bytes alone.
 use Rattle.std.specs.Prelude.{◌≡◌, ◌≢◌, ℕ, ◌+◌, ◌-◌, ◌≤◌, ◌⊎◌, ◌&&◌, min, nat_eq, nat_lt, nat_le, Bool, true, false, if◌then◌else◌}
 use Rattle.std.specs.Prelude.{List, [], ◌∷◌, ◌++◌, length, take, drop, ⊤, Result, Ok, Err, is_err, IsOkAnd}
-use Rattle.no_std_io2_base.specs.declared.error.Error.{Error}
-use Rattle.no_std_io2_base.specs.declared.error.ErrorKind.TheVariants.{UnexpectedEof}
-use Rattle.no_std_io2_base.specs.Errors.{error_kind}
-use Rattle.no_std_io2_base.specs.Read.{Event, fails, events_of, Reader, Reads, Fills, FallsShort, StopsAtFault}
-use Rattle.no_std_io2_base.specs.BufRead.{BeginsWith}
+use Rattle.no_std_io2.specs.declared.io.Error.{Error}
+use Rattle.no_std_io2.specs.declared.io.ErrorKind.TheVariants.{UnexpectedEof}
+use Rattle.no_std_io2.specs.Errors.{error_kind}
+use Rattle.no_std_io2.specs.Read.{Event, fails, events_of, Reader, Reads, Fills, FallsShort, StopsAtFault}
+use Rattle.no_std_io2.specs.BufRead.{BeginsWith}
 use Rattle.no_std_io2.specs.declared.buffered.buf_reader.BufReader.{BufReader}
 use Rattle.no_std_io2.specs.BufReader.{reader_held, reader_inner, reader_events, filled_length, exact_reads, exact_left}
 use Rattle.io_bench.specs.declared.tally.Tally.{Tally}
@@ -14,32 +14,32 @@ use Rattle.io_bench.specs.declared.asks.Ask.{Ask}
 use Rattle.io_bench.specs.declared.asks.Ask.TheVariants.{Read, Exact, Fill}
 
 -- What one ask does to the events E to come; `Ok` says whether it met the end, and `held` is held then.
-abbrev pub Answers : Ask → List Event → Result Bool Error → List ℕ → List Event → Type 0
+abbrev pub AskTakes : Ask → List Event → Result Bool Error → List ℕ → List Event → Type 0
 -- a read meets the end where it gives no byte and nothing is held,
-Answers (Read len) E (Ok is_end) held after =
+AskTakes (Read len) E (Ok is_end) held after =
     (n : ℕ) × (buf : List ℕ) × (length buf ≡ len) × (n ≤ len) × Reads E (Ok n) buf after
     × (is_end ≡ (nat_eq n 0 && nat_eq (length held) 0))
-Answers (Read len) E (Err e) held after = E ≡ fails e ∷ after
+AskTakes (Read len) E (Err e) held after = E ≡ fails e ∷ after
 -- an exact read where its error is of this kind,
-Answers (Exact len) E (Ok false) held after = (buf : List ℕ) × (length buf ≡ len) × Fills E buf after
-Answers (Exact len) E (Ok true) held after =
+AskTakes (Exact len) E (Ok false) held after = (buf : List ℕ) × (length buf ≡ len) × Fills E buf after
+AskTakes (Exact len) E (Ok true) held after =
     (e : Error) × (error_kind e ≡ UnexpectedEof) × (StopsAtFault E len e after ⊎ FallsShort ⊥ E len e after)
-Answers (Exact len) E (Err e) held after = (error_kind e ≢ UnexpectedEof) × StopsAtFault E len e after
+AskTakes (Exact len) E (Err e) held after = (error_kind e ≢ UnexpectedEof) × StopsAtFault E len e after
 -- and a fill where nothing is lent
-Answers (Fill most) E (Ok is_end) held after =
+AskTakes (Fill most) E (Ok is_end) held after =
     (lent : List ℕ) × BeginsWith E lent × (lent ≡ [] → E ≡ []) × (E ≡ events_of (take most lent) ++ after)
     × (is_end ≡ nat_eq (length lent) 0)
-Answers (Fill most) E (Err e) held after = E ≡ fails e ∷ after
+AskTakes (Fill most) E (Err e) held after = E ≡ fails e ∷ after
 
 -- at least one of the leading events is gone, where some are asked for, and at most `most`
 abbrev pub Drops : ℕ → List Event → List Event → Type 0
 Drops most E after = (n : ℕ) × (min 1 most ≤ n) × (n ≤ most) × (after ≡ drop n E)
 
 -- one ask turned E into after
-abbrev pub Step : Ask → List Event → List Event → Type 0
-Step (Read len) E after = Drops len E after
-Step (Fill most) E after = Drops most E after
-Step (Exact len) E after = after ≡ drop len E
+abbrev pub AskStep : Ask → List Event → List Event → Type 0
+AskStep (Read len) E after = Drops len E after
+AskStep (Fill most) E after = Drops most E after
+AskStep (Exact len) E after = after ≡ drop len E
 
 -- whether an ask meets the end, with so many events to come
 abbrev pub meets_end : Ask → ℕ → Bool
@@ -51,7 +51,7 @@ meets_end (Exact len) all = nat_lt all len
 abbrev pub Steps : List Ask → List Event → List Event → ℕ → Type 0
 Steps [] E after ends = (after ≡ E) × (ends ≡ 0)
 Steps (ask ∷ asks) E after ends =
-    (next : List Event) × (later : ℕ) × Step ask E next × Steps asks next after later
+    (next : List Event) × (later : ℕ) × AskStep ask E next × Steps asks next after later
     × (ends ≡ (if meets_end ask (length E) then 1 else 0) + later)
 
 -- some front of E is gone
@@ -110,7 +110,7 @@ pub record Answered {R : Type 0} {S : ℕ} (inner : Reader R) (ask : Ask) (old :
     (new : BufReader (Tally R) S) : Type 0 where
   -- the events to come go on by what its call does
   pub told : inner.tells (asked_reader old) → inner.tells (asked_reader new)
-      × Answers ask (asked_events inner.events old) answer (reader_held new) (asked_events inner.events new)
+      × AskTakes ask (asked_events inner.events old) answer (reader_held new) (asked_events inner.events new)
   -- over a reader that gives bytes alone it does not fail
   pub filling : inner.is_filling (asked_reader old) → inner.is_filling (asked_reader new) × IsOkAnd answer (λ is_end. Asked S ask
       (length (reader_held old)) (tally_reads (reader_inner old)) (asked_events inner.events old)

@@ -5,7 +5,7 @@ use Rattle.std.specs.Mem.{FitsInMemory}
 use Rattle.no_std_io2.specs.contracts.buffered.buf_writer.BufWriter.{the_row as writer-row}
 use Rattle.io_bench.specs.contracts.tally.Tally.{the_row as tally-row}
 use Rattle.no_std_io2.specs.BufWriter.{writing_calls, buffer_after}
-use Rattle.no_std_io2_base.specs.Write.{calls_for}
+use Rattle.no_std_io2.specs.Write.{calls_for}
 use Rattle.io_bench.specs.declared.runs.Op.{Op}
 use Rattle.io_bench.specs.declared.runs.Op.TheVariants.{Write, WriteAll, Flush}
 

@@ -3,12 +3,12 @@ use Rattle.std.proofs.Common.{ap, ◌∙◌}
 use Rattle.std.specs.Prelude.{◌≡◌, Some, None, Option, List, [], ◌∷◌, ◌++◌, drop, if◌then◌else◌, ◌==◌, ℕ, ◌+◌, ◌<◌}
 use Rattle.std.specs.Prelude.{count_by, take, Result, Ok}
 use Rattle.std.specs.Option.{option_map}
-use Rattle.no_std_io2_base.specs.declared.error.Error.{Error}
-use Rattle.no_std_io2_base.specs.declared.error.ErrorKind.{ErrorKind}
-use Rattle.no_std_io2_base.specs.declared.error.ErrorKind.TheVariants.{WriteZero}
-use Rattle.no_std_io2_base.specs.declared.traits.write.Write.{Ghosts as Writer}
-use Rattle.no_std_io2_base.specs.Errors.{is_interruption}
-use Rattle.no_std_io2_base.specs.Write.{Told, WriteCall, Wrote, WroteAll, WroteRest, Flushed}
+use Rattle.no_std_io2.specs.declared.io.Error.{Error}
+use Rattle.no_std_io2.specs.declared.io.ErrorKind.{ErrorKind}
+use Rattle.no_std_io2.specs.declared.io.ErrorKind.TheVariants.{WriteZero}
+use Rattle.no_std_io2.specs.declared.io.Write.{Ghosts as Writer}
+use Rattle.no_std_io2.specs.Errors.{is_interruption}
+use Rattle.no_std_io2.specs.Write.{Told, WriteCall, Wrote, WroteAll, WroteRest, Flushed}
 use Rattle.no_std_io2.specs.BufWriter.{CallOf}
 use Rattle.io_bench.specs.Calls.{FailsWith}
 use Rattle.io_bench.specs.declared.faulty.Act.{Act}

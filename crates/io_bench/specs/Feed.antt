@@ -1,16 +1,12 @@
 -- What a clause reads of a `Feed`, and what its events are to a reader.
 use Rattle.std.specs.Prelude.{ℕ, List, [], ◌∷◌, drop, length, min, Option, Some, None}
-use Rattle.no_std_io2_base.specs.declared.error.Error.{Error}
-use Rattle.no_std_io2_base.specs.declared.error.ErrorKind.{ErrorKind}
-use Rattle.no_std_io2_base.specs.declared.error.Repr.TheVariants.{Kind}
-use Rattle.no_std_io2_base.specs.Read.{Event as ToCome, byte, fails}
+use Rattle.no_std_io2.specs.declared.io.Error.{Error}
+use Rattle.no_std_io2.specs.declared.io.ErrorKind.{ErrorKind}
+use Rattle.no_std_io2.specs.Errors.{error_of}
+use Rattle.no_std_io2.specs.Read.{Event as ToCome, byte, fails}
 use Rattle.io_bench.specs.declared.feed.Event.{Event}
 use Rattle.io_bench.specs.declared.feed.Event.TheVariants.{Byte, Fail}
 use Rattle.io_bench.specs.declared.feed.Feed.{Feed}
-
--- an error of this kind, without a text
-abbrev pub error_of : ErrorKind → Error
-error_of kind = record { repr = Kind kind }
 
 -- what an event of the script is to a reader
 abbrev pub to_come : Event → ToCome

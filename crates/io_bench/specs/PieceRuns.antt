@@ -1,10 +1,10 @@
 -- What a whole run of `split` or `lines` gathers.
 use Rattle.std.specs.Prelude.{◌≡◌, ℕ, ◌⊎◌, ◌<◌, List, ◌∷◌, ◌++◌, length, map, filter, Result, Ok, Err}
 use Rattle.std.specs.List.{concat}
-use Rattle.no_std_io2_base.specs.declared.error.Error.{Error}
-use Rattle.no_std_io2_base.specs.Errors.{IsFault, IsOutOfMemory}
-use Rattle.no_std_io2_base.specs.Read.{Event, fails, bytes, bytes_to_fault, HasNoFault}
-use Rattle.no_std_io2_base.specs.Pieces.{ends_in, pieces, pieces_given}
+use Rattle.no_std_io2.specs.declared.io.Error.{Error}
+use Rattle.no_std_io2.specs.Errors.{IsFault, IsOutOfMemory}
+use Rattle.no_std_io2.specs.Read.{Event, fails, bytes, bytes_to_fault, HasNoFault}
+use Rattle.no_std_io2.specs.Pieces.{ends_in, pieces, pieces_given}
 
 -- no fault was to come, and these are the pieces of all bytes, trimmed
 pub record AllPieces (trim : List ℕ → List ℕ) (d : ℕ) (E : List Event) (items : List (List ℕ)) : Type 0 where

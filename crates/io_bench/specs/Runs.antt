@@ -1,19 +1,15 @@
 -- What replies accept, which of them failed, and whole runs.
 use Rattle.std.specs.Prelude.{◌≡◌, ℕ, ◌+◌, ◌≤◌, ◌==◌, ◌&&◌, nat_lt, Bool, true, false, if◌then◌else◌, List, [], ◌∷◌}
 use Rattle.std.specs.Prelude.{◌++◌, length, take, drop, count_by, ⊤, Option, None, Some, Ok, Err}
-use Rattle.no_std_io2_base.specs.declared.error.ErrorKind.{ErrorKind}
-use Rattle.no_std_io2_base.specs.Errors.{error_kind, kind_number}
-use Rattle.no_std_io2_base.specs.Write.{Told, Moves, IsFront, zero_write, WriteCall, Wrote, Flushed, Made, AllCalls}
-use Rattle.no_std_io2_base.specs.declared.traits.write.Write.{Ghosts as Writer}
+use Rattle.no_std_io2.specs.declared.io.ErrorKind.{ErrorKind}
+use Rattle.no_std_io2.specs.Errors.{error_kind, kind_number}
+use Rattle.no_std_io2.specs.Write.{Told, Moves, IsFront, zero_write, WriteCall, Wrote, Flushed, Made, AllCalls}
+use Rattle.no_std_io2.specs.declared.io.Write.{Ghosts as Writer}
 use Rattle.no_std_io2.specs.BufWriter.{CallOf}
 use Rattle.io_bench.specs.declared.runs.Op.{Op}
 use Rattle.io_bench.specs.declared.runs.Op.TheVariants.{Write, WriteAll, Flush}
 use Rattle.io_bench.specs.declared.runs.Reply.{Reply}
 use Rattle.io_bench.specs.declared.runs.Reply.TheVariants.{Took, Done, Failed}
-
--- what stands behind the old items
-abbrev pub appended : {X : Type 0} → List X → List X → List X
-appended old new = drop (length old) new
 
 -- the bytes that a call with this reply accepted
 abbrev pub Accepts : Op → Reply → List ℕ → Type 0
@@ -156,7 +152,7 @@ AreWhole [] (reply ∷ replies) = ⊥
 AreWhole (op ∷ ops) [] = ⊥
 
 -- one call and its reply, from old to new
-pub record Answers (old : Told) (op : Op) (reply : Reply) (new : Told) : Type 0 where
+pub record CallReplies (old : Told) (op : Op) (reply : Reply) (new : Told) : Type 0 where
   pub accepted : List ℕ
   pub accepts : Accepts op reply accepted
   pub moves : Moves old accepted (mishap_of op reply) new

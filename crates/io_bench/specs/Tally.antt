@@ -1,7 +1,7 @@
 -- What a clause reads of a `Tally`.
 use Rattle.std.specs.Prelude.{◌≡◌, ℕ, ◌+◌, length}
-use Rattle.no_std_io2_base.specs.declared.traits.write.Write.{Ghosts as Writer}
-use Rattle.no_std_io2_base.specs.Write.{WriteCall, Wrote, WroteAll, WroteRest, Flushed}
+use Rattle.no_std_io2.specs.declared.io.Write.{Ghosts as Writer}
+use Rattle.no_std_io2.specs.Write.{WriteCall, Wrote, WroteAll, WroteRest, Flushed}
 use Rattle.no_std_io2.specs.BufWriter.{CallOf}
 use Rattle.io_bench.specs.declared.tally.Tally.{Tally}
 
@@ -18,14 +18,14 @@ abbrev pub tally_reads : {T : Type 0} → Tally T → ℕ
 tally_reads t = length t.read_calls.bytes
 
 -- A call is the same call of the inner writer, once, with its answer, and so many more are counted.
-pub record HandsOn {T : Type 0} (I : Writer T) (old : Tally T) (call : WriteCall) (counted : ℕ) (new : Tally T) : Type 0 where
+pub record HandsCounted {T : Type 0} (I : Writer T) (old : Tally T) (call : WriteCall) (counted : ℕ) (new : Tally T) : Type 0 where
   pub handed : CallOf I (tally_inner old) call (tally_inner new)
   pub writes : tally_writes new ≡ tally_writes old + counted
   pub reads : tally_reads new ≡ tally_reads old
 
 -- what one call does: each is handed on, and a `write` counts
 abbrev pub TallyMay : {T : Type 0} → Writer T → Tally T → WriteCall → Tally T → Type 0
-TallyMay I old (Wrote x reply) new = HandsOn I old (Wrote x reply) 1 new
-TallyMay I old (Flushed reply) new = HandsOn I old (Flushed reply) 0 new
+TallyMay I old (Wrote x reply) new = HandsCounted I old (Wrote x reply) 1 new
+TallyMay I old (Flushed reply) new = HandsCounted I old (Flushed reply) 0 new
 TallyMay I old (WroteAll x reply) new = ⊥
 TallyMay I old (WroteRest x reply left) new = ⊥

@@ -1,6 +1,6 @@
 // What a run accepted, out of its calls and replies.
 ghost use Rattle.std.specs.Prelude.{◌≡◌, ℕ, List, [], Some, None, true, false, IfSome, IfOk, IfErr};
-ghost use Rattle.no_std_io2_base.specs.Errors.{IsOutOfMemory};
+ghost use Rattle.no_std_io2.specs.Errors.{IsOutOfMemory};
 ghost use Rattle.io_bench.specs.Runs.{Accepts, Run};
 ghost use Rattle.io_bench.specs.Joined.{IsClear, AreClear, IsJoined, HasIdleFailure};
 

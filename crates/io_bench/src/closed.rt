@@ -1,9 +1,10 @@
 // A run through one `BufWriter` over a base that takes all.
 ghost use Rattle.std.specs.Prelude.{◌≡◌, ◌+◌, ◌*◌, ◌/◌, ◌<◌, ◌≤◌, [], ◌++◌, length, IfOk, IfErr, OnOk, OnErr, vec_len, vec_capacity};
-ghost use Rattle.no_std_io2_base.specs.Errors.{IsOutOfMemory};
-ghost use Rattle.no_std_io2_base.specs.Write.{Moves};
+ghost use Rattle.no_std_io2.specs.Errors.{IsOutOfMemory};
+ghost use Rattle.no_std_io2.specs.Write.{Moves};
 ghost use Rattle.no_std_io2.specs.BufWriter.{writer_inner, writer_buffer, writer_told};
-ghost use Rattle.io_bench.specs.Runs.{appended, Answers, AreWhole, IsWhole};
+ghost use Rattle.no_std_io2.specs.Appended.{appended};
+ghost use Rattle.io_bench.specs.Runs.{CallReplies, AreWhole, IsWhole};
 ghost use Rattle.io_bench.specs.Tally.{tally_inner, tally_writes};
 ghost use Rattle.io_bench.specs.Closed.{given_bytes, flushes, op_calls, op_buffer, CountedWriterFits};
 
@@ -19,7 +20,7 @@ fn make_counted_call<W: Write + Drop, const S: usize>(
 ) -> Reply
     requires some { 0 < S }
     requires all { W.takes_all (tally_inner (writer_inner w.old)) }
-    ensures answers { Answers (writer_told (λ t. W.told (tally_inner t)) w.old) op.entry result
+    ensures answers { CallReplies (writer_told (λ t. W.told (tally_inner t)) w.old) op.entry result
         (writer_told (λ t. W.told (tally_inner t)) w.new) }
     ensures all { W.takes_all (tally_inner (writer_inner w.new)) × IsWhole op.entry result }
     ensures calls { tally_writes (writer_inner w.new)

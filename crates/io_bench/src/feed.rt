@@ -1,9 +1,9 @@
 // A reader that gives what its script says.
 ghost use Rattle.std.specs.Prelude.{◌≡◌, ◌<◌, ◌≤◌, ◌+◌, ◌∷◌, [], Some, None, Ok, IfOk, IfErr, IsOkAnd, MatchOption};
 ghost use Rattle.std.specs.Prelude.{length, take, drop, min, vec_len};
-ghost use Rattle.no_std_io2_base.specs.declared.error.ErrorKind.{ErrorKind};
+ghost use Rattle.no_std_io2.specs.declared.io.ErrorKind.{ErrorKind};
 ghost use Rattle.io_bench.specs.Calls.{FailsWith};
-ghost use Rattle.no_std_io2_base.specs.Read.{ReadLaw};
+ghost use Rattle.no_std_io2.specs.Read.{ReadLaw};
 
 use no_std_io2::io::{Error, ErrorKind, Read, Result, Stored};
 

@@ -15,7 +15,7 @@ mod asks;
 mod closed;
 mod faulty;
 mod feed;
-mod laws;
+mod pins;
 mod pieces;
 mod runs;
 mod tally;

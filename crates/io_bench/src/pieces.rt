@@ -1,11 +1,11 @@
 // Whole runs of `split` and of `lines`.
 ghost use Rattle.std.specs.Prelude.{◌≡◌, ◌+◌, ◌<◌, ◌++◌, map, false, OnOk, OnErr, IfErr, vec_items, vec_len, vec_capacity, string_bytes};
-ghost use Rattle.no_std_io2_base.specs.Errors.{IsFault, IsOutOfMemory};
-ghost use Rattle.no_std_io2_base.specs.Pieces.{line_text, without};
-ghost use Rattle.no_std_io2_base.specs.Pieces.{split_reader, split_delim, split_is_ended, lines_reader, lines_is_ended, RefusesLine};
-ghost use Rattle.no_std_io2_base.specs.Write.{IsFront};
+ghost use Rattle.no_std_io2.specs.Errors.{IsFault, IsOutOfMemory};
+ghost use Rattle.no_std_io2.specs.Pieces.{line_text, without};
+ghost use Rattle.no_std_io2.specs.Pieces.{split_reader, split_delim, split_is_ended, lines_reader, lines_is_ended, RefusesLine};
+ghost use Rattle.no_std_io2.specs.Write.{IsFront};
 ghost use Rattle.io_bench.specs.PieceRuns.{GathersPieces};
-ghost use Rattle.io_bench.specs.Runs.{appended};
+ghost use Rattle.no_std_io2.specs.Appended.{appended};
 
 use no_std_io2::io::{BufRead, Lines, Result, Split};
 
@@ -35,7 +35,7 @@ pub fn run_split<R: BufRead + Drop>(mut split: Split<R>, items: &mut Vec<Vec<u8>
         → GathersPieces (without (split_delim split)) (λ _ _. ⊥) (vec_capacity items.new < vec_len items.new + 1) (split_delim split)
         (R.events (split_reader split)) result (map vec_items (appended items.old.items items.new.items)) }
     ensures appends { items.new.items ≡ items.old.items ++ appended items.old.items items.new.items }
-    ensures fault { IfErr result IsFault }
+    ensures never_interrupted { IfErr result IsFault }
 {
     'items: loop {
         make_room(items)?;
@@ -61,7 +61,7 @@ pub fn run_lines<R: BufRead + Drop>(mut lines: Lines<R>, items: &mut Vec<String>
         → GathersPieces line_text RefusesLine (vec_capacity items.new < vec_len items.new + 1) 10
         (R.events (lines_reader lines)) result (map string_bytes (appended items.old.items items.new.items)) }
     ensures appends { items.new.items ≡ items.old.items ++ appended items.old.items items.new.items }
-    ensures fault { IfErr result IsFault }
+    ensures never_interrupted { IfErr result IsFault }
 {
     'items: loop {
         make_room(items)?;

@@ -4,7 +4,8 @@ ghost use Rattle.no_std_io2.specs.Errors.{IsOutOfMemory};
 ghost use Rattle.no_std_io2.specs.Write.{WriteCall, Made};
 ghost use Rattle.no_std_io2.specs.BufWriter.{CallOf};
 ghost use Rattle.no_std_io2.specs.declared.io.ErrorKind.{ErrorKind};
-ghost use Rattle.io_bench.specs.Runs.{appended, Answers, Ran, EndsFlushed, failures, failures_of, IsShorterBy};
+ghost use Rattle.no_std_io2.specs.Appended.{appended};
+ghost use Rattle.io_bench.specs.Runs.{CallReplies, Ran, EndsFlushed, failures, failures_of, IsShorterBy};
 ghost use Rattle.io_bench.specs.Runs.{HasFewer, AreWhole, IsWhole, OpCalls, RunCalls};
 
 use no_std_io2::io::{Error, Result, Write};
@@ -34,7 +35,7 @@ pub enum Reply {
 
 // Makes one call.
 fn make_call<W: Write>(w: &mut W, op: Op<'_>) -> Reply
-    ensures answers { Answers (W.told w.old) op.entry result (W.told w.new) }
+    ensures answers { CallReplies (W.told w.old) op.entry result (W.told w.new) }
     ensures all { W.takes_all w.old → W.takes_all w.new × IsWhole op.entry result }
     ensures calls { (calls : List WriteCall) × Made (CallOf W.Write) w.old calls w.new × OpCalls op.entry result calls }
 {

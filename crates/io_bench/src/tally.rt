@@ -8,7 +8,7 @@ ghost use Rattle.io_bench.specs.Calls.{CountsLoop, CountsToEnd};
 
 use no_std_io2::io::{Read, Result, Stored, Write};
 use no_std_io2::trace::Trace;
-use no_std_io2_base::shared::{LEAST_ROOM, failed_to_fill, open_room, reserve_room};
+use no_std_io2::internal::{LEAST_ROOM, failed_to_fill, open_room, reserve_room};
 use std::alloc::Allocator;
 use std::fmt;
 

@@ -1,11 +1,12 @@
 // What the contracts come to over towers, proved. These are no calls for users.
 ghost use Rattle.std.specs.Prelude.{◌≡◌, ◌≤◌, ◌++◌, length, false, IfOk, OnOk};
-ghost use Rattle.no_std_io2_base.specs.Chain.{chain_first, chain_second, chain_is_done};
-ghost use Rattle.no_std_io2_base.specs.Read.{bytes as all_bytes};
+ghost use Rattle.no_std_io2.specs.Chain.{chain_first, chain_second, chain_is_done};
+ghost use Rattle.no_std_io2.specs.Read.{bytes as all_bytes};
 ghost use Rattle.no_std_io2.specs.LineWriter.{line_inner};
 ghost use Rattle.no_std_io2.specs.BufWriter.{writer_inner};
 ghost use Rattle.io_bench.specs.Faulty.{acts_left, act_mishaps};
-ghost use Rattle.io_bench.specs.Runs.{appended, failures, AreWhole, IsShorterBy};
+ghost use Rattle.no_std_io2.specs.Appended.{appended};
+ghost use Rattle.io_bench.specs.Runs.{failures, AreWhole, IsShorterBy};
 
 use crate::faulty::Faulty;
 use crate::runs::{Op, Reply, run_writes};

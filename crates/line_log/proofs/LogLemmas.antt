@@ -11,7 +11,7 @@ use Rattle.no_std_io2.proofs.RetryLemmas.{sends_ends}
 use Rattle.pending.proofs.RecordLemmas.{all_sends, record_sent}
 use Rattle.pending.specs.Pending.{Law, SendsAll, SendsRecords}
 use Rattle.pending.specs.Text.{IsPrintRefusal}
-use Rattle.line_log.specs.Lines.{line_of, lines_of, IsRefusal}
+use Rattle.line_log.specs.Lines.{line_of, lines_out, IsLineRefusal}
 use Rattle.line_log.specs.Log.{LineLaw}
 use Rattle.line_log.specs.Text.{IsTextRefusal, StagesLine, LogsText}
 
@@ -33,12 +33,12 @@ line_sends I reply (inr (mid, law, last)) = sends_ends reply law.sends (wrote_no
 
 -- what was sent of lines was accepted
 pub lines_send : {W : Type 0} (I : Writer W) {old new : W} {first to_go : List ℕ} {texts left : List (List ℕ)}
-    (reply : Result (Unit {0}) Error) (under_way : List ℕ) → SendsAll (LineLaw I) line_of old first texts reply under_way to_go new left
-    → SendsRecords (I.told old) (first ++ lines_of texts) reply under_way (I.told new) (to_go ++ lines_of left)
-lines_send I reply under_way all = all_sends I (LineLaw I) (λ a b x left r calls. line_sends I r calls) line_of reply under_way all
+    (reply : Result (Unit {0}) Error) (log_under_way : List ℕ) → SendsAll (LineLaw I) line_of old first texts reply log_under_way to_go new left
+    → SendsRecords (I.told old) (first ++ lines_out texts) reply log_under_way (I.told new) (to_go ++ lines_out left)
+lines_send I reply log_under_way all = all_sends I (LineLaw I) (λ a b x left r calls. line_sends I r calls) line_of reply log_under_way all
 
 -- where there was less room, the room was too small too
-pub refusal_less : {less room : ℕ} (text : List ℕ) (e : Error) → less ≤ room → IsRefusal room text e → IsRefusal less text e
+pub refusal_less : {less room : ℕ} (text : List ℕ) (e : Error) → less ≤ room → IsLineRefusal room text e → IsLineRefusal less text e
 refusal_less text e h (inl newline) = inl newline
 refusal_less text e h (inr (plain, memory, short)) = inr (plain, memory, omega (arith, short, h))
 
@@ -73,14 +73,14 @@ pub some_line : (text line : List ℕ) → line ≡ line_of text → 0 < length 
 some_line text line is = omega (arith, ap length is, length-append text (10 ∷ []))
 
 -- a text that was put under way as a line was sent, or is under way
-pub logs_text : {W : Type 0} (law : Law W) {room : ℕ} {output : Option (List ℕ)} {old new : W} {staged to_go left under_way : List ℕ}
+pub logs_text : {W : Type 0} (law : Law W) {room : ℕ} {output : Option (List ℕ)} {old new : W} {staged to_go left log_under_way : List ℕ}
     (reply : Result (Unit {0}) Error) → StagesLine room output (Ok tt) staged to_go → law old to_go reply new left
-    → OnOk reply (under_way ≡ []) → OnOk reply (left ≡ []) → OnErr reply (under_way ≡ staged)
-    → LogsText law room output old reply under_way left new
-logs_text law {room} {output} {under_way = under_way} reply (text, is, whole, same, plain) calls done none err = record {
+    → OnOk reply (log_under_way ≡ []) → OnOk reply (left ≡ []) → OnErr reply (log_under_way ≡ staged)
+    → LogsText law room output old reply log_under_way left new
+logs_text law {room} {output} {log_under_way = log_under_way} reply (text, is, whole, same, plain) calls done none err = record {
   text = text;
   is = is;
-  sends = record_sent law (IsTextRefusal room output text) under_way reply calls same whole done none err;
+  sends = record_sent law (IsTextRefusal room output text) log_under_way reply calls same whole done none err;
   plain = on_ok reply plain;
   started = λ some. plain;
 }
@@ -90,8 +90,8 @@ logs_text law {room} {output} {under_way = under_way} reply (text, is, whole, sa
     on_ok (Err e) p = tt
 
 -- a text was refused before it was printed whole
-pub refused_text : (room : ℕ) (output : Option (List ℕ)) (e : Error) {under_way to_go : List ℕ} → IsPrintRefusal room output 1 e
-    → under_way ≡ [] → to_go ≡ [] → StagesLine room output (Err e) under_way to_go
+pub refused_text : (room : ℕ) (output : Option (List ℕ)) (e : Error) {log_under_way to_go : List ℕ} → IsPrintRefusal room output 1 e
+    → log_under_way ≡ [] → to_go ≡ [] → StagesLine room output (Err e) log_under_way to_go
 refused_text room None e why none idle = ([], tt, inr why, none, idle)
 refused_text room (Some bs) e why none idle = (bs, refl, inr why, none, idle)
 

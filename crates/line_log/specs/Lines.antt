@@ -11,14 +11,14 @@ abbrev pub line_of : List ℕ → List ℕ
 line_of text = text ++ 10 ∷ []
 
 -- lines as they go out
-abbrev pub lines_of : List (List ℕ) → List ℕ
-lines_of texts = concat (map line_of texts)
+abbrev pub lines_out : List (List ℕ) → List ℕ
+lines_out texts = concat (map line_of texts)
 
 -- an error that says that a newline stands in a text
 abbrev pub SaysNewline : Error → Type 0
 SaysNewline e = SaysError InvalidInput (codes "a newline stands in a line") e
 
 -- a text was refused: a newline stands in it; or none does, there was room for so many bytes, too few, and no memory for more
-abbrev pub IsRefusal : ℕ → List ℕ → Error → Type 0
-IsRefusal room text e = (HasNewline text × SaysNewline e)
+abbrev pub IsLineRefusal : ℕ → List ℕ → Error → Type 0
+IsLineRefusal room text e = (HasNewline text × SaysNewline e)
     ⊎ (HasNoNewline text × IsOutOfMemory e × (room < length text + 1))

@@ -26,12 +26,12 @@ abbrev pub log_told : {W : Type 0} {S : ℕ} → (W → Told) → LineLog W S �
 log_told told l = line_told told l.lines
 
 -- the line that is under way, with its newline; no byte where there is none
-abbrev pub under_way : {W : Type 0} {S : ℕ} → LineLog W S → List ℕ
-under_way l = pending_bytes l.pending
+abbrev pub log_under_way : {W : Type 0} {S : ℕ} → LineLog W S → List ℕ
+log_under_way l = pending_bytes l.pending
 
 -- what is still to go of it
-abbrev pub still_to_go : {W : Type 0} {S : ℕ} → LineLog W S → List ℕ
-still_to_go l = pending_rest l.pending
+abbrev pub log_left : {W : Type 0} {S : ℕ} → LineLog W S → List ℕ
+log_left l = pending_rest l.pending
 
 -- for how many bytes of a line there is room
 abbrev pub log_room : {W : Type 0} {S : ℕ} → LineLog W S → ℕ
@@ -42,5 +42,5 @@ abbrev pub LineLaw : {W : Type 0} → Writer W → Law W
 LineLaw I = AndThen (RestLaw I) (NoneLaw I)
 
 -- these texts were taken off the front, and no newline stands in any
-abbrev pub TakesOff : List (List ℕ) → List (List ℕ) → Type 0
-TakesOff = records.TakesOff HasNoNewline
+abbrev pub TakesLines : List (List ℕ) → List (List ℕ) → Type 0
+TakesLines = records.TakesOff HasNoNewline

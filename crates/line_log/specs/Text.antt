@@ -12,18 +12,18 @@ IsTextRefusal room output text e = (HasNewline text × SaysNewline e) ⊎ IsPrin
 
 -- some text, the output where it is specified, was put under way as a line; or it was refused, and no line is under way
 abbrev pub StagesLine : ℕ → Option (List ℕ) → Result (Unit {0}) Error → List ℕ → List ℕ → Type 0
-StagesLine room output (Ok u) under_way to_go =
-    (text : List ℕ) × IfSome output (λ bs. text ≡ bs) × (under_way ≡ line_of text) × (to_go ≡ line_of text) × HasNoNewline text
-StagesLine room output (Err e) under_way to_go =
-    (text : List ℕ) × IfSome output (λ bs. text ≡ bs) × IsTextRefusal room output text e × (under_way ≡ []) × (to_go ≡ [])
+StagesLine room output (Ok u) log_under_way to_go =
+    (text : List ℕ) × IfSome output (λ bs. text ≡ bs) × (log_under_way ≡ line_of text) × (to_go ≡ line_of text) × HasNoNewline text
+StagesLine room output (Err e) log_under_way to_go =
+    (text : List ℕ) × IfSome output (λ bs. text ≡ bs) × IsTextRefusal room output text e × (log_under_way ≡ []) × (to_go ≡ [])
 
 -- Some text, the output where it is specified, was logged as a line is.
 pub record LogsText {W : Type 0} (law : Law W) (room : ℕ) (output : Option (List ℕ)) (old : W) (reply : Result (Unit {0}) Error)
-    (under_way to_go : List ℕ) (new : W) : Type 0 where
+    (log_under_way to_go : List ℕ) (new : W) : Type 0 where
   pub text : List ℕ
   pub is : IfSome output (λ bs. text ≡ bs)
   -- its line was sent whole, once; or it was refused; or it is under way
-  pub sends : SendsRecord law (line_of text) (IsTextRefusal room output text) old reply under_way to_go new
+  pub sends : SendsRecord law (line_of text) (IsTextRefusal room output text) old reply log_under_way to_go new
   -- what was logged is one line
   pub plain : OnOk reply (HasNoNewline text)
-  pub started : 0 < length under_way → HasNoNewline text
+  pub started : 0 < length log_under_way → HasNoNewline text

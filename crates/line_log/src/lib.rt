@@ -13,9 +13,9 @@ ghost use Rattle.no_std_io2.specs.Lines.{HasNoNewline};
 ghost use Rattle.no_std_io2.specs.LineWriter.{line_inner, line_buffer};
 ghost use Rattle.pending.specs.Pending.{pending_bytes, pending_rest, pending_room, FlushedLaw, AndThen};
 ghost use Rattle.pending.specs.Pending.{SendsRecord, SendsRecords, SendsAll, RefusesFirst};
-ghost use Rattle.line_log.specs.Lines.{line_of, lines_of, IsRefusal, SaysNewline};
+ghost use Rattle.line_log.specs.Lines.{line_of, lines_out, IsLineRefusal, SaysNewline};
 ghost use Rattle.line_log.specs.Text.{StagesLine, LogsText};
-ghost use Rattle.line_log.specs.Log.{log_inner, log_writer, log_told, log_buffer, log_room, under_way, still_to_go, LineLaw, TakesOff};
+ghost use Rattle.line_log.specs.Log.{log_inner, log_writer, log_told, log_buffer, log_room, log_under_way, log_left, LineLaw, TakesLines};
 
 use no_std_io2::io::{Answers, Error, ErrorKind, IntoInnerError, LineWriter, Result, Write};
 use pending::Pending;
@@ -41,8 +41,8 @@ impl<W: Write + Drop, const S: usize> LineLog<W, S> {
     pub fn new(alloc: Global, inner: W) -> LineLog<W, S>
         ensures inner { log_inner result ≡ inner }
         ensures empty { log_buffer result ≡ [] }
-        ensures idle { under_way result ≡ [] }
-        ensures none { still_to_go result ≡ [] }
+        ensures idle { log_under_way result ≡ [] }
+        ensures none { log_left result ≡ [] }
         ensures room { log_room result ≡ 0 }
     {
         LineLog {
@@ -67,7 +67,7 @@ impl<W: Write + Drop, const S: usize> LineLog<W, S> {
     /// assert!(rt; log.is_under_way());
     /// ```
     pub fn is_under_way(&self) -> bool
-        ensures { result ≡ nat_lt 0 (length (under_way self.now)) }
+        ensures { result ≡ nat_lt 0 (length (log_under_way self.now)) }
     {
         self.pending.is_some()
     }
@@ -79,16 +79,16 @@ impl<W: Write + Drop, const S: usize> LineLog<W, S> {
     /// The device's first fault, or `WriteZero` where it took no byte of some; never `Interrupted`. The line
     /// is still under way, from the first byte on that was not accepted.
     pub fn retry(&mut self) -> Result<()>
-        ensures calls { LineLaw ⟦<LineWriter<W, S> as Write>⟧ (log_writer self.old) (still_to_go self.old) result
-            (log_writer self.new) (still_to_go self.new) }
-        ensures done { OnOk result (under_way self.new ≡ []) }
-        ensures none { OnOk result (still_to_go self.new ≡ []) }
-        ensures passed { (lines : List ℕ) → 0 < length (under_way self.old)
-            → (log_told W.told self.old).out ++ (log_told W.told self.old).held ++ still_to_go self.old ≡ lines ++ 10 ∷ []
+        ensures calls { LineLaw ⟦<LineWriter<W, S> as Write>⟧ (log_writer self.old) (log_left self.old) result
+            (log_writer self.new) (log_left self.new) }
+        ensures done { OnOk result (log_under_way self.new ≡ []) }
+        ensures none { OnOk result (log_left self.new ≡ []) }
+        ensures passed { (lines : List ℕ) → 0 < length (log_under_way self.old)
+            → (log_told W.told self.old).out ++ (log_told W.told self.old).held ++ log_left self.old ≡ lines ++ 10 ∷ []
             → OnOk result (log_buffer self.new ≡ []) }
-        ensures err { OnErr result (under_way self.new ≡ under_way self.old) }
-        ensures some { OnErr result (0 < length (under_way self.new)) }
-        ensures idle { under_way self.old ≡ [] → IsOk result × (self.new ≡ self.old) }
+        ensures err { OnErr result (log_under_way self.new ≡ log_under_way self.old) }
+        ensures some { OnErr result (0 < length (log_under_way self.new)) }
+        ensures idle { log_under_way self.old ≡ [] → IsOk result × (self.new ≡ self.old) }
         ensures room { log_room self.new ≡ log_room self.old }
     {
         if !self.is_under_way() {
@@ -109,12 +109,12 @@ impl<W: Write + Drop, const S: usize> LineLog<W, S> {
     /// `InvalidInput` where a newline stands in the text, and `OutOfMemory`: nothing was accepted, and no line
     /// is under way. Else those of `retry`, and the line is under way.
     pub fn log(&mut self, line: &str) -> Result<()>
-        requires { under_way self.old ≡ [] }
-        ensures sends { SendsRecord (LineLaw ⟦<LineWriter<W, S> as Write>⟧) (line_of line.now) (IsRefusal (log_room self.old) line.now)
-            (log_writer self.old) result (under_way self.new) (still_to_go self.new) (log_writer self.new) }
+        requires { log_under_way self.old ≡ [] }
+        ensures sends { SendsRecord (LineLaw ⟦<LineWriter<W, S> as Write>⟧) (line_of line.now) (IsLineRefusal (log_room self.old) line.now)
+            (log_writer self.old) result (log_under_way self.new) (log_left self.new) (log_writer self.new) }
         ensures passed { OnOk result (log_buffer self.new ≡ []) }
         ensures plain { OnOk result (HasNoNewline line.now) }
-        ensures started { 0 < length (under_way self.new) → HasNoNewline line.now }
+        ensures started { 0 < length (log_under_way self.new) → HasNoNewline line.now }
     {
         stage(&mut self.pending, line)?;
         self.retry()
@@ -138,9 +138,9 @@ impl<W: Write + Drop, const S: usize> LineLog<W, S> {
     pub fn log_text<D: Display + Drop, E>(&mut self, text: D) -> std::result::Result<(), E>
     where
         ErrorKind: Answers<E>,
-        requires { under_way self.old ≡ [] }
+        requires { log_under_way self.old ≡ [] }
         ensures logs { LogsText (LineLaw ⟦<LineWriter<W, S> as Write>⟧) (log_room self.old) (D.output text) (log_writer self.old)
-            (⟦<ErrorKind as Answers<E>>⟧.seen result) (under_way self.new) (still_to_go self.new) (log_writer self.new) }
+            (⟦<ErrorKind as Answers<E>>⟧.seen result) (log_under_way self.new) (log_left self.new) (log_writer self.new) }
         ensures passed { OnOk (⟦<ErrorKind as Answers<E>>⟧.seen result) (log_buffer self.new ≡ []) }
     {
         <ErrorKind as Answers<E>>::answer(self.print_line(text))
@@ -148,9 +148,9 @@ impl<W: Write + Drop, const S: usize> LineLog<W, S> {
 
     // The same, with an answer of the one type that there is.
     fn print_line<D: Display + Drop>(&mut self, text: D) -> Result<()>
-        requires { under_way self.old ≡ [] }
+        requires { log_under_way self.old ≡ [] }
         ensures logs { LogsText (LineLaw ⟦<LineWriter<W, S> as Write>⟧) (log_room self.old) (D.output text) (log_writer self.old)
-            result (under_way self.new) (still_to_go self.new) (log_writer self.new) }
+            result (log_under_way self.new) (log_left self.new) (log_writer self.new) }
         ensures passed { OnOk result (log_buffer self.new ≡ []) }
     {
         stage_text(&mut self.pending, text)?;
@@ -175,15 +175,15 @@ impl<W: Write + Drop, const S: usize> LineLog<W, S> {
     /// ```
     pub fn log_all(&mut self, rest: &mut &[String]) -> Result<()>
         ensures sends { SendsRecords (log_told W.told self.old)
-            (still_to_go self.old ++ lines_of (map string_bytes rest.old.now)) result (under_way self.new)
-            (log_told W.told self.new) (still_to_go self.new ++ lines_of (map string_bytes rest.new.now)) }
-        ensures rest { TakesOff (map string_bytes rest.old.now) (map string_bytes rest.new.now) }
-        ensures refused { IfErr result (λ e. under_way self.new ≡ []
-            → RefusesFirst (IsRefusal (log_room self.old)) (map string_bytes rest.new.now) e) }
-        ensures calls { SendsAll (LineLaw ⟦<LineWriter<W, S> as Write>⟧) line_of (log_writer self.old) (still_to_go self.old)
-            (map string_bytes rest.old.now) result (under_way self.new) (still_to_go self.new) (log_writer self.new)
+            (log_left self.old ++ lines_out (map string_bytes rest.old.now)) result (log_under_way self.new)
+            (log_told W.told self.new) (log_left self.new ++ lines_out (map string_bytes rest.new.now)) }
+        ensures rest { TakesLines (map string_bytes rest.old.now) (map string_bytes rest.new.now) }
+        ensures refused { IfErr result (λ e. log_under_way self.new ≡ []
+            → RefusesFirst (IsLineRefusal (log_room self.old)) (map string_bytes rest.new.now) e) }
+        ensures calls { SendsAll (LineLaw ⟦<LineWriter<W, S> as Write>⟧) line_of (log_writer self.old) (log_left self.old)
+            (map string_bytes rest.old.now) result (log_under_way self.new) (log_left self.new) (log_writer self.new)
             (map string_bytes rest.new.now) }
-        ensures done { OnOk result ((under_way self.new ≡ []) × (still_to_go self.new ≡ []) × (rest.new.now ≡ [])) }
+        ensures done { OnOk result ((log_under_way self.new ≡ []) × (log_left self.new ≡ []) × (rest.new.now ≡ [])) }
     {
         'lines: loop {
             self.retry()?;
@@ -203,8 +203,8 @@ impl<W: Write + Drop, const S: usize> LineLog<W, S> {
     /// call goes on there.
     pub fn flush(&mut self) -> Result<()>
         ensures calls { let L = ⟦<LineWriter<W, S> as Write>⟧ in AndThen (LineLaw L) (FlushedLaw L) (log_writer self.old)
-            (still_to_go self.old) result (log_writer self.new) (still_to_go self.new) }
-        ensures done { OnOk result ((under_way self.new ≡ []) × (still_to_go self.new ≡ [])
+            (log_left self.old) result (log_writer self.new) (log_left self.new) }
+        ensures done { OnOk result ((log_under_way self.new ≡ []) × (log_left self.new ≡ [])
             × ((log_told W.told self.new).held ≡ [])) }
     {
         self.retry()?;
@@ -218,7 +218,7 @@ impl<W: Write + Drop, const S: usize> LineLog<W, S> {
     /// The device's first fault, or `WriteZero`; never `Interrupted`. The error holds the line writer, which
     /// holds what was not sent.
     pub fn into_inner(self) -> std::result::Result<W, IntoInnerError<LineWriter<W, S>>>
-        requires { under_way self ≡ [] }
+        requires { log_under_way self ≡ [] }
         ensures law { Unwraps W.Write line_inner line_buffer (log_writer self) result }
     {
         let LineLog {
@@ -236,7 +236,7 @@ fn stage(pending: &mut Pending, text: &str) -> Result<()>
     ensures err { OnErr result (pending_bytes pending.new ≡ []) }
     ensures none { OnErr result (pending_rest pending.new ≡ []) }
     ensures plain { OnOk result (HasNoNewline text.now) }
-    ensures refused { IfErr result (IsRefusal (pending_room pending.old) text.now) }
+    ensures refused { IfErr result (IsLineRefusal (pending_room pending.old) text.now) }
     ensures room { pending_room pending.old ≤ pending_room pending.new }
 {
     pending.clear();

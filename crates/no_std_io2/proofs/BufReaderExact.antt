@@ -8,7 +8,7 @@ use Rattle.no_std_io2.proofs.BufferTests.{is_past, is_own}
 use Rattle.no_std_io2_base.specs.Read.{Event, events_of, bytes, HasNoFault, cut, Reads, Fills}
 use Rattle.no_std_io2_base.proofs.EventLemmas.{length-events_of, bytes-events_of, HasNoFault-events_of, cut-bytes}
 use Rattle.no_std_io2_base.proofs.ReadToEndTaken.{Taken}
-use Rattle.no_std_io2.specs.Buffer.{IsEnd}
+use Rattle.no_std_io2.specs.Buffer.{IsSuffix}
 use Rattle.no_std_io2.specs.BufReader.{held_or_to_come, exact_reads, exact_left, behind_anew}
 
 -- Over a filling reader: `all` bytes were to come, `held` of them held, and `len` are asked for; `at` of them were given.
@@ -72,7 +72,7 @@ exact_read {room} {len} {held} {all} {at} {now_held} {now_inner} n next_held nex
 -- a read that found nothing held left an end of what it gave behind, less than a full buffer
 pub read_ends : (room at rest n : ℕ) (buf buf' got behind : List ℕ) → behind ≡ behind_anew room rest (take n got) → 0 < room
     → n ≤ length got → n ≤ rest → take (at + n) buf' ≡ take at buf ++ take n got
-    → IsEnd (take (at + n) buf') behind × (length behind < room)
+    → IsSuffix (take (at + n) buf') behind × (length behind < room)
 read_ends room at rest n buf buf' got behind is some fits within shown = ⊎_elim
     (λ own.
     let last = is ∙ ap (λ b. if b then [] else take n got) (is_own room rest own) in (

@@ -8,28 +8,28 @@ use Rattle.std.specs.Borrow.{Bor}
 use Rattle.no_std_io2_base.specs.declared.error.Error.{Error}
 use Rattle.no_std_io2_base.specs.BufRead.{IsNotEmpty, Lends}
 use Rattle.no_std_io2_base.specs.Pieces.{AnswersLine}
-use Rattle.no_std_io2.specs.Buffer.{IsEnd}
+use Rattle.no_std_io2.specs.Buffer.{IsSuffix}
 use Rattle.no_std_io2.proofs.BufReaderExact.{no_bytes}
-use Rattle.no_std_io2.proofs.BufWriterLemmas.{IsEnd-none, IsEnd-held}
+use Rattle.no_std_io2.proofs.BufWriterLemmas.{IsSuffix-none, IsSuffix-held}
 
 -- a fill leaves what lies behind, or empties it
-pub trail_filled : {whole behind behind' held : List ℕ} → IsEnd whole behind → (IsNotEmpty held → behind' ≡ behind)
-    → (held ≡ [] → behind' ≡ []) → IsEnd whole behind'
+pub trail_filled : {whole behind behind' held : List ℕ} → IsSuffix whole behind → (IsNotEmpty held → behind' ≡ behind)
+    → (held ≡ [] → behind' ≡ []) → IsSuffix whole behind'
 trail_filled {whole} {behind} {behind'} {held} end kept read = ⊎_elim
-    (λ some. subst (IsEnd whole) (sym (kept some)) end)
-    (λ none. IsEnd-none whole behind' (read (no_bytes held (omega (arith, none)))))
+    (λ some. subst (IsSuffix whole) (sym (kept some)) end)
+    (λ none. IsSuffix-none whole behind' (read (no_bytes held (omega (arith, none)))))
     (cases_lt 0 (length held))
 
 -- what is taken of the lent bytes is appended there, and lies behind
-pub trail_taken : (front items items' : List ℕ) (len n : ℕ) {behind behind' held lent : List ℕ} → IsEnd (front ++ drop len items) behind
+pub trail_taken : (front items items' : List ℕ) (len n : ℕ) {behind behind' held lent : List ℕ} → IsSuffix (front ++ drop len items) behind
     → len ≤ length items → held ≡ lent → items' ≡ items ++ take n lent → behind' ≡ behind ++ take n held
-    → IsEnd (front ++ drop len items') behind'
+    → IsSuffix (front ++ drop len items') behind'
 trail_taken front items items' len n {behind} {behind'} {held} {lent} end fits same more taken =
     let part = take n lent in
-    subst (λ l. IsEnd l behind')
+    subst (λ l. IsSuffix l behind')
     (append_assoc front (drop len items) part ∙ ap (λ l. front ++ l) (sym (drop-append-le len items part fits))
     ∙ ap (λ l. front ++ drop len l) (sym more))
-    (IsEnd-held (front ++ drop len items) behind behind' part end (taken ∙ ap (λ l. behind ++ take n l) same))
+    (IsSuffix-held (front ++ drop len items) behind behind' part end (taken ∙ ap (λ l. behind ++ take n l) same))
 
 -- what is held is what was lent
 pub lent_held : {reply : Result (Bor (List ℕ)) Error} (s : Bor (List ℕ)) (held : List ℕ) → reply ≡ Ok s → Lends reply held → held ≡ s.now
@@ -37,23 +37,23 @@ lent_held s held is lends = subst (λ r. Lends r held) is lends
 
 -- where nothing was appended it stays
 pub trail_same : (front : List ℕ) {items items' : List ℕ} (len : ℕ) {behind : List ℕ} → items' ≡ items
-    → IsEnd (front ++ drop len items) behind → IsEnd (front ++ drop len items') behind
-trail_same front len {behind} same end = subst (λ l. IsEnd (front ++ drop len l) behind) (sym same) end
+    → IsSuffix (front ++ drop len items) behind → IsSuffix (front ++ drop len items') behind
+trail_same front len {behind} same end = subst (λ l. IsSuffix (front ++ drop len l) behind) (sym same) end
 
 -- a line that was taken stands behind the text, so that what lies behind is an end of it too
 pub trail_line : (front line lent : List ℕ) (read reply : Result ℕ Error) (len capacity : ℕ) (text text' : List ℕ) {none : ℕ}
     {behind : List ℕ} → none ≡ 0 → len ≡ length text → lent ≡ line → AnswersLine lent read len capacity reply text text'
-    → IsEnd (front ++ drop none line) behind → OnOk reply (IsEnd (front ++ drop len text') behind)
+    → IsSuffix (front ++ drop none line) behind → OnOk reply (IsSuffix (front ++ drop len text') behind)
 trail_line front line lent (Ok n) (Ok m) len capacity text text' {behind = behind} zero whole same follows end =
     let left : drop len text' ≡ lent =
     ap (drop len) follows.0.1 ∙ ap (λ k. drop k (text ++ lent)) whole ∙ drop-append_seam text lent in
-    subst (λ l. IsEnd (front ++ l) behind) (ap (λ k. drop k line) zero ∙ sym same ∙ sym left) end
+    subst (λ l. IsSuffix (front ++ l) behind) (ap (λ k. drop k line) zero ∙ sym same ∙ sym left) end
 trail_line front line lent (Err f) (Ok m) len capacity text text' zero whole same follows end = absurd follows
 trail_line front line lent read (Err e) len capacity text text' zero whole same follows end = tt
 
 -- a line that went straight to the text, of which what lies behind is an end then
 pub trail_given : (text part behind : List ℕ) {len : ℕ} {text' behind' : List ℕ} → len ≡ length text → text' ≡ text ++ part
-    → behind' ≡ behind ++ part → IsEnd (behind ++ drop len text') behind'
+    → behind' ≡ behind ++ part → IsSuffix (behind ++ drop len text') behind'
 trail_given text part behind {len} whole given taken = (
   [],
   ap (λ l. behind ++ drop len l) given ∙ ap (λ k. behind ++ drop k (text ++ part)) whole

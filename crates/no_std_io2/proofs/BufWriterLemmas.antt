@@ -7,7 +7,7 @@ use Rattle.no_std_io2_base.specs.Write.{Told, Moves, MovesFront}
 use Rattle.no_std_io2_base.proofs.MovesLemmas.{Moves-refl}
 use Rattle.no_std_io2.specs.declared.buffered.buf_writer.BufWriter.{BufWriter}
 use Rattle.no_std_io2.specs.BufWriter.{with_buffer, writer_buffer}
-use Rattle.no_std_io2.specs.Buffer.{IsEnd}
+use Rattle.no_std_io2.specs.Buffer.{IsSuffix}
 
 -- What the inner writer accepted, x, came from the front of the buffer and of what was given, y.
 pub Moves-buffered : {a b : Told} {x : List ℕ} {k : List ErrorKind} (old new y : List ℕ) → Moves a x k b
@@ -66,16 +66,16 @@ Moves-bare {a} {b} {x} buffer e f = record {
 }
 
 -- the empty list is an end of any list
-pub IsEnd-none : (whole end : List ℕ) → end ≡ [] → IsEnd whole end
-IsEnd-none whole end e = (whole, sym (append-nil whole) ∙ ap (λ l. whole ++ l) (sym e))
+pub IsSuffix-none : (whole end : List ℕ) → end ≡ [] → IsSuffix whole end
+IsSuffix-none whole end e = (whole, sym (append-nil whole) ∙ ap (λ l. whole ++ l) (sym e))
 
 -- where mid is an end of old, mid ++ x is one of old ++ x
-pub IsEnd-held : (old mid new x : List ℕ) → IsEnd old mid → new ≡ mid ++ x → IsEnd (old ++ x) new
-IsEnd-held old mid new x f e = (f.0, ap (λ l. l ++ x) f.1 ∙ append_assoc f.0 mid x ∙ ap (λ l. f.0 ++ l) (sym e))
+pub IsSuffix-held : (old mid new x : List ℕ) → IsSuffix old mid → new ≡ mid ++ x → IsSuffix (old ++ x) new
+IsSuffix-held old mid new x f e = (f.0, ap (λ l. l ++ x) f.1 ∙ append_assoc f.0 mid x ∙ ap (λ l. f.0 ++ l) (sym e))
 
 -- an end of an end, and with more behind both
-pub IsEnd-trans : (old mid new : List ℕ) → IsEnd old mid → IsEnd mid new → IsEnd old new
-IsEnd-trans old mid new f g = (f.0 ++ g.0, f.1 ∙ ap (λ l. f.0 ++ l) g.1 ∙ sym (append_assoc f.0 g.0 new))
+pub IsSuffix-trans : (old mid new : List ℕ) → IsSuffix old mid → IsSuffix mid new → IsSuffix old new
+IsSuffix-trans old mid new f g = (f.0 ++ g.0, f.1 ∙ ap (λ l. f.0 ++ l) g.1 ∙ sym (append_assoc f.0 g.0 new))
 
 -- the same, with the inner writer the same
 pub Moves-kept : {W : Type 0} (told : W → Told) (inner next : W) (old new x : List ℕ) → next ≡ inner → new ≡ old ++ x

@@ -11,7 +11,7 @@ use Rattle.no_std_io2_base.specs.Write.{Told, Moves, MovesFront, IsFront, zero_w
 use Rattle.no_std_io2_base.proofs.MovesLemmas.{IsFront-refl, IsFront-trans, Moves-then, Moves-ends}
 use Rattle.no_std_io2.proofs.AnswerLemmas.{onok, onok_map}
 use Rattle.no_std_io2.specs.Lines.{IsLineState, HasNoNewline}
-use Rattle.no_std_io2.specs.Buffer.{IsEnd}
+use Rattle.no_std_io2.specs.Buffer.{IsSuffix}
 
 -- what is left of a line state, where a front of it is cut off, is a line state
 pub IsLineState-append : (front end : List ℕ) → IsLineState (front ++ end) → IsLineState end
@@ -23,7 +23,7 @@ IsLineState-append front end line k h e =
     ∙ line (n + k) (omega arith) (get_or-append-add front end k 0 ∙ e)
 
 -- an end of a line state is a line state
-pub IsLineState-end : (whole end : List ℕ) → IsEnd whole end → IsLineState whole → IsLineState end
+pub IsLineState-end : (whole end : List ℕ) → IsSuffix whole end → IsLineState whole → IsLineState end
 IsLineState-end whole end f line = IsLineState-append f.0 end (subst IsLineState f.1 line)
 
 -- bytes without a newline are a line state
@@ -48,7 +48,7 @@ HasNoNewline-take n xs p k h e =
     p k (omega arith) (sym (get_or-take n xs k 0 (omega arith)) ∙ e)
 
 -- where some bytes have no newline, an end of them has none
-pub HasNoNewline-end : (whole end : List ℕ) → IsEnd whole end → HasNoNewline whole → HasNoNewline end
+pub HasNoNewline-end : (whole end : List ℕ) → IsSuffix whole end → HasNoNewline whole → HasNoNewline end
 HasNoNewline-end whole end f plain k h e =
     let sum = length-append f.0 end in
     plain (length f.0 + k) (omega (arith, ap length f.1)) (ap (λ l. get_or l (length f.0 + k) 0) f.1 ∙ get_or-append-add f.0 end k 0 ∙ e)

@@ -9,14 +9,14 @@ use Rattle.no_std_io2_base.specs.declared.error.Error.{Error}
 use Rattle.no_std_io2_base.specs.Write.{WriteCall, Wrote, Writes, none as no_write, took, again, stuck, fault}
 use Rattle.no_std_io2_base.specs.declared.traits.write.Write.{Ghosts as Writer}
 use Rattle.no_std_io2_base.proofs.CallsLemmas.{writes_whole}
-use Rattle.no_std_io2.specs.Buffer.{IsEnd}
+use Rattle.no_std_io2.specs.Buffer.{IsSuffix}
 use Rattle.no_std_io2.specs.Lines.{IsLineState, HasNoNewline, HasNewline, IsLinesLen, lines_of, lines_len, unfinished_line, held_tail}
 use Rattle.no_std_io2.specs.BufWriter.{CallOf, Then, stops, goes_on, SendCalls, WayCalls, Buffered, WriteCalls, WriteAllCalls, FlushCalls}
 use Rattle.no_std_io2.specs.BufWriter.{OneWriteAll, buffer_after}
 use Rattle.no_std_io2.specs.LineWriter.{SendLineCalls, HoldsTail, LinesCalls, SendLinesCalls, LineWriteCalls, LineWriteAllCalls}
 use Rattle.no_std_io2.specs.LineWriter.{line_buffer_after, IsShortText}
 use Rattle.no_std_io2.proofs.AnswerLemmas.{onok, onok_map}
-use Rattle.no_std_io2.proofs.BufWriterLemmas.{IsEnd-trans, ok_same}
+use Rattle.no_std_io2.proofs.BufWriterLemmas.{IsSuffix-trans, ok_same}
 use Rattle.no_std_io2.proofs.StepLemmas.{Stepped, Leaves, then_leaves}
 use Rattle.no_std_io2.proofs.BufWriterCalls.{buffered_leaves, buffered_fits, send_leaves, write_whole}
 use Rattle.no_std_io2.proofs.LineWriterLemmas.{IsLineState-end, IsLineState-plain, IsLineState-ended, HasNoNewline-end, HasNoNewline-append}
@@ -27,18 +27,18 @@ use Rattle.no_std_io2.proofs.LinesLast.{unfinished_line-drop, unfinished_line-pl
 
 -- what is left of some bytes that were sent is an end of them
 pub writes_end : {text : List ℕ} {C : List WriteCall} {x left : List ℕ} {reply : Result (Unit {0}) Error}
-    → Writes text C x reply left → IsEnd x left
+    → Writes text C x reply left → IsSuffix x left
 writes_end no_write = ([], refl)
 writes_end (took {x = x} {left = left} {n = n} some more w) =
-    IsEnd-trans x (drop n x) left (take n x, sym (take-append-drop n x)) (writes_end w)
+    IsSuffix-trans x (drop n x) left (take n x, sym (take-append-drop n x)) (writes_end w)
 writes_end (again some interrupted w) = writes_end w
 writes_end (stuck some says) = ([], refl)
 writes_end (fault some is) = ([], refl)
 
 way_end : (S n : ℕ) {held left : List ℕ} {C : List WriteCall} {reply : Result (Unit {0}) Error} → WayCalls S n held C reply left
-    → IsEnd held left
+    → IsSuffix held left
 way_end S n {left = left} way = elim way [
-  | inl kept ↦ subst (λ l. IsEnd l left) kept.3 ([], refl)
+  | inl kept ↦ subst (λ l. IsSuffix l left) kept.3 ([], refl)
   | inr sent ↦ writes_end sent.1
 ]
 
@@ -78,9 +78,9 @@ send_line_plain {left = left} sends = elim sends [
 ]
 
 send_line_end : {held left : List ℕ} {C : List WriteCall} {reply : Result (Unit {0}) Error} → SendLineCalls held C reply left
-    → IsEnd held left
+    → IsSuffix held left
 send_line_end {left = left} sends = elim sends [
-  | inl kept ↦ subst (λ l. IsEnd l left) kept.3 ([], refl)
+  | inl kept ↦ subst (λ l. IsSuffix l left) kept.3 ([], refl)
   | inr sent ↦ writes_end sent.1
 ]
 

@@ -7,7 +7,7 @@ use Rattle.no_std_io2_base.specs.Write.{Moves, WriteCall, Made}
 use Rattle.no_std_io2_base.proofs.MovesLemmas.{Moves-steady}
 use Rattle.no_std_io2_base.proofs.CallsLemmas.{writes_whole}
 use Rattle.no_std_io2_base.proofs.WritesFacts.{writes_fault, writes_left, writes_idle, writes_sends}
-use Rattle.no_std_io2.specs.BufWriter.{CallOf, SendCalls, Takes, SendsFirst, SendsAll, Unwraps}
+use Rattle.no_std_io2.specs.BufWriter.{CallOf, SendCalls, Takes, SendsFirst, SendsHeld, Unwraps}
 use Rattle.no_std_io2.specs.declared.buffered.into_inner_error.IntoInnerError.{IntoInnerError}
 use Rattle.no_std_io2.specs.BufWriter.{into_inner_error_writer, into_inner_error_cause}
 use Rattle.no_std_io2.proofs.AnswerLemmas.{onok, iferr}
@@ -25,7 +25,7 @@ module _ {W : Type 0} {I : Writer W} {a b : W} {held left : List ℕ} where
   failed_left calls none = absurd (omega (arith, writes_left calls.2, ap length none))
 
   -- all was sent
-  pub sends_all : Stepped I SendCalls a held (Ok tt) left b → SendsAll I a held b
+  pub sends_all : Stepped I SendCalls a held (Ok tt) left b → SendsHeld I a held b
   sends_all calls =
       let none = writes_whole calls.2 in
       let sends = writes_sends I.told I.takes_all I.cost I.is_metered I.may calls.2 a b calls.1 in

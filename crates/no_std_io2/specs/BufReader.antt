@@ -15,7 +15,7 @@ use Rattle.no_std_io2_base.specs.Read.{Event, events_of, fails, ReadsExact, byte
 use Rattle.no_std_io2_base.specs.Read.{GaveExactly, GaveAll, gave_whole, ended, ExactMade, ToEndMade}
 use Rattle.no_std_io2.specs.contracts.buffered.buf_reader.BufReader.{the_row as reader-row}
 use Rattle.no_std_io2.specs.declared.buffered.buf_reader.BufReader.{BufReader}
-use Rattle.no_std_io2.specs.Buffer.{buffer_held, buffer_behind, IsEnd, IsSound}
+use Rattle.no_std_io2.specs.Buffer.{buffer_held, buffer_behind, IsSuffix, IsSound}
 use Rattle.std.proofs.Common.{ap, sym, ◌∙◌, arith, length-drop, take-append-drop}
 use Rattle.std.proofs.lemmas.List.{drop-drop, drop-take}
 use lib.Seq.{take-append-le}
@@ -195,7 +195,7 @@ pub record ReadsOn {R : Type 0} {S : ℕ} (inner : Reader R) (old : BufReader R 
       × (reader_position inner.position new + length (reader_events inner.events new)
       ≡ reader_position inner.position old + length (reader_events inner.events old))
   -- what lies behind is the last of what was given, less than a full buffer
-  pub behind : OnOk reply (IsEnd buf (reader_behind new) × (length (reader_behind new) < S))
+  pub behind : OnOk reply (IsSuffix buf (reader_behind new) × (length (reader_behind new) < S))
   -- an error is an inner read's answer, which leaves nothing in the buffer
   pub failed : OnErr reply (HasNoBuffer new)
   pub sound : StaysSound inner.has_store inner.position inner.content old new

@@ -235,7 +235,7 @@ pub record SendsFirst {W B A : Type 0} (I : Writer W) (inner : B → W) (buffer 
       → Moves (buffered_told I.told inner buffer old) [] (error_kind e ∷ []) (buffered_told I.told inner buffer new))
 
 -- All that was held was sent, which left the inner writer in this state.
-pub record SendsAll {W : Type 0} (I : Writer W) (old : W) (held : List ℕ) (sent : W) : Type 0 where
+pub record SendsHeld {W : Type 0} (I : Writer W) (old : W) (held : List ℕ) (sent : W) : Type 0 where
   -- no byte is lost
   pub moves : Moves (with_buffer (I.told old) held) [] [] (I.told sent)
   -- these were the calls
@@ -246,7 +246,7 @@ pub record SeeksAfterSending {W : Type 0} (I : Writer W) (K : Seeker W) (old : W
     (reply : Result ℕ Error) : Type 0 where
   -- the state that the sending left
   pub sent : W
-  pub sends : SendsAll I old held sent
+  pub sends : SendsHeld I old held sent
   -- one seek of the inner writer, and its answer
   pub sought : K.may sent (Sought to reply) new
   -- a store that it told then was sought

@@ -37,8 +37,8 @@ MovesEvents (pos k) behind held E after = E ≡ events_of (take k held) ++ after
 MovesEvents (negsuc k) behind held E after = after ≡ events_of (drop (length behind - (k + 1)) behind) ++ E
 
 -- `end` is a suffix of `whole`
-abbrev pub IsEnd : List ℕ → List ℕ → Type 0
-IsEnd whole end = (front : List ℕ) × (whole ≡ front ++ end)
+abbrev pub IsSuffix : List ℕ → List ℕ → Type 0
+IsSuffix whole end = (front : List ℕ) × (whole ≡ front ++ end)
 
 -- the bytes `held` are those of the content that end at this position
 abbrev pub IsSound : List ℕ → ℕ → List ℕ → Type 0

@@ -12,7 +12,7 @@
 #![tactic(auto)]
 
 pub mod buffered;
-mod laws;
+mod pins;
 pub mod trace;
 pub mod util;
 
@@ -36,4 +36,9 @@ pub mod io {
     pub mod prelude {
         pub use no_std_io2_base::traits::{BufRead, Read, Seek, Write};
     }
+}
+
+/// What the crates of this repository share. It is no part of the public interface.
+pub mod internal {
+    pub use no_std_io2_base::internal::{LEAST_ROOM, failed_to_fill, open_room, reserve_room};
 }

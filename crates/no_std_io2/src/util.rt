@@ -7,7 +7,7 @@ ghost use Rattle.no_std_io2.specs.Copy.{Copies, CopyMoves, CopyHands, copy_reads
 ghost use Rattle.no_std_io2.specs.Passing.{Skips};
 
 use no_std_io2_base::error::Result;
-use no_std_io2_base::shared::failed_to_fill;
+use no_std_io2_base::internal::failed_to_fill;
 use no_std_io2_base::traits::{BufRead, Read, Write};
 
 mod read_at;
@@ -51,8 +51,8 @@ pub fn copy<R: Read, W: Write, const S: usize>(reader: &mut R, writer: &mut W) -
     ensures calls { CopyHands R.Read W.Write S reader.old writer.old result reader.new writer.new }
     ensures unchanged { S ≡ 0 → writer.new ≡ writer.old }
     ensures all { W.takes_all writer.old → W.takes_all writer.new }
-    ensures fault { IfErr result IsFault }
-    ensures turns { R.turns reader.new ≤ R.turns reader.old }
+    ensures never_interrupted { IfErr result IsFault }
+    ensures turns_never_rise { R.turns reader.new ≤ R.turns reader.old }
     ensures metered { R.is_metered reader.old → R.is_metered reader.new }
     ensures reads { 0 < S → R.is_metered reader.old → R.is_filling reader.old → OnOk result
         (R.cost reader.new ≡ R.cost reader.old + copy_reads S (length (R.events reader.old))) }
@@ -102,9 +102,9 @@ pub fn skip<B: BufRead>(reader: &mut B, left: &mut u64) -> Result<()>
     ensures done { OnOk result (left.new ≡ 0) }
     ensures missing { OnErr result (0 < left.new) }
     ensures none { left.old ≡ 0 → reader.new ≡ reader.old }
-    ensures fault { IfErr result IsFault }
-    ensures turns { B.turns reader.new ≤ B.turns reader.old }
-    ensures turn { left.new < left.old → B.turns reader.new < B.turns reader.old }
+    ensures never_interrupted { IfErr result IsFault }
+    ensures turns_never_rise { B.turns reader.new ≤ B.turns reader.old }
+    ensures spends_turn { left.new < left.old → B.turns reader.new < B.turns reader.old }
     ensures metered { B.is_metered reader.old → B.is_metered reader.new }
     ensures filling { B.is_filling reader.old → B.is_filling reader.new }
     ensures store { B.has_store reader.old → B.has_store reader.new

@@ -42,8 +42,8 @@ module _ {I A : Type 0} {V : I → Type 0} (tells : ((x : I) × V x) → Type 0)
   call_in_box buf buf' reply lent back = subst (ReadIn buf buf' reply) (sym back) (λ new bound told less spent call. record {
     bound = bound;
     told = told;
-    turns = less;
-    turn = spent;
+    turns_never_rise = less;
+    spends_turn = spent;
     counts = λ m. absurd m;
     fills = λ f. absurd f;
     store = λ s. absurd s;
@@ -54,10 +54,10 @@ module _ {I A : Type 0} {V : I → Type 0} (tells : ((x : I) × V x) → Type 0)
       → Exact buf buf' reply lent
   exact_box buf buf' reply lent back = subst (Exact buf buf' reply) (sym back) (λ new told fault empty less spent calls. record {
     told = told;
-    fault = fault;
+    never_interrupted = fault;
     empty = λ none. let done = empty none in (done.0, ap (read_box box.vtable) done.1);
-    turns = less;
-    turn = spent;
+    turns_never_rise = less;
+    spends_turn = spent;
     metered = λ m. m;
     filling = λ f. f;
     store = λ s. absurd s;
@@ -77,8 +77,8 @@ module _ {I A : Type 0} {V : I → Type 0} (tells : ((x : I) × V x) → Type 0)
   consume_box held amount lent back = subst (ConsumeIn held amount) (sym back) (λ new dropped told less spent. record {
     held = dropped;
     told = told;
-    turns = less;
-    turn = spent;
+    turns_never_rise = less;
+    spends_turn = spent;
     cost = λ m. absurd m;
     counts = λ c. absurd c;
     filling = λ f. f;
@@ -177,7 +177,7 @@ module _ {I A : Type 0} {V : I → Type 0} (told : (i : I) → V i → Told) (ta
   pub write_all_box : (x : List ℕ) (reply : Result (Unit {0}) Error) (lent : (i : I) × V i) → lent ≡ (box.vtable, box.value)
       → WriteAllOf x reply lent
   write_all_box x reply lent back = subst (WriteAllOf x reply) (sym back) (λ new law. record {
-    fault = law.fault;
+    never_interrupted = law.never_interrupted;
     moves = law.moves;
     all = λ t. absurd t;
     counts = λ m. absurd m;
@@ -187,7 +187,7 @@ module _ {I A : Type 0} {V : I → Type 0} (told : (i : I) → V i → Told) (ta
   pub write_rest_box : (x : List ℕ) (reply : Result (Unit {0}) Error) (left : List ℕ) (lent : (i : I) × V i)
       → lent ≡ (box.vtable, box.value) → WriteRestOf x reply left lent
   write_rest_box x reply left lent back = subst (WriteRestOf x reply left) (sym back) (λ new law. record {
-    fault = law.fault;
+    never_interrupted = law.never_interrupted;
     sends = law.sends;
     done = law.done;
     all = λ t. absurd t;

@@ -110,9 +110,9 @@ module _ {X A : Type 0} {R : Lender X} {d : ℕ} {old now after : X} {buf xs : V
       capacity = before.capacity;
       room = λ t enough.
           let so_far = before.told t in fault_is_first so_far.1 (error_taken is (filled.told so_far.0).1) fault;
-      fault = fault;
-      turns = le_trans filled.turns before.turns;
-      turn = tt;
+      never_interrupted = fault;
+      turns_never_rise = le_trans filled.turns before.turns;
+      spends_turn = tt;
       metered = λ m. filled.metered (before.metered m);
       filling = λ f. filled.filling (before.filling f);
       store = λ s. absurd (no_store R old before.store law filled is s);
@@ -135,9 +135,9 @@ module _ {X A : Type 0} {R : Lender X} {d : ℕ} {old now after : X} {buf xs : V
       room = λ t enough.
           let so_far = before.told t in
           absurd (part_has_room so_far.1 (shows.front so_far.0) found enough before.capacity buf.ok.0 xs.ok.0 full);
-      fault = memory_fault _ refused;
-      turns = le_trans filled.turns before.turns;
-      turn = tt;
+      never_interrupted = memory_fault _ refused;
+      turns_never_rise = le_trans filled.turns before.turns;
+      spends_turn = tt;
       metered = λ m. filled.metered (before.metered m);
       filling = λ f. filled.filling (before.filling f);
       store = λ s.
@@ -189,9 +189,9 @@ module _ {X A : Type 0} {R : Lender X} {d : ℕ} {old now after : X} {buf xs : V
           count = omega (arith, from, to, before.grows, len);
           capacity = le_trans before.capacity grown;
           room = λ t enough. tt;
-          fault = tt;
-          turns = omega (arith, dropped.turns, filled.turns, before.turns);
-          turn =
+          never_interrupted = tt;
+          turns_never_rise = omega (arith, dropped.turns, filled.turns, before.turns);
+          spends_turn =
               λ some. spent_more before.spent before.turns filled.turns dropped.turns dropped.turn
               (part_fits _ _ len found.within) (omega (arith, some, from, to));
           metered = λ m. (dropped.cost (filled.metered (before.metered m))).0;

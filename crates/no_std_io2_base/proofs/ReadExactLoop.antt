@@ -141,10 +141,10 @@ module _ {S : Type 0} {R : Reader S} {old now new : S} {buf xs part ys : List �
               inr (exact_short ys so_far.1 then.1 is zero (some_part at xs ys below room) kind (sym before.long ∙ sym stays)
                   (short_before at _ xs below stays)),
             );
-        fault = ap is_interruption kind.0;
+        never_interrupted = ap is_interruption kind.0;
         empty = λ nothing. absurd (omega (arith, nothing, before.long, below));
-        turns = le_trans read.turns before.turns;
-        turn = λ some. tt;
+        turns_never_rise = le_trans read.turns before.turns;
+        spends_turn = λ some. tt;
         metered = λ m. (read.counts (before.metered m)).0;
         filling = λ f. (read.fills (before.filling f)).0;
         store = λ s.
@@ -167,10 +167,10 @@ module _ {S : Type 0} {R : Reader S} {old now new : S} {buf xs part ys : List �
         let so_far = before.told t in
         let then = read.told so_far.0 in
         (then.0, inl (taken_fault so_far.1 then.1 fault (short_before at _ xs below (length_stays at xs ys room))));
-    fault = fault;
+    never_interrupted = fault;
     empty = λ nothing. absurd (omega (arith, nothing, before.long, below));
-    turns = le_trans read.turns before.turns;
-    turn = λ some. tt;
+    turns_never_rise = le_trans read.turns before.turns;
+    spends_turn = λ some. tt;
     metered = λ m. (read.counts (before.metered m)).0;
     filling = λ f. (read.fills (before.filling f)).0;
     store = λ s.
@@ -189,10 +189,10 @@ pub exact_all : {S : Type 0} {R : Reader S} {old now : S} {buf xs : List ℕ} {a
     → length xs ≤ at → ReadExactLaw R old buf (Ok done) xs now
 exact_all {R = R} {old = old} {now = now} {buf = buf} {xs = xs} {at = at} before past = record {
   told = λ t. let so_far = before.told t in (so_far.0, exact_done so_far.1 before.long past);
-  fault = tt;
+  never_interrupted = tt;
   empty = λ none. (refl, before.untouched none);
-  turns = before.turns;
-  turn = λ some. before.turn (omega (arith, some, before.long, past));
+  turns_never_rise = before.turns;
+  spends_turn = λ some. before.turn (omega (arith, some, before.long, past));
   metered = before.metered;
   filling = before.filling;
   store = before.store;

@@ -81,9 +81,9 @@ to_end_no_room {buf = buf} refused same len grown full = record {
   count = tt;
   capacity = grown;
   room = λ t enough. absurd (omega (arith, enough, full));
-  fault = memory_fault _ refused;
-  turns = le_refl _;
-  turn = λ more. absurd (omega (arith, more, len));
+  never_interrupted = memory_fault _ refused;
+  turns_never_rise = le_refl _;
+  spends_turn = λ more. absurd (omega (arith, more, len));
   metered = λ m. m;
   filling = λ f. f;
   store = λ s. (s, refl, refl);
@@ -104,9 +104,9 @@ module _ {S A : Type 0} {R : Reader S} {old now : S} {buf xs : Vec ℕ A} {fille
         room = λ t enough.
             let left = gathered_fits (before.told t).1 enough (omega arith) buf.ok.0 before.capacity in
             absurd (omega (arith, full, left, filled_bytes filled _ xs.items before.within xs.ok.0));
-        fault = memory_fault _ refused;
-        turns = before.turns;
-        turn = λ more. before.turn (omega (arith, more, len));
+        never_interrupted = memory_fault _ refused;
+        turns_never_rise = before.turns;
+        spends_turn = λ more. before.turn (omega (arith, more, len));
         metered = before.metered;
         filling = before.filling;
         store = before.store;
@@ -209,9 +209,9 @@ module _ {S A : Type 0} {R : Reader S} {old now : S} {buf xs : Vec ℕ A} {fille
             count = len_cut start filled (vec_len v) _ v.items xs.items from before.grows v.ok.0 same within;
             capacity = le_trans before.capacity grown;
             room = λ t enough. tt;
-            fault = tt;
-            turns = le_trans read.turns before.turns;
-            turn = λ more. let spent = before.turn (omega (arith, more, long)) in omega (arith, spent, read.turns);
+            never_interrupted = tt;
+            turns_never_rise = le_trans read.turns before.turns;
+            spends_turn = λ more. let spent = before.turn (omega (arith, more, long)) in omega (arith, spent, read.turns);
             metered = λ m. (read.counts (before.metered m)).0;
             filling = λ f. (read.fills (before.filling f)).0;
             store = λ s.
@@ -243,9 +243,9 @@ module _ {S A : Type 0} {R : Reader S} {old now : S} {buf xs : Vec ℕ A} {fille
             count = tt;
             capacity = le_trans before.capacity grown;
             room = λ t enough. let so_far = before.told t in gathered_first_fault so_far.1 (read.told so_far.0).1 fault;
-            fault = fault;
-            turns = le_trans read.turns before.turns;
-            turn = λ more. omega (arith, read.turn, before.turns);
+            never_interrupted = fault;
+            turns_never_rise = le_trans read.turns before.turns;
+            spends_turn = λ more. omega (arith, read.turn, before.turns);
             metered = λ m. (read.counts (before.metered m)).0;
             filling = λ f. (read.fills (before.filling f)).0;
             store = λ s.

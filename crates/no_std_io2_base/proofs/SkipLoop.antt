@@ -62,9 +62,9 @@ module _ {X : Type 0} {R : Lender X} {d : 鈩晑 {old now after : X} {skipped : 鈩
         let (tells, (piece, so_far, count)) = before.told t in
         let loan = filled.told tells in
         (loan.0, piece_faulted so_far (error_taken is loan.1) fault);
-    fault = fault;
-    turns = le_trans filled.turns before.turns;
-    turn = tt;
+    never_interrupted = fault;
+    turns_never_rise = le_trans filled.turns before.turns;
+    spends_turn = tt;
     metered = 位 m. filled.metered (before.metered m);
     filling = 位 f. filled.filling (before.filling f);
     store = 位 s. absurd (no_store R old before.store law filled is s);
@@ -104,9 +104,9 @@ module _ {X : Type 0} {R : Lender X} {d : 鈩晑 {old now after : X} {skipped : 鈩
           let rest = lent_gone R old before.store law filled is found.within dropped tells in
           let ended = piece_ended so_far rest.1 (whole_part found whole (shows.end tells)) refl (omega arith) in
           (rest.0, (piece ++ take n lent.now, ended, counted piece (take n lent.now) before_count part count));
-      fault = tt;
-      turns = omega (arith, dropped.turns, filled.turns, before.turns);
-      turn = spent;
+      never_interrupted = tt;
+      turns_never_rise = omega (arith, dropped.turns, filled.turns, before.turns);
+      spends_turn = spent;
       metered = 位 m. (dropped.cost (filled.metered (before.metered m))).0;
       filling = 位 f. dropped.filling (filled.filling (before.filling f));
       store = lent_passed R old before.store law filled is found.within dropped;

@@ -193,7 +193,7 @@ module _ {S : Type 0} {told : S → Told} {takes_all : S → Type 0} {cost : S �
       let prints : ∥ ((text : List ℕ) × Prints told takes_all cost is_metered may old text met new × IfSome output (λ bs. text ≡ bs)) ∥₁ =
       ∥∥₁_map had (λ p. (p.1, subst (λ x. Prints told takes_all cost is_metered may x p.1 met new) p.2.0.0 p.2.1, p.3 refl)) in
       subst (λ r. WriteFmtLaw told takes_all cost is_metered may old output r new) (sym same) (record {
-        fault = ∥∥₁_elim prints (IsNoInterruption-prop met) (λ p. prints_fault p.1);
+        never_interrupted = ∥∥₁_elim prints (IsNoInterruption-prop met) (λ p. prints_fault p.1);
         moves = moves_text output (∥∥₁_map prints (λ p. (p.0, prints_moves p.1, p.2)));
         calls = ∥∥₁_map prints (λ p. (p.0, met, p.1, inl (p.2, refl)));
       })
@@ -201,7 +201,7 @@ module _ {S : Type 0} {told : S → Told} {takes_all : S → Type 0} {cost : S �
       let prints : ∥ ((text : List ℕ) × Prints told takes_all cost is_metered may old text met new) ∥₁ =
       ∥∥₁_map had (λ p. (p.1, subst (λ x. Prints told takes_all cost is_metered may x p.1 met new) p.2.0.0 p.2.1)) in
       record {
-        fault = text_fault reply why;
+        never_interrupted = text_fault reply why;
         moves = record {
           text = since (told old) (told new);
           met = met;

@@ -115,7 +115,7 @@ module _ {S : Type 0} (told : S → Told) (takes_all : S → Type 0) (cost : S �
   writes_law {x} {left} {reply} {a} {b} calls =
       let w = calls.2 in
       record {
-        fault = writes_fault w;
+        never_interrupted = writes_fault w;
         sends = writes_sends w a b calls.1;
         done = writes_whole w;
         all = λ t. let all = writes_all w a b calls.1 t in (all.0, all.1);

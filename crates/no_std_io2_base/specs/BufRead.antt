@@ -81,8 +81,8 @@ AfterLoan R old reply new = record {
   -- no event is gone but the error that was answered
   told : R.tells old → R.tells new × LendsFrom (R.events old) reply (R.events new);
   -- turns are never won, and an error spends one
-  turns : R.turns new ≤ R.turns old;
-  turn : LendingTurn reply (R.turns old) (R.turns new);
+  turns_never_rise : R.turns new ≤ R.turns old;
+  spends_turn : LendingTurn reply (R.turns old) (R.turns new);
   -- where bytes were held nothing has changed
   unchanged : IsNotEmpty (R.held old) → new ≡ old;
   -- where none were held one read was made
@@ -102,9 +102,9 @@ pub record ConsumeLaw {X : Type 0} (R : Lender X) (old : X) (amount : ℕ) (new 
   -- and gone from the events
   pub told : R.tells old → R.tells new × (R.events old ≡ events_of (take amount (R.held old)) ++ R.events new)
   -- turns are never won
-  pub turns : R.turns new ≤ R.turns old
+  pub turns_never_rise : R.turns new ≤ R.turns old
   -- a byte spends one
-  pub turn : 0 < amount → R.turns new < R.turns old
+  pub spends_turn : 0 < amount → R.turns new < R.turns old
   -- nothing is read
   pub cost : R.is_metered old → R.is_metered new × (R.cost new ≡ R.cost old)
   pub counts : R.counts_fills old → R.counts_fills new × (R.fills new ≡ R.fills old)
@@ -129,11 +129,11 @@ pub record ReadUntilLaw {X A : Type 0} (R : Lender X) (old : X) (delim : ℕ) (b
   pub room : R.tells old → HasPieceRoom delim (R.events old) (vec_len buf) (vec_capacity buf)
       → IfErr reply (λ e. first_fault (R.events old) ≡ Some e)
   -- no interruption is answered
-  pub fault : IsNoInterruption reply
+  pub never_interrupted : IsNoInterruption reply
   -- turns are never won
-  pub turns : R.turns new ≤ R.turns old
+  pub turns_never_rise : R.turns new ≤ R.turns old
   -- a piece of some bytes spends one
-  pub turn : IfOk reply (λ n. 0 < n → R.turns new < R.turns old)
+  pub spends_turn : IfOk reply (λ n. 0 < n → R.turns new < R.turns old)
   -- what the reader claims about itself still holds
   pub metered : R.is_metered old → R.is_metered new
   pub filling : R.is_filling old → R.is_filling new
@@ -146,11 +146,11 @@ pub record SkipUntilLaw {X : Type 0} (R : Lender X) (old : X) (delim : ℕ) (rep
   -- a piece is taken from the events
   pub told : R.tells old → R.tells new × SkipsPiece delim (R.events old) reply (R.events new)
   -- no interruption is answered
-  pub fault : IsNoInterruption reply
+  pub never_interrupted : IsNoInterruption reply
   -- turns are never won
-  pub turns : R.turns new ≤ R.turns old
+  pub turns_never_rise : R.turns new ≤ R.turns old
   -- a piece of some bytes spends one
-  pub turn : IfOk reply (λ n. 0 < n → R.turns new < R.turns old)
+  pub spends_turn : IfOk reply (λ n. 0 < n → R.turns new < R.turns old)
   -- what the reader claims about itself still holds
   pub metered : R.is_metered old → R.is_metered new
   pub filling : R.is_filling old → R.is_filling new
@@ -169,11 +169,11 @@ pub record ReadLineLaw {X A : Type 0} (R : Lender X) (old : X) (buf : String A) 
   -- the answer is how many bytes it grew by
   pub count : IfOk reply (λ n. string_len buf' ≡ string_len buf + n)
   -- no interruption is answered
-  pub fault : IsNoInterruption reply
+  pub never_interrupted : IsNoInterruption reply
   -- turns are never won
-  pub turns : R.turns new ≤ R.turns old
+  pub turns_never_rise : R.turns new ≤ R.turns old
   -- a line of some bytes spends one
-  pub turn : IfOk reply (λ n. 0 < n → R.turns new < R.turns old)
+  pub spends_turn : IfOk reply (λ n. 0 < n → R.turns new < R.turns old)
   -- what the reader claims about itself still holds
   pub metered : R.is_metered old → R.is_metered new
   pub filling : R.is_filling old → R.is_filling new

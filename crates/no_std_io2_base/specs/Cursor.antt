@@ -7,8 +7,8 @@ use Rattle.no_std_io2_base.specs.declared.error.ErrorKind.TheVariants.{InvalidIn
 use Rattle.no_std_io2_base.specs.Errors.{error_kind, error_text}
 
 -- the position of a cursor
-abbrev pub cursor_place : {T : Type 0} → Cursor T → ℕ
-cursor_place c = c.pos
+abbrev pub cursor_position : {T : Type 0} → Cursor T → ℕ
+cursor_position c = c.pos
 
 -- the content of a cursor, `c.into_inner()`
 abbrev pub cursor_inner : {T : Type 0} → Cursor T → T

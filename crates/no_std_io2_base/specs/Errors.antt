@@ -30,6 +30,10 @@ error_kind e = repr_kind e.repr
 abbrev pub error_text : Error → Option (List ℕ)
 error_text e = repr_text e.repr
 
+-- an error of this kind, without a text
+abbrev pub error_of : ErrorKind → Error
+error_of kind = record { repr = Kind kind }
+
 -- what a kind prints
 abbrev pub kind_text : ErrorKind → List ℕ
 kind_text NotFound = codes "entity not found"

@@ -227,9 +227,9 @@ pub record ReadLaw {S : Type 0} (R : Reader S) (old : S) (buf : List ℕ) (reply
   -- it takes what it gives off the front of the events
   pub told : R.tells old → R.tells new × Reads (R.events old) reply buf' (R.events new)
   -- turns never rise
-  pub turns : R.turns new ≤ R.turns old
+  pub turns_never_rise : R.turns new ≤ R.turns old
   -- a call that gives bytes or returns an error lowers them
-  pub turn : SpendsTurn reply (R.turns old) (R.turns new)
+  pub spends_turn : SpendsTurn reply (R.turns old) (R.turns new)
   -- a read into some room is counted
   pub counts : R.is_metered old → R.is_metered new × (R.cost new ≡ R.cost old + min 1 (length buf))
   -- a filling reader gives as much as fits
@@ -245,13 +245,13 @@ pub record ReadExactLaw {S : Type 0} (R : Reader S) (old : S) (buf : List ℕ) (
   -- it takes the first events that fill the buffer, or those up to the first fault; or there are too few bytes
   pub told : R.tells old → R.tells new × ReadsExact (R.may_take_none old) (R.events old) reply buf' (R.events new)
   -- no interruption is answered
-  pub fault : IsNoInterruption reply
+  pub never_interrupted : IsNoInterruption reply
   -- an empty buffer makes no call
   pub empty : length buf ≡ 0 → IsOk reply × (new ≡ old)
   -- turns never rise
-  pub turns : R.turns new ≤ R.turns old
+  pub turns_never_rise : R.turns new ≤ R.turns old
   -- a buffer that was filled spent one
-  pub turn : 0 < length buf → OnOk reply (R.turns new < R.turns old)
+  pub spends_turn : 0 < length buf → OnOk reply (R.turns new < R.turns old)
   -- a metered reader stays so
   pub metered : R.is_metered old → R.is_metered new
   -- and so does a filling one
@@ -276,11 +276,11 @@ pub record ReadToEndLaw {S A : Type 0} (R : Reader S) (old : S) (buf : Vec ℕ A
   pub room : R.tells old → HasRoom 32 (R.events old) (vec_len buf) (vec_capacity buf)
       → IfErr reply (λ e. first_fault (R.events old) ≡ Some e)
   -- no interruption is answered
-  pub fault : IsNoInterruption reply
+  pub never_interrupted : IsNoInterruption reply
   -- turns never rise
-  pub turns : R.turns new ≤ R.turns old
+  pub turns_never_rise : R.turns new ≤ R.turns old
   -- appended bytes spent one
-  pub turn : vec_len buf < vec_len buf' → R.turns new < R.turns old
+  pub spends_turn : vec_len buf < vec_len buf' → R.turns new < R.turns old
   -- a metered reader stays so
   pub metered : R.is_metered old → R.is_metered new
   -- and so does a filling one

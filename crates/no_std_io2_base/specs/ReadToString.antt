@@ -24,9 +24,9 @@ pub record ReadToStringLaw {S A : Type 0} (R : Reader S) (old : S) (buf : String
   -- the answer is how many bytes it grew by
   pub count : IfOk reply (λ n. string_len buf' ≡ string_len buf + n)
   -- no interruption is answered
-  pub fault : IsNoInterruption reply
+  pub never_interrupted : IsNoInterruption reply
   -- turns are never won
-  pub turns : R.turns new ≤ R.turns old
+  pub turns_never_rise : R.turns new ≤ R.turns old
   -- what it claims of itself stays so
   pub metered : R.is_metered old → R.is_metered new
   pub filling : R.is_filling old → R.is_filling new

@@ -36,7 +36,7 @@ pub record WriteFmtLaw {S : Type 0} (told : S → Told) (takes_all : S → Type 
     (may : S → WriteCall → S → Type 0)
     (old : S) (output : Option (List ℕ)) (reply : Result (Unit {0}) Error) (new : S) : Type 0 where
   -- no interruption is answered
-  pub fault : IsNoInterruption reply
+  pub never_interrupted : IsNoInterruption reply
   -- some text is printed
   pub moves : MovesText (told old) output reply (told new)
   -- by such calls; that there are some is known, since which ones is a formatter's own

@@ -184,7 +184,7 @@ pub record WriteAllLaw {S : Type 0} (told : S → Told) (takes_all : S → Type 
     (may : S → WriteCall → S → Type 0)
     (old : S) (x : List ℕ) (reply : Result (Unit {0}) Error) (new : S) : Type 0 where
   -- the result is never an interruption
-  pub fault : IsNoInterruption reply
+  pub never_interrupted : IsNoInterruption reply
   -- some front is accepted, the whole at `Ok`, and an error is a mishap
   pub moves : MovesFront (told old) x reply (told new)
   -- who takes all goes on taking all
@@ -199,7 +199,7 @@ pub record WriteRestLaw {S : Type 0} (told : S → Told) (takes_all : S → Type
     (may : S → WriteCall → S → Type 0)
     (old : S) (x : List ℕ) (reply : Result (Unit {0}) Error) (new : S) (left : List ℕ) : Type 0 where
   -- the result is never an interruption
-  pub fault : IsNoInterruption reply
+  pub never_interrupted : IsNoInterruption reply
   -- exactly what is gone from the front is accepted, and an error is a mishap
   pub sends : Sends (told old) x reply (told new) left
   -- nothing is left at `Ok`

@@ -6,7 +6,7 @@ ghost use Rattle.std.specs.Borrow.{Lends};
 ghost use Rattle.std.specs.Box.{boxed_slice_items};
 ghost use Rattle.no_std_io2_base.specs.contracts.cursor.Cursor.{the_row as cursor-row};
 ghost use Rattle.no_std_io2_base.specs.Errors.{IsOutOfMemory};
-ghost use Rattle.no_std_io2_base.specs.Cursor.{cursor_place, cursor_inner, cursor_with_inner};
+ghost use Rattle.no_std_io2_base.specs.Cursor.{cursor_position, cursor_inner, cursor_with_inner};
 
 mod reading;
 mod seeking;
@@ -105,7 +105,7 @@ impl<T> Cursor<T> {
     /// Makes a cursor on this content, at position 0. Follows `std::io::Cursor::new`.
     pub fn new(inner: T) -> Cursor<T>
         ensures inner { cursor_inner result ≡ inner }
-        ensures position { cursor_place result ≡ 0 }
+        ensures position { cursor_position result ≡ 0 }
     {
         Cursor { inner, pos: 0 }
     }
@@ -148,14 +148,14 @@ impl<T> Cursor<T> {
     /// assert!(rt; c.position() == 7);
     /// ```
     pub fn position(&self) -> u64
-        ensures { result ≡ cursor_place self.now }
+        ensures { result ≡ cursor_position self.now }
     {
         self.pos
     }
 
     /// Moves to this position, past the end too. Follows `std::io::Cursor::set_position`.
     pub fn set_position(&mut self, pos: u64)
-        ensures position { cursor_place self.new ≡ pos }
+        ensures position { cursor_position self.new ≡ pos }
         ensures inner { cursor_inner self.new ≡ cursor_inner self.old }
     {
         self.pos = pos;
@@ -176,7 +176,7 @@ impl<T> Cursor<T> {
     pub fn clone(&self) -> Result<Cursor<T>>
     where
         T: Clone,
-        ensures position { IfOk result (λ c. cursor_place c ≡ cursor_place self.now) }
+        ensures position { IfOk result (λ c. cursor_position c ≡ cursor_position self.now) }
         ensures inner { IfOk result (λ c. T.is_clone (cursor_inner self.now) (cursor_inner c)) }
         ensures equal { ((x : T) → T.is_clone (cursor_inner self.now) x → x ≡ cursor_inner self.now)
             → IfOk result (λ c. c ≡ self.now) }

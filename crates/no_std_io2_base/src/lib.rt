@@ -5,8 +5,8 @@
 pub mod cursor;
 pub mod error;
 mod impls;
-mod laws;
+pub mod internal;
 mod memory_laws;
-mod piece_laws;
-pub mod shared;
+mod piece_pins;
+mod pins;
 pub mod traits;

@@ -1,7 +1,7 @@
 //! As `laws`, of the streams over what std allocates beside vectors: boxed slices and queues.
 ghost use Rattle.std.specs.Prelude.{◌≡◌, ◌-◌, ◌++◌, length, take, replicate, [], None};
 ghost use Rattle.std.specs.Box.{boxed_slice_items};
-ghost use Rattle.no_std_io2_base.specs.Cursor.{cursor_inner, cursor_place};
+ghost use Rattle.no_std_io2_base.specs.Cursor.{cursor_inner, cursor_position};
 ghost use Rattle.no_std_io2_base.specs.Read.{events_of};
 ghost use Rattle.no_std_io2_base.specs.Write.{told_out};
 
@@ -17,7 +17,7 @@ fn boxed_slice_tells<A: Allocator>(boxed: &BoxedSlice<u8, A>)
 
 fn boxed_slice_cursor_writes<A: Allocator>(c: &Cursor<BoxedSlice<u8, A>>)
     ensures { let content = boxed_slice_items (cursor_inner c.now) in
-        let place = cursor_place c.now in
+        let place = cursor_position c.now in
         ⟦<Cursor<BoxedSlice<u8, A>> as Write>⟧.told c.now ≡ record {
           out = take place content ++ replicate (place - length content) 0;
           held = [];

@@ -40,7 +40,7 @@ rest_as I {a} {b} {left = left} {reply = reply} y shown law from to =
 -- for no bytes there is no call
 pub rest_none : {W : Type 0} (I : Writer W) (w : W) (x : List ℕ) → x ≡ [] → RestLaw I w x (Ok tt) w x
 rest_none I w x is = subst (λ l. RestLaw I w l (Ok tt) w l) (sym is) (record {
-  fault = tt;
+  never_interrupted = tt;
   sends = sends_none (I.told w) [];
   done = refl;
   all = λ takes. (takes, refl);
@@ -51,7 +51,7 @@ rest_none I w x is = subst (λ l. RestLaw I w l (Ok tt) w l) (sym is) (record {
 -- the same, and a `write_all` of none
 pub all_none : {W : Type 0} (I : Writer W) (w : W) → NoneLaw I w (Ok tt) w
 all_none I w = record {
-  fault = tt;
+  never_interrupted = tt;
   moves = record { accepted = []; front = ([], refl); whole = refl; moves = Moves-refl (I.told w) };
   all = λ takes. takes;
   counts = λ metered takes. (metered, omega arith);

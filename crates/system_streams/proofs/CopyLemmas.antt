@@ -16,11 +16,11 @@ use Rattle.no_std_io2.specs.declared.io.Write.{Ghosts as Writer}
 use Rattle.no_std_io2.specs.Read.{Reader}
 use Rattle.no_std_io2.specs.Write.{FlushLaw, WriteCall, Flushed, Made}
 use Rattle.no_std_io2.specs.BufWriter.{CallOf}
-use Rattle.no_std_io2.specs.Copy.{Handed, HandsOn}
+use Rattle.no_std_io2.specs.Copy.{Handed, SameAnswer}
 use Rattle.no_std_io2.specs.Towers.{Through}
 use Rattle.no_std_io2.proofs.CallsLemmas.{made_more}
 use Rattle.no_std_io2.proofs.TowerCalls.{through}
-use Rattle.system_streams.specs.Copies.{Passes, HasFirstFault, MayFail, TellsMishap, HandsAndFlushes, HandsThrough, BufferCalls}
+use Rattle.system_streams.specs.Copies.{MovesCounted, HasFirstFault, MayFail, TellsMishap, HandsAndFlushes, HandsThrough, BufferCalls}
 
 -- where the mishaps to come were told, one that happened was among them
 told_mishap : (old : Option (List ErrorKind)) (kind : ErrorKind) (new : Option (List ErrorKind)) → HasSpent old (kind ∷ []) new
@@ -52,9 +52,9 @@ copies_err {E} {after} {old} {new} {e} c = ends c.3
 
 -- behind an empty buffer, which is taken off again
 pub passes_off : {a inner mid c : Told} {x : List ℕ} {n : ℕ} (buffer : List ℕ) → inner ≡ a → buffer ≡ []
-    → Passes (with_buffer inner buffer) x n mid → Moves mid [] [] c → Passes a x n c
+    → MovesCounted (with_buffer inner buffer) x n mid → Moves mid [] [] c → MovesCounted a x n c
 passes_off {c = c} {x} {n} buffer same empty p left =
-    subst (λ t. Passes t x n c) same (record { moves = Moves-bare buffer empty (Moves-ends p.moves left); count = p.count })
+    subst (λ t. MovesCounted t x n c) same (record { moves = Moves-bare buffer empty (Moves-ends p.moves left); count = p.count })
 
 -- past a front, an error of events without a fault is an interruption
 no_fault_at : (front rest : List Event) (e : Error) → HasNoFault (front ++ fails e ∷ rest) → IsInterruption e
@@ -91,7 +91,7 @@ comes_apart held buffer none back =
 
 -- a flush behind a copy
 pub flushed_behind : {R W : Type 0} {K : Reader R} {I : Writer W} {from from' : R} {old mid new : W}
-    → HandsOn K I 64 from old (Ok tt) from' mid → FlushLaw I.told I.takes_all I.cost I.is_metered I.may mid (Ok tt) new
+    → SameAnswer K I 64 from old (Ok tt) from' mid → FlushLaw I.told I.takes_all I.cost I.is_metered I.may mid (Ok tt) new
     → HandsAndFlushes I old new
 flushed_behind {I = I} {old = old} hands flushed = record {
   pieces = hands.pieces;

@@ -7,11 +7,11 @@ use Rattle.std.specs.declared.io.Error as Std
 use Rattle.no_std_io2.specs.declared.io.Error.{Error}
 use Rattle.no_std_io2.specs.Read.{Event, bytes, Reads}
 use Rattle.no_std_io2.proofs.EventLemmas.{bytes-behind}
-use Rattle.system_streams.specs.ToStd.{HandsOn}
+use Rattle.system_streams.specs.ToStd.{SameAnswer}
 
 -- the bytes among the events lose what was given, and keep all at an error
 pub consumes_bytes : (E after : List Event) (reply : Result ℕ Error) (buf : List ℕ) (result : Result ℕ Std.Error)
-    → HandsOn reply result → ∥ Reads E reply buf after ∥₁ → ReadConsumes (Some (bytes E)) (Some (bytes after)) result buf
+    → SameAnswer reply result → ∥ Reads E reply buf after ∥₁ → ReadConsumes (Some (bytes E)) (Some (bytes after)) result buf
 consumes_bytes E after (Ok n) buf (Ok m) same read = ∥∥₁_elim read (Prim.hlevel props) (λ r.
     let split : bytes E ≡ take m buf ++ bytes after
     = subst (λ k. bytes E ≡ take k buf ++ bytes after) (sym same) (ap bytes r.0 ∙ bytes-behind (take n buf) after) in (

@@ -12,14 +12,14 @@ use Rattle.no_std_io2.specs.Copy.{counted, Handed}
 use Rattle.no_std_io2.specs.Towers.{Through}
 
 -- A writer accepted b without a mishap, and n counts it.
-pub record Passes (old : Told) (b : List ℕ) (n : ℕ) (new : Told) : Type 0 where
+pub record MovesCounted (old : Told) (b : List ℕ) (n : ℕ) (new : Told) : Type 0 where
   pub moves : Moves old b [] new
   pub count : n ≡ counted b
 
 -- A writer accepted some bytes without a mishap, and n counts them.
-pub record PassesSome (old : Told) (n : ℕ) (new : Told) : Type 0 where
+pub record MovesSome (old : Told) (n : ℕ) (new : Told) : Type 0 where
   pub accepted : List ℕ
-  pub passes : Passes old accepted n new
+  pub passes : MovesCounted old accepted n new
 
 -- The first fault of E is e.
 pub record HasFirstFault (E : List Event) (e : Error) : Type 0 where

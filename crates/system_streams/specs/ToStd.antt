@@ -46,11 +46,11 @@ std_kind OutOfMemory = kind.OutOfMemory
 std_kind Uncategorized = kind.Uncategorized
 
 -- the same answer, with an error of the same kind
-abbrev pub HandsOn : {T : Type 0} → Result T Error → Result T Std.Error → Type 0
-HandsOn (Ok x) (Ok y) = y ≡ x
-HandsOn (Err e) (Err f) = Io.error_kind f ≡ std_kind (error_kind e)
-HandsOn (Ok x) (Err f) = ⊥
-HandsOn (Err e) (Ok y) = ⊥
+abbrev pub SameAnswer : {T : Type 0} → Result T Error → Result T Std.Error → Type 0
+SameAnswer (Ok x) (Ok y) = y ≡ x
+SameAnswer (Err e) (Err f) = Io.error_kind f ≡ std_kind (error_kind e)
+SameAnswer (Ok x) (Err f) = ⊥
+SameAnswer (Err e) (Ok y) = ⊥
 
 -- all bytes that a writer has accepted: they are out or held
 abbrev pub accepted : Told → List ℕ

@@ -2,7 +2,7 @@
 ghost use Rattle.std.specs.Prelude.{◌≡◌, ◌⊎◌, [], Some, IfOk, IsOk, IfErr};
 ghost use Rattle.no_std_io2.specs.Read.{bytes, HasNoFault};
 ghost use Rattle.no_std_io2.specs.BufReader.{BufReaderFits};
-ghost use Rattle.system_streams.specs.Copies.{Passes, PassesSome, HasFirstFault, MayFail};
+ghost use Rattle.system_streams.specs.Copies.{MovesCounted, MovesSome, HasFirstFault, MayFail};
 ghost use Rattle.system_streams.specs.Copies.{HandsAndFlushes, HandsThrough};
 ghost use Rattle.no_std_io2.specs.BufWriter.{BufWriterFits};
 ghost use Rattle.no_std_io2.specs.LineWriter.{LineWriterFits};
@@ -14,9 +14,9 @@ const ROOM: usize = 64;
 
 // Copies all of `input` to `tower`, flushes it, and hands it back.
 fn copy_and_flush<R: Read + Drop, T: Write + Drop>(mut input: R, mut tower: T) -> Result<(u64, T)>
-    ensures some { IfOk result (λ r. PassesSome (T.told tower) r.0 (T.told r.1)) }
+    ensures some { IfOk result (λ r. MovesSome (T.told tower) r.0 (T.told r.1)) }
     ensures all { R.tells input → IfOk result (λ r. HasNoFault (R.events input)
-        × Passes (T.told tower) (bytes (R.events input)) r.0 (T.told r.1)) }
+        × MovesCounted (T.told tower) (bytes (R.events input)) r.0 (T.told r.1)) }
     ensures empty { IfOk result (λ r. (T.told r.1).held ≡ []) }
     ensures calls { IfOk result (λ r. HandsAndFlushes T.Write tower r.1) }
     ensures err { R.tells input → IfErr result (λ e. HasFirstFault (R.events input) e
@@ -53,9 +53,9 @@ pub fn copy_through<R: Read + Drop, W: Write + Drop>(
     requires reader_fits { BufReaderFits R.row 64 }
     requires buffer_fits { BufWriterFits W.row 64 }
     requires lines_fit { LineWriterFits W.row 64 }
-    ensures some { IfOk result (λ r. PassesSome (W.told output) r.0 (W.told r.1)) }
+    ensures some { IfOk result (λ r. MovesSome (W.told output) r.0 (W.told r.1)) }
     ensures all { R.tells input → IfOk result (λ r. HasNoFault (R.events input)
-        × Passes (W.told output) (bytes (R.events input)) r.0 (W.told r.1)) }
+        × MovesCounted (W.told output) (bytes (R.events input)) r.0 (W.told r.1)) }
     ensures empty { IfOk result (λ r. (W.told r.1).held ≡ []) }
     // Through the buffer that was asked for, and no other: the output got the calls that it makes.
     ensures calls { IfOk result (λ r. HandsThrough W.Write line output r.1) }

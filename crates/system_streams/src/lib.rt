@@ -14,7 +14,7 @@
 #![tactic(auto)]
 
 mod copy;
-mod laws;
+mod pins;
 mod patient;
 mod system;
 mod telling;

@@ -4,7 +4,7 @@ ghost use Rattle.std.specs.Io.{ReadsAtMost};
 ghost use Rattle.std.specs.Io.KnownBytes.{ReadConsumes};
 ghost use Rattle.no_std_io2.specs.declared.io.Error.{Error};
 ghost use Rattle.no_std_io2.specs.Read.{bytes, ReadLaw};
-ghost use Rattle.system_streams.specs.ToStd.{std_inner, HandsOn};
+ghost use Rattle.system_streams.specs.ToStd.{std_inner, SameAnswer};
 
 use crate::to_std::ToStd;
 use no_std_io2::io::Read;
@@ -61,7 +61,7 @@ impl<R: Read> io::Read for Telling<R> {
             (Some (bytes (R.events (telling_inner self.new)))) result buf.new }
 
         // It is one call of the reader, and its answer.
-        ensures law { (reply : Result ℕ Error) × HandsOn reply result
+        ensures law { (reply : Result ℕ Error) × SameAnswer reply result
             × ReadLaw R.Read (telling_inner self.old) buf.old reply buf.new (telling_inner self.new) }
     {
         io::Read::read(&mut self.stream, buf)

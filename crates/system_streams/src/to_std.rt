@@ -7,7 +7,7 @@ ghost use Rattle.no_std_io2.specs.declared.io.Error.{Error};
 ghost use Rattle.no_std_io2.specs.Errors.{error_kind};
 ghost use Rattle.no_std_io2.specs.Read.{ReadLaw};
 ghost use Rattle.no_std_io2.specs.Writers.{FlushOf, WriteOf};
-ghost use Rattle.system_streams.specs.ToStd.{std_inner, std_kind, HandsOn, accepted};
+ghost use Rattle.system_streams.specs.ToStd.{std_inner, std_kind, SameAnswer, accepted};
 
 use no_std_io2::io::{Error, ErrorKind, Read, Write};
 use std::io;
@@ -96,7 +96,7 @@ fn std_error(e: Error) -> io::Error
 impl<R: Read> io::Read for ToStd<R> {
     fn read(&mut self, buf: &mut [u8]) -> io::Result<usize>
         // It is one call of the reader, and its answer.
-        ensures law { (reply : Result ℕ Error) × HandsOn reply result
+        ensures law { (reply : Result ℕ Error) × SameAnswer reply result
             × ReadLaw R.Read (std_inner self.old) buf.old reply buf.new (std_inner self.new) }
     {
         match self.inner.read(buf) {
@@ -111,7 +111,7 @@ impl<W: Write> io::Write for ToStd<W> {
 
     fn write(&mut self, buf: &[u8]) -> io::Result<usize>
         // It is one call of the writer, and its answer.
-        ensures law { (reply : Result ℕ Error) × HandsOn reply result
+        ensures law { (reply : Result ℕ Error) × SameAnswer reply result
             × WriteOf W.Write (std_inner self.old) buf.now reply (std_inner self.new) }
     {
         match self.inner.write(buf) {
@@ -122,7 +122,7 @@ impl<W: Write> io::Write for ToStd<W> {
 
     fn flush(&mut self) -> io::Result<()>
         // It is one call of the writer, and its answer.
-        ensures law { (reply : Result (Unit {0}) Error) × HandsOn reply result
+        ensures law { (reply : Result (Unit {0}) Error) × SameAnswer reply result
             × FlushOf W.Write (std_inner self.old) reply (std_inner self.new) }
     {
         match self.inner.flush() {

@@ -1,9 +1,9 @@
 -- What a play writes.
 use Rattle.std.proofs.Common.{◌≡◌, ℕ, List, [], ◌∷◌, ◌++◌, subst, sym, ap, refl, append_assoc, Ok, Err, Result, IfOk, ◌∙◌}
-use Rattle.no_std_io2_base.specs.declared.error.Error.{Error}
-use Rattle.no_std_io2_base.specs.Errors.{error_kind}
-use Rattle.no_std_io2_base.specs.Write.{Told, Moves, MovesFront}
-use Rattle.no_std_io2_base.proofs.MovesLemmas.{Moves-ends}
+use Rattle.no_std_io2.specs.declared.io.Error.{Error}
+use Rattle.no_std_io2.specs.Errors.{error_kind}
+use Rattle.no_std_io2.specs.Write.{Told, Moves, MovesFront}
+use Rattle.no_std_io2.proofs.MovesLemmas.{Moves-ends}
 use Rattle.system_streams.specs.Copies.{MayFail}
 use Rattle.system_streams.proofs.CopyLemmas.{may_fail}
 use Rattle.no_std_io2.specs.declared.io.Write.{Ghosts as Writer}
@@ -18,7 +18,7 @@ use Rattle.io_bench.specs.Runs.{Ran}
 use Rattle.io_bench.proofs.RunLemmas.{below_none, below_more}
 use Rattle.tower_play.specs.declared.playing.Shape.{Shape}
 use Rattle.tower_play.specs.Report.{report}
-use Rattle.tower_play.specs.Play.{Writes, Shows, ShowsRun, TowerCalls, TwoLevels, fresh_told}
+use Rattle.tower_play.specs.Play.{WritesText, Shows, ShowsRun, TowerCalls, TwoLevels, fresh_told}
 
 -- what follows from a fact of the value of an `Ok`
 pub ifok_map : {A E : Type 0} {P Q : A → Type 0} (r : Result A E) → ((a : A) → P a → Q a) → IfOk r P → IfOk r Q
@@ -125,7 +125,7 @@ module _ {W : Type 0} (I : Writer (Faulty W)) (none : (w : Faulty W) → (I.told
 
 -- one text is written and flushed
 pub writes_text : {P : List ℕ → Type 0} {a b c : Told} {x shown : List ℕ} → P x → shown ≡ x
-    → MovesFront a shown (Ok tt) b → Moves b [] [] c → c.held ≡ [] → Writes P a c
+    → MovesFront a shown (Ok tt) b → Moves b [] [] c → c.held ≡ [] → WritesText P a c
 writes_text {a = a} {b} {x = x} is same wrote flushed empty = record {
   text = x;
   is = is;

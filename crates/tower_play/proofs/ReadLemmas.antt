@@ -4,10 +4,10 @@ use Rattle.std.proofs.Common.{false, Option, None, Some, refl, sym, subst, ap, �
 use Rattle.std.proofs.Common.{Err, inl, inr, ◌⊎◌, vec_items, Global}
 use Rattle.std.specs.Prelude.{min, is_some}
 use Rattle.std.specs.Option.{IfSome}
-use Rattle.no_std_io2_base.specs.declared.error.Error.{Error}
-use Rattle.no_std_io2_base.specs.Errors.{IsOutOfMemory}
-use Rattle.no_std_io2_base.specs.Read.{Event, fails}
-use Rattle.no_std_io2_base.specs.Pieces.{without, YieldsPiece}
+use Rattle.no_std_io2.specs.declared.io.Error.{Error}
+use Rattle.no_std_io2.specs.Errors.{IsOutOfMemory}
+use Rattle.no_std_io2.specs.Read.{Event, fails}
+use Rattle.no_std_io2.specs.Pieces.{without, YieldsPiece}
 use Rattle.io_bench.specs.PieceRuns.{GathersPieces}
 use Rattle.io_bench.proofs.PieceRunLemmas.{GatheredSoFar, gathered_to}
 use Rattle.system_streams.specs.Copies.{HasFirstFault}

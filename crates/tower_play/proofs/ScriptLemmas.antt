@@ -5,14 +5,14 @@ use Rattle.std.proofs.lemmas.Bool.Decides.{nat_tests}
 use Rattle.std.specs.List.{list_all}
 use Rattle.std.specs.Str.{IsUtf8, IsAscii}
 use Rattle.std.proofs.lemmas.Str.{IsUtf8-from_ascii}
-use Rattle.no_std_io2_base.specs.declared.error.ErrorKind.{ErrorKind}
-use Rattle.no_std_io2_base.specs.declared.error.ErrorKind.TheVariants.{NotFound, PermissionDenied, ConnectionRefused}
-use Rattle.no_std_io2_base.specs.declared.error.ErrorKind.TheVariants.{ConnectionReset, ConnectionAborted, NotConnected}
-use Rattle.no_std_io2_base.specs.declared.error.ErrorKind.TheVariants.{AddrInUse, AddrNotAvailable, BrokenPipe}
-use Rattle.no_std_io2_base.specs.declared.error.ErrorKind.TheVariants.{AlreadyExists, WouldBlock, InvalidInput}
-use Rattle.no_std_io2_base.specs.declared.error.ErrorKind.TheVariants.{InvalidData, TimedOut, WriteZero, Interrupted}
-use Rattle.no_std_io2_base.specs.declared.error.ErrorKind.TheVariants.{Other, UnexpectedEof, Unsupported, OutOfMemory}
-use Rattle.no_std_io2_base.specs.declared.error.ErrorKind.TheVariants.{Uncategorized}
+use Rattle.no_std_io2.specs.declared.io.ErrorKind.{ErrorKind}
+use Rattle.no_std_io2.specs.declared.io.ErrorKind.TheVariants.{NotFound, PermissionDenied, ConnectionRefused}
+use Rattle.no_std_io2.specs.declared.io.ErrorKind.TheVariants.{ConnectionReset, ConnectionAborted, NotConnected}
+use Rattle.no_std_io2.specs.declared.io.ErrorKind.TheVariants.{AddrInUse, AddrNotAvailable, BrokenPipe}
+use Rattle.no_std_io2.specs.declared.io.ErrorKind.TheVariants.{AlreadyExists, WouldBlock, InvalidInput}
+use Rattle.no_std_io2.specs.declared.io.ErrorKind.TheVariants.{InvalidData, TimedOut, WriteZero, Interrupted}
+use Rattle.no_std_io2.specs.declared.io.ErrorKind.TheVariants.{Other, UnexpectedEof, Unsupported, OutOfMemory}
+use Rattle.no_std_io2.specs.declared.io.ErrorKind.TheVariants.{Uncategorized}
 use Rattle.tower_play.specs.Script.{kind_name}
 
 -- bytes below 128 are a text

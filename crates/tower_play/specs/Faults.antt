@@ -1,8 +1,8 @@
 -- What a fault prints and says.
 use Rattle.std.specs.Prelude.{ℕ, ◌<◌, codes, List, ◌++◌, ⊤}
 use Rattle.std.specs.Fmt.{decimal}
-use Rattle.no_std_io2_base.specs.declared.error.Error.{Error}
-use Rattle.no_std_io2_base.specs.Errors.{error_display}
+use Rattle.no_std_io2.specs.declared.io.Error.{Error}
+use Rattle.no_std_io2.specs.Errors.{error_display}
 use Rattle.tower_play.specs.declared.playing.Fault.{Fault}
 use Rattle.tower_play.specs.declared.playing.Fault.TheVariants.{Io, Line}
 

@@ -70,7 +70,7 @@ pub record IsPlayOf {W : Type 0} (I : Writer (Faulty W)) (shape : Shape) (E : Li
   pub shows : Shows I shape script.acts.items ops text
 
 -- From old to new a writer accepted one text that is P, and nothing is held.
-pub record Writes (P : List ℕ → Type 0) (old new : Told) : Type 0 where
+pub record WritesText (P : List ℕ → Type 0) (old new : Told) : Type 0 where
   pub text : List ℕ
   pub is : P text
   pub moves : Moves old text [] new

@@ -1,7 +1,7 @@
 -- What the lines of a script add to it.
 use Rattle.std.specs.Prelude.{◌≡◌, ℕ, ◌+◌, ◌-◌, ◌^◌, ◌<◌, ◌⊎◌, min, true, false, List, [], ◌∷◌, ◌++◌, length, vec_len, vec_capacity, None}
-use Rattle.no_std_io2_base.specs.Read.{Event}
-use Rattle.no_std_io2_base.specs.Pieces.{without}
+use Rattle.no_std_io2.specs.Read.{Event}
+use Rattle.no_std_io2.specs.Pieces.{without}
 use Rattle.io_bench.specs.PieceRuns.{AllPieces}
 use Rattle.tower_play.specs.declared.script.Calls.{Calls}
 use Rattle.tower_play.specs.declared.script.Script.{Script}
@@ -33,26 +33,26 @@ pub record Adds (line : List ℕ) (old new : Script) : Type 0 where
   pub adds : AddsSaid said old new
 
 -- what makes a line bad that says something: an act behind a call, a text that stands for nothing
-abbrev pub IsRefused : Line → Script → Type 0
-IsRefused Empty old = ⊥
-IsRefused (Act act) old = 0 < vec_len old.calls.steps
-IsRefused (Write text) old = unescaped text.now ≡ None
-IsRefused (WriteAll text) old = unescaped text.now ≡ None
-IsRefused Flush old = ⊥
-IsRefused Bad old = ⊥
+abbrev pub IsBadLine : Line → Script → Type 0
+IsBadLine Empty old = ⊥
+IsBadLine (Act act) old = 0 < vec_len old.calls.steps
+IsBadLine (Write text) old = unescaped text.now ≡ None
+IsBadLine (WriteAll text) old = unescaped text.now ≡ None
+IsBadLine Flush old = ⊥
+IsBadLine Bad old = ⊥
 
 -- there is no room for what a line that says this may add: an act before the first call, a text and a call, or a call
-abbrev pub LacksRoom : Line → Script → Type 0
-LacksRoom Empty old = ⊥
-LacksRoom (Act act) old = (vec_len old.calls.steps ≡ 0) × (vec_capacity old.acts < vec_len old.acts + 1)
-LacksRoom (Write text) old = IsFull (length text.now) old.calls
-LacksRoom (WriteAll text) old = IsFull (length text.now) old.calls
-LacksRoom Flush old = vec_capacity old.calls.steps < vec_len old.calls.steps + 1
-LacksRoom Bad old = ⊥
+abbrev pub LineLacksRoom : Line → Script → Type 0
+LineLacksRoom Empty old = ⊥
+LineLacksRoom (Act act) old = (vec_len old.calls.steps ≡ 0) × (vec_capacity old.acts < vec_len old.acts + 1)
+LineLacksRoom (Write text) old = IsFull (length text.now) old.calls
+LineLacksRoom (WriteAll text) old = IsFull (length text.now) old.calls
+LineLacksRoom Flush old = vec_capacity old.calls.steps < vec_len old.calls.steps + 1
+LineLacksRoom Bad old = ⊥
 
 -- a bad line behind those that made this script: it says nothing, or is refused
 abbrev pub IsBadLine : List ℕ → Script → Type 0
-IsBadLine line old = (IsGood line → ⊥) ⊎ ((said : Line) × Says line said × IsRefused said old)
+IsBadLine line old = (IsGood line → ⊥) ⊎ ((said : Line) × Says line said × IsBadLine said old)
 
 -- what lines add, one after another
 abbrev pub AddsAll : List (List ℕ) → Script → Script → Type 0

@@ -3,14 +3,14 @@ use Rattle.std.specs.Prelude.{◌≡◌, ℕ, ◌==◌, ◌≤◌, ◌<◌, ◌^
 use Rattle.std.specs.Prelude.{Option, Some, None, Bool, true, false}
 use Rattle.std.specs.List.{flat_map}
 use Rattle.std.specs.Str.Parse.{IsNumeral, digits_value}
-use Rattle.no_std_io2_base.specs.declared.error.ErrorKind.{ErrorKind}
-use Rattle.no_std_io2_base.specs.declared.error.ErrorKind.TheVariants.{NotFound, PermissionDenied, ConnectionRefused}
-use Rattle.no_std_io2_base.specs.declared.error.ErrorKind.TheVariants.{ConnectionReset, ConnectionAborted, NotConnected}
-use Rattle.no_std_io2_base.specs.declared.error.ErrorKind.TheVariants.{AddrInUse, AddrNotAvailable, BrokenPipe}
-use Rattle.no_std_io2_base.specs.declared.error.ErrorKind.TheVariants.{AlreadyExists, WouldBlock, InvalidInput}
-use Rattle.no_std_io2_base.specs.declared.error.ErrorKind.TheVariants.{InvalidData, TimedOut, WriteZero, Interrupted}
-use Rattle.no_std_io2_base.specs.declared.error.ErrorKind.TheVariants.{Other, UnexpectedEof, Unsupported, OutOfMemory}
-use Rattle.no_std_io2_base.specs.declared.error.ErrorKind.TheVariants.{Uncategorized}
+use Rattle.no_std_io2.specs.declared.io.ErrorKind.{ErrorKind}
+use Rattle.no_std_io2.specs.declared.io.ErrorKind.TheVariants.{NotFound, PermissionDenied, ConnectionRefused}
+use Rattle.no_std_io2.specs.declared.io.ErrorKind.TheVariants.{ConnectionReset, ConnectionAborted, NotConnected}
+use Rattle.no_std_io2.specs.declared.io.ErrorKind.TheVariants.{AddrInUse, AddrNotAvailable, BrokenPipe}
+use Rattle.no_std_io2.specs.declared.io.ErrorKind.TheVariants.{AlreadyExists, WouldBlock, InvalidInput}
+use Rattle.no_std_io2.specs.declared.io.ErrorKind.TheVariants.{InvalidData, TimedOut, WriteZero, Interrupted}
+use Rattle.no_std_io2.specs.declared.io.ErrorKind.TheVariants.{Other, UnexpectedEof, Unsupported, OutOfMemory}
+use Rattle.no_std_io2.specs.declared.io.ErrorKind.TheVariants.{Uncategorized}
 
 -- a byte as a text shows it: a newline is a backslash and `n`, a backslash two backslashes
 abbrev pub escaped_byte : ℕ → List ℕ
@@ -36,9 +36,9 @@ unescaped (b ∷ c ∷ text) =
     else before (b ∷ []) (unescaped (c ∷ text))
 
 -- a text that stands for bytes is good, and they stand behind the old ones
-abbrev pub Appends : Option (List ℕ) → Bool → List ℕ → List ℕ → Type 0
-Appends (Some bytes) good old new = (good ≡ true) × (new ≡ old ++ bytes)
-Appends None good old new = good ≡ false
+abbrev pub AddsText : Option (List ℕ) → Bool → List ℕ → List ℕ → Type 0
+AddsText (Some bytes) good old new = (good ≡ true) × (new ≡ old ++ bytes)
+AddsText None good old new = good ≡ false
 
 -- the name of a kind
 abbrev pub kind_name : ErrorKind → List ℕ

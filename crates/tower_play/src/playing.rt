@@ -1,12 +1,12 @@
 // Plays a script on a tower of buffered writers.
 ghost use Rattle.no_std_io2.specs.BufReader.{BufReaderFits};
 ghost use Rattle.std.specs.Prelude.{◌≡◌, ◌++◌, ◌⊎◌, Some, IfOk, IfErr};
-ghost use Rattle.no_std_io2_base.specs.Errors.{IsOutOfMemory};
+ghost use Rattle.no_std_io2.specs.Errors.{IsOutOfMemory};
 ghost use Rattle.tower_play.specs.declared.playing.Fault.TheVariants.{Io};
 ghost use Rattle.system_streams.specs.Copies.{HasFirstFault, MayFail};
 ghost use Rattle.tower_play.specs.Faults.{fault_display, IfIo, IfLine};
 ghost use Rattle.tower_play.specs.Reading.{IsBadAt};
-ghost use Rattle.tower_play.specs.Play.{Shows, ShowsRun, IsPlay, IsPlayOf, Writes};
+ghost use Rattle.tower_play.specs.Play.{Shows, ShowsRun, IsPlay, IsPlayOf, WritesText};
 
 use crate::memory::{Refused, replies_of};
 use crate::report::report_of;
@@ -139,9 +139,9 @@ pub fn play<R: Read + Drop, W: Write + Drop>(
 ) -> Result<W, Fault>
     requires reader_fits { BufReaderFits R.row 64 }
     // The tower has this shape: the device got the calls that such a tower makes.
-    ensures ok { IfOk result (λ w. Writes (IsPlay ⟦<Faulty<Vec<u8>> as Write>⟧ shape) (W.told output) (W.told w)) }
+    ensures ok { IfOk result (λ w. WritesText (IsPlay ⟦<Faulty<Vec<u8>> as Write>⟧ shape) (W.told output) (W.told w)) }
     // The script is what the input tells.
-    ensures script { R.tells input → IfOk result (λ w. Writes (IsPlayOf ⟦<Faulty<Vec<u8>> as Write>⟧ shape (R.events input))
+    ensures script { R.tells input → IfOk result (λ w. WritesText (IsPlayOf ⟦<Faulty<Vec<u8>> as Write>⟧ shape (R.events input))
         (W.told output) (W.told w)) }
     // A bad line is the first one of all that the input tells.
     ensures first { R.tells input → IfErr result (IfLine (IsBadAt 10 (R.events input))) }

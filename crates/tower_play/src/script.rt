@@ -1,17 +1,17 @@
 // The script of `play`: acts of a faulty device, and then calls of a writer, a line each.
 ghost use Rattle.std.specs.Prelude.{◌≡◌, ℕ, ◌+◌, ◌-◌, ◌≤◌, List, [], ◌∷◌, ◌++◌, take, drop, IfSome, IfNone, None, ◌<◌, OnOk, OnErr};
 ghost use Rattle.std.specs.Prelude.{IfOk, IfErr, length, vec_len, vec_capacity, true, false, ◌⊎◌};
-ghost use Rattle.no_std_io2_base.specs.Errors.{IsOutOfMemory};
+ghost use Rattle.no_std_io2.specs.Errors.{IsOutOfMemory};
 ghost use Rattle.system_streams.specs.Copies.{HasFirstFault};
 ghost use Rattle.tower_play.specs.Faults.{IsNumbered, IfIo, IfLine};
-ghost use Rattle.tower_play.specs.Script.{kind_name, IsCount, IsTextArgument, unescaped, Appends};
+ghost use Rattle.tower_play.specs.Script.{kind_name, IsCount, IsTextArgument, unescaped, AddsText};
 ghost use Rattle.tower_play.specs.Calls.{IsNext, AreCalls, AddsText, IsFull};
-ghost use Rattle.tower_play.specs.Reading.{Adds, IsBadLine, IsRead, IsBadAt, LacksRoom};
-ghost use Rattle.no_std_io2_base.specs.Pieces.{split_reader, split_delim, split_is_ended};
+ghost use Rattle.tower_play.specs.Reading.{Adds, IsBadLine, IsRead, IsBadAt, LineLacksRoom};
+ghost use Rattle.no_std_io2.specs.Pieces.{split_reader, split_delim, split_is_ended};
 ghost use Rattle.tower_play.specs.declared.script.Line.{Line as Said};
 ghost use Rattle.tower_play.specs.declared.script.Line.TheVariants.{Bad};
 ghost use Rattle.tower_play.specs.Lines.{Says, IsGood, text_step};
-ghost use Rattle.no_std_io2_base.specs.declared.error.ErrorKind.{ErrorKind as Kind};
+ghost use Rattle.no_std_io2.specs.declared.io.ErrorKind.{ErrorKind as Kind};
 
 use crate::memory::{Refused, reserve};
 use crate::playing::Fault;
@@ -99,7 +99,7 @@ impl Script {
         ensures adds { IfOk result (λ good. good ≡ true → Adds line.now self.old self.new) }
         ensures bad { IfOk result (λ good. good ≡ false → IsBadLine line.now self.old) }
         // Nothing is refused where there is room for what the line may add, nor where it is empty or says nothing.
-        ensures full { OnErr result ((said : Said) × Says line.now said × LacksRoom said self.old) }
+        ensures full { OnErr result ((said : Said) × Says line.now said × LineLacksRoom said self.old) }
     {
         match parse_line(line) {
             Line::Empty => Ok(true),
@@ -212,7 +212,7 @@ fn split_text(texts: &[u8], len: usize) -> (&[u8], &[u8])
 fn unescape(text: &[u8], bytes: &mut Vec<u8>) -> bool
     requires { vec_len bytes.old + length text.now ≤ vec_capacity bytes.old }
     ensures grows { vec_len bytes.old ≤ vec_len bytes.new }
-    ensures meant { Appends (unescaped text.now) result bytes.old.items bytes.new.items }
+    ensures meant { AddsText (unescaped text.now) result bytes.old.items bytes.new.items }
 {
     let mut is_escaped = false;
     'bytes: for b in text {

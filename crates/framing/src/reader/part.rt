@@ -3,7 +3,7 @@ ghost use Rattle.std.specs.Prelude.{◌≡◌, ◌⊎◌, ◌+◌, ◌≤◌, �
 ghost use Rattle.std.specs.Int.{w32, to_le_bytes, from_le_bytes};
 ghost use Rattle.no_std_io2.specs.Errors.{IsFault};
 ghost use Rattle.framing.specs.Frames.{IsWithin};
-ghost use Rattle.framing.specs.Taking.{Gathers};
+ghost use Rattle.framing.specs.Taking.{GathersPart};
 
 use no_std_io2::io::{BufRead, Result};
 use std::alloc::Global;
@@ -17,12 +17,12 @@ fn gather<B: BufRead>(from: &mut B, part: &mut Vec<u8>, want: usize) -> Result<b
     requires within { vec_len part.old ≤ want }
     requires room { want ≤ vec_capacity part.old }
     ensures told { B.tells from.old → B.tells from.new
-        × Gathers want ⊥ (B.events from.old) result part.old.items part.new.items (B.events from.new) }
+        × GathersPart want ⊥ (B.events from.old) result part.old.items part.new.items (B.events from.new) }
     ensures len { vec_len part.new ≤ want }
     ensures whole { IfOk result (λ b. b ≡ true → vec_len part.new ≡ want) }
-    ensures fault { IfErr result IsFault }
-    ensures turns { B.turns from.new ≤ B.turns from.old }
-    ensures turn { vec_len part.old < vec_len part.new → B.turns from.new < B.turns from.old }
+    ensures never_interrupted { IfErr result IsFault }
+    ensures turns_never_rise { B.turns from.new ≤ B.turns from.old }
+    ensures spends_turn { vec_len part.old < vec_len part.new → B.turns from.new < B.turns from.old }
 {
     'pieces: while part.len() < want {
         match from.fill_buf() {
@@ -84,13 +84,13 @@ impl Part {
     /// The reader's first fault, and `OutOfMemory`.
     pub fn fill_header<B: BufRead>(&mut self, from: &mut B) -> Result<bool>
         ensures told { B.tells from.old → B.tells from.new
-            × Gathers 4 (header_room self.new < 4) (B.events from.old) result
+            × GathersPart 4 (header_room self.new < 4) (B.events from.old) result
             (part_bytes self.old) (part_bytes self.new) (B.events from.new) }
         ensures room { payload_room self.new ≡ payload_room self.old }
         ensures whole { IfOk result (λ b. b ≡ true → length (part_header self.new) ≡ 4) }
-        ensures fault { IfErr result IsFault }
-        ensures turns { B.turns from.new ≤ B.turns from.old }
-        ensures turn { length (part_bytes self.old) < length (part_bytes self.new) → B.turns from.new < B.turns from.old }
+        ensures never_interrupted { IfErr result IsFault }
+        ensures turns_never_rise { B.turns from.new ≤ B.turns from.old }
+        ensures spends_turn { length (part_bytes self.old) < length (part_bytes self.new) → B.turns from.new < B.turns from.old }
         ensures some { IfOk result (λ b. b ≡ true → length (part_bytes self.old) < length (part_bytes self.new)
             ⊎ (0 < length (part_bytes self.old))) }
     {
@@ -121,12 +121,12 @@ impl Part {
         requires header { length (part_header self.old) ≡ 4 }
         requires len { len ≡ from_le_bytes w32 (part_header self.old) }
         ensures told { B.tells from.old → B.tells from.new
-            × Gathers (4 + len) (payload_room self.new < len) (B.events from.old) result
+            × GathersPart (4 + len) (payload_room self.new < len) (B.events from.old) result
             (part_bytes self.old) (part_bytes self.new) (B.events from.new) }
         ensures header { part_header self.new ≡ part_header self.old }
         ensures whole { IfOk result (λ b. b ≡ true → length (part_payload self.new) ≡ len) }
-        ensures fault { IfErr result IsFault }
-        ensures turns { B.turns from.new ≤ B.turns from.old }
+        ensures never_interrupted { IfErr result IsFault }
+        ensures turns_never_rise { B.turns from.new ≤ B.turns from.old }
     {
         self.payload.reserve_exact(len - self.payload.len())?;
         gather(from, &mut self.payload, len)

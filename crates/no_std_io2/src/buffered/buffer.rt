@@ -7,7 +7,7 @@ ghost use Rattle.no_std_io2_base.specs.Cursor.{HasMoved};
 ghost use Rattle.no_std_io2_base.specs.Read.{Gave, gave_whole};
 
 use no_std_io2_base::error::Result;
-use no_std_io2_base::shared::{append_rest, copy_bytes};
+use no_std_io2_base::internal::{append_rest, copy_bytes};
 use no_std_io2_base::traits::Read;
 use std::alloc::Allocator;
 
@@ -171,8 +171,8 @@ impl<const S: usize> Buffer<S> {
         ensures bound { length (buffer_held self.new) ≤ S }
         ensures told { R.tells from.old → R.tells from.new
             × ReadsAhead (R.events from.old) result (buffer_held self.new) (R.events from.new) }
-        ensures turns { R.turns from.new ≤ R.turns from.old }
-        ensures turn { 0 < length (buffer_held self.new) → R.turns from.new < R.turns from.old }
+        ensures turns_never_rise { R.turns from.new ≤ R.turns from.old }
+        ensures spends_turn { 0 < length (buffer_held self.new) → R.turns from.new < R.turns from.old }
         ensures fault_turn { OnErr result (R.turns from.new < R.turns from.old) }
         ensures cost { R.is_metered from.old → R.is_metered from.new
             × (R.cost from.new ≡ R.cost from.old + 1) }

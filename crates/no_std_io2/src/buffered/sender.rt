@@ -106,7 +106,7 @@ impl<W: Write + Drop, const S: usize> Sender<W, S> {
     /// # Errors
     /// Returns the error of `send`.
     #[inline(always)]
-    fn make_way(&mut self, more: usize) -> Result<()>
+    fn send_if_no_room(&mut self, more: usize) -> Result<()>
         ensures { Takes W.Write sender_inner sender_buffer (WayCalls S more) self.old result self.new }
     {
         if more > S - self.buffer.len() {
@@ -143,13 +143,13 @@ impl<W: Write + Drop, const S: usize> Sender<W, S> {
         if buf.len() >= S && self.buffer.len() == 0 {
             return self.inner.write(buf);
         }
-        self.write_slowly(buf)
+        self.write_out_of_line(buf)
     }
 
     // Calls `write_cold`. This function is inlined, so the room for the result is made only on this
     // path. That saves four instructions in a write that is held.
     #[inline(always)]
-    fn write_slowly(&mut self, buf: &[u8]) -> Result<usize>
+    fn write_out_of_line(&mut self, buf: &[u8]) -> Result<usize>
         ensures { Takes W.Write sender_inner sender_buffer (WriteCalls S buf.now) self.old result self.new }
     {
         self.write_cold(buf)
@@ -161,7 +161,7 @@ impl<W: Write + Drop, const S: usize> Sender<W, S> {
     fn write_cold(&mut self, buf: &[u8]) -> Result<usize>
         ensures { Takes W.Write sender_inner sender_buffer (WriteCalls S buf.now) self.old result self.new }
     {
-        self.make_way(buf.len())?;
+        self.send_if_no_room(buf.len())?;
         if buf.len() >= S {
             return self.inner.write(buf);
         }
@@ -184,12 +184,12 @@ impl<W: Write + Drop, const S: usize> Sender<W, S> {
         if buf.len() >= S && self.buffer.len() == 0 {
             return self.inner.write_all(buf);
         }
-        self.write_all_slowly(buf)
+        self.write_all_out_of_line(buf)
     }
 
-    // As `write_slowly`.
+    // As `write_out_of_line`.
     #[inline(always)]
-    fn write_all_slowly(&mut self, buf: &[u8]) -> Result<()>
+    fn write_all_out_of_line(&mut self, buf: &[u8]) -> Result<()>
         ensures { Takes W.Write sender_inner sender_buffer (WriteAllCalls S buf.now) self.old result self.new }
     {
         self.write_all_cold(buf)
@@ -201,7 +201,7 @@ impl<W: Write + Drop, const S: usize> Sender<W, S> {
     fn write_all_cold(&mut self, buf: &[u8]) -> Result<()>
         ensures { Takes W.Write sender_inner sender_buffer (WriteAllCalls S buf.now) self.old result self.new }
     {
-        self.make_way(buf.len())?;
+        self.send_if_no_room(buf.len())?;
         if buf.len() >= S {
             return self.inner.write_all(buf);
         }

@@ -1,5 +1,5 @@
 ghost use Rattle.std.specs.Prelude.{◌≡◌, ◌+◌, ◌++◌, ◌≤◌, ◌<◌, ◌^◌, ◌↔◌, min, length, take, IsOk, IsOkAnd, IfOk, IfErr, OnErr};
-ghost use Rattle.no_std_io2_base.specs.Cursor.{cursor_place, cursor_inner, cursor_left, cursor_stores};
+ghost use Rattle.no_std_io2_base.specs.Cursor.{cursor_position, cursor_inner, cursor_left, cursor_stores};
 ghost use Rattle.no_std_io2_base.specs.BufRead.{ConsumeLaw};
 ghost use Rattle.no_std_io2_base.specs.Errors.{IsUnexpectedEnd};
 ghost use Rattle.no_std_io2_base.specs.Read.{events_of, given, bytes_alone, ReadLaw, ReadExactLaw};
@@ -16,7 +16,7 @@ impl<T: AsSlice<u8>> Stored for Cursor<T> {
 
     ghost content = { λ c. T.slice (cursor_inner c) };
 
-    ghost position = { cursor_place };
+    ghost position = { cursor_position };
 }
 
 impl<T: AsSlice<u8>> Cursor<T> {
@@ -46,7 +46,7 @@ impl<T: AsSlice<u8>> Read for Cursor<T> {
 
         // It never fails, and gives as many bytes as there are and fit.
         ensures answer { IsOkAnd result (λ n. n ≡ min (length buf.old) (length (cursor_left T.slice self.old))) }
-        ensures position { cursor_place self.new ≡ cursor_place self.old + given result }
+        ensures position { cursor_position self.new ≡ cursor_position self.old + given result }
         ensures inner { cursor_inner self.new ≡ cursor_inner self.old }
     {
         let n = copy_prefix(self.left(), buf);
@@ -60,9 +60,9 @@ impl<T: AsSlice<u8>> Read for Cursor<T> {
         // It fails if and only if too few bytes are left, and then changes nothing.
         ensures variant { IsOk result ↔ (length buf.old ≤ length (cursor_left T.slice self.old)) }
         ensures ok { IfOk result (λ _. (buf.new ≡ take (length buf.old) (cursor_left T.slice self.old))
-            × (cursor_place self.new ≡ cursor_place self.old + length buf.old)) }
+            × (cursor_position self.new ≡ cursor_position self.old + length buf.old)) }
         ensures says { IfErr result IsUnexpectedEnd }
-        ensures err { OnErr result ((cursor_place self.new ≡ cursor_place self.old) × (buf.new ≡ buf.old)) }
+        ensures err { OnErr result ((cursor_position self.new ≡ cursor_position self.old) × (buf.new ≡ buf.old)) }
         ensures inner { cursor_inner self.new ≡ cursor_inner self.old }
     {
         let left = self.left();
@@ -108,7 +108,7 @@ impl<T: AsSlice<u8>> BufRead for Cursor<T> {
         ensures law { ConsumeLaw ⟦<Self as BufRead>⟧ self.old amount self.new }
 
         // It moves the position.
-        ensures position { cursor_place self.new ≡ cursor_place self.old + amount }
+        ensures position { cursor_position self.new ≡ cursor_position self.old + amount }
         ensures inner { cursor_inner self.new ≡ cursor_inner self.old }
     {
         // The new position is at most the content's length, which fits.

@@ -1,5 +1,5 @@
 ghost use Rattle.std.specs.Prelude.{◌≡◌, length, Ok};
-ghost use Rattle.no_std_io2_base.specs.Cursor.{cursor_place, cursor_inner};
+ghost use Rattle.no_std_io2_base.specs.Cursor.{cursor_position, cursor_inner};
 ghost use Rattle.no_std_io2_base.specs.Seek.{Seeks, SeekLaw, StreamPositionLaw, RewindLaw, StreamLenLaw};
 
 use super::{AsSlice, Cursor};
@@ -11,7 +11,7 @@ impl<T: AsSlice<u8>> Seek for Cursor<T> {
         ensures law { SeekLaw ⟦<Self as Seek>⟧ self.old pos result self.new }
 
         // It goes to its target, whatever the content is, and the content stays.
-        ensures seeks { Seeks (length (T.slice (cursor_inner self.old))) (cursor_place self.old) pos result (cursor_place self.new) }
+        ensures seeks { Seeks (length (T.slice (cursor_inner self.old))) (cursor_position self.old) pos result (cursor_position self.new) }
         ensures inner { cursor_inner self.new ≡ cursor_inner self.old }
     {
         let (base, offset) = match pos {
@@ -40,7 +40,7 @@ impl<T: AsSlice<u8>> Seek for Cursor<T> {
     fn stream_position(&mut self) -> Result<u64>
         ensures law { StreamPositionLaw ⟦<Self as Seek>⟧ self.old result self.new }
         ensures same { self.new ≡ self.old }
-        ensures position { result ≡ Ok (cursor_place self.old) }
+        ensures position { result ≡ Ok (cursor_position self.old) }
     {
         Ok(self.pos)
     }
@@ -48,7 +48,7 @@ impl<T: AsSlice<u8>> Seek for Cursor<T> {
     fn rewind(&mut self) -> Result<()>
         ensures law { RewindLaw ⟦<Self as Seek>⟧ self.old result self.new }
         ensures inner { cursor_inner self.new ≡ cursor_inner self.old }
-        ensures position { cursor_place self.new ≡ 0 }
+        ensures position { cursor_position self.new ≡ 0 }
         ensures ok { result ≡ Ok tt }
     {
         self.pos = 0;

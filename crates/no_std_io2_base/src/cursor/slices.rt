@@ -1,7 +1,7 @@
 ghost use Rattle.std.specs.Prelude.{◌≡◌, ℕ, ◌+◌, ◌-◌, ◌≤◌, ◌↔◌, nat_lt, min, [], Ok, IsOk, IsOkAnd, OnOk, IfOk, IfErr};
 ghost use Rattle.std.specs.Prelude.{length, if◌then◌else◌};
 ghost use Rattle.std.specs.Box.{boxed_slice_items};
-ghost use Rattle.no_std_io2_base.specs.Cursor.{cursor_place, cursor_inner, cursor_out, PutsFitting};
+ghost use Rattle.no_std_io2_base.specs.Cursor.{cursor_position, cursor_inner, cursor_out, PutsFitting};
 ghost use Rattle.no_std_io2_base.specs.Errors.{IsNoInterruption, IsUnwritten};
 ghost use Rattle.no_std_io2_base.specs.Writers.{FlushOf, WriteAllOf, WriteOf};
 ghost use Rattle.no_std_io2_base.specs.Write.{Moves, MovesFront, taken, write_mishap, call_mishap, told_out};
@@ -39,9 +39,9 @@ impl Write for Cursor<&mut [u8]> {
 
         // What fits, at the position.
         ensures answer { IsOkAnd result (λ n. n
-            ≡ min (length buf.now) (length (cursor_inner self.old).now - cursor_place self.old)) }
-        ensures puts { PutsFitting (cursor_inner self.old).now (cursor_place self.old) buf.now
-            (cursor_inner self.new).now (cursor_place self.new) }
+            ≡ min (length buf.now) (length (cursor_inner self.old).now - cursor_position self.old)) }
+        ensures puts { PutsFitting (cursor_inner self.old).now (cursor_position self.old) buf.now
+            (cursor_inner self.new).now (cursor_position self.new) }
         ensures reference { (cursor_inner self.new).ghost_name ≡ (cursor_inner self.old).ghost_name }
     {
         Ok(write_fitting(self.inner, &mut self.pos, buf))
@@ -61,10 +61,10 @@ impl Write for Cursor<&mut [u8]> {
         ensures law { WriteAllOf ⟦<Self as Write>⟧ self.old buf.now result self.new }
 
         // What fits, at the position, and an error if and only if that is not all.
-        ensures variant { IsOk result ↔ (length buf.now ≤ length (cursor_inner self.old).now - cursor_place self.old) }
+        ensures variant { IsOk result ↔ (length buf.now ≤ length (cursor_inner self.old).now - cursor_position self.old) }
         ensures says { IfErr result IsUnwritten }
-        ensures puts { PutsFitting (cursor_inner self.old).now (cursor_place self.old) buf.now
-            (cursor_inner self.new).now (cursor_place self.new) }
+        ensures puts { PutsFitting (cursor_inner self.old).now (cursor_position self.old) buf.now
+            (cursor_inner self.new).now (cursor_position self.new) }
         ensures reference { (cursor_inner self.new).ghost_name ≡ (cursor_inner self.old).ghost_name }
     {
         if write_fitting(self.inner, &mut self.pos, buf) < buf.len() {
@@ -87,9 +87,9 @@ impl<const N: usize> Write for Cursor<[u8; N]> {
         ensures law { WriteOf ⟦<Self as Write>⟧ self.old buf.now result self.new }
 
         // What fits, at the position.
-        ensures answer { IsOkAnd result (λ n. n ≡ min (length buf.now) (length (cursor_inner self.old) - cursor_place self.old)) }
-        ensures puts { PutsFitting (cursor_inner self.old) (cursor_place self.old) buf.now
-            (cursor_inner self.new) (cursor_place self.new) }
+        ensures answer { IsOkAnd result (λ n. n ≡ min (length buf.now) (length (cursor_inner self.old) - cursor_position self.old)) }
+        ensures puts { PutsFitting (cursor_inner self.old) (cursor_position self.old) buf.now
+            (cursor_inner self.new) (cursor_position self.new) }
     {
         Ok(write_fitting(&mut self.inner, &mut self.pos, buf))
     }
@@ -119,9 +119,9 @@ impl<A: Allocator> Write for Cursor<BoxedSlice<u8, A>> {
 
         // What fits, at the position.
         ensures answer { IsOkAnd result (λ n. n
-            ≡ min (length buf.now) (length (boxed_slice_items (cursor_inner self.old)) - cursor_place self.old)) }
-        ensures puts { PutsFitting (boxed_slice_items (cursor_inner self.old)) (cursor_place self.old) buf.now
-            (boxed_slice_items (cursor_inner self.new)) (cursor_place self.new) }
+            ≡ min (length buf.now) (length (boxed_slice_items (cursor_inner self.old)) - cursor_position self.old)) }
+        ensures puts { PutsFitting (boxed_slice_items (cursor_inner self.old)) (cursor_position self.old) buf.now
+            (boxed_slice_items (cursor_inner self.new)) (cursor_position self.new) }
     {
         Ok(write_fitting(self.inner.as_mut_slice(), &mut self.pos, buf))
     }

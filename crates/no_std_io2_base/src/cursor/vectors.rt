@@ -1,6 +1,6 @@
 ghost use Rattle.std.specs.Prelude.{◌≡◌, ℕ, ◌+◌, ◌-◌, nat_lt, ◌≤◌, ◌<◌, ◌^◌, ◌++◌, [], Ok, IsOk, OnOk, OnErr, IfOk, IfErr};
 ghost use Rattle.std.specs.Prelude.{length, replicate, vec_len, vec_capacity, is_ok, if◌then◌else◌};
-ghost use Rattle.no_std_io2_base.specs.Cursor.{cursor_place, cursor_inner, cursor_out, put_at, IsPut, PutsWhole, PutsAll};
+ghost use Rattle.no_std_io2_base.specs.Cursor.{cursor_position, cursor_inner, cursor_out, put_at, IsPut, PutsWhole, PutsAll};
 ghost use Rattle.no_std_io2_base.specs.Errors.{IsNoInterruption};
 ghost use Rattle.no_std_io2_base.specs.Writers.{FlushOf, WriteAllOf, WriteOf};
 ghost use Rattle.no_std_io2_base.specs.Write.{Moves, MovesFront, taken, write_mishap, call_mishap, told_out};
@@ -87,10 +87,10 @@ impl<A: Allocator> Write for Cursor<Vec<u8, A>> {
 
         // It writes the whole buffer at the position, or nothing. It writes nothing only if the
         // capacity is too small.
-        ensures puts { PutsWhole (cursor_inner self.old).items (cursor_place self.old) buf.now result
-            (cursor_inner self.new).items (cursor_place self.new) }
+        ensures puts { PutsWhole (cursor_inner self.old).items (cursor_position self.old) buf.now result
+            (cursor_inner self.new).items (cursor_position self.new) }
         ensures full { OnErr result (vec_capacity (cursor_inner self.old)
-            < cursor_place self.old + length buf.now) }
+            < cursor_position self.old + length buf.now) }
     {
         write_at(&mut self.inner, &mut self.pos, buf)
     }
@@ -111,11 +111,11 @@ impl<A: Allocator> Write for Cursor<Vec<u8, A>> {
 
         // It writes the whole buffer at the position, or nothing. It writes nothing only if the
         // capacity is too small.
-        ensures puts { PutsAll (cursor_inner self.old).items (cursor_place self.old) buf.now result
-            (cursor_inner self.new).items (cursor_place self.new) }
+        ensures puts { PutsAll (cursor_inner self.old).items (cursor_position self.old) buf.now result
+            (cursor_inner self.new).items (cursor_position self.new) }
         ensures empty { length buf.now ≡ 0 → IsOk result × (self.new ≡ self.old) }
         ensures full { OnErr result (vec_capacity (cursor_inner self.old)
-            < cursor_place self.old + length buf.now) }
+            < cursor_position self.old + length buf.now) }
     {
         write_all_at(&mut self.inner, &mut self.pos, buf)
     }
@@ -137,10 +137,10 @@ impl<A: Allocator> Write for Cursor<&mut Vec<u8, A>> {
 
         // It writes the whole buffer at the position, or nothing. It writes nothing only if the
         // capacity is too small.
-        ensures puts { PutsWhole (cursor_inner self.old).now.items (cursor_place self.old) buf.now result
-            (cursor_inner self.new).now.items (cursor_place self.new) }
+        ensures puts { PutsWhole (cursor_inner self.old).now.items (cursor_position self.old) buf.now result
+            (cursor_inner self.new).now.items (cursor_position self.new) }
         ensures full { OnErr result (vec_capacity (cursor_inner self.old).now
-            < cursor_place self.old + length buf.now) }
+            < cursor_position self.old + length buf.now) }
         ensures reference { (cursor_inner self.new).ghost_name ≡ (cursor_inner self.old).ghost_name }
     {
         write_at(self.inner, &mut self.pos, buf)
@@ -162,11 +162,11 @@ impl<A: Allocator> Write for Cursor<&mut Vec<u8, A>> {
 
         // It writes the whole buffer at the position, or nothing. It writes nothing only if the
         // capacity is too small.
-        ensures puts { PutsAll (cursor_inner self.old).now.items (cursor_place self.old) buf.now result
-            (cursor_inner self.new).now.items (cursor_place self.new) }
+        ensures puts { PutsAll (cursor_inner self.old).now.items (cursor_position self.old) buf.now result
+            (cursor_inner self.new).now.items (cursor_position self.new) }
         ensures empty { length buf.now ≡ 0 → IsOk result × (self.new ≡ self.old) }
         ensures full { OnErr result (vec_capacity (cursor_inner self.old).now
-            < cursor_place self.old + length buf.now) }
+            < cursor_position self.old + length buf.now) }
         ensures reference { (cursor_inner self.new).ghost_name ≡ (cursor_inner self.old).ghost_name }
     {
         write_all_at(self.inner, &mut self.pos, buf)

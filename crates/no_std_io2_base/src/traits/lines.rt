@@ -39,9 +39,9 @@ impl<R> Lines<R> {
 fn next_line<R: BufRead>(reader: &mut R, alloc: Global) -> Option<Result<String>>
     ensures told { R.tells reader.old → R.tells reader.new
         × YieldsPiece string_bytes line_text RefusesLine 10 (R.events reader.old) result (R.events reader.new) }
-    ensures fault { IfSome result (λ item. IfErr item IsFault) }
-    ensures turns { R.turns reader.new ≤ R.turns reader.old }
-    ensures turn { ends_at result ≡ false → OnSome result (R.turns reader.new < R.turns reader.old) }
+    ensures never_interrupted { IfSome result (λ item. IfErr item IsFault) }
+    ensures turns_never_rise { R.turns reader.new ≤ R.turns reader.old }
+    ensures spends_turn { ends_at result ≡ false → OnSome result (R.turns reader.new < R.turns reader.old) }
 {
     let mut line = Vec::new(alloc);
     match reader.read_until(b'\n', &mut line) {

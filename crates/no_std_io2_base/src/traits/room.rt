@@ -80,9 +80,9 @@ fn fill_room<R: Read, A: Allocator>(reader: &mut R, buf: &mut Vec<u8, A>) -> Res
     ensures grows { vec_len buf.old ≤ vec_len buf.new }
     ensures capacity { vec_capacity buf.old ≤ vec_capacity buf.new }
     ensures full { IfOk result (λ at_end. at_end ≡ false → vec_len buf.new ≡ vec_capacity buf.new) }
-    ensures fault { IfErr result IsFault }
-    ensures turns { R.turns reader.new ≤ R.turns reader.old }
-    ensures turn { vec_len buf.old < vec_len buf.new → R.turns reader.new < R.turns reader.old }
+    ensures never_interrupted { IfErr result IsFault }
+    ensures turns_never_rise { R.turns reader.new ≤ R.turns reader.old }
+    ensures spends_turn { vec_len buf.old < vec_len buf.new → R.turns reader.new < R.turns reader.old }
     ensures metered { R.is_metered reader.old → R.is_metered reader.new }
     ensures filling { R.is_filling reader.old → R.is_filling reader.new }
     ensures store { GoesOn R.Read reader.old reader.new }

@@ -42,9 +42,9 @@ impl<R> Split<R> {
 fn next_piece<R: BufRead>(reader: &mut R, alloc: Global, delim: u8) -> Option<Result<Vec<u8>>>
     ensures told { R.tells reader.old → R.tells reader.new
         × YieldsPiece vec_items (without delim) (λ _ _. ⊥) delim (R.events reader.old) result (R.events reader.new) }
-    ensures fault { IfSome result (λ item. IfErr item IsFault) }
-    ensures turns { R.turns reader.new ≤ R.turns reader.old }
-    ensures turn { ends_at result ≡ false → OnSome result (R.turns reader.new < R.turns reader.old) }
+    ensures never_interrupted { IfSome result (λ item. IfErr item IsFault) }
+    ensures turns_never_rise { R.turns reader.new ≤ R.turns reader.old }
+    ensures spends_turn { ends_at result ≡ false → OnSome result (R.turns reader.new < R.turns reader.old) }
 {
     let mut piece = Vec::new(alloc);
     match reader.read_until(delim, &mut piece) {

@@ -1,7 +1,7 @@
 use Rattle.std.proofs.Common.{arith, rules, ◌<◌, ◌+◌, take, length, refl, subst, sym}
 use Rattle.io_bench.specs.Joined.{IsJoined}
 use Rattle.io_bench.proofs.JoinedLemmas.{joined_next, all_through, clear_at, clear_length, unclear, some_accepted, refused_so}
-use Rattle.no_std_io2_base.specs.Errors.{IsOutOfMemory}
+use Rattle.no_std_io2.specs.Errors.{IsOutOfMemory}
 use Rattle.io_bench.proofs.accepted.joined.Goals as goal
 use Rattle.io_bench.proofs.accepted.joined.Goals.{in-Some+in_ok-extend_from_slice, in_default}
 

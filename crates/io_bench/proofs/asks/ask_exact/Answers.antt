@@ -1,6 +1,6 @@
 use Rattle.std.proofs.Common.{◌≡◌, ◌<◌, length, subst, sym, ◌∙◌}
-use Rattle.no_std_io2_base.specs.Errors.{error_kind}
-use Rattle.no_std_io2_base.specs.declared.error.ErrorKind.TheVariants.{UnexpectedEof}
+use Rattle.no_std_io2.specs.Errors.{error_kind}
+use Rattle.no_std_io2.specs.declared.io.ErrorKind.TheVariants.{UnexpectedEof}
 use Rattle.no_std_io2.specs.BufReader.{reader_held}
 use Rattle.io_bench.specs.Asks.{asked_events}
 use Rattle.io_bench.proofs.AskLemmas.{exact_filled, exact_short, falls_short, bytes_behind, fell, stopped}

@@ -1,5 +1,5 @@
 use Rattle.std.proofs.Common.{length, take, arith, refl, sym, ap, ◌∙◌, length-take-le, length-drop}
-use Rattle.no_std_io2_base.specs.Read.{events_of}
+use Rattle.no_std_io2.specs.Read.{events_of}
 use Rattle.std.proofs.lemmas.Result.{err_from_is_err_and}
 use Rattle.no_std_io2.specs.BufReader.{reader_held, reader_inner}
 use Rattle.no_std_io2.proofs.BufReaderRoom.{some_room}
@@ -7,7 +7,7 @@ use Rattle.no_std_io2.proofs.BufReaderExact.{length-events}
 use Rattle.io_bench.specs.Tally.{tally_reads}
 use Rattle.io_bench.specs.Asks.{asked_reader, asked_events}
 use Rattle.io_bench.proofs.AskLemmas.{fill_asked, lent_error, lent_held, lent_taken}
-use Rattle.no_std_io2_base.proofs.PieceLemmas.{none_taken}
+use Rattle.no_std_io2.proofs.PieceLemmas.{none_taken}
 use Rattle.io_bench.proofs.asks.ask_fill.Goals as goal
 
 pub returns-in_err-lent : goal.returns-in_err-lent

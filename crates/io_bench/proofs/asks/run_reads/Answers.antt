@@ -1,6 +1,6 @@
 use Rattle.std.proofs.Common.{Bool, true, false, Ok, Err, if◌then◌else◌, ◌≡◌, get_or, rules, arith, refl, sym, subst, ◌∙◌}
 use Rattle.io_bench.specs.declared.asks.Ask.TheVariants.{Read}
-use Rattle.no_std_io2_base.proofs.Readers.{reader}
+use Rattle.no_std_io2.proofs.Readers.{reader}
 use Rattle.io_bench.specs.Asks.{Fits}
 use Rattle.io_bench.proofs.AskLemmas.{fits_at, came_more, came_all, came_front, came_steps, came_bound}
 use mir.Val.{bool_byte}

@@ -1,6 +1,6 @@
 -- What the asks so far came to.
 use Rattle.std.proofs.Common.{◌≡◌, ◌≤◌, length, take}
-use Rattle.no_std_io2_base.proofs.Readers.{reader}
+use Rattle.no_std_io2.proofs.Readers.{reader}
 use Rattle.io_bench.specs.Asks.{CameTo}
 use Rattle.io_bench.proofs.asks.run_reads.Given as goal
 

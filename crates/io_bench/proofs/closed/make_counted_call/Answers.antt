@@ -1,5 +1,5 @@
 -- The base takes all, so no call fails, and each answers whole.
-use Rattle.no_std_io2_base.proofs.MovesLemmas.{Moves-steady}
+use Rattle.no_std_io2.proofs.MovesLemmas.{Moves-steady}
 use Rattle.no_std_io2.proofs.BufWriterLemmas.{ok_same}
 use Rattle.io_bench.proofs.RunLemmas.{Answers-write_all}
 use Rattle.io_bench.proofs.closed.make_counted_call.Goals as goal

@@ -1,6 +1,6 @@
 use Rattle.std.proofs.Common.{◌<◌, ◌++◌, ◌∷◌, [], length, rules, arith, ap, ◌∙◌, sym, append_assoc, append-nil, subst}
-use Rattle.no_std_io2_base.proofs.MovesLemmas.{Moves-ends}
-use Rattle.no_std_io2_base.specs.Write.{Moves}
+use Rattle.no_std_io2.proofs.MovesLemmas.{Moves-ends}
+use Rattle.no_std_io2.specs.Write.{Moves}
 use Rattle.io_bench.specs.Closed.{given_bytes}
 use Rattle.no_std_io2.proofs.BufWriterLemmas.{buffer-le, Moves-bare}
 use Rattle.no_std_io2.specs.BufWriter.{writer_inner, writer_buffer}

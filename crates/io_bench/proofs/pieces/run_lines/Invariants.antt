@@ -1,7 +1,7 @@
 -- `run_lines` ends with its items left, and the items so far are the lines in front.
 use Rattle.std.proofs.Common.{◌≡◌, ◌++◌, map, false, string_bytes}
-use Rattle.no_std_io2_base.specs.Pieces.{line_text, lines_reader, lines_is_ended, items_left}
-use Rattle.io_bench.specs.Runs.{appended}
+use Rattle.no_std_io2.specs.Pieces.{line_text, lines_reader, lines_is_ended, items_left}
+use Rattle.no_std_io2.specs.Appended.{appended}
 use Rattle.io_bench.proofs.PieceRunLemmas.{GatheredSoFar}
 use Rattle.io_bench.proofs.pieces.run_lines.Given as goal
 

@@ -1,7 +1,8 @@
 use Rattle.std.proofs.Common.{◌≡◌, ℕ, ◌<◌, ◌+◌, ◌∙◌, ap, map, vec_items, vec_len, vec_capacity, Global, [], ◌∷◌, ◌++◌, Some, Ok}
-use Rattle.no_std_io2_base.specs.Pieces.{without, split_reader, split_delim, ends_at}
-use Rattle.io_bench.specs.Runs.{appended}
-use Rattle.io_bench.proofs.PieceRunLemmas.{one_gathered, all_gathered, gathered_to, appended-more, shown-one, yields_at}
+use Rattle.no_std_io2.specs.Pieces.{without, split_reader, split_delim, ends_at}
+use Rattle.no_std_io2.specs.Appended.{appended}
+use Rattle.no_std_io2.proofs.AppendedLemmas.{appended-more}
+use Rattle.io_bench.proofs.PieceRunLemmas.{one_gathered, all_gathered, gathered_to, shown-one, yields_at}
 use Rattle.io_bench.proofs.pieces.run_split.Goals as goal
 
 pub items-preserved : goal.items-preserved

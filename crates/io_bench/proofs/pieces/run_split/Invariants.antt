@@ -1,7 +1,7 @@
 -- `run_split` ends with its items left, and the items so far are the pieces in front.
 use Rattle.std.proofs.Common.{◌≡◌, ◌++◌, map, false, vec_items}
-use Rattle.no_std_io2_base.specs.Pieces.{without, split_reader, split_delim, split_is_ended, items_left}
-use Rattle.io_bench.specs.Runs.{appended}
+use Rattle.no_std_io2.specs.Pieces.{without, split_reader, split_delim, split_is_ended, items_left}
+use Rattle.no_std_io2.specs.Appended.{appended}
 use Rattle.io_bench.proofs.PieceRunLemmas.{GatheredSoFar}
 use Rattle.io_bench.proofs.pieces.run_split.Given as goal
 

@@ -2,7 +2,7 @@ use Rattle.std.proofs.Common.{◌≡◌, ◌≤◌, ◌∷◌, length, map, stri
 use Rattle.std.proofs.lemmas.List.{nil_from_length}
 use Rattle.std.proofs.lemmas.Result.{err_from_is_err_and}
 use Rattle.no_std_io2.specs.Lines.{HasNoNewline}
-use Rattle.line_log.specs.Lines.{line_of, IsRefusal}
+use Rattle.line_log.specs.Lines.{line_of, IsLineRefusal}
 use Rattle.line_log.specs.Log.{log_room, LineLaw}
 use Rattle.line_log.proofs.LogLemmas.{lines_send, refusal_less}
 use Rattle.pending.specs.Pending.{RefusesFirst}
@@ -42,10 +42,10 @@ returns-in_err-stage-clause-refused g c =
     let less : log_room c.args.self.now ≤ log_room c.retry.new.self =
     omega (arith, c.lines.invariant.room, c.in_ok-retry.ensures.room) in
     let e = c.in_err-stage.field-0.0 in
-    let why : IsRefusal (log_room c.retry.new.self) (string_bytes line) e =
-    subst (λ l. IsRefusal (log_room c.retry.new.self) l e) c.as_str.ensures.value c.in_err-stage.ensures.refused in
+    let why : IsLineRefusal (log_room c.retry.new.self) (string_bytes line) e =
+    subst (λ l. IsLineRefusal (log_room c.retry.new.self) l e) c.as_str.ensures.value c.in_err-stage.ensures.refused in
     rw (p.1, p.2)
-    (λ none. subst (λ l. RefusesFirst (IsRefusal (log_room c.args.self.now)) l e) first (refusal_less (string_bytes line) e less why))
+    (λ none. subst (λ l. RefusesFirst (IsLineRefusal (log_room c.args.self.now)) l e) first (refusal_less (string_bytes line) e less why))
 
 pub returns-in_err-stage-clause-calls : goal.returns-in_err-stage-clause-calls
 returns-in_err-stage-clause-calls g c =

@@ -1,7 +1,7 @@
 use Rattle.std.proofs.Common.{Ok, refl, sym, ◌∙◌, inl, inr}
 use Rattle.std.proofs.lemmas.Result.{err_from_is_err_and}
 use Rattle.no_std_io2.specs.LineWriter.{line_inner}
-use Rattle.line_log.specs.Log.{log_told, still_to_go}
+use Rattle.line_log.specs.Log.{log_told, log_left}
 use Rattle.pending.proofs.RecordLemmas.{rest_as, rest_none, all_none, none_of, some_of}
 use Rattle.line_log.proofs.LogLemmas.{line_sends, none_waits}
 use Rattle.line_log.proofs.LineLog.retry.Goals as goal
@@ -35,5 +35,5 @@ pub returns-clause-passed : goal.returns-clause-passed
 returns-clause-passed g c = λ lines some e.
     let told = g.W.Write.told in
     let new = c.write_all.new.self in
-    none_waits (log_told told c.args.self.now) (told (line_inner new)) _ (still_to_go c.args.self.now) _ lines
+    none_waits (log_told told c.args.self.now) (told (line_inner new)) _ (log_left c.args.self.now) _ lines
     (line_sends _ (Ok tt) (returns-clause-calls g c)) c.clear.ensures.rest e c.in_ok-write_all.ensures.no_newline_held

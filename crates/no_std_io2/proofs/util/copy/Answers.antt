@@ -117,10 +117,10 @@ returns-in-Ok-eq0-clause-store g c = λ s.
 pub returns-in_err-write_all-in-Ok-clause-unchanged : goal.returns-in_err-write_all-in-Ok-clause-unchanged
 returns-in_err-write_all-in-Ok-clause-unchanged g c = λ z. absurd (search rules)
 
-pub returns-in_err-write_all-in-Ok-clause-fault : goal.returns-in_err-write_all-in-Ok-clause-fault
-returns-in_err-write_all-in-Ok-clause-fault g c =
+pub returns-in_err-write_all-in-Ok-clause-never_interrupted : goal.returns-in_err-write_all-in-Ok-clause-never_interrupted
+returns-in_err-write_all-in-Ok-clause-never_interrupted g c =
     let p = err_from_is_err_and c.from_residual.result c.from_residual.ensures.1 in
-    rw (p.1, p.2) c.in_err-write_all-in-Ok.ensures.law.fault
+    rw (p.1, p.2) c.in_err-write_all-in-Ok.ensures.law.never_interrupted
 
 pub returns-in_err-write_all-in-Ok-clause-reads : goal.returns-in_err-write_all-in-Ok-clause-reads
 returns-in_err-write_all-in-Ok-clause-reads g c = λ _ _ _.

@@ -2,7 +2,7 @@
 ghost use Rattle.std.specs.Prelude.{◌≡◌, ◌+◌, ◌-◌, ◌<◌, ◌≤◌, [], ◌++◌, min, length, take, drop, Some, IfOk, IfErr, IfSome, IfNone};
 ghost use Rattle.std.specs.Prelude.{ℕ, List, Result, IsOkAnd, OnOk, OnErr, vec_len, vec_capacity};
 ghost use Rattle.std.specs.Prelude.{string_bytes, string_len, string_capacity};
-ghost use Rattle.no_std_io2.specs.Buffer.{IsEnd};
+ghost use Rattle.no_std_io2.specs.Buffer.{IsSuffix};
 ghost use Rattle.std.specs.Borrow.{sem};
 ghost use Rattle.no_std_io2_base.specs.BufRead.{FillBufLaw, AfterLoan, ConsumeLaw, ReadUntilLaw, ReadLineLaw, Rests};
 ghost use Rattle.no_std_io2_base.specs.declared.error.Error.{Error};
@@ -14,7 +14,7 @@ ghost use Rattle.no_std_io2.specs.BufReader.{reader_lent_length, TakesHeld, Take
 use super::BufReader;
 use super::pieces::find_piece;
 use no_std_io2_base::error::Result;
-use no_std_io2_base::shared::{append, append_line, append_text};
+use no_std_io2_base::internal::{append, append_line, append_text};
 use no_std_io2_base::traits::{BufRead, Read};
 use std::alloc::{Allocator, Global};
 
@@ -92,7 +92,7 @@ impl<R: Read, const S: usize> BufRead for BufReader<R, S> {
             → TakesHeld piece rest self.old buf.old.items result buf.new.items self.new }
 
         // The bytes then behind are a suffix of those behind before, followed by the appended ones.
-        ensures behind { IsEnd (reader_behind self.old ++ drop (vec_len buf.old) buf.new.items) (reader_behind self.new) }
+        ensures behind { IsSuffix (reader_behind self.old ++ drop (vec_len buf.old) buf.new.items) (reader_behind self.new) }
         ensures sound { StaysSound R.has_store R.position R.content self.old self.new }
     {
         let start = buf.len();
@@ -121,11 +121,11 @@ impl<R: Read, const S: usize> BufRead for BufReader<R, S> {
             → TakesHeldLine line rest self.old (string_bytes buf.old) result (string_bytes buf.new) self.new }
 
         // The bytes then behind are a suffix of those behind before, followed by the line, or by what was lost of it.
-        ensures behind { OnOk result (IsEnd (reader_behind self.old ++ drop (string_len buf.old) (string_bytes buf.new))
+        ensures behind { OnOk result (IsSuffix (reader_behind self.old ++ drop (string_len buf.old) (string_bytes buf.new))
             (reader_behind self.new)) }
         ensures lost { OnErr result ((line : List ℕ) × (read : Result ℕ Error) × AnswersLine line read (string_len buf.old)
             (string_capacity buf.old) result (string_bytes buf.old) (string_bytes buf.new)
-            × IsEnd (reader_behind self.old ++ line) (reader_behind self.new)) }
+            × IsSuffix (reader_behind self.old ++ line) (reader_behind self.new)) }
         ensures sound { StaysSound R.has_store R.position R.content self.old self.new }
     {
         match self.take_line(buf) {

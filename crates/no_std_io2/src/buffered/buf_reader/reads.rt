@@ -7,11 +7,11 @@ ghost use Rattle.no_std_io2.specs.BufReader.{reader_held, reader_behind, reader_
 ghost use Rattle.no_std_io2.specs.BufReader.{reader_has_store, StaysSound, reader_position, behind_anew};
 ghost use Rattle.no_std_io2.specs.BufReader.{held_or_to_come, exact_reads, exact_left, exact_behind, EmptiesInto};
 ghost use Rattle.no_std_io2.specs.BufReader.{HasNoBuffer, FillsBuffer, ReadsOn, ReaderMay, sound_tells, sound_fits};
-ghost use Rattle.no_std_io2.specs.Buffer.{IsEnd};
+ghost use Rattle.no_std_io2.specs.Buffer.{IsSuffix};
 
 use super::BufReader;
 use no_std_io2_base::error::Result;
-use no_std_io2_base::shared::{failed_to_fill, rest_to_end};
+use no_std_io2_base::internal::{failed_to_fill, rest_to_end};
 use no_std_io2_base::traits::Read;
 use std::alloc::Allocator;
 
@@ -66,7 +66,7 @@ impl<R: Read, const S: usize> BufReader<R, S> {
 
     // Calls `read_rest`. The room for its result is made only on this path.
     #[inline(always)]
-    fn read_on(&mut self, buf: &mut [u8]) -> Result<()>
+    fn read_out_of_line(&mut self, buf: &mut [u8]) -> Result<()>
         requires { length (reader_held self.old) < length buf.old }
         ensures { ReadsOn R.Read self.old (length buf.old) result buf.new self.new }
     {
@@ -159,14 +159,14 @@ impl<R: Read, const S: usize> Read for BufReader<R, S> {
         // If it went past the held bytes, the last of the given bytes lie behind, fewer than the buffer has room for. An error
         // leaves nothing in the buffer.
         ensures behind { length (reader_held self.old) < length buf.old
-            → OnOk result (IsEnd buf.new (reader_behind self.new) × (length (reader_behind self.new) < S)) }
+            → OnOk result (IsSuffix buf.new (reader_behind self.new) × (length (reader_behind self.new) < S)) }
         ensures failed { OnErr result (HasNoBuffer self.new) }
         ensures behind_length { R.is_filling (reader_inner self.old) → length (reader_held self.old) < length buf.old
             → OnOk result (length (reader_behind self.new) ≡ exact_behind S (length buf.old) (length (reader_held self.old))) }
         ensures sound { StaysSound R.has_store R.position R.content self.old self.new }
     {
         if buf.len() > self.buffer.len() {
-            return self.read_on(buf);
+            return self.read_out_of_line(buf);
         }
         self.buffer.give_whole(buf);
         Ok(())

@@ -1,7 +1,7 @@
 use Rattle.std.proofs.Common.{◌≡◌, subst, sym, ap, ◌∙◌, inr}
 use Rattle.std.proofs.lemmas.Result.{err_from_is_err_and}
 use Rattle.no_std_io2.specs.BufReader.{reader_inner, reader_events}
-use Rattle.no_std_io2_base.specs.Pieces.{split_reader, split_delim}
+use Rattle.no_std_io2.specs.Pieces.{split_reader, split_delim}
 use Rattle.tower_play.specs.Play.{IsPlay, IsPlayOf}
 use Rattle.tower_play.specs.Reading.{IsRead}
 use Rattle.tower_play.proofs.PlayLemmas.{shows_at, writes_text, write_failed, flush_failed}

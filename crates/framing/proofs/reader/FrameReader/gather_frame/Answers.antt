@@ -105,8 +105,8 @@ returns-clause-told g c = λ t.
     (c.told_len-len.ensures.back ∙ sym c.in_ok-fill_payload.ensures.header) long in
     (said.0, (passes_as (Gathered-passes (Gathered-then first.0 whole.0)) is, omega (arith, long, c.if-len-self.false)))
 
-pub returns-clause-turn : goal.returns-clause-turn
-returns-clause-turn g c = λ h.
+pub returns-clause-spends_turn : goal.returns-clause-spends_turn
+returns-clause-spends_turn g c = λ h.
     let said = c.in_ok-fill_header.ensures in
     turn_spent (length (part_bytes c.args.self.now.part)) (length (part_bytes c.fill_header.new.self))
-    (said.some c.if-not-branch.false) said.turn said.turns c.in_ok-fill_payload.ensures.turns
+    (said.some c.if-not-branch.false) said.turn said.turns c.in_ok-fill_payload.ensures.turns_never_rise

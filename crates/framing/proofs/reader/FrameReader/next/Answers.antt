@@ -23,6 +23,6 @@ returns-clause-told g c = λ t.
           (part_bytes c.take_payload.new.self) said.1 c.take_payload.ensures.payload c.take_payload.ensures.empty,
     )
 
-pub returns-clause-turn : goal.returns-clause-turn
-returns-clause-turn g c =
-    omega (arith, ap length c.take_payload.ensures.empty, c.in_ok-gather_frame.ensures.turn c.if-not-branch.false)
+pub returns-clause-spends_turn : goal.returns-clause-spends_turn
+returns-clause-spends_turn g c =
+    omega (arith, ap length c.take_payload.ensures.empty, c.in_ok-gather_frame.ensures.spends_turn c.if-not-branch.false)

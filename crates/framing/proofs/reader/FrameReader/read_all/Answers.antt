@@ -2,8 +2,9 @@ use Rattle.std.proofs.Common.{◌≡◌, ◌⊎◌, ℕ, ◌<◌, ◌^◌, [], �
 use Rattle.std.proofs.lemmas.Result.{err_from_is_err_and}
 use Rattle.framing.specs.Part.{most, part_of, LacksRoom}
 use Rattle.framing.specs.declared.reader.part.Part.{Part}
-use Rattle.framing.proofs.RunLemmas.{appends_push, run_same, run_more, run_ends, run_refused, run_stops, frame_within}
-use Rattle.framing.specs.Taking.{IsFull}
+use Rattle.no_std_io2.proofs.AppendedLemmas.{appended-more}
+use Rattle.framing.proofs.RunLemmas.{run_same, run_more, run_ends, run_refused, run_stops, frame_within}
+use Rattle.framing.specs.Taking.{HasNoSpare}
 use Rattle.framing.proofs.RoundTrip.{comes_back}
 use Rattle.framing.proofs.reader.FrameReader.read_all.Goals as goal
 
@@ -17,7 +18,7 @@ returns-in_err-reserve-clause-told g c = λ t.
     let run = c.frames.invariant.told t in
     let same = run_same (λ v. v.items) c.args.payloads.now.items c.reserve.new.self.items run.1 c.reserve.ensures.items in
     let said = c.in_err-reserve.ensures in
-    let full : IsFull c.reserve.new.self = omega (arith, said.full, said.err, c.reserve.ensures.len) in
+    let full : HasNoSpare c.reserve.new.self = omega (arith, said.full, said.err, c.reserve.ensures.len) in
     (run.0, rw p.1 (run_refused _ (most c.args.self.now) p.0 same p.2 (inr full)))
 
 pub returns-in_err-reserve-clause-back : goal.returns-in_err-reserve-clause-back
@@ -35,7 +36,7 @@ returns-in_err-next-clause-told g c = λ t.
       said.0,
       rw (p.1, p.2)
           (run_stops _ _ (most c.args.self.now) (most c.frames.self)
-          (lacks_as (part_of c.next.new.self) (IsFull c.reserve.new.self) c.frames.invariant.limit) c.in_err-next.field-0.0 same
+          (lacks_as (part_of c.next.new.self) (HasNoSpare c.reserve.new.self) c.frames.invariant.limit) c.in_err-next.field-0.0 same
           c.frames.invariant.limit said.1),
     )
 
@@ -67,7 +68,7 @@ frames-preserved g c =
     let payload = c.in-Some.payload in
     let pushed : new ≡ had ++ payload ∷ [] = c.push_reserved.ensures.items ∙ ap (λ l. l ++ payload ∷ []) c.reserve.ensures.items in
     record {
-      appends = appends_push old had new payload before.appends pushed;
+      appends = appended-more old {had} {new} payload before.appends pushed;
       told = λ t.
           let run = before.told t in
           let said = (rw c.in-Some.is at c.in_ok-next.ensures.told) run.0 in (

@@ -1,7 +1,8 @@
 -- The payloads so far are those of the frames that are gone from the front of what was to come.
 use Rattle.std.proofs.Common.{◌≡◌, ◌++◌, map}
 use Rattle.framing.specs.Part.{reads_from, frame_events, frame_turns, most}
-use Rattle.framing.specs.Taking.{PassesFrames, appended}
+use Rattle.no_std_io2.specs.Appended.{appended}
+use Rattle.framing.specs.Taking.{PassesFrames}
 use Rattle.framing.proofs.reader.FrameReader.read_all.Given as goal
 
 abbrev pub invariant-frames : goal.invariant-frames

@@ -1,6 +1,6 @@
 use Rattle.std.proofs.Common.{ℕ, List, inl, inr, arith}
 use Rattle.std.proofs.lemmas.Result.{err_from_is_err_and}
-use Rattle.framing.specs.Frames.{IsRefusal}
+use Rattle.framing.specs.Frames.{IsPayloadRefusal}
 use Rattle.framing.proofs.DeliveryLemmas.{delivers_more, refusal_less}
 use Rattle.no_std_io2.proofs.RetryLemmas.{sends_none, spent_none, spent_more, spent_all}
 use Rattle.pending.proofs.RecordLemmas.{off_none, off_then, refuses_as}
@@ -19,13 +19,13 @@ pub returns-in_err-try_once-clause-enough : goal.returns-in_err-try_once-clause-
 returns-in_err-try_once-clause-enough g c = λ few.
     let p = err_from_is_err_and c.from_residual.result c.from_residual.ensures.1 in
     let less = λ (x : List ℕ). refusal_less x c.in_err-try_once.field-0.0 c.tries.invariant.room in
-    rw (p.1, p.2) (refuses_as (IsRefusal _) (IsRefusal _) _ less c.in_err-try_once.ensures.refused)
+    rw (p.1, p.2) (refuses_as (IsPayloadRefusal _) (IsPayloadRefusal _) _ less c.in_err-try_once.ensures.refused)
 
 pub returns-in_err-try_once-clause-last : goal.returns-in_err-try_once-clause-last
 returns-in_err-try_once-clause-last g c =
     let p = err_from_is_err_and c.from_residual.result c.from_residual.ensures.1 in
     let less = λ (x : List ℕ). refusal_less x c.in_err-try_once.field-0.0 c.tries.invariant.room in
-    rw (p.1, p.2) (inl (refuses_as (IsRefusal _) (IsRefusal _) _ less c.in_err-try_once.ensures.refused))
+    rw (p.1, p.2) (inl (refuses_as (IsPayloadRefusal _) (IsPayloadRefusal _) _ less c.in_err-try_once.ensures.refused))
 
 pub returns-in-None-clause-sends : goal.returns-in-None-clause-sends
 returns-in-None-clause-sends g c = delivers_more c.try_once.result c.tries.invariant.goes c.try_once.ensures.sends

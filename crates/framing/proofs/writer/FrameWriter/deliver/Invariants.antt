@@ -1,7 +1,7 @@
 -- What is no longer to go was accepted, and each try but the first has spent a mishap, where they are told.
 use Rattle.std.proofs.Common.{◌++◌, ◌≤◌, map}
 use Rattle.framing.specs.Frames.{frames}
-use Rattle.framing.specs.Sending.{writer_tells, frame_room, still_to_go, TakesOff}
+use Rattle.framing.specs.Sending.{writer_tells, frame_room, still_to_go, TakesPayloads}
 use Rattle.no_std_io2.specs.Retries.{HasSpentTries}
 use Rattle.framing.specs.Delivering.{Delivers}
 use Rattle.framing.proofs.writer.FrameWriter.deliver.Given as goal
@@ -14,7 +14,7 @@ invariant-tries g l =
           (still_to_go l.initial.self ++ frames (map (λ v. v.items) l.initial.rest.now)) (writer_tells told l.self)
           (still_to_go l.self ++ frames (map (λ v. v.items) l.rest.now));
       room : frame_room l.initial.self ≤ frame_room l.self;
-      off : TakesOff (map (λ v. v.items) l.initial.rest.now) (map (λ v. v.items) l.rest.now);
+      off : TakesPayloads (map (λ v. v.items) l.initial.rest.now) (map (λ v. v.items) l.rest.now);
       spent : HasSpentTries l.fn.tries l.left (writer_tells told l.initial.self).mishaps (writer_tells told l.self).mishaps;
     }
 

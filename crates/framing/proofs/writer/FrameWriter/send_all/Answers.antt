@@ -1,7 +1,7 @@
 use Rattle.std.proofs.Common.{◌≡◌, ◌<◌, ◌≤◌, ◌^◌, ◌∷◌, length, map, sym, ap, ◌∙◌, subst, inl, inr, arith}
 use Rattle.std.proofs.lemmas.List.{nil_from_length}
 use Rattle.std.proofs.lemmas.Result.{err_from_is_err_and}
-use Rattle.framing.specs.Frames.{frame, IsRefusal}
+use Rattle.framing.specs.Frames.{frame, IsPayloadRefusal}
 use Rattle.framing.specs.Sending.{frame_room}
 use Rattle.framing.proofs.DeliveryLemmas.{frames_sends, refusal_less}
 use Rattle.pending.specs.Pending.{RestLaw, RefusesFirst}
@@ -41,10 +41,10 @@ returns-in_err-stage-clause-refused g c =
     let less : frame_room c.args.self.now ≤ frame_room c.retry.new.self =
     omega (arith, c.frames.invariant.room, c.in_ok-retry.ensures.room) in
     let e = c.in_err-stage.field-0.0 in
-    let why : IsRefusal (frame_room c.retry.new.self) payload.items e =
-    subst (λ l. IsRefusal (frame_room c.retry.new.self) l e) c.as_slice.ensures.value c.in_err-stage.ensures.refused in
+    let why : IsPayloadRefusal (frame_room c.retry.new.self) payload.items e =
+    subst (λ l. IsPayloadRefusal (frame_room c.retry.new.self) l e) c.as_slice.ensures.value c.in_err-stage.ensures.refused in
     rw (p.1, p.2)
-    (λ none. subst (λ l. RefusesFirst (IsRefusal (frame_room c.args.self.now)) l e) first (refusal_less payload.items e less why))
+    (λ none. subst (λ l. RefusesFirst (IsPayloadRefusal (frame_room c.args.self.now)) l e) first (refusal_less payload.items e less why))
 
 pub returns-in_err-stage-clause-calls : goal.returns-in_err-stage-clause-calls
 returns-in_err-stage-clause-calls g c =

@@ -16,8 +16,8 @@ returns-in-None-clause-law c =
         feed_reads c.give.result _ c.take_failure.new.self.some (omega arith) c.in-None.ensures.left
             (sym c.in-None.ensures.kind) given.count given.bytes given.left,
       );
-      turns = omega (arith, left, same, length-drop c.give.result mid);
-      turn = λ some. omega (arith, left, same, some, given.count, length-drop c.give.result mid, leading-le mid);
+      turns_never_rise = omega (arith, left, same, length-drop c.give.result mid);
+      spends_turn = λ some. omega (arith, left, same, some, given.count, length-drop c.give.result mid, leading-le mid);
       counts = λ m. absurd m;
       fills = λ f. absurd f;
       store = λ s. absurd s;

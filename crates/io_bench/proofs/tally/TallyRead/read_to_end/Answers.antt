@@ -1,8 +1,8 @@
 use Rattle.std.proofs.Common.{arith, refl, sym, ◌∙◌}
 use Rattle.std.proofs.lemmas.Result.{err_from_is_err_and}
-use Rattle.no_std_io2_base.proofs.ReadExactExits.{some_bytes, some_part}
-use Rattle.no_std_io2_base.proofs.ReadToEndLoop.{wrote, to_end_none, to_end_no_room, to_end_refused, to_end_read}
-use Rattle.no_std_io2_base.proofs.ReadToEndLoop.{to_end_interruption, to_end_done, to_end_fault}
+use Rattle.no_std_io2.proofs.ReadExactExits.{some_bytes, some_part}
+use Rattle.no_std_io2.proofs.ReadToEndLoop.{wrote, to_end_none, to_end_no_room, to_end_refused, to_end_read}
+use Rattle.no_std_io2.proofs.ReadToEndLoop.{to_end_interruption, to_end_done, to_end_fault}
 use Rattle.io_bench.proofs.CountLemmas.{counted_none, counted_more, counted_end, counted_fault, counted_refused}
 use Rattle.io_bench.proofs.CountLemmas.{handed_once, one_read}
 use Rattle.io_bench.proofs.tally.TallyRead.read_to_end.Goals as goal
@@ -55,7 +55,7 @@ returns-in-Ok-eq0 g c =
       law = to_end_done before.law (λ t told. g.met.T.Read.store_tells _ told) w c.truncate.ensures.items
           (omega (arith, room.grows, c.truncate.ensures.capacity)) read.law c.in-Ok-eq0.is c.in-Ok-eq0.field-0-test
           c.in_ok-open_room.ensures.room c.len-start.ensures;
-      counts = counted_end before.counts one read.law.turns;
+      counts = counted_end before.counts one read.law.turns_never_rise;
       handed = λ m. handed_once _ _ _ _ _ (before.handed m) (read.handed.counts (before.handed m).0) read.reads;
       writes = read.writes ∙ before.writes;
     }
@@ -73,7 +73,7 @@ returns-in-Err-2 g c =
       law = to_end_fault before.law (λ t told. g.met.T.Read.store_tells _ told) w c.truncate-in-Err-2.ensures.items
           (omega (arith, room.grows, c.truncate-in-Err-2.ensures.capacity)) read.law
           (sym c.is_interrupted.ensures ∙ c.if-is_interrupted.false);
-      counts = counted_fault before.counts one read.law.turn;
+      counts = counted_fault before.counts one read.law.spends_turn;
       handed = λ m. handed_once _ _ _ _ _ (before.handed m) (read.handed.counts (before.handed m).0) read.reads;
       writes = read.writes ∙ before.writes;
     }
@@ -89,7 +89,7 @@ reads-preserved-in-Ok g c =
     (omega (arith, c.in_ok-open_room.ensures.room, c.deref_mut.ensures.len)) refl) read.reads in
     record {
       law = to_end_read before.law (λ t told. g.met.T.Read.store_tells _ told) read.law c.in-Ok.n-test.1 w room.grows;
-      counts = counted_more before.counts one (read.law.turn (some_bytes c.in-Ok.n c.in-Ok.n-test.1));
+      counts = counted_more before.counts one (read.law.spends_turn (some_bytes c.in-Ok.n c.in-Ok.n-test.1));
       handed = λ m. handed_once _ _ _ _ _ (before.handed m) (read.handed.counts (before.handed m).0) read.reads;
       writes = read.writes ∙ before.writes;
     }
@@ -107,7 +107,7 @@ reads-preserved g c =
       law = to_end_interruption before.law (λ t told. g.met.T.Read.store_tells _ told) read.law
           (sym c.is_interrupted.ensures ∙ c.if-is_interrupted.true) w
           room.grows;
-      counts = counted_more before.counts one read.law.turn;
+      counts = counted_more before.counts one read.law.spends_turn;
       handed = λ m. handed_once _ _ _ _ _ (before.handed m) (read.handed.counts (before.handed m).0) read.reads;
       writes = read.writes ∙ before.writes;
     }

@@ -1,7 +1,7 @@
 -- `read_to_end` ends with its reader's turns, and each of its reads counted.
 use Rattle.std.proofs.Common.{◌≡◌, ◌+◌}
-use Rattle.no_std_io2_base.proofs.Readers.{reader}
-use Rattle.no_std_io2_base.proofs.ReadToEndLoop.{ToEndSoFar}
+use Rattle.no_std_io2.proofs.Readers.{reader}
+use Rattle.no_std_io2.proofs.ReadToEndLoop.{ToEndSoFar}
 use Rattle.io_bench.specs.Tally.{tally_inner, tally_writes, tally_reads}
 use Rattle.io_bench.proofs.CountLemmas.{CountedSoFar}
 use Rattle.io_bench.proofs.Tallies.{tally_reader}

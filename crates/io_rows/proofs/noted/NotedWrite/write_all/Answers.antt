@@ -7,7 +7,7 @@ returns g c =
     let wrote = c.write_all.ensures.law in
     record {
       law = record {
-        fault = wrote.fault;
+        never_interrupted = wrote.fault;
         moves = wrote.moves;
         all = wrote.all;
         counts = wrote.counts;

@@ -7,7 +7,7 @@ returns g c =
     let wrote = c.write_rest.ensures.law in
     record {
       law = record {
-        fault = wrote.fault;
+        never_interrupted = wrote.fault;
         sends = wrote.sends;
         done = wrote.done;
         all = λ a. let all = wrote.all a in (all.0, all.1);

@@ -31,15 +31,15 @@ returns-in-Ok-eq0 g c =
         whole = tt;
         device = got_none at (length old - at) old c.read.new.buf _ _ _ before.law.within before.got none;
       };
-      ends = (omega (arith, read.law.turns, before.law.turns), inr (inr c.gave_too_little.ensures));
+      ends = (omega (arith, read.law.turns_never_rise, before.law.turns_never_rise), inr (inr c.gave_too_little.ensures));
       taken = read.taken ∙ before.taken;
     }
 
 pub reads-smaller-in-Ok : goal.reads-smaller-in-Ok
-reads-smaller-in-Ok g c = c.in-Ok.ensures.law.turn (omega (arith, c.in-Ok.n-test.1))
+reads-smaller-in-Ok g c = c.in-Ok.ensures.law.spends_turn (omega (arith, c.in-Ok.n-test.1))
 
 pub reads-smaller : goal.reads-smaller
-reads-smaller g c = c.in-Err.ensures.law.turn
+reads-smaller g c = c.in-Err.ensures.law.spends_turn
 
 pub reads-preserved-in-Ok : goal.reads-preserved-in-Ok
 reads-preserved-in-Ok g c =
@@ -90,7 +90,7 @@ returns-in-Err-2 g c =
         whole = tt;
         device = got_same at (length old - at) old c.read.new.buf _ _ _ before.law.within before.got kept;
       };
-      ends = ends_reads (length c.args.buf.now) c.in-Err.e fault before.law.turns read.law.turn (read.last room) (read.asked room);
+      ends = ends_reads (length c.args.buf.now) c.in-Err.e fault before.law.turns_never_rise read.law.spends_turn (read.last room) (read.asked room);
       taken = read.taken ∙ before.taken;
     }
 
@@ -105,6 +105,6 @@ returns g c =
         whole = omega (arith, before.law.within, c.reads-test.false);
         device = before.got;
       };
-      ends = (before.law.turns, λ some. before.law.turn (omega (arith, some, c.reads-test.false, before.law.long)));
+      ends = (before.law.turns_never_rise, λ some. before.law.spends_turn (omega (arith, some, c.reads-test.false, before.law.long)));
       taken = before.taken;
     }

@@ -1,7 +1,7 @@
 use Rattle.std.proofs.Common.{◌≡◌, ℕ, ◌∙◌, ap, sym, subst, refl, vec_items, Global, true, false, not, [], ◌∷◌, ◌++◌, Some, Ok, arith}
 use Rattle.std.specs.Prelude.{is_some}
 use Rattle.std.proofs.lemmas.Result.{err_from_is_err_and}
-use Rattle.no_std_io2_base.specs.Pieces.{without, split_reader, split_delim, ends_at}
+use Rattle.no_std_io2.specs.Pieces.{without, split_reader, split_delim, ends_at}
 use Rattle.io_bench.proofs.PieceRunLemmas.{none_gathered, one_gathered, all_gathered, yields_at}
 use Rattle.std.specs.Option.{IfSome}
 use Rattle.tower_play.specs.Reading.{Adds, AddsAll, IsBadLine, IsFirstBad}

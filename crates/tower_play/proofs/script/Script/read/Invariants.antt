@@ -1,7 +1,7 @@
 -- The number of a bad line is one of a line, and where none is bad, the lines so far made the script.
 use Rattle.std.proofs.Common.{◌≡◌, ◌<◌, false}
 use Rattle.std.specs.Option.{IfSome}
-use Rattle.no_std_io2_base.specs.Pieces.{split_reader, split_delim, split_is_ended}
+use Rattle.no_std_io2.specs.Pieces.{split_reader, split_delim, split_is_ended}
 use Rattle.tower_play.proofs.ReadLemmas.{ReadSoFar}
 use Rattle.tower_play.proofs.script.Script.read.Given as goal
 

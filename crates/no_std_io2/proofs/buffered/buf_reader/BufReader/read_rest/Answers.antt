@@ -10,7 +10,7 @@ use Rattle.no_std_io2.proofs.BufReaderExact.{exact_left-full, taken_first, nothi
 use Rattle.no_std_io2.proofs.BufReaderExact.{moved_length, read_ends, read_behind, none_behind, gives_to_come}
 use Rattle.no_std_io2.proofs.BufReaderCalls.{gives_first}
 use Rattle.no_std_io2.proofs.BufReaderLends.{buf_tells}
-use Rattle.no_std_io2.proofs.BufWriterLemmas.{IsEnd-none}
+use Rattle.no_std_io2.proofs.BufWriterLemmas.{IsSuffix-none}
 use Rattle.no_std_io2.proofs.buffered.buf_reader.BufReader.read_rest.Goals as goal
 
 pub reads-init : goal.reads-init
@@ -115,7 +115,7 @@ reads-preserved g c =
       none = λ more. ap length (read.rest (omega (arith, more)));
       behind = λ more.
           let empty = none_behind g.row.S _ 0 c.read.new.buf (reader_behind c.read.new.self) (read.behind_anew none) (omega arith) in
-          (IsEnd-none _ _ empty, omega (arith, ap length empty));
+          (IsSuffix-none _ _ empty, omega (arith, ap length empty));
       sound = λ h. read.sound (c.reads.invariant.sound h);
       filling = λ f. absurd (read.gives (c.reads.invariant.filling f).0).1;
       cost = λ m f. absurd (read.gives (c.reads.invariant.filling f).0).1;
@@ -129,8 +129,8 @@ returns-in-Err-2 g c =
     let none = no_bytes (reader_held c.reads.self) (c.reads.invariant.none (omega arith)) in
     record {
       told = law.told;
-      fault = law.fault;
-      no_later = law.turns;
+      fault = law.never_interrupted;
+      no_later = law.turns_never_rise;
       turn = tt;
       store = law.store;
       behind = tt;
@@ -160,8 +160,8 @@ returns-in-Ok-eq0 g c =
     let to_come = gives_to_come (length (reader_held old)) (length (g.R.Read.events (reader_inner old))) empty in
     record {
       told = law.told;
-      fault = law.fault;
-      no_later = law.turns;
+      fault = law.never_interrupted;
+      no_later = law.turns_never_rise;
       turn = tt;
       store = law.store;
       behind = tt;
@@ -200,9 +200,9 @@ returns g c =
     let full : c.reads.at ≡ length c.args.buf.now = omega arith in
     record {
       told = law.told;
-      fault = law.fault;
-      no_later = law.turns;
-      turn = law.turn (omega (arith, c.requires));
+      fault = law.never_interrupted;
+      no_later = law.turns_never_rise;
+      turn = law.spends_turn (omega (arith, c.requires));
       store = law.store;
       behind = rw whole at all.behind (omega (arith, full, c.requires));
       failed = tt;

@@ -3,7 +3,7 @@ use Rattle.std.proofs.Common.{◌≡◌, ◌<◌, ◌+◌, ◌-◌, length, take
 use Rattle.no_std_io2_base.proofs.ReadExactLoop.{ExactSoFar}
 use Rattle.no_std_io2.specs.BufReader.{reader_held, reader_behind, reader_inner, reader_events, reader_turns}
 use Rattle.no_std_io2.specs.BufReader.{StaysSound}
-use Rattle.no_std_io2.specs.Buffer.{IsEnd}
+use Rattle.no_std_io2.specs.Buffer.{IsSuffix}
 use Rattle.no_std_io2.proofs.BufReaderExact.{Exact, behind_so_far}
 use Rattle.no_std_io2.proofs.BufReaderLends.{buf_reader}
 use Rattle.no_std_io2.proofs.buffered.buf_reader.BufReader.read_rest.Given as goal
@@ -14,7 +14,7 @@ invariant-reads g l =
       law : ExactSoFar (buf_reader g.R.Stored g.R.Read) l.fn.self l.fn.buf l.at l.buf l.self;
       none : l.at < length l.buf → length (reader_held l.self) ≡ 0;
       behind : length (reader_held l.fn.self) < l.at
-          → IsEnd (take l.at l.buf) (reader_behind l.self) × (length (reader_behind l.self) < g.row.S);
+          → IsSuffix (take l.at l.buf) (reader_behind l.self) × (length (reader_behind l.self) < g.row.S);
       sound : StaysSound g.R.Stored.has_store g.R.Stored.position g.R.Stored.content l.fn.self l.self;
       filling : g.R.Read.is_filling (reader_inner l.fn.self) → g.R.Read.is_filling (reader_inner l.self)
           × Exact g.row.S (length l.fn.buf) (length (reader_held l.fn.self))

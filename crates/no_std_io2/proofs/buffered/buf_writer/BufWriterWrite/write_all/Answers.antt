@@ -17,7 +17,7 @@ returns g c =
     let all : I.takes_all a → I.takes_all b = λ t. (write_all_counts I steady S x _ _ _ _ calls.2 a b calls.1 t).0 in
     record {
       law = record {
-        fault = fault;
+        never_interrupted = fault;
         moves = moves;
         all = all;
         counts = λ no. absurd no;

@@ -23,7 +23,7 @@ returns-then-len-eq0 g c =
     let said = line_write_all_tells I g.met.W.Write.steady S calls.2 a b calls.1 in
     record {
       law = record {
-        fault = said.1;
+        never_interrupted = said.1;
         moves = said.0;
         all = λ no. absurd no;
         counts = λ no. absurd no;
@@ -48,7 +48,7 @@ returns g c =
     let said = line_write_all_tells I g.met.W.Write.steady S calls.2 a b calls.1 in
     record {
       law = record {
-        fault = said.1;
+        never_interrupted = said.1;
         moves = said.0;
         all = λ no. absurd no;
         counts = λ no. absurd no;

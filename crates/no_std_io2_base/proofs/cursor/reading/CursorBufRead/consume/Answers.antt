@@ -15,8 +15,8 @@ returns-clause-law g c =
     record {
       held = after;
       told = λ t. (t, events_of-split left n ∙ ap (λ l. events_of (take n left) ++ events_of l) (sym after));
-      turns = grind (arith, common_steps);
-      turn = λ some. grind (arith, common_steps);
+      turns_never_rise = grind (arith, common_steps);
+      spends_turn = λ some. grind (arith, common_steps);
       cost = λ no. absurd no;
       counts = λ no. absurd no;
       filling = λ fills. fills;

@@ -23,8 +23,8 @@ returns-clause-law g c =
         read_bytes (cursor_left g.T.AsSlice.slice here) _ n (front ∙ ap (take n) c.left.ensures.left)
             (left_after all here.pos n) (λ zero room. omega (arith, long)),
       );
-      turns = fewer_behind here.pos n all;
-      turn = λ some. spent_behind here.pos n all some within;
+      turns_never_rise = fewer_behind here.pos n all;
+      spends_turn = λ some. spent_behind here.pos n all some within;
       counts = λ m. absurd m;
       fills = λ f. (f, omega (arith, c.copy_prefix-n.ensures.count, long, length-events_of (drop here.pos all)));
       store = λ s. ((s.0, omega (arith, s.0, s.1, within, length-drop here.pos all)), refl, refl);

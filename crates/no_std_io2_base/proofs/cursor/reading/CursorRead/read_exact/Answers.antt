@@ -22,10 +22,10 @@ returns-then-left-buf-clause-law g c =
           left = inr (tt, refl);
         }),
       );
-      fault = search rules;
+      never_interrupted = search rules;
       empty = λ none. absurd (omega (arith, none));
-      turns = le_refl _;
-      turn = λ some. tt;
+      turns_never_rise = le_refl _;
+      spends_turn = λ some. tt;
       metered = λ m. m;
       filling = λ f. f;
       store = λ s. (s, refl, refl);
@@ -50,12 +50,12 @@ returns-clause-law g c =
         fill_bytes (cursor_left g.T.AsSlice.slice here) n (whole ∙ ap (take n) c.left-left.ensures.left) (omega arith)
             (left_after all here.pos n),
       );
-      fault = tt;
+      never_interrupted = tt;
       empty = λ none.
           let same : here.pos + n ≡ here.pos = omega (arith, none, c.copy_prefix-n.ensures.count) in
           (refl, ap (λ p. record here { pos = p }) same);
-      turns = fewer_behind here.pos n all;
-      turn = λ some. spent_behind here.pos n all (omega (arith, some, c.copy_prefix-n.ensures.count)) within;
+      turns_never_rise = fewer_behind here.pos n all;
+      spends_turn = λ some. spent_behind here.pos n all (omega (arith, some, c.copy_prefix-n.ensures.count)) within;
       metered = λ m. m;
       filling = λ f. f;
       store = λ fits. (

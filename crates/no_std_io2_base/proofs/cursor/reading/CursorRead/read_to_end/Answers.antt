@@ -23,9 +23,9 @@ returns-in_err-answer g c =
         capacity = said.grows;
         room = λ _ enough. absurd (never_refused _ _ enough (subst
             (λ l. vec_capacity c.args.buf.now < vec_len c.args.buf.now + length l + 32) left said.full));
-        fault = memory_fault _ said.refused;
-        turns = fewer_behind start _ content;
-        turn = λ more.
+        never_interrupted = memory_fault _ said.refused;
+        turns_never_rise = fewer_behind start _ content;
+        spends_turn = λ more.
             let spent = fewer_left _ said.moved c.args.buf.now.ok.0 c.append_rest-answer.new.buf.ok.0 more in
             omega (arith, spent, ap length behind, ap length left);
         metered = λ h. h;
@@ -51,9 +51,9 @@ returns g c =
         count = longer_by _ said.moved said.done c.args.buf.now.ok.0 c.append_rest-answer.new.buf.ok.0;
         capacity = said.grows;
         room = λ _ enough. tt;
-        fault = tt;
-        turns = fewer_behind start _ content;
-        turn = λ more.
+        never_interrupted = tt;
+        turns_never_rise = fewer_behind start _ content;
+        spends_turn = λ more.
             let spent = fewer_left _ said.moved c.args.buf.now.ok.0 c.append_rest-answer.new.buf.ok.0 more in
             omega (arith, spent, ap length behind, ap length left);
         metered = λ h. h;

@@ -6,7 +6,7 @@ use Rattle.no_std_io2_base.proofs.cursor.slices.CursorRefMutSliceU8Write.write_a
 pub returns-then-write_fitting-buf-clause-law : goal.returns-then-write_fitting-buf-clause-law
 returns-then-write_fitting-buf-clause-law c =
     record {
-      fault = search rules;
+      never_interrupted = search rules;
       moves = fits_moves_part _ _ c.failed_to_write.result c.failed_to_write.ensures.0 c.write_fitting.ensures.puts;
       all = λ h. h;
       counts = λ h. absurd h;
@@ -15,7 +15,7 @@ returns-then-write_fitting-buf-clause-law c =
 
 pub returns-clause-law : goal.returns-clause-law
 returns-clause-law c = record {
-  fault = tt;
+  never_interrupted = tt;
   moves = fits_moves_all _ _ (omega arith) c.write_fitting.ensures.puts;
   all = λ h. h;
   counts = λ h. absurd h;

@@ -11,8 +11,8 @@ returns g c =
         record {
           lends = search rules;
           told = search rules;
-          turns = search rules;
-          turn = search rules;
+          turns_never_rise = search rules;
+          spends_turn = search rules;
           unchanged = λ some. ap (λ v. record c.args.self.now { value = v }) (after.unchanged (search rules) ∙ c.as_mut.ensures.value);
           counts = search rules;
           stays_sure = search rules;

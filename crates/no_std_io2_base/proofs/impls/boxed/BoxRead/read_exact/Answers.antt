@@ -11,11 +11,11 @@ returns g c =
     record {
       law = record {
         told = search rules;
-        fault = read.fault;
+        never_interrupted = read.fault;
         empty = λ none.
             let done = read.empty none in (done.0, ap (with_value c.args.self.now) (done.1 ∙ c.as_mut.ensures.value));
-        turns = search rules;
-        turn = search rules;
+        turns_never_rise = search rules;
+        spends_turn = search rules;
         metered = search rules;
         filling = search rules;
         store = search rules;

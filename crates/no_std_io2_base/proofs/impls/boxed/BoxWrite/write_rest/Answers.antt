@@ -12,7 +12,7 @@ returns g c =
     let put = (with_value c.args.self.now) in
     record {
       law = record {
-        fault = search rules;
+        never_interrupted = search rules;
         sends = search rules;
         done = search rules;
         all = search rules;

@@ -18,8 +18,8 @@ returns g c =
         record {
           lends = after.lends;
           told = box.1;
-          turns = box.2;
-          turn = box.3;
+          turns_never_rise = box.2;
+          spends_turn = box.3;
           unchanged = box.4;
           counts = λ no. absurd no;
           stays_sure = λ no. absurd no;

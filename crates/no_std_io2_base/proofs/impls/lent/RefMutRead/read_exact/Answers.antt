@@ -10,10 +10,10 @@ returns g c =
     record {
       law = record {
         told = read.told;
-        fault = read.fault;
+        never_interrupted = read.fault;
         empty = λ none. let done = read.empty none in (done.0, ap put done.1);
-        turns = read.turns;
-        turn = read.turn;
+        turns_never_rise = read.turns;
+        spends_turn = read.turn;
         metered = read.metered;
         filling = read.filling;
         store = read.store;

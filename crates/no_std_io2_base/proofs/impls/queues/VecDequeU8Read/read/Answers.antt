@@ -19,8 +19,8 @@ returns-clause-law g c =
     record {
       bound = omega arith;
       told = λ _. (tt, read_bytes _ _ _ read c.drop_front.ensures (λ zero room. grind (arith, whole, c.as_slices.ensures.first_filled)));
-      turns = omega (arith, left);
-      turn = λ some. omega (arith, left, whole, within);
+      turns_never_rise = omega (arith, left);
+      spends_turn = λ some. omega (arith, left, whole, within);
       counts = λ m. absurd m;
       fills = λ f. absurd f;
       store = λ s. absurd s;

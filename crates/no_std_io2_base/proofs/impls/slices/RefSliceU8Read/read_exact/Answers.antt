@@ -20,10 +20,10 @@ returns-then-all-buf-clause-law c =
           left = inr (tt, refl);
         }),
       );
-      fault = search rules;
+      never_interrupted = search rules;
       empty = λ none. absurd (omega (arith, none));
-      turns = le_refl _;
-      turn = λ some. tt;
+      turns_never_rise = le_refl _;
+      spends_turn = λ some. tt;
       metered = λ m. m;
       filling = λ f. f;
       store = λ s. absurd s;
@@ -41,10 +41,10 @@ returns-clause-law c =
     let left = ap length (take_rest all n) ∙ length-drop n all in
     record {
       told = λ t. (tt, fill_bytes _ n whole (omega arith) (take_rest all n));
-      fault = tt;
+      never_interrupted = tt;
       empty = λ none. (refl, first_of (search (rules, get_or_read), grind (arith, common_steps)));
-      turns = omega (arith, left);
-      turn = λ some. omega (arith, left, some);
+      turns_never_rise = omega (arith, left);
+      spends_turn = λ some. omega (arith, left, some);
       metered = λ m. m;
       filling = λ f. f;
       store = λ s. absurd s;

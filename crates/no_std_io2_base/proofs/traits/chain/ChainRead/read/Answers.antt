@@ -19,8 +19,8 @@ returns-in_err-n g c =
         told = λ t.
             let now = read.told (t.0 going) in
             ((λ _. now.0, t.1), rw going (ap (λ E. E ++ g.U.Read.events c.args.self.now.second) now.1));
-        turns = omega (arith, read.turns);
-        turn = omega (arith, read.turn);
+        turns_never_rise = omega (arith, read.turns);
+        spends_turn = omega (arith, read.turn);
         counts = λ m. absurd m;
         fills = λ f. absurd f;
         store = λ s. absurd s;
@@ -46,8 +46,8 @@ returns-in_default-clause-law g c =
               λ zero some. search (rules, not_empty),
             ),
           );
-      turns = omega (arith, read.turns);
-      turn = first_turn c.in_ok-n.n _ read.turn;
+      turns_never_rise = omega (arith, read.turns);
+      spends_turn = first_turn c.in_ok-n.n _ read.turn;
       counts = λ m. absurd m;
       fills = λ f. absurd f;
       store = λ s. absurd s;
@@ -89,8 +89,8 @@ returns g c =
               (λ going. absurd (true≢false (sym past.done ∙ going)), now.0),
               rw past.done (subst (λ E. Reads E c.read-2.result c.read-2.new.buf (U.events c.read-2.new.self)) (sym left) now.1),
             );
-        turns = both_turns past.spent (subst (λ u. U.turns c.read-2.new.self ≤ U.turns u) past.second read.turns);
-        turn = second_turn c.read-2.result _ _ past.spent (subst
+        turns_never_rise = both_turns past.spent (subst (λ u. U.turns c.read-2.new.self ≤ U.turns u) past.second read.turns);
+        spends_turn = second_turn c.read-2.result _ _ past.spent (subst
             (λ u. SpendsTurn c.read-2.result (U.turns u) (U.turns c.read-2.new.self)) past.second read.turn);
         counts = λ m. absurd m;
         fills = λ f. absurd f;

@@ -158,9 +158,9 @@ returns g c =
         count = len_cut c.len-start.result filled new.len _ _ mid c.len-start.ensures before.law.grows new.ok.0 same within;
         capacity = omega (arith, before.law.capacity, grown, c.truncate-2.ensures.capacity);
         room = λ t enough. tt;
-        fault = tt;
-        turns = le_trans ended.spent before.law.turns;
-        turn = λ more. let spent = before.law.turn (omega (arith, more, long)) in omega (arith, spent, ended.spent);
+        never_interrupted = tt;
+        turns_never_rise = le_trans ended.spent before.law.turns_never_rise;
+        spends_turn = λ more. let spent = before.law.spends_turn (omega (arith, more, long)) in omega (arith, spent, ended.spent);
         metered = λ m. m;
         filling = λ f. ended.fill (before.law.filling f);
         store = λ s. absurd s;

@@ -13,8 +13,8 @@ returns-clause-law g c =
     record {
       held = is;
       told = λ t. (t, give_events held now _ _ c.args.amount is refl);
-      turns = omega (arith, ap length is, length-drop c.args.amount held);
-      turn = λ some. omega (arith, ap length is, length-drop c.args.amount held, c.requires, some);
+      turns_never_rise = omega (arith, ap length is, length-drop c.args.amount held);
+      spends_turn = λ some. omega (arith, ap length is, length-drop c.args.amount held, c.requires, some);
       cost = λ no. absurd no;
       counts = λ m. (m, refl);
       filling = λ no. absurd no;

@@ -25,8 +25,8 @@ returns-then-buf g c =
       law = record {
         bound = read.bound;
         told = λ t. let now = read.told t in (now.0, through_told c.read.result c.read.new.buf held new _ _ none empty now.1);
-        turns = turns_read g.row.S (length held) (length new) few read.turns (λ some. absurd (omega (arith, some, ap length empty)));
-        turn = through_turn c.read.result g.row.S (length held) (length new) _ _ few read.turn;
+        turns_never_rise = turns_read g.row.S (length held) (length new) few read.turns (λ some. absurd (omega (arith, some, ap length empty)));
+        spends_turn = through_turn c.read.result g.row.S (length held) (length new) _ _ few read.turn;
         store = λ s.
             let now = read.store s.0 in
             ((now.0, sound_none new _ _ empty), now.1, omega (arith, now.2, none, ap length empty));
@@ -66,8 +66,8 @@ returns-in_err-read_ahead g c =
       law = record {
         bound = tt;
         told = fill.told;
-        turns = fill.no_later;
-        turn = fill.turn;
+        turns_never_rise = fill.no_later;
+        spends_turn = fill.turn;
         store = λ s. let now = fill.store s in (now.0, now.1, omega (arith, now.2));
         counts = λ h. absurd h;
         fills = λ h. absurd h;
@@ -107,8 +107,8 @@ returns g c =
               subst g.R.Read.tells (sym gave.inner) now.0,
               (sym now.1 ∙ gave.told, λ zero some. fill.end t (no_bytes mid (omega (arith, gave.count, zero, some)))),
             );
-        turns = omega (arith, gave.turns, fill.no_later);
-        turn = λ some. omega (arith, gave.turns, fill.no_later, some);
+        turns_never_rise = omega (arith, gave.turns, fill.no_later);
+        spends_turn = λ some. omega (arith, gave.turns, fill.no_later, some);
         store = λ s.
             let filled = fill.store s in
             let now = gave.store filled.0 in
@@ -156,8 +156,8 @@ returns-then-len-gt0 g c =
       law = record {
         bound = omega arith;
         told = λ t. (subst g.R.Read.tells same t, (gave.told, λ zero room. absurd (omega (arith, zero, room, gave.count, some))));
-        turns = omega (arith, gave.turns);
-        turn = λ more. omega (arith, gave.turns, more);
+        turns_never_rise = omega (arith, gave.turns);
+        spends_turn = λ more. omega (arith, gave.turns, more);
         store = λ s. let now = gave.store s in (now.0, ap g.R.Stored.content gave.inner, now.1);
         counts = λ h. absurd h;
         fills = λ h. absurd h;

@@ -12,14 +12,14 @@ use Rattle.no_std_io2.proofs.buffered.buf_reader.reads.BufReaderRead.read_exact.
 
 pub returns-then-buf-len : goal.returns-then-buf-len
 returns-then-buf-len g c =
-    let read = c.read_on.ensures in
+    let read = c.read_out_of_line.ensures in
     let more : length (reader_held c.args.self.now) < length c.args.buf.now = omega arith in
     record {
       law = record {
         told = read.told;
-        fault = read.fault;
-        turns = read.no_later;
-        turn = λ some. read.turn;
+        never_interrupted = read.fault;
+        turns_never_rise = read.no_later;
+        spends_turn = λ some. read.turn;
         metered = λ h. h;
         filling = λ h. h;
         store = read.store;
@@ -48,9 +48,9 @@ returns g c =
     record {
       law = record {
         told = λ t. (t, fills_front _ _ c.give_whole.new.buf told);
-        fault = tt;
-        turns = omega (arith, left);
-        turn = λ some. omega (arith, left, some, most);
+        never_interrupted = tt;
+        turns_never_rise = omega (arith, left);
+        spends_turn = λ some. omega (arith, left, some, most);
         metered = λ h. h;
         filling = λ h. h;
         store = λ s.

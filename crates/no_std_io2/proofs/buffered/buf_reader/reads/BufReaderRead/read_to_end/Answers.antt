@@ -31,11 +31,11 @@ returns-then-is_empty g c =
         count = read.count;
         capacity = read.capacity;
         room = λ t. none_room held _ _ _ _ none (read.room t);
-        fault = read.fault;
-        turns =
+        never_interrupted = read.fault;
+        turns_never_rise =
             turns_read g.row.S (length held) (length left) few read.turns
             (λ some. absurd (omega (arith, some, ap length clear.held)));
-        turn = appended_turn g.row.S (length held) (length left) (ap length clear.held) (omega (arith, ap length none)) read.turn read.turns;
+        spends_turn = appended_turn g.row.S (length held) (length left) (ap length clear.held) (omega (arith, ap length none)) read.turn read.turns;
         metered = λ h. h;
         filling = λ h. h;
         store = λ s.
@@ -62,9 +62,9 @@ returns-in_err-append_to g c =
         count = tt;
         capacity = refused.grows;
         room = λ t enough. absurd (room_held held _ _ enough refused.full);
-        fault = memory_fault _ refused.refused;
-        turns = part_turns held left _ _ _ moved;
-        turn = λ more.
+        never_interrupted = memory_fault _ refused.refused;
+        turns_never_rise = part_turns held left _ _ _ moved;
+        spends_turn = λ more.
             let spent = fewer_left _ moved c.args.buf.now.ok.0 c.append_to.new.buf.ok.0 more in omega (arith, spent);
         metered = λ h. h;
         filling = λ h. h;
@@ -93,11 +93,11 @@ returns-in_err-rest_to_end g c =
         room = λ t enough.
             let behind = emptied_on held _ _ enough c.args.buf.now.ok.0 c.append_to.new.buf.ok.0 first done.grows in
             held_fault held _ (read.room t behind);
-        fault = read.fault;
-        turns =
+        never_interrupted = read.fault;
+        turns_never_rise =
             turns_read g.row.S (length held) (length none) few read.turns
             (λ some. absurd (omega (arith, some, ap length done.done.0)));
-        turn = appended_turn g.row.S (length held) (length none) (ap length done.done.0)
+        spends_turn = appended_turn g.row.S (length held) (length none) (ap length done.done.0)
             (emptied_again held _ c.args.buf.now.ok.0 c.append_to.new.buf.ok.0 first) read.turn read.turns;
         metered = λ h. h;
         filling = λ h. h;
@@ -128,11 +128,11 @@ returns g c =
         count = omega (arith, read.count, emptied_again held _ c.args.buf.now.ok.0 c.append_to.new.buf.ok.0 first);
         capacity = le_trans done.grows read.capacity;
         room = λ t enough. tt;
-        fault = tt;
-        turns =
+        never_interrupted = tt;
+        turns_never_rise =
             turns_read g.row.S (length held) (length none) few read.turns
             (λ some. absurd (omega (arith, some, ap length done.done.0)));
-        turn = appended_turn g.row.S (length held) (length none) (ap length done.done.0)
+        spends_turn = appended_turn g.row.S (length held) (length none) (ap length done.done.0)
             (emptied_again held _ c.args.buf.now.ok.0 c.append_to.new.buf.ok.0 first) read.turn read.turns;
         metered = λ h. h;
         filling = λ h. h;

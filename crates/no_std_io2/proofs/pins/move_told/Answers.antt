@@ -1,6 +1,6 @@
 use Rattle.std.proofs.lemmas.Int.{to_z-of_z}
 use Rattle.std.specs.Int.{w64}
-use Rattle.no_std_io2.proofs.laws.move_told.Goals as goal
+use Rattle.no_std_io2.proofs.pins.move_told.Goals as goal
 
 pub returns : goal.returns
 returns g c =

@@ -3,7 +3,7 @@ use Rattle.std.proofs.Common.{◌≡◌}
 use Rattle.std.proofs.lemmas.Result.{IfOk-weaker}
 use Rattle.std.proofs.lemmas.List.Elements.{same_from_all_zip}
 use Rattle.no_std_io2_base.specs.Cursor.{cursor_inner}
-use Rattle.no_std_io2_base.proofs.laws.clone_of_bytes.Goals as goal
+use Rattle.no_std_io2_base.proofs.pins.clone_of_bytes.Goals as goal
 
 pub returns : goal.returns
 returns g c =

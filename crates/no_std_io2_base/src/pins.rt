@@ -5,7 +5,7 @@ ghost use Rattle.std.specs.Hash as fed;
 ghost use Rattle.std.specs.Prelude.{◌≡◌, ◌+◌, ◌-◌, ◌≤◌, ◌<◌, ◌++◌, ◌↔◌, length, take, drop, replicate, true, false, [], Ok, Some, None};
 ghost use Rattle.std.specs.Prelude.{IsTrue, IsOk, IsOkAnd, IfOk, IfErr, IfSome, OnSome};
 ghost use Rattle.no_std_io2_base.specs.Chain.{chain_first, chain_second, chain_is_done};
-ghost use Rattle.no_std_io2_base.specs.Cursor.{cursor_inner, cursor_place};
+ghost use Rattle.no_std_io2_base.specs.Cursor.{cursor_inner, cursor_position};
 ghost use Rattle.no_std_io2_base.specs.Errors.{IsFault, error_display, kind_number};
 ghost use Rattle.no_std_io2_base.specs.Read.{events_of, cut, bytes_reader, NextByte, ReadCall};
 ghost use Rattle.no_std_io2_base.specs.Seek.{SeekCall};
@@ -51,7 +51,7 @@ fn place_is(a: SeekFrom, b: SeekFrom) -> bool
 
 // Two cursors are equal if their contents are, by the content's `==`, and their positions are.
 fn cursor_is<T: PartialEq>(a: &Cursor<T>, b: &Cursor<T>) -> bool
-    ensures { IsTrue result ↔ IsTrue (T.eq (cursor_inner a.now) (cursor_inner b.now)) × (cursor_place a.now ≡ cursor_place b.now) }
+    ensures { IsTrue result ↔ IsTrue (T.eq (cursor_inner a.now) (cursor_inner b.now)) × (cursor_position a.now ≡ cursor_position b.now) }
 {
     a == b
 }
@@ -59,7 +59,7 @@ fn cursor_is<T: PartialEq>(a: &Cursor<T>, b: &Cursor<T>) -> bool
 // So over bytes, whatever their capacity.
 fn bytes_cursor_is(a: &Cursor<Vec<u8>>, b: &Cursor<Vec<u8>>) -> bool
     ensures { IsTrue result ↔ ((cursor_inner a.now).items ≡ (cursor_inner b.now).items)
-        × (cursor_place a.now ≡ cursor_place b.now) }
+        × (cursor_position a.now ≡ cursor_position b.now) }
 {
     a == b
 }
@@ -67,7 +67,7 @@ fn bytes_cursor_is(a: &Cursor<Vec<u8>>, b: &Cursor<Vec<u8>>) -> bool
 // By default a cursor stands at the start of a default content.
 fn cursor_by_default<T: Default>() -> Cursor<T>
     ensures content { T.is_default (cursor_inner result) }
-    ensures position { cursor_place result ≡ 0 }
+    ensures position { cursor_position result ≡ 0 }
 {
     Cursor::default()
 }
@@ -300,7 +300,7 @@ fn contents_tell<'a, A: Allocator, const N: usize>(
 fn cursor_stores<T: AsSlice<u8>>(c: &Cursor<T>)
     ensures has_store { ⟦<Cursor<T> as Stored>⟧.has_store c.now }
     ensures content { ⟦<Cursor<T> as Stored>⟧.content c.now ≡ T.slice (cursor_inner c.now) }
-    ensures position { ⟦<Cursor<T> as Stored>⟧.position c.now ≡ cursor_place c.now }
+    ensures position { ⟦<Cursor<T> as Stored>⟧.position c.now ≡ cursor_position c.now }
 {
     let _content = c.get_ref().as_slice();
     let _position = c.position();
@@ -309,30 +309,30 @@ fn cursor_stores<T: AsSlice<u8>>(c: &Cursor<T>)
 fn cursor_reads<T: AsSlice<u8>>(c: &Cursor<T>)
     ensures tells { ⟦<Cursor<T> as Read>⟧.tells c.now }
     ensures events { ⟦<Cursor<T> as Read>⟧.events c.now
-        ≡ events_of (drop (cursor_place c.now) (T.slice (cursor_inner c.now))) }
-    ensures turns { ⟦<Cursor<T> as Read>⟧.turns c.now ≡ length (T.slice (cursor_inner c.now)) - cursor_place c.now }
+        ≡ events_of (drop (cursor_position c.now) (T.slice (cursor_inner c.now))) }
+    ensures turns { ⟦<Cursor<T> as Read>⟧.turns c.now ≡ length (T.slice (cursor_inner c.now)) - cursor_position c.now }
     ensures cost { ⟦<Cursor<T> as Read>⟧.cost c.now ≡ 0 }
     ensures filling { ⟦<Cursor<T> as Read>⟧.is_filling c.now }
     ensures may_take_none { ⟦<Cursor<T> as Read>⟧.may_take_none c.now }
 {}
 
 fn cursor_lends<T: AsSlice<u8>>(c: &Cursor<T>)
-    ensures held { ⟦<Cursor<T> as BufRead>⟧.held c.now ≡ drop (cursor_place c.now) (T.slice (cursor_inner c.now)) }
+    ensures held { ⟦<Cursor<T> as BufRead>⟧.held c.now ≡ drop (cursor_position c.now) (T.slice (cursor_inner c.now)) }
     ensures lends_surely { ⟦<Cursor<T> as BufRead>⟧.lends_surely c.now }
     ensures lent_length { ⟦<Cursor<T> as BufRead>⟧.lent_length c.now
-        ≡ length (T.slice (cursor_inner c.now)) - cursor_place c.now }
+        ≡ length (T.slice (cursor_inner c.now)) - cursor_position c.now }
 {}
 
 // Lending never fails.
 fn cursor_lends_all<T: AsSlice<u8>>(c: &mut Cursor<T>) -> Result<usize>
-    ensures { IsOkAnd result (λ n. n ≡ length (T.slice (cursor_inner c.old)) - cursor_place c.old) }
+    ensures { IsOkAnd result (λ n. n ≡ length (T.slice (cursor_inner c.old)) - cursor_position c.old) }
 {
     Ok(c.fill_buf()?.len())
 }
 
 fn vector_cursor_writes<A: Allocator>(c: &Cursor<Vec<u8, A>>)
     ensures { let content = (cursor_inner c.now).items in
-        let place = cursor_place c.now in
+        let place = cursor_position c.now in
         ⟦<Cursor<Vec<u8, A>> as Write>⟧.told c.now ≡ record {
           out = take place content ++ replicate (place - length content) 0;
           held = [];
@@ -343,7 +343,7 @@ fn vector_cursor_writes<A: Allocator>(c: &Cursor<Vec<u8, A>>)
 
 fn lent_vector_cursor_writes<'a, A: Allocator>(c: &Cursor<&'a mut Vec<u8, A>>)
     ensures { let content = (cursor_inner c.now).now.items in
-        let place = cursor_place c.now in
+        let place = cursor_position c.now in
         ⟦<Cursor<&'a mut Vec<u8, A>> as Write>⟧.told c.now ≡ record {
           out = take place content ++ replicate (place - length content) 0;
           held = [];
@@ -354,7 +354,7 @@ fn lent_vector_cursor_writes<'a, A: Allocator>(c: &Cursor<&'a mut Vec<u8, A>>)
 
 fn slice_cursor_writes<'a>(c: &Cursor<&'a mut [u8]>)
     ensures { let content = (cursor_inner c.now).now in
-        let place = cursor_place c.now in
+        let place = cursor_position c.now in
         ⟦<Cursor<&'a mut [u8]> as Write>⟧.told c.now ≡ record {
           out = take place content ++ replicate (place - length content) 0;
           held = [];
@@ -379,7 +379,7 @@ fn memory_costs_nothing<'a, A: Allocator>(
 // A clone of a cursor on bytes has their content and its position.
 fn clone_of_bytes<A: Allocator + Clone>(c: &Cursor<Vec<u8, A>>) -> Result<Cursor<Vec<u8, A>>>
     ensures content { IfOk result (λ d. (cursor_inner d).items ≡ (cursor_inner c.now).items) }
-    ensures position { IfOk result (λ d. cursor_place d ≡ cursor_place c.now) }
+    ensures position { IfOk result (λ d. cursor_position d ≡ cursor_position c.now) }
 {
     c.clone()
 }
@@ -387,7 +387,7 @@ fn clone_of_bytes<A: Allocator + Clone>(c: &Cursor<Vec<u8, A>>) -> Result<Cursor
 fn clone_of_slice<'a>(c: &Cursor<&'a [u8]>) -> Result<Cursor<&'a [u8]>>
     ensures ok { IsOk result }
     ensures content { IfOk result (λ d. (cursor_inner d).now ≡ (cursor_inner c.now).now) }
-    ensures position { IfOk result (λ d. cursor_place d ≡ cursor_place c.now) }
+    ensures position { IfOk result (λ d. cursor_position d ≡ cursor_position c.now) }
 {
     c.clone()
 }

@@ -1,4 +1,4 @@
-//! Helpers for the crates above. They are not part of the public interface.
+//! What the crates above share with this one. It is no part of the public interface.
 ghost use Rattle.no_std_io2_base.specs.Errors.{IsUnexpectedEnd, IsUnwritten};
 
 use crate::error::{Error, ErrorKind};
