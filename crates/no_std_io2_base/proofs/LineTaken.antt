@@ -33,8 +33,8 @@ line_at_once {R = R} {old} {new} {n} law within ends dropped follows grows =
       appends = (line, follows.1);
       count = grows;
       never_interrupted = tt;
-      turns_never_rise = dropped.turns;
-      spends_turn = dropped.turn;
+      turns_never_rise = dropped.turns_never_rise;
+      spends_turn = dropped.spends_turn;
       metered = λ m. (dropped.cost m).0;
       filling = dropped.filling;
       store = λ s.
@@ -79,9 +79,9 @@ line_gathered {R = R} {old} {new} none all {line} {buf} {buf'} read reply empty 
       );
   appends = appends;
   count = grown read reply (string_len buf) (string_len buf') given (omega (arith, none.ok.0, ap length empty)) (omega (arith, all.ok.0, ap length same)) until.count more;
-  never_interrupted = fault until.fault;
-  turns_never_rise = until.turns;
-  spends_turn = ok_same (λ n. 0 < n → R.turns new < R.turns old) read reply given until.turn;
+  never_interrupted = fault until.never_interrupted;
+  turns_never_rise = until.turns_never_rise;
+  spends_turn = ok_same (λ n. 0 < n → R.turns new < R.turns old) read reply given until.spends_turn;
   metered = until.metered;
   filling = until.filling;
   store = until.store;

@@ -87,8 +87,8 @@ module _ {X A : Type 0} {R : Lender X} {d : ℕ} {old now after : X} {buf xs : V
       grows = before.grows;
       capacity = before.capacity;
       front = before.front;
-      turns = le_trans filled.turns before.turns;
-      spent = λ more. lt_of_le_of_lt filled.turns (before.spent more);
+      turns = le_trans filled.turns_never_rise before.turns;
+      spent = λ more. lt_of_le_of_lt filled.turns_never_rise (before.spent more);
       told = λ t.
           let so_far = before.told t in
           let loan = filled.told so_far.0 in
@@ -111,7 +111,7 @@ module _ {X A : Type 0} {R : Lender X} {d : ℕ} {old now after : X} {buf xs : V
       room = λ t enough.
           let so_far = before.told t in fault_is_first so_far.1 (error_taken is (filled.told so_far.0).1) fault;
       never_interrupted = fault;
-      turns_never_rise = le_trans filled.turns before.turns;
+      turns_never_rise = le_trans filled.turns_never_rise before.turns;
       spends_turn = tt;
       metered = λ m. filled.metered (before.metered m);
       filling = λ f. filled.filling (before.filling f);
@@ -136,7 +136,7 @@ module _ {X A : Type 0} {R : Lender X} {d : ℕ} {old now after : X} {buf xs : V
           let so_far = before.told t in
           absurd (part_has_room so_far.1 (shows.front so_far.0) found enough before.capacity buf.ok.0 xs.ok.0 full);
       never_interrupted = memory_fault _ refused;
-      turns_never_rise = le_trans filled.turns before.turns;
+      turns_never_rise = le_trans filled.turns_never_rise before.turns;
       spends_turn = tt;
       metered = λ m. filled.metered (before.metered m);
       filling = λ f. filled.filling (before.filling f);
@@ -163,8 +163,8 @@ module _ {X A : Type 0} {R : Lender X} {d : ℕ} {old now after : X} {buf xs : V
           grows = omega (arith, before.grows, len);
           capacity = le_trans before.capacity grown;
           front = front_more _ _ before.front appended;
-          turns = omega (arith, dropped.turns, filled.turns, before.turns);
-          spent = spent_more before.spent before.turns filled.turns dropped.turns dropped.turn (part_fits _ _ len found.within);
+          turns = omega (arith, dropped.turns_never_rise, filled.turns_never_rise, before.turns);
+          spent = spent_more before.spent before.turns filled.turns_never_rise dropped.turns_never_rise dropped.spends_turn (part_fits _ _ len found.within);
           told = λ t.
               let so_far = before.told t in
               let rest = taken so_far.0 in
@@ -190,9 +190,9 @@ module _ {X A : Type 0} {R : Lender X} {d : ℕ} {old now after : X} {buf xs : V
           capacity = le_trans before.capacity grown;
           room = λ t enough. tt;
           never_interrupted = tt;
-          turns_never_rise = omega (arith, dropped.turns, filled.turns, before.turns);
+          turns_never_rise = omega (arith, dropped.turns_never_rise, filled.turns_never_rise, before.turns);
           spends_turn =
-              λ some. spent_more before.spent before.turns filled.turns dropped.turns dropped.turn
+              λ some. spent_more before.spent before.turns filled.turns_never_rise dropped.turns_never_rise dropped.spends_turn
               (part_fits _ _ len found.within) (omega (arith, some, from, to));
           metered = λ m. (dropped.cost (filled.metered (before.metered m))).0;
           filling = λ f. dropped.filling (filled.filling (before.filling f));

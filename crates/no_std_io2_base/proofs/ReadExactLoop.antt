@@ -66,7 +66,7 @@ module _ {S : Type 0} {R : Reader S} {old now new : S} {buf xs part ys : List �
       → ExactSoFar R old buf (at + n) (put_mid at (length xs - at) xs ys) new
   exact_read {n} read some =
       let stays = length_stays at xs ys room in
-      let spent = read.turn (some_bytes n some) in
+      let spent = read.spends_turn (some_bytes n some) in
       record {
         long = stays ∙ before.long;
         within = within_part at n xs ys _ before.within read.bound room stays;
@@ -78,7 +78,7 @@ module _ {S : Type 0} {R : Reader S} {old now new : S} {buf xs part ys : List �
               taken_read ys so_far.1 then.1 read.bound (some_bytes n some)
                   (take-put_mid at (length xs - at) n xs ys before.within read.bound),
             );
-        turns = le_trans read.turns before.turns;
+        turns = le_trans read.turns_never_rise before.turns;
         turn = λ more. omega (arith, spent, before.turns);
         metered = λ m. (read.counts (before.metered m)).0;
         filling = λ f. (read.fills (before.filling f)).0;
@@ -111,8 +111,8 @@ module _ {S : Type 0} {R : Reader S} {old now new : S} {buf xs part ys : List �
             let then = read.told so_far.0 in
             let short = short_before at _ xs below (sym before.long) in
             (then.0, taken_interruption so_far.1 then.1 interrupted short (take-put_mid_below _ _ _ _ _ (le_refl _) before.within));
-        turns = le_trans read.turns before.turns;
-        turn = λ more. omega (arith, read.turn, before.turns);
+        turns = le_trans read.turns_never_rise before.turns;
+        turn = λ more. omega (arith, read.spends_turn, before.turns);
         metered = λ m. (read.counts (before.metered m)).0;
         filling = λ f. (read.fills (before.filling f)).0;
         store = λ s.
@@ -143,7 +143,7 @@ module _ {S : Type 0} {R : Reader S} {old now new : S} {buf xs part ys : List �
             );
         never_interrupted = ap is_interruption kind.0;
         empty = λ nothing. absurd (omega (arith, nothing, before.long, below));
-        turns_never_rise = le_trans read.turns before.turns;
+        turns_never_rise = le_trans read.turns_never_rise before.turns;
         spends_turn = λ some. tt;
         metered = λ m. (read.counts (before.metered m)).0;
         filling = λ f. (read.fills (before.filling f)).0;
@@ -169,7 +169,7 @@ module _ {S : Type 0} {R : Reader S} {old now new : S} {buf xs part ys : List �
         (then.0, inl (taken_fault so_far.1 then.1 fault (short_before at _ xs below (length_stays at xs ys room))));
     never_interrupted = fault;
     empty = λ nothing. absurd (omega (arith, nothing, before.long, below));
-    turns_never_rise = le_trans read.turns before.turns;
+    turns_never_rise = le_trans read.turns_never_rise before.turns;
     spends_turn = λ some. tt;
     metered = λ m. (read.counts (before.metered m)).0;
     filling = λ f. (read.fills (before.filling f)).0;

@@ -127,7 +127,7 @@ module _ {S A : Type 0} {R : Reader S} {old now : S} {buf xs : Vec ℕ A} {fille
         → Wrote filled (vec_len xs') xs.items xs'.items part
         → vec_capacity xs ≤ vec_capacity xs' → ToEndSoFar R old buf (filled + n) xs' new
     to_end_read {n = n} read some w grown =
-        let spent = read.turn (some_bytes n some) in
+        let spent = read.spends_turn (some_bytes n some) in
         record {
           grows = omega (arith, before.grows);
           within = omega (arith, w.fits, read.bound);
@@ -137,7 +137,7 @@ module _ {S A : Type 0} {R : Reader S} {old now : S} {buf xs : Vec ℕ A} {fille
               let so_far = before.told t in
               let then = read.told so_far.0 in
               (then.0, gathered_read part so_far.1 then.1 (w.shown n read.bound));
-          turns = le_trans read.turns before.turns;
+          turns = le_trans read.turns_never_rise before.turns;
           turn = λ more. omega (arith, spent, before.turns);
           metered = λ m. (read.counts (before.metered m)).0;
           filling = λ f. (read.fills (before.filling f)).0;
@@ -171,8 +171,8 @@ module _ {S A : Type 0} {R : Reader S} {old now : S} {buf xs : Vec ℕ A} {fille
           let so_far = before.told t in
           let then = read.told so_far.0 in
           (then.0, gathered_interruption (gathered_same so_far.1 w.kept) then.1 interrupted);
-      turns = le_trans read.turns before.turns;
-      turn = λ more. omega (arith, read.turn, before.turns);
+      turns = le_trans read.turns_never_rise before.turns;
+      turn = λ more. omega (arith, read.spends_turn, before.turns);
       metered = λ m. (read.counts (before.metered m)).0;
       filling = λ f. (read.fills (before.filling f)).0;
       store = λ s.
@@ -210,8 +210,8 @@ module _ {S A : Type 0} {R : Reader S} {old now : S} {buf xs : Vec ℕ A} {fille
             capacity = le_trans before.capacity grown;
             room = λ t enough. tt;
             never_interrupted = tt;
-            turns_never_rise = le_trans read.turns before.turns;
-            spends_turn = λ more. let spent = before.turn (omega (arith, more, long)) in omega (arith, spent, read.turns);
+            turns_never_rise = le_trans read.turns_never_rise before.turns;
+            spends_turn = λ more. let spent = before.turn (omega (arith, more, long)) in omega (arith, spent, read.turns_never_rise);
             metered = λ m. (read.counts (before.metered m)).0;
             filling = λ f. (read.fills (before.filling f)).0;
             store = λ s.
@@ -244,8 +244,8 @@ module _ {S A : Type 0} {R : Reader S} {old now : S} {buf xs : Vec ℕ A} {fille
             capacity = le_trans before.capacity grown;
             room = λ t enough. let so_far = before.told t in gathered_first_fault so_far.1 (read.told so_far.0).1 fault;
             never_interrupted = fault;
-            turns_never_rise = le_trans read.turns before.turns;
-            spends_turn = λ more. omega (arith, read.turn, before.turns);
+            turns_never_rise = le_trans read.turns_never_rise before.turns;
+            spends_turn = λ more. omega (arith, read.spends_turn, before.turns);
             metered = λ m. (read.counts (before.metered m)).0;
             filling = λ f. (read.fills (before.filling f)).0;
             store = λ s.

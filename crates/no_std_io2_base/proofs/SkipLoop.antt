@@ -44,8 +44,8 @@ module _ {X : Type 0} {R : Lender X} {d : ℕ} {old now after : X} {skipped : �
   -- an interruption is passed over
   pub skip_interruption : {e : Error} → reply ≡ Err e → IsInterruption e → SkipSoFar R d old skipped after
   skip_interruption is again = record {
-    turns = le_trans filled.turns before.turns;
-    spent = λ more. lt_of_le_of_lt filled.turns (before.spent more);
+    turns = le_trans filled.turns_never_rise before.turns;
+    spent = λ more. lt_of_le_of_lt filled.turns_never_rise (before.spent more);
     told = λ t.
         let (tells, (piece, so_far, count)) = before.told t in
         let loan = filled.told tells in
@@ -63,7 +63,7 @@ module _ {X : Type 0} {R : Lender X} {d : ℕ} {old now after : X} {skipped : �
         let loan = filled.told tells in
         (loan.0, piece_faulted so_far (error_taken is loan.1) fault);
     never_interrupted = fault;
-    turns_never_rise = le_trans filled.turns before.turns;
+    turns_never_rise = le_trans filled.turns_never_rise before.turns;
     spends_turn = tt;
     metered = λ m. filled.metered (before.metered m);
     filling = λ f. filled.filling (before.filling f);
@@ -79,12 +79,12 @@ module _ {X : Type 0} {R : Lender X} {d : ℕ} {old now after : X} {skipped : �
 
     -- a turn was spent where any was passed over
     spent : 0 < total → R.turns new < R.turns old
-    spent some = spent_more before.spent before.turns filled.turns dropped.turns dropped.turn (omega (arith, count)) some
+    spent some = spent_more before.spent before.turns filled.turns_never_rise dropped.turns_never_rise dropped.spends_turn (omega (arith, count)) some
 
     -- a part without the end, and the loop goes on
     pub skip_more : is_whole ≡ false → SkipSoFar R d old total new
     skip_more going = record {
-      turns = omega (arith, dropped.turns, filled.turns, before.turns);
+      turns = omega (arith, dropped.turns_never_rise, filled.turns_never_rise, before.turns);
       spent = spent;
       told = λ t.
           let (tells, (piece, so_far, before_count)) = before.told t in
@@ -105,7 +105,7 @@ module _ {X : Type 0} {R : Lender X} {d : ℕ} {old now after : X} {skipped : �
           let ended = piece_ended so_far rest.1 (whole_part found whole (shows.end tells)) refl (omega arith) in
           (rest.0, (piece ++ take n lent.now, ended, counted piece (take n lent.now) before_count part count));
       never_interrupted = tt;
-      turns_never_rise = omega (arith, dropped.turns, filled.turns, before.turns);
+      turns_never_rise = omega (arith, dropped.turns_never_rise, filled.turns_never_rise, before.turns);
       spends_turn = spent;
       metered = λ m. (dropped.cost (filled.metered (before.metered m))).0;
       filling = λ f. dropped.filling (filled.filling (before.filling f));

@@ -47,7 +47,7 @@ module _ {S : Type 0} {told : S → Told} {takes_all : S → Type 0} {cost : S �
   pub prints_fault : {text : List ℕ} {reply : Result (Unit {0}) Error} {new : S}
       → Prints told takes_all cost is_metered may old text reply new → IsNoInterruption reply
   prints_fault nothing = tt
-  prints_fault (piece x so_far wrote) = wrote.fault
+  prints_fault (piece x so_far wrote) = wrote.never_interrupted
   prints_fault (silent x so_far) = prints_fault so_far
 
 -- a formatter's calls, one after another, print what they print together

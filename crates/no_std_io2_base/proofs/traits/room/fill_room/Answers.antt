@@ -44,8 +44,8 @@ returns-in-Ok-eq0 g c =
       capacity = omega (arith, before.capacity, room.grows, c.truncate.ensures.capacity);
       full = λ going. absurd (true≢false going);
       never_interrupted = tt;
-      turns_never_rise = le_trans read.turns before.turns;
-      spends_turn = λ more. let spent = before.turn (omega (arith, more, long)) in omega (arith, spent, read.turns);
+      turns_never_rise = le_trans read.turns_never_rise before.turns;
+      spends_turn = λ more. let spent = before.turn (omega (arith, more, long)) in omega (arith, spent, read.turns_never_rise);
       metered = λ m. (read.counts (before.metered m)).0;
       filling = λ f. (read.fills (before.filling f)).0;
       store = λ s.
@@ -86,8 +86,8 @@ returns-in-Err-2 g c =
       capacity = omega (arith, before.capacity, room.grows, c.truncate-in-Err-2.ensures.capacity);
       full = tt;
       never_interrupted = fault;
-      turns_never_rise = le_trans read.turns before.turns;
-      spends_turn = λ more. omega (arith, read.turn, before.turns);
+      turns_never_rise = le_trans read.turns_never_rise before.turns;
+      spends_turn = λ more. omega (arith, read.spends_turn, before.turns);
       metered = λ m. (read.counts (before.metered m)).0;
       filling = λ f. (read.fills (before.filling f)).0;
       store = λ s.

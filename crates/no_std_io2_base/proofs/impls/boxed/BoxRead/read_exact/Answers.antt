@@ -11,7 +11,7 @@ returns g c =
     record {
       law = record {
         told = search rules;
-        never_interrupted = read.fault;
+        never_interrupted = read.never_interrupted;
         empty = λ none.
             let done = read.empty none in (done.0, ap (with_value c.args.self.now) (done.1 ∙ c.as_mut.ensures.value));
         turns_never_rise = search rules;

@@ -11,7 +11,7 @@ returns g c =
     let box =
     loan_box (λ p. (o p).Read.tells p.1) (λ p. (o p).Read.events p.1) (λ p. (o p).Read.turns p.1) (λ p. (o p).BufRead.held p.1)
     c.args.self.now c.fill_buf.result _ (search rules) c.fill_buf.follows.lender-at-none (law.held, law.front, law.end)
-    after.told after.turns after.turn after.unchanged in (
+    after.told after.turns_never_rise after.spends_turn after.unchanged in (
       (
         refl,
         λ _. tt,

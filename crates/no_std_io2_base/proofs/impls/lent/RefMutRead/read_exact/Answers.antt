@@ -10,10 +10,10 @@ returns g c =
     record {
       law = record {
         told = read.told;
-        never_interrupted = read.fault;
+        never_interrupted = read.never_interrupted;
         empty = λ none. let done = read.empty none in (done.0, ap put done.1);
-        turns_never_rise = read.turns;
-        spends_turn = read.turn;
+        turns_never_rise = read.turns_never_rise;
+        spends_turn = read.spends_turn;
         metered = read.metered;
         filling = read.filling;
         store = read.store;

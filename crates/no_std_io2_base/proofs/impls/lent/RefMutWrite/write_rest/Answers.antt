@@ -11,7 +11,7 @@ returns g c =
     let put = λ (v : g.row.W.Denot). record c.args.self.now { now = v } in
     record {
       law = record {
-        never_interrupted = wrote.fault;
+        never_interrupted = wrote.never_interrupted;
         sends = wrote.sends;
         done = wrote.done;
         all = wrote.all;

@@ -21,7 +21,7 @@ pieces-preserved-else-is_whole g c =
 pub pieces-smaller-else-is_whole : goal.pieces-smaller-else-is_whole
 pieces-smaller-else-is_whole g c =
     let filled = c.fill_buf.follows.holds-at-none in
-    lt_of_lt_of_le (c.consume.ensures.law.spends_turn (c.find_piece-len.ensures.open_ended c.if-is_whole.false).0) filled.turns
+    lt_of_lt_of_le (c.consume.ensures.law.spends_turn (c.find_piece-len.ensures.open_ended c.if-is_whole.false).0) filled.turns_never_rise
 
 pub pieces-preserved : goal.pieces-preserved
 pieces-preserved g c =

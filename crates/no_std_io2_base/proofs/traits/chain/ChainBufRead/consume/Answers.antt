@@ -17,8 +17,8 @@ returns-else-self-clause-law g c =
                 ∙ append_assoc (events_of (take c.args.amount (g.T.BufRead.held self.first)))
                 (g.T.Read.events c.consume-else-self.new.self) (g.U.Read.events self.second)),
           );
-      turns_never_rise = omega (arith, dropped.turns);
-      spends_turn = λ some. omega (arith, dropped.turn some);
+      turns_never_rise = omega (arith, dropped.turns_never_rise);
+      spends_turn = λ some. omega (arith, dropped.spends_turn some);
       cost = λ no. absurd no;
       counts = λ no. absurd no;
       filling = λ no. absurd no;

@@ -19,8 +19,8 @@ returns-in_err-n g c =
         told = λ t.
             let now = read.told (t.0 going) in
             ((λ _. now.0, t.1), rw going (ap (λ E. E ++ g.U.Read.events c.args.self.now.second) now.1));
-        turns_never_rise = omega (arith, read.turns);
-        spends_turn = omega (arith, read.turn);
+        turns_never_rise = omega (arith, read.turns_never_rise);
+        spends_turn = omega (arith, read.spends_turn);
         counts = λ m. absurd m;
         fills = λ f. absurd f;
         store = λ s. absurd s;
@@ -46,8 +46,8 @@ returns-in_default-clause-law g c =
               λ zero some. search (rules, not_empty),
             ),
           );
-      turns_never_rise = omega (arith, read.turns);
-      spends_turn = first_turn c.in_ok-n.n _ read.turn;
+      turns_never_rise = omega (arith, read.turns_never_rise);
+      spends_turn = first_turn c.in_ok-n.n _ read.spends_turn;
       counts = λ m. absurd m;
       fills = λ f. absurd f;
       store = λ s. absurd s;
@@ -69,7 +69,7 @@ returns g c =
       | then-not-self+in_ok-n+in-0 w ↦
           let room : 0 < length w.read.new.buf = search (rules, not_empty) in
           let read = w.read.ensures.law in
-          past_read w.self-is w.if-not-self.true read.turns
+          past_read w.self-is w.if-not-self.true read.turns_never_rise
           (λ t. (nothing_read _ _ _ _ _ (read.told t).1 w.in_ok-n.was w.in-0.is room).0)
       | else-not-self w ↦ past_done w.self-is w.if-not-self.false
     ] in
@@ -89,9 +89,9 @@ returns g c =
               (λ going. absurd (true≢false (sym past.done ∙ going)), now.0),
               rw past.done (subst (λ E. Reads E c.read-2.result c.read-2.new.buf (U.events c.read-2.new.self)) (sym left) now.1),
             );
-        turns_never_rise = both_turns past.spent (subst (λ u. U.turns c.read-2.new.self ≤ U.turns u) past.second read.turns);
+        turns_never_rise = both_turns past.spent (subst (λ u. U.turns c.read-2.new.self ≤ U.turns u) past.second read.turns_never_rise);
         spends_turn = second_turn c.read-2.result _ _ past.spent (subst
-            (λ u. SpendsTurn c.read-2.result (U.turns u) (U.turns c.read-2.new.self)) past.second read.turn);
+            (λ u. SpendsTurn c.read-2.result (U.turns u) (U.turns c.read-2.new.self)) past.second read.spends_turn);
         counts = λ m. absurd m;
         fills = λ f. absurd f;
         store = λ s. absurd s;

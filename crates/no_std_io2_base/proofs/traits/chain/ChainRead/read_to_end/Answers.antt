@@ -20,9 +20,9 @@ returns-then-self g c =
         count = read.count;
         capacity = read.capacity;
         room = λ t enough. rw c.if-self.true (read.room t.1 (room_when_done one two _ c.if-self.true enough));
-        never_interrupted = read.fault;
-        turns_never_rise = omega (arith, read.turns);
-        spends_turn = λ more. let spent = read.turn more in omega (arith, spent);
+        never_interrupted = read.never_interrupted;
+        turns_never_rise = omega (arith, read.turns_never_rise);
+        spends_turn = λ more. let spent = read.spends_turn more in omega (arith, spent);
         metered = λ m. m;
         filling = λ f. f;
         store = λ s. absurd s;
@@ -48,9 +48,9 @@ returns-in_err-read_to_end g c =
         room = λ t enough.
             let both = room_while_going one two _ going enough in
             rw going (first_fault-first one two (first.room (t.0 going) (room_of_first one two _ _ both)));
-        never_interrupted = first.fault;
-        turns_never_rise = omega (arith, first.turns);
-        spends_turn = λ more. let spent = first.turn more in omega (arith, spent);
+        never_interrupted = first.never_interrupted;
+        turns_never_rise = omega (arith, first.turns_never_rise);
+        spends_turn = λ more. let spent = first.spends_turn more in omega (arith, spent);
         metered = λ m. m;
         filling = λ f. f;
         store = λ s. absurd s;
@@ -83,10 +83,10 @@ returns-in_err-rest_to_end g c =
             let before = (first.told (t.0 going)).1 in
             let behind = room_of_second one two _ _ _ _ _ both before.0 before.2 first.count first.capacity in
             rw going (first_fault-append one two before.0 ∙ second.room t.1 behind);
-        never_interrupted = second.fault;
-        turns_never_rise = omega (arith, first.turns, second.turns);
-        spends_turn = spent_then c.read_to_end-2.new.buf.len mid (λ more. let spent = first.turn more in omega (arith, spent))
-            (λ more. let spent = second.turn more in omega (arith, spent)) (omega (arith, first.turns)) (omega (arith, second.turns));
+        never_interrupted = second.never_interrupted;
+        turns_never_rise = omega (arith, first.turns_never_rise, second.turns_never_rise);
+        spends_turn = spent_then c.read_to_end-2.new.buf.len mid (λ more. let spent = first.spends_turn more in omega (arith, spent))
+            (λ more. let spent = second.spends_turn more in omega (arith, spent)) (omega (arith, first.turns_never_rise)) (omega (arith, second.turns_never_rise));
         metered = λ m. m;
         filling = λ f. f;
         store = λ s. absurd s;
@@ -116,9 +116,9 @@ returns g c =
         capacity = le_trans first.capacity second.capacity;
         room = λ t enough. tt;
         never_interrupted = tt;
-        turns_never_rise = omega (arith, first.turns, second.turns);
-        spends_turn = spent_then c.read_to_end-2.new.buf.len mid (λ more. let spent = first.turn more in omega (arith, spent))
-            (λ more. let spent = second.turn more in omega (arith, spent)) (omega (arith, first.turns)) (omega (arith, second.turns));
+        turns_never_rise = omega (arith, first.turns_never_rise, second.turns_never_rise);
+        spends_turn = spent_then c.read_to_end-2.new.buf.len mid (λ more. let spent = first.spends_turn more in omega (arith, spent))
+            (λ more. let spent = second.spends_turn more in omega (arith, spent)) (omega (arith, first.turns_never_rise)) (omega (arith, second.turns_never_rise));
         metered = λ m. m;
         filling = λ f. f;
         store = λ s. absurd s;

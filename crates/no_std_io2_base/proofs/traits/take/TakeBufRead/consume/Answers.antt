@@ -20,8 +20,8 @@ returns-clause-law g c =
       told = λ t.
           let now = dropped.told t in
           (now.0, rw part (cut_consumes _ _ held n limit (omega (arith, c.requires, most)) (omega (arith, c.requires, most)) now.1));
-      turns_never_rise = dropped.turns;
-      spends_turn = dropped.turn;
+      turns_never_rise = dropped.turns_never_rise;
+      spends_turn = dropped.spends_turn;
       cost = λ no. absurd no;
       counts = λ no. absurd no;
       filling = dropped.filling;

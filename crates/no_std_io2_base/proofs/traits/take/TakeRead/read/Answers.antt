@@ -37,8 +37,8 @@ returns-in_err-n g c =
       law = record {
         bound = tt;
         told = λ t. let now = read.told t in (now.0, cut_error now.1 some);
-        turns_never_rise = read.turns;
-        spends_turn = read.turn;
+        turns_never_rise = read.turns_never_rise;
+        spends_turn = read.spends_turn;
         counts = λ m. absurd m;
         fills = λ f. absurd (read.fills f).1;
         store = λ s. absurd s;
@@ -68,8 +68,8 @@ returns g c =
               cut_reads _ limit part _ read.bound within
                   (part_room most limit buf part c.min_with_limit-most.ensures c.read-2.auto.buf some) now.1,
             );
-        turns_never_rise = read.turns;
-        spends_turn = read.turn;
+        turns_never_rise = read.turns_never_rise;
+        spends_turn = read.spends_turn;
         counts = λ m. absurd m;
         fills = λ f.
             let now = read.fills f in
@@ -91,8 +91,8 @@ returns-in_err-given-clause-law g c =
     rw (p.1, p.2) (record {
       bound = tt;
       told = λ t. let now = read.told t in (now.0, cut_error now.1 (omega (arith, c.if-buf-self.true)));
-      turns_never_rise = read.turns;
-      spends_turn = read.turn;
+      turns_never_rise = read.turns_never_rise;
+      spends_turn = read.spends_turn;
       counts = λ m. absurd m;
       fills = λ f. absurd (read.fills f).1;
       store = λ s. absurd s;
@@ -112,8 +112,8 @@ returns-then-buf-self-clause-law g c =
       told = λ t.
           let now = read.told t in
           (now.0, cut_reads_whole _ limit c.read.new.buf read.bound (omega (arith, c.if-buf-self.true, c.read.auto.buf)) now.1);
-      turns_never_rise = read.turns;
-      spends_turn = read.turn;
+      turns_never_rise = read.turns_never_rise;
+      spends_turn = read.spends_turn;
       counts = λ m. absurd m;
       fills = λ f.
           let now = read.fills f in

@@ -133,7 +133,7 @@ returns g c =
           w.in_ok-open_room.ensures.room in
           let some : 0 < length w.read.new.buf = omega (arith, part.fits, w.in_ok-open_room.ensures.room) in
           subst (Ended T.tells T.is_filling T.turns T.events c.reads.self) (sym w.self-is) (record {
-            spent = read.turns;
+            spent = read.turns_never_rise;
             told = λ t.
                 let now = read.told t in
                 let empty = nothing_read _ _ _ _ _ now.1 is none some in
@@ -159,8 +159,8 @@ returns g c =
         capacity = omega (arith, before.law.capacity, grown, c.truncate-2.ensures.capacity);
         room = λ t enough. tt;
         never_interrupted = tt;
-        turns_never_rise = le_trans ended.spent before.law.turns_never_rise;
-        spends_turn = λ more. let spent = before.law.spends_turn (omega (arith, more, long)) in omega (arith, spent, ended.spent);
+        turns_never_rise = le_trans ended.spent before.law.turns;
+        spends_turn = λ more. let spent = before.law.turn (omega (arith, more, long)) in omega (arith, spent, ended.spent);
         metered = λ m. m;
         filling = λ f. ended.fill (before.law.filling f);
         store = λ s. absurd s;
