@@ -182,6 +182,7 @@ fn read_call<R: BufRead + ?Sized>(r: &mut R, word: &str, rest: &str) -> Option<S
         "fill_buf" => match r.fill_buf() { Ok(b) => (b.len().to_string(), b.to_vec()), Err(e) => (error(&e), vec![]) },
         "pass" => { let n = r.fill_buf().map(|b| b.len().min(count)); if let Ok(n) = n { r.consume(n) } (number(&n), vec![]) }
         "read_until" => { let d = all.first().copied().unwrap_or(b'\n'); all.clear(); (number(&r.read_until(d, &mut all)), all) }
+        "skip_until" => (number(&r.skip_until(all.first().copied().unwrap_or(b'\n'))), vec![]),
         "read_line" => { let mut s = String::from_utf8(all).unwrap(); (number(&r.read_line(&mut s)), s.into_bytes()) }
         _ => return None };
     Some(format!("{answer} | {}", bytes(&given)))
@@ -209,6 +210,10 @@ impl<T: AsRef<[u8]>> Level for Cursor<T> where Cursor<T>: Write {
     fn seek_to(&mut self, pos: SeekFrom) -> io::Result<u64> { self.seek(pos) }
     fn reads(&mut self, word: &str, rest: &str) -> Option<String> { read_call(self, word, rest) }
 }
+impl Level for VecDeque<u8> {
+    fn taken(&self, _: &Journal) -> String { bytes(&self.iter().copied().collect::<Vec<_>>()) }
+    fn reads(&mut self, word: &str, rest: &str) -> Option<String> { read_call(self, word, rest) }
+}
 macro_rules! buffers { ($writer:ident, $held:expr, $seek:expr) => {
     impl Level for $writer<Box<dyn Level>> {
         fn taken(&self, journal: &Journal) -> String { self.get_ref().taken(journal) }
@@ -229,6 +234,7 @@ buffers!(LineWriter, |_| "?", |_, _| Err(ErrorKind::Unsupported.into()));
 fn level(names: &[&str], device: Device, content: Option<Vec<u8>>) -> Option<Box<dyn Level>> {
     Some(match (names, content) {
         (["Vec"] | [], Some(content)) => Box::new(Cursor::new(content)),
+        (["VecDeque"], Some(content)) => Box::new(VecDeque::from(content)),
         (["[u8]" | "&[u8]"], Some(content)) => Box::new(Cursor::new(content.into_boxed_slice())),
         (["BufWriter", n, rest @ ..], content) => Box::new(BufWriter::with_capacity(n.parse().ok()?, level(rest, device, content)?)),
         (["LineWriter", n, rest @ ..], content) => Box::new(LineWriter::with_capacity(n.parse().ok()?, level(rest, device, content)?)),
@@ -365,7 +371,7 @@ fn make<'a>(name: &'a str, device: Device, words: &str) -> Option<Box<dyn Stream
     let names: Vec<&str> = name.split(' ').collect();
     Some(match (names[0], &names[1..]) {
         ("bench", [.., "&mut", _] | [.., "dyn", _]) => return None,
-        ("cursor", rest) => { let top = level(rest, device.clone(), Some(unescape(words))); Box::new(Tower { names, device, top }) }
+        ("cursor" | "queue", rest) => { let top = level(rest, device.clone(), Some(unescape(words))); Box::new(Tower { names, device, top }) }
         ("grown", [kind]) => Box::new(Room(Cursor::new(Vec::with_capacity(words.parse().ok()?)), *kind == "Vec")),
         ("bytes", rest) => Box::new(Items(Box::new(source(rest, &device, words)?.bytes().map(|it| it.map(|b| vec![b]))), "", false)),
         ("split", rest) => Box::new(Items(
@@ -410,7 +416,7 @@ fn main() {
                 let journal = device.journal.clone();
                 journal.borrow_mut().answers = told(words);
                 let mut stream = make(name, device, words.trim());
-                let notes_calls = !["bench", "cursor", "grown", "answers"].iter().any(|it| name.starts_with(it))
+                let notes_calls = !["bench", "cursor", "queue", "grown", "answers"].iter().any(|it| name.starts_with(it))
                     && !["Cursor", "&[u8]"].iter().any(|it| name.contains(it));
                 for row in rows.lines().filter(|row| row.contains(" | ") && !row.starts_with('#')) {
                     let call = row.split(" | ").next().unwrap();

@@ -93,6 +93,11 @@ fn call_read_until<R: BufRead>(alloc: Global, r: &mut R, delim: &[u8], line: &mu
     show_given(&r.read_until(delim, &mut piece), &piece, line);
 }
 
+fn call_skip_until<R: BufRead>(r: &mut R, delim: &[u8], line: &mut Line) {
+    let delim = delim.first().copied().unwrap_or(b'\n');
+    show_given(&r.skip_until(delim), b"", line);
+}
+
 fn call_read_line<R: BufRead>(alloc: Global, r: &mut R, old: &str, line: &mut Line) {
     let mut text = String::new(alloc);
     if text.push_str(old).is_err() {
@@ -118,14 +123,15 @@ pub fn make_read<R: Read>(alloc: Global, r: &mut R, call: &Call<'_>, line: &mut 
 }
 
 /// Makes a call of a reader that lends: beside those of [`make_read`] `fill_buf`, `pass N`, which lends and consumes so many of
-/// the bytes at most, `skip N`, `read_until DELIMITER`, of a newline where none is named, and `read_line OLD`, which appends to
-/// this text.
+/// the bytes at most, `skip N`, `read_until DELIMITER` and `skip_until DELIMITER`, of a newline where none is named, and
+/// `read_line OLD`, which appends to this text.
 pub fn make_lend<R: BufRead>(alloc: Global, r: &mut R, call: &Call<'_>, line: &mut Line) {
     match call.word {
         "fill_buf" => call_fill_buf(r, line),
         "pass" => show_given(&pass(r, call.number(line)), b"", line),
         "skip" => call_skip(r, call.number(line), line),
         "read_until" => call_read_until(alloc, r, &call.bytes, line),
+        "skip_until" => call_skip_until(r, &call.bytes, line),
         "read_line" => call_read_line(alloc, r, call.rest, line),
         _ => make_read(alloc, r, call, line),
     }

@@ -1,5 +1,6 @@
 // What the comments of the traits and of their adaptors show.
 use no_std_io2::io::{BufRead, BufWriter, Cursor, Read, Seek, SeekFrom, Write};
+use std::collections::VecDeque;
 use std::test::Fail;
 
 #[test]
@@ -276,5 +277,32 @@ fn an_array_takes_what_fits(rt: HostRuntime) -> Result<(), Fail> {
     assert!(rt; w.write(b"de")? == 1);
     assert!(rt; w.write_all(b"e").is_err());
     assert!(rt; w.into_inner() == *b"abcd");
+    Ok(())
+}
+
+#[test]
+fn a_queue_is_written_and_read(rt: HostRuntime) -> Result<(), Fail> {
+    let mut queue = VecDeque::<u8>::new(rt.alloc());
+    queue.write_all(b"abcd")?;
+    let mut front = [0u8; 3];
+    queue.read_exact(&mut front)?;
+    assert!(rt; front == *b"abc");
+    queue.write_all(b"ef")?;
+    let mut rest = Vec::<u8>::new(rt.alloc());
+    assert!(rt; queue.read_to_end(&mut rest)? == 3);
+    assert!(rt; rest.as_slice() == b"def".as_slice());
+    Ok(())
+}
+
+#[test]
+fn a_boxed_slice_is_written_over(rt: HostRuntime) -> Result<(), Fail> {
+    let bytes = Vec::from_slice(rt.alloc(), b"abcd")?;
+    let mut c = Cursor::new(bytes.into_boxed_slice());
+    c.set_position(2);
+    assert!(rt; c.write(b"xyz")? == 2); // `z` was not accepted
+    c.rewind()?;
+    let mut all = [0u8; 4];
+    c.read_exact(&mut all)?;
+    assert!(rt; all == *b"abxy");
     Ok(())
 }

@@ -1,6 +1,7 @@
 // What `write!` prints to each writer, and what it does where a device fails or a text's own `fmt` does.
 ghost use Rattle.no_std_io2.specs.Write.{told_out};
 
+use line_log::LineLog;
 use no_std_io2::io::{BufWriter, Cursor, Error, ErrorKind, LineWriter, Result as IoResult, Write};
 use std::fmt;
 use std::test::Fail;
@@ -142,5 +143,23 @@ fn a_text_that_fails_is_told(rt: HostRuntime) -> Result<(), Fail> {
         }
     }
     assert!(rt; device.as_slice() == b"<ab".as_slice());
+    Ok(())
+}
+
+#[test]
+fn a_text_that_fails_is_not_logged(rt: HostRuntime) -> Result<(), Fail> {
+    let mut log = LineLog::<Vec<u8>, 64>::new(rt.alloc(), Vec::new(rt.alloc()));
+    match log.log_text(Broken) {
+        Ok(()) => assert!(rt; false),
+        Err(e) => assert!(rt; e.kind() == ErrorKind::Other),
+    }
+    assert!(rt; !log.is_under_way());
+    match log.log_text(format_args!("a\nb")) {
+        Ok(()) => assert!(rt; false),
+        Err(e) => assert!(rt; e.kind() == ErrorKind::InvalidInput),
+    }
+    assert!(rt; !log.is_under_way());
+    log.log_text(Deaf)?;
+    assert!(rt; log.get_ref().as_slice() == b"abcdef\n".as_slice());
     Ok(())
 }

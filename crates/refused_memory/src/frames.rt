@@ -2,7 +2,7 @@
 use crate::outcome::Outcome;
 use crate::texts::{behind, front};
 use crate::torn::Torn;
-use framing::{FrameReader, FrameWriter};
+use framing::{FrameReader, FrameWriter, round_trip};
 use no_std_io2::io::{Cursor, ErrorKind, Result, Write};
 use std::alloc::Global;
 
@@ -108,6 +108,22 @@ pub fn by_above(alloc: Global) -> Outcome {
     let wire = b"\xff\xff\xff\xffabc".as_slice();
     let mut r = Reader::new(alloc, Torn::new(b"", wire), 5);
     fault(&mut r, ErrorKind::InvalidData).and(fault(&mut r, ErrorKind::InvalidData))
+}
+
+fn make_round(alloc: Global, first: &[u8], second: &[u8]) -> Result<bool> {
+    let payloads = [
+        Vec::from_slice(alloc, first)?,
+        Vec::from_slice(alloc, second)?,
+    ];
+    let mut w = FrameWriter::<Vec<u8>, 64>::new(alloc, Vec::new(alloc));
+    let given = round_trip(alloc, &mut w, &payloads, 0)?;
+    Ok(given.len() == 2 && given[0].as_slice() == first && given[1].as_slice() == second)
+}
+
+/// Two payloads of these lengths, sent and read.
+pub fn by_round(alloc: Global, text: &[u8], first: usize, second: usize) -> Outcome {
+    let came = make_round(alloc, front(text, first), front(text, second));
+    Outcome::of(&came).if_right(!matches!(came, Ok(false)))
 }
 
 /// Whether bytes are the line of a text.

@@ -18,6 +18,20 @@ pub fn by_unknown(alloc: Global, text: &[u8], len: usize) -> Outcome {
     Outcome::of(&Torn::new(b"", front(text, len)).read_to_end(&mut all)).if_full(all.len(), len)
 }
 
+/// The same as a text.
+pub fn by_read_to_string(alloc: Global, text: &[u8], len: usize) -> Outcome {
+    let mut all = String::new(alloc);
+    let mut r = Torn::new(b"", front(text, len));
+    Outcome::of(&r.read_to_string(alloc, &mut all)).if_full(all.len(), len)
+}
+
+/// `read_until` of so many bytes through a buffer.
+pub fn by_read_until(alloc: Global, text: &[u8], len: usize) -> Outcome {
+    let mut piece = Vec::new(alloc);
+    let mut r = BufReader::<&[u8], 4096>::new(front(text, len));
+    Outcome::of(&r.read_until(b'\n', &mut piece)).if_full(piece.len(), len)
+}
+
 /// `read_line` of so many bytes through a buffer.
 pub fn by_read_line(alloc: Global, text: &[u8], len: usize) -> Outcome {
     let mut line = String::new(alloc);

@@ -7,6 +7,7 @@
 #![tactic(auto)]
 
 mod frames;
+mod gathered;
 mod large;
 mod lines;
 mod members;
@@ -27,11 +28,14 @@ fn play_long(alloc: Global, text: &[u8], word: &str, first: usize, second: usize
         "send" => frames::by_send(alloc, text, first, second),
         "next" => frames::by_next(alloc, text, first, second),
         "torn" => frames::by_torn(alloc, text, first),
+        "round" => frames::by_round(alloc, text, first, second),
         "log" => lines::by_log(alloc, text, first, second),
         "name" => members::by_name(alloc, text, first),
         "gap" => large::by_gap(alloc, first),
         "read_to_end" => large::by_known(alloc, text, first),
         "read_to_end_unknown" => large::by_unknown(alloc, text, first),
+        "read_to_string" => large::by_read_to_string(alloc, text, first),
+        "read_until" => large::by_read_until(alloc, text, first),
         "read_line" => large::by_read_line(alloc, text, first),
         "split" => large::by_split(alloc, text, first),
         "lines" => large::by_lines(alloc, text, first),
@@ -46,6 +50,8 @@ fn play(alloc: Global, text: &[u8], call: &str) -> Outcome {
         "short split" => small::by_split(alloc),
         "short lines" => small::by_lines(alloc),
         "joined" => small::by_joined(alloc),
+        "run_split" => gathered::by_run_split(alloc),
+        "run_lines" => gathered::by_run_lines(alloc),
         _ => {
             let (word, numbers) = call.split_once(" ").unwrap_or((call, ""));
             let (first, second) = numbers.split_once(" ").unwrap_or((numbers, "0"));

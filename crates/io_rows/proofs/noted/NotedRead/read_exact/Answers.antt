@@ -1,0 +1,21 @@
+-- The call of the inner reader; of the calls nothing is said.
+use Rattle.std.proofs.Common.{ap}
+use Rattle.no_std_io2_base.proofs.ReadCalls.{exact_own}
+use Rattle.io_rows.proofs.noted.NotedRead.read_exact.Goals as goal
+
+pub returns : goal.returns
+returns g c =
+    let read = c.read_exact.ensures.law in
+    record {
+      law = record {
+        told = read.told;
+        fault = read.fault;
+        empty = λ none. let done = read.empty none in (done.0, ap (λ i. record c.args.self.now { inner = i }) done.1);
+        turns = read.turns;
+        turn = read.turn;
+        metered = read.metered;
+        filling = read.filling;
+        store = read.store;
+        calls = exact_own tt;
+      };
+    }
