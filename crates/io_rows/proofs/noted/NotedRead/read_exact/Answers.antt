@@ -1,6 +1,6 @@
 -- The call of the inner reader; of the calls nothing is said.
 use Rattle.std.proofs.Common.{ap}
-use Rattle.no_std_io2_base.proofs.ReadCalls.{exact_own}
+use Rattle.no_std_io2.proofs.ReadCalls.{exact_own}
 use Rattle.io_rows.proofs.noted.NotedRead.read_exact.Goals as goal
 
 pub returns : goal.returns
@@ -9,10 +9,10 @@ returns g c =
     record {
       law = record {
         told = read.told;
-        fault = read.fault;
+        never_interrupted = read.never_interrupted;
         empty = λ none. let done = read.empty none in (done.0, ap (λ i. record c.args.self.now { inner = i }) done.1);
-        turns = read.turns;
-        turn = read.turn;
+        turns_never_rise = read.turns_never_rise;
+        spends_turn = read.spends_turn;
         metered = read.metered;
         filling = read.filling;
         store = read.store;

@@ -1,5 +1,5 @@
 -- The call of the inner reader; of the calls nothing is said.
-use Rattle.no_std_io2_base.proofs.ReadCalls.{to_end_own}
+use Rattle.no_std_io2.proofs.ReadCalls.{to_end_own}
 use Rattle.io_rows.proofs.noted.NotedRead.read_to_end.Goals as goal
 
 pub returns : goal.returns
@@ -12,9 +12,9 @@ returns g c =
         count = read.count;
         capacity = read.capacity;
         room = read.room;
-        fault = read.fault;
-        turns = read.turns;
-        turn = read.turn;
+        never_interrupted = read.never_interrupted;
+        turns_never_rise = read.turns_never_rise;
+        spends_turn = read.spends_turn;
         metered = read.metered;
         filling = read.filling;
         store = read.store;
