@@ -35,10 +35,10 @@ reads-preserved g c =
           let so_far = before.told t in
           let now = read.told so_far.0 in
           (now.0, copied_interruption so_far.1 now.1 (search rules));
-      hands = hands_same before.hands read.turns (λ t. ap bytes (read.told (before.told t).0).1);
+      hands = hands_same before.hands read.turns_never_rise (λ t. ap bytes (read.told (before.told t).0).1);
       same = before.same;
       all = before.all;
-      turns = le_trans read.turns before.turns;
+      turns = le_trans read.turns_never_rise before.turns;
       metered = λ m. (read.counts (before.metered m)).0;
       reads = λ _ _ f. absurd (read.fills (before.filling f)).1;
       filling = λ f. (read.fills (before.filling f)).0;
@@ -65,7 +65,7 @@ reads-preserved-in-Ok g c =
           (λ t. gave c.in-Ok.n _ c.read.new.buf (read.told (before.told t).0).1) wrote.calls;
       same = λ z. absurd (search rules);
       all = λ t. wrote.all (before.all t);
-      turns = le_trans read.turns before.turns;
+      turns = le_trans read.turns_never_rise before.turns;
       metered = λ m. (read.counts (before.metered m)).0;
       reads = λ some m f.
           let paid = (read.counts (before.metered m)).1 in
@@ -95,7 +95,7 @@ pub returns-in-Ok-eq0-clause-calls : goal.returns-in-Ok-eq0-clause-calls
 returns-in-Ok-eq0-clause-calls g c =
     let before = c.reads.invariant in
     let read = c.read.ensures.law in
-    hands_same before.hands read.turns
+    hands_same before.hands read.turns_never_rise
     (λ t. gave_none c.in-Ok-eq0.field-0 _ c.read.new.buf (rw c.in-Ok-eq0.is at (read.told (before.told t).0).1) c.in-Ok-eq0.field-0-test)
 
 pub returns-in-Ok-eq0-clause-reads : goal.returns-in-Ok-eq0-clause-reads
@@ -170,7 +170,7 @@ pub returns-in-Err-2-clause-calls : goal.returns-in-Err-2-clause-calls
 returns-in-Err-2-clause-calls g c =
     let before = c.reads.invariant in
     let read = c.in-Err.ensures.law in
-    inl (hands_same before.hands read.turns (λ t. ap bytes (read.told (before.told t).0).1))
+    inl (hands_same before.hands read.turns_never_rise (λ t. ap bytes (read.told (before.told t).0).1))
 
 pub returns-in-Err-2-clause-moves : goal.returns-in-Err-2-clause-moves
 returns-in-Err-2-clause-moves g c = let so_far = c.reads.invariant.written in (so_far.accepted, inl so_far.moves)

@@ -41,8 +41,8 @@ pieces-preserved-in-Ok g c =
           (rest.0, PassesOver-more (take len lent) after so_far.1 part (omega (arith, is, many)));
       left = omega (arith, before.left, many);
       none = λ z. absurd (omega (arith, before.left, c.pieces-test.true));
-      turns = omega (arith, dropped.turns, filled.turns, before.turns);
-      turn = λ _. omega (arith, dropped.turn one, filled.turns, before.turns);
+      turns = omega (arith, dropped.turns_never_rise, filled.turns_never_rise, before.turns);
+      turn = λ _. omega (arith, dropped.spends_turn one, filled.turns_never_rise, before.turns);
       metered = λ m. (dropped.cost (filled.metered (before.metered m))).0;
       filling = λ f. dropped.filling (filled.filling (before.filling f));
       store = λ s.
@@ -64,8 +64,8 @@ pieces-preserved g c =
           (loan.0, PassesOver-still so_far.1 (Passes-interruption (error_taken c.in-Err.is loan.1) again));
       left = before.left;
       none = λ z. absurd (omega (arith, before.left, c.pieces-test.true));
-      turns = omega (arith, filled.turns, before.turns);
-      turn = λ h. omega (arith, before.turn h, filled.turns);
+      turns = omega (arith, filled.turns_never_rise, before.turns);
+      turn = λ h. omega (arith, before.turn h, filled.turns_never_rise);
       metered = λ m. filled.metered (before.metered m);
       filling = λ f. filled.filling (before.filling f);
       store = λ s.

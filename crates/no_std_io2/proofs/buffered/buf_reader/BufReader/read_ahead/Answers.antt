@@ -24,7 +24,7 @@ returns g c =
           (now.0, sound_alone (buffer_behind c.fill.new.self) held _ _ read.behind sound.0);
       told = λ t. let now = read.told t in (now.0, fill_told c.fill.result old held _ _ none read.err now.1);
       end = λ t. fill_end c.fill.result old held _ _ none (read.told t).1;
-      no_later = turns_read g.row.S _ (length held) read.bound read.turns read.turn;
+      no_later = turns_read g.row.S _ (length held) read.bound read.turns_never_rise read.spends_turn;
       turn = fill_turn c.fill.result g.row.S (length old) (length held) _ _ read.bound read.fault_turn;
       asks = read.cost;
       fills = read.fills;

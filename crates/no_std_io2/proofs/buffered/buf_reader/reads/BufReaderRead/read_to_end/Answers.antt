@@ -31,11 +31,11 @@ returns-then-is_empty g c =
         count = read.count;
         capacity = read.capacity;
         room = λ t. none_room held _ _ _ _ none (read.room t);
-        never_interrupted = read.fault;
+        never_interrupted = read.never_interrupted;
         turns_never_rise =
-            turns_read g.row.S (length held) (length left) few read.turns
+            turns_read g.row.S (length held) (length left) few read.turns_never_rise
             (λ some. absurd (omega (arith, some, ap length clear.held)));
-        spends_turn = appended_turn g.row.S (length held) (length left) (ap length clear.held) (omega (arith, ap length none)) read.turn read.turns;
+        spends_turn = appended_turn g.row.S (length held) (length left) (ap length clear.held) (omega (arith, ap length none)) read.spends_turn read.turns_never_rise;
         metered = λ h. h;
         filling = λ h. h;
         store = λ s.
@@ -93,12 +93,12 @@ returns-in_err-rest_to_end g c =
         room = λ t enough.
             let behind = emptied_on held _ _ enough c.args.buf.now.ok.0 c.append_to.new.buf.ok.0 first done.grows in
             held_fault held _ (read.room t behind);
-        never_interrupted = read.fault;
+        never_interrupted = read.never_interrupted;
         turns_never_rise =
-            turns_read g.row.S (length held) (length none) few read.turns
+            turns_read g.row.S (length held) (length none) few read.turns_never_rise
             (λ some. absurd (omega (arith, some, ap length done.done.0)));
         spends_turn = appended_turn g.row.S (length held) (length none) (ap length done.done.0)
-            (emptied_again held _ c.args.buf.now.ok.0 c.append_to.new.buf.ok.0 first) read.turn read.turns;
+            (emptied_again held _ c.args.buf.now.ok.0 c.append_to.new.buf.ok.0 first) read.spends_turn read.turns_never_rise;
         metered = λ h. h;
         filling = λ h. h;
         store = λ s.
@@ -130,10 +130,10 @@ returns g c =
         room = λ t enough. tt;
         never_interrupted = tt;
         turns_never_rise =
-            turns_read g.row.S (length held) (length none) few read.turns
+            turns_read g.row.S (length held) (length none) few read.turns_never_rise
             (λ some. absurd (omega (arith, some, ap length done.done.0)));
         spends_turn = appended_turn g.row.S (length held) (length none) (ap length done.done.0)
-            (emptied_again held _ c.args.buf.now.ok.0 c.append_to.new.buf.ok.0 first) read.turn read.turns;
+            (emptied_again held _ c.args.buf.now.ok.0 c.append_to.new.buf.ok.0 first) read.spends_turn read.turns_never_rise;
         metered = λ h. h;
         filling = λ h. h;
         store = λ s.
