@@ -1,0 +1,122 @@
+// `copy` from a reader to a writer, played by rows of `copy`.
+//
+// The columns behind a call are its answer, the bytes out, what stands at each level of the reader, and the calls that reached the
+// two devices; where names are noted the calls alone, and in memory none.
+use crate::devices::{Columns, Devices, NO_STREAM};
+use crate::in_memory::scripts::{new_feed, new_text, new_writer};
+use crate::levels::Levels;
+use io_bench::{Faulty, Feed};
+use rows_play::calls::Call;
+use rows_play::fault::Made;
+use rows_play::line::{Line, unescape};
+use rows_play::player::{Player, Stream};
+use rows_play::recorder::Recorder;
+use no_std_io2::io::{BufReader, Read, Write, copy};
+use std::alloc::Global;
+
+// Copies by pieces of S bytes.
+#[derive(Drop)]
+struct Copying<'j, R: Drop, W: Drop, const S: usize> {
+    from: R,
+    to: W,
+    devices: Devices<'j>,
+}
+
+impl<'j, R: Read + Levels + Drop, W: Write + Levels + Drop, const S: usize> Stream
+    for Copying<'j, R, W, S> {
+    fn play(&mut self, _alloc: Global, call: &Call<'_>, line: &mut Line) {
+        // The second is what `copy` asks of S.
+        if call.word != "copy" || S >= 1 << 63 {
+            line.malformed("no such call");
+            return;
+        }
+        line.position(&copy::<R, W, S>(&mut self.from, &mut self.to));
+        self.devices.show_copied(&self.from, &self.to, line);
+    }
+}
+
+pub fn lend(
+    name: &str,
+    words: &str,
+    devices: Devices<'_>,
+    player: &mut Player<'_, '_>,
+) -> Made<()> {
+    match name {
+        "4 noted" => lend_noted(devices, player),
+        "0 Device" => lend_plain::<0>(devices, player),
+        "1 Device" => lend_plain::<1>(devices, player),
+        "2 Device" => lend_plain::<2>(devices, player),
+        "4 Device" => lend_plain::<4>(devices, player),
+        "300 Device" => lend_plain::<300>(devices, player),
+        "2 BufReader 3" => lend_buffered::<3, 2>(devices, player),
+        "0 BufReader 1" => lend_buffered::<1, 0>(devices, player),
+        _ => lend_in_memory(name, words, devices, player),
+    }
+}
+
+fn lend_noted(devices: Devices<'_>, player: &mut Player<'_, '_>) -> Made<()> {
+    player.play(&mut Copying::<_, _, 4> {
+        from: devices.noted()?,
+        to: devices.noted()?,
+        devices: Devices {
+            columns: Columns::Calls,
+            ..devices
+        },
+    });
+    Ok(())
+}
+
+fn lend_plain<const S: usize>(devices: Devices<'_>, player: &mut Player<'_, '_>) -> Made<()> {
+    player.play(&mut Copying::<_, _, S> {
+        from: devices.first()?,
+        to: devices.first()?,
+        devices,
+    });
+    Ok(())
+}
+
+// From a buffer of B bytes.
+fn lend_buffered<const B: usize, const S: usize>(
+    devices: Devices<'_>,
+    player: &mut Player<'_, '_>,
+) -> Made<()> {
+    let (from, to) = (devices.first()?, devices.first()?);
+    if B > 0 && B < 1 << 32 {
+        player.play(&mut Copying::<_, _, S> {
+            from: BufReader::<Recorder, B>::new(from),
+            to,
+            devices,
+        });
+    }
+    Ok(())
+}
+
+// To a vector, through a writer that fails as it is told.
+fn lend_in_memory(
+    name: &str,
+    words: &str,
+    devices: Devices<'_>,
+    player: &mut Player<'_, '_>,
+) -> Made<()> {
+    let (from, to) = words.split_once(" to ").unwrap_or((words, ""));
+    let to = new_writer(player.alloc, to)?;
+    match name {
+        "4 Cursor" => player.play(&mut Copying::<_, Faulty<Vec<u8>>, 4> {
+            from: new_text(player.alloc, from)?,
+            to,
+            devices,
+        }),
+        "0 &[u8]" => player.play(&mut Copying::<_, Faulty<Vec<u8>>, 0> {
+            from: unescape(player.alloc, from)?.as_slice(),
+            to,
+            devices,
+        }),
+        "0 BufReader 1 Feed" => player.play(&mut Copying::<_, Faulty<Vec<u8>>, 0> {
+            from: BufReader::<Feed, 1>::new(new_feed(player.alloc, from)?),
+            to,
+            devices,
+        }),
+        _ => return Err(NO_STREAM),
+    }
+    Ok(())
+}

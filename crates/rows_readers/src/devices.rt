@@ -1,0 +1,84 @@
+// The devices of a group, on one journal, and the columns of its rows.
+use crate::levels::Levels;
+use rows_play::calls::{show_calls, show_out};
+use rows_play::fault::{Fault, Made};
+use rows_play::journal::Journal;
+use rows_play::line::Line;
+use rows_play::noted::Noted;
+use rows_play::recorder::{Name, Recorder};
+use std::alloc::Global;
+use std::cell::RefCell;
+use std::rc::Rc;
+
+pub const NO_STREAM: Fault = Fault::Malformed("no such stream");
+
+// The columns behind a call's answer and the bytes that it gave.
+#[derive(Clone, Copy, PartialEq)]
+pub enum Columns {
+    Answers,
+    // The calls that reached the devices.
+    Calls,
+    // What each level holds or has left to give, and those calls.
+    Levels,
+    // What stands at each level of a stream in memory: the bytes behind a buffer's, and a cursor's position, too.
+    Memory,
+}
+
+#[derive(Clone, Copy)]
+pub struct Devices<'j> {
+    pub alloc: Global,
+    pub columns: Columns,
+    pub journal: &'j Rc<RefCell<Journal>>,
+}
+
+impl<'j> Devices<'j> {
+    pub fn recorder(self, name: Name) -> Made<Recorder> {
+        Ok(Recorder::new(self.alloc, self.journal.clone()?, name))
+    }
+
+    pub fn first(self) -> Made<Recorder> {
+        self.recorder(Name::Only)
+    }
+
+    // One that notes the name of each call.
+    pub fn noted(self) -> Made<Noted<Recorder>> {
+        Ok(Noted::new(self.first()?, self.journal.clone()?))
+    }
+
+    // Prints the columns behind a call.
+    pub fn show<T: Levels>(self, tower: &T, line: &mut Line) {
+        if matches!(self.columns, Columns::Levels | Columns::Memory) {
+            tower.show(self.columns, line);
+        }
+        self.show_calls(line);
+    }
+
+    // The calls that reached the devices, where there are such.
+    pub fn show_calls(self, line: &mut Line) {
+        if matches!(self.columns, Columns::Calls | Columns::Levels) {
+            show_calls(self.journal, line);
+        }
+    }
+
+    // The bytes that a writer took, and what stands at each level of the reader.
+    pub fn show_copied<R: Levels, W: Levels>(self, from: &R, to: &W, line: &mut Line) {
+        match self.columns {
+            Columns::Levels => show_out(self.journal, line),
+            Columns::Memory => to.show(self.columns, line),
+            _ => {}
+        }
+        self.show(from, line);
+    }
+
+    // Behind an item the calls, or in memory the item's capacity, where it has one.
+    pub fn show_room(self, capacity: Option<usize>, line: &mut Line) {
+        match (self.columns == Columns::Memory, capacity) {
+            (true, Some(capacity)) => {
+                line.column();
+                line.number(capacity as u64);
+            }
+            (true, None) => line.word(" | -"),
+            _ => self.show_calls(line),
+        }
+    }
+}

@@ -1,0 +1,41 @@
+// Rows of streams in memory, and of scripted devices.
+use crate::devices::{Devices, NO_STREAM};
+use rows_play::fault::Made;
+use rows_play::player::Player;
+
+mod boxes;
+mod cursors;
+mod readers;
+mod room;
+pub mod scripts;
+mod vectors;
+
+/// Whether a stream of this name is one of these: the first word or the last one says so.
+pub fn has(name: &str) -> bool {
+    let (word, _) = name.split_once(" ").unwrap_or((name, ""));
+    let (_, base) = name.rsplit_once(" ").unwrap_or(("", name));
+    matches!(word, "boxed" | "cursor" | "grown" | "room")
+        || matches!(base, "Cursor" | "Feed" | "&[u8]")
+}
+
+/// Lends the stream of this name: the first word says which columns a row has.
+pub fn lend(
+    word: &str,
+    name: &str,
+    words: &str,
+    devices: Devices<'_>,
+    player: &mut Player<'_, '_>,
+) -> Made<()> {
+    match word {
+        "cursor" => cursors::lend(name, words, player),
+        "moved" => cursors::lend_moved(words, devices, player),
+        "reader" => readers::lend(name, words, devices, player),
+        "boxed" => boxes::lend(name, words, devices, player),
+        "grown" => vectors::lend(name, words, player),
+        "room" => {
+            player.play(&mut room::Room { name });
+            Ok(())
+        }
+        _ => Err(NO_STREAM),
+    }
+}

@@ -1,0 +1,86 @@
+// Boxed objects, played by rows of calls.
+use super::scripts::{cut, new_text};
+use crate::devices::{Devices, NO_STREAM};
+use crate::streams::{Lending, Reading};
+use rows_play::calls::{Call, make_seek};
+use rows_play::fault::Made;
+use rows_play::line::Line;
+use rows_play::player::{Player, Stream};
+use no_std_io2::io::{BufRead, BufReader, Chain, Cursor, Read, Seek, Take};
+use std::alloc::Global;
+
+// One that seeks.
+#[derive(Drop)]
+struct Seeking {
+    seeker: Box<dyn Seek + Drop>,
+}
+
+impl Stream for Seeking {
+    fn play(&mut self, _alloc: Global, call: &Call<'_>, line: &mut Line) {
+        if !make_seek(&mut self.seeker, call, line) {
+            line.malformed("no such call");
+        }
+    }
+}
+
+pub fn lend(
+    name: &str,
+    words: &str,
+    devices: Devices<'_>,
+    player: &mut Player<'_, '_>,
+) -> Made<()> {
+    match name {
+        "Read" => lend_read(words, devices, player),
+        "BufRead" => lend_buf_read(words, devices, player),
+        "Seek" => lend_seek(words, player),
+        "Chain Read Read" => lend_both(words, devices, player),
+        "BufReader 4 Chain Box &mut Take" => lend_tower(words, devices, player),
+        _ => Err(NO_STREAM),
+    }
+}
+
+// A text in a box.
+fn new_box(alloc: Global, words: &str) -> Made<Box<Cursor<Vec<u8>>>> {
+    Ok(Box::new(alloc, new_text(alloc, words)?)?)
+}
+
+fn lend_read(words: &str, devices: Devices<'_>, player: &mut Player<'_, '_>) -> Made<()> {
+    let tower: Box<dyn Read + Drop> = new_box(player.alloc, words)?;
+    player.play(&mut Reading { tower, devices });
+    Ok(())
+}
+
+fn lend_buf_read(words: &str, devices: Devices<'_>, player: &mut Player<'_, '_>) -> Made<()> {
+    let tower: Box<dyn BufRead + Drop> = new_box(player.alloc, words)?;
+    player.play(&mut Lending { tower, devices });
+    Ok(())
+}
+
+fn lend_seek(words: &str, player: &mut Player<'_, '_>) -> Made<()> {
+    let seeker: Box<dyn Seek + Drop> = new_box(player.alloc, words)?;
+    player.play(&mut Seeking { seeker });
+    Ok(())
+}
+
+fn lend_both(words: &str, devices: Devices<'_>, player: &mut Player<'_, '_>) -> Made<()> {
+    let (first, second) = cut(words);
+    let first: Box<dyn Read + Drop> = new_box(player.alloc, first)?;
+    let second: Box<dyn Read + Drop> = new_box(player.alloc, second)?;
+    player.play(&mut Reading {
+        tower: first.chain(second),
+        devices,
+    });
+    Ok(())
+}
+
+// A buffer of 4 bytes over a boxed object and three bytes of a text that is lent.
+fn lend_tower(words: &str, devices: Devices<'_>, player: &mut Player<'_, '_>) -> Made<()> {
+    let (first, second) = cut(words);
+    let mut second = new_text(player.alloc, second)?.take(3);
+    let first: Box<dyn Read + Drop> = new_box(player.alloc, first)?;
+    let tower = BufReader::<Chain<Box<dyn Read + Drop>, &mut Take<Cursor<Vec<u8>>>>, 4>::new(
+        first.chain(&mut second),
+    );
+    player.play(&mut Lending { tower, devices });
+    Ok(())
+}

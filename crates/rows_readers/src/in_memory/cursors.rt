@@ -1,0 +1,171 @@
+// Cursors, and buffers over one, played by rows of calls.
+//
+// The columns behind a call are its answer, for a read the bytes that it gave, the content and the position; of a buffer what
+// stands at each level.
+use super::scripts::new_text;
+use super::vectors::Buffered;
+use crate::devices::Devices;
+use crate::streams::make_seeking_call;
+use rows_play::calls::{Call, make_call};
+use rows_play::fault::Made;
+use rows_play::line::{Line, unescape};
+use rows_play::player::{Player, Stream};
+use no_std_io2::io::{BufRead, BufReader, BufWriter, Cursor, Seek, Write};
+use std::alloc::Global;
+
+type Text = Cursor<Vec<u8>>;
+
+pub fn show(content: &[u8], position: u64, line: &mut Line) {
+    line.column();
+    line.bytes(content);
+    line.column();
+    line.number(position);
+}
+
+// The position that a row `place N` sets.
+pub fn place_of(call: &Call<'_>, line: &mut Line) -> u64 {
+    line.word("-");
+    call.number(line) as u64
+}
+
+// A call of a stream that writes too.
+fn make_any_call<T: Write + BufRead + Seek>(
+    alloc: Global,
+    stream: &mut T,
+    call: &Call<'_>,
+    line: &mut Line,
+) {
+    if call.word.starts_with("write") || call.word == "flush" {
+        make_call(stream, call, line);
+    } else {
+        make_seeking_call(alloc, stream, call, line);
+    }
+}
+
+// A cursor on a vector. Beside the calls of its traits it has `place N`, which sets the position, and `clone`, which goes on
+// with the clone and answers whether it is equal.
+#[derive(Drop)]
+struct OnVector {
+    cursor: Text,
+}
+
+impl OnVector {
+    fn call_clone(&mut self, line: &mut Line) {
+        match self.cursor.clone() {
+            Ok(clone) => {
+                line.word(if clone == self.cursor {
+                    "equal"
+                } else {
+                    "differs"
+                });
+                self.cursor = clone;
+            }
+            Err(e) => line.error(&e),
+        }
+    }
+}
+
+impl Stream for OnVector {
+    fn play(&mut self, alloc: Global, call: &Call<'_>, line: &mut Line) {
+        match call.word {
+            "place" => self.cursor.set_position(place_of(call, line)),
+            "clone" => self.call_clone(line),
+            _ => make_any_call(alloc, &mut self.cursor, call, line),
+        }
+        show(self.cursor.get_ref(), self.cursor.position(), line);
+    }
+}
+
+// A cursor on what is lent, made anew for each call where the last one stood. It has `place N` too.
+#[derive(Drop)]
+struct OnLent<'a> {
+    name: &'a str,
+    content: Vec<u8>,
+    position: u64,
+}
+
+impl<'a> OnLent<'a> {
+    // Makes a call, and answers where the cursor stands then.
+    fn make_call(&mut self, alloc: Global, call: &Call<'_>, line: &mut Line) -> u64 {
+        match self.name {
+            "&mut Vec" => {
+                let mut cursor = Cursor::new(&mut self.content);
+                cursor.set_position(self.position);
+                make_any_call(alloc, &mut cursor, call, line);
+                cursor.position()
+            }
+            "&mut [u8]" => {
+                let mut cursor = Cursor::new(self.content.as_mut_slice());
+                cursor.set_position(self.position);
+                make_any_call(alloc, &mut cursor, call, line);
+                cursor.position()
+            }
+            "&[u8]" => {
+                let mut cursor = Cursor::new(self.content.as_slice());
+                cursor.set_position(self.position);
+                make_seeking_call(alloc, &mut cursor, call, line);
+                cursor.position()
+            }
+            _ => {
+                line.malformed("no such stream");
+                0
+            }
+        }
+    }
+}
+
+impl<'a> Stream for OnLent<'a> {
+    fn play(&mut self, alloc: Global, call: &Call<'_>, line: &mut Line) {
+        self.position = match call.word {
+            "place" => place_of(call, line),
+            _ => self.make_call(alloc, call, line),
+        };
+        show(&self.content, self.position, line);
+    }
+}
+
+// A buffer of 4 bytes over a text. Beside the calls of a reader and a seeker it has `seek_relative N`, and `place N`, which sets
+// the position of the text below.
+#[derive(Drop)]
+struct Moving<'j> {
+    reader: BufReader<Text, 4>,
+    devices: Devices<'j>,
+}
+
+impl<'j> Stream for Moving<'j> {
+    fn play(&mut self, alloc: Global, call: &Call<'_>, line: &mut Line) {
+        match call.word {
+            "seek_relative" => match call.rest.parse::<i64>() {
+                Ok(offset) => line.done(&self.reader.seek_relative(offset)),
+                Err(_) => line.malformed("no offset behind a call"),
+            },
+            "place" => self.reader.get_mut().set_position(place_of(call, line)),
+            _ => make_seeking_call(alloc, &mut self.reader, call, line),
+        }
+        self.devices.show(&self.reader, line);
+    }
+}
+
+pub fn lend(name: &str, words: &str, player: &mut Player<'_, '_>) -> Made<()> {
+    let content = unescape(player.alloc, words)?;
+    match name {
+        "Vec" => player.play(&mut OnVector {
+            cursor: Cursor::new(content),
+        }),
+        "BufWriter 8" => player.play(&mut Buffered {
+            writer: BufWriter::new(Cursor::new(content)),
+        }),
+        _ => player.play(&mut OnLent {
+            name,
+            content,
+            position: 0,
+        }),
+    }
+    Ok(())
+}
+
+pub fn lend_moved(words: &str, devices: Devices<'_>, player: &mut Player<'_, '_>) -> Made<()> {
+    let reader = BufReader::<Text, 4>::new(new_text(player.alloc, words)?);
+    player.play(&mut Moving { reader, devices });
+    Ok(())
+}

@@ -1,0 +1,228 @@
+// How much room `read_to_end` and `read_until` make in a vector, and `read_line` in a text.
+//
+// A row says the capacity, how many bytes stand there, and how many are to come; behind a piece or a line come 40 others. The
+// columns behind it are the answer, the length and the capacity then, and how many bytes are left to come.
+use super::scripts::push_bytes;
+use io_bench::{Feed, Tally};
+use rows_play::calls::Call;
+use rows_play::line::Line;
+use rows_play::player::Stream;
+use no_std_io2::io::{BufRead, BufReader, Cursor, Read};
+use std::alloc::Global;
+
+// What stands behind the letters to come of a piece or a line.
+const BEHIND: &[u8] = b"\nbbbbbbbbbbbbbbbbbbbbbbbbbbbbbbbbbbbbbbbb";
+
+// What a row says: a vector's capacity and length, and how many bytes are to come.
+#[derive(Clone, Copy)]
+struct Trial<'a> {
+    word: &'a str,
+    capacity: usize,
+    len: usize,
+    to_come: usize,
+}
+
+fn number_of(word: &str, line: &mut Line) -> usize {
+    match word.parse::<usize>() {
+        Ok(number) => number,
+        Err(_) => {
+            line.malformed("no such number");
+            0
+        }
+    }
+}
+
+fn parse_trial<'a>(call: &Call<'a>, line: &mut Line) -> Trial<'a> {
+    let (capacity, rest) = call.rest.split_once(" ").unwrap_or(("", ""));
+    let (len, to_come) = rest.split_once(" ").unwrap_or(("", ""));
+    Trial {
+        word: call.word,
+        capacity: number_of(capacity, line),
+        len: number_of(len, line),
+        to_come: number_of(to_come, line),
+    }
+}
+
+fn bytes_of(alloc: Global, trial: Trial<'_>, line: &mut Line) -> Vec<u8> {
+    let (letters, behind) = match trial.word {
+        "read_to_end" => (trial.to_come, &BEHIND[..0]),
+        _ => (trial.to_come.saturating_sub(1), BEHIND),
+    };
+    let mut bytes = Vec::new(alloc);
+    if bytes.resize(letters, b'a').is_err() || bytes.extend_from_slice(behind).is_err() {
+        line.cut();
+    }
+    bytes
+}
+
+fn room_of(alloc: Global, trial: Trial<'_>, line: &mut Line) -> Vec<u8> {
+    let mut room = match Vec::with_capacity(alloc, trial.capacity) {
+        Ok(room) => room,
+        Err(_) => Vec::new(alloc),
+    };
+    if room.resize(trial.len, b'.').is_err() {
+        line.cut();
+    }
+    room
+}
+
+// The same as a text.
+fn text_of(alloc: Global, trial: Trial<'_>, line: &mut Line) -> String {
+    let mut text = match String::with_capacity(alloc, trial.capacity) {
+        Ok(text) => text,
+        Err(_) => String::new(alloc),
+    };
+    'dots: for _ in 0..trial.len {
+        if text.push_str(".").is_err() {
+            line.cut();
+        }
+    }
+    text
+}
+
+// Prints the columns behind an answer.
+fn show<R: Read>(alloc: Global, len: usize, capacity: usize, r: &mut R, line: &mut Line) {
+    line.column();
+    line.number(len as u64);
+    line.column();
+    line.number(capacity as u64);
+    line.column();
+    let mut rest = Vec::new(alloc);
+    line.length(&r.read_to_end(&mut rest));
+}
+
+// Reads all.
+fn read_all<R: Read>(alloc: Global, trial: Trial<'_>, r: &mut R, line: &mut Line) {
+    let mut room = room_of(alloc, trial, line);
+    match trial.word {
+        "read_to_end" => line.length(&r.read_to_end(&mut room)),
+        _ => line.malformed("no such call"),
+    }
+    show(alloc, room.len(), room.capacity(), r, line);
+}
+
+// Up to a newline.
+fn read_piece<R: BufRead>(alloc: Global, trial: Trial<'_>, r: &mut R, line: &mut Line) {
+    let mut room = room_of(alloc, trial, line);
+    line.length(&r.read_until(b'\n', &mut room));
+    show(alloc, room.len(), room.capacity(), r, line);
+}
+
+fn read_line<R: BufRead>(alloc: Global, trial: Trial<'_>, r: &mut R, line: &mut Line) {
+    let mut text = text_of(alloc, trial, line);
+    line.length(&r.read_line(alloc, &mut text));
+    show(alloc, text.len(), text.capacity(), r, line);
+}
+
+// Reads what the row says.
+fn read_some<R: BufRead>(alloc: Global, trial: Trial<'_>, r: &mut R, line: &mut Line) {
+    match trial.word {
+        "read_until" => read_piece(alloc, trial, r, line),
+        "read_line" => read_line(alloc, trial, r, line),
+        _ => read_all(alloc, trial, r, line),
+    }
+}
+
+fn read_lent<R: BufRead>(alloc: Global, trial: Trial<'_>, r: &mut R, line: &mut Line) {
+    read_some(alloc, trial, &mut &mut *r, line);
+}
+
+// A feed has the trait's own body.
+fn read_feed(alloc: Global, trial: Trial<'_>, bytes: &[u8], line: &mut Line) {
+    let mut events = Vec::new(alloc);
+    match push_bytes(&mut events, bytes) {
+        Ok(()) => read_all(alloc, trial, &mut Feed::new(events, 100), line),
+        Err(_) => line.cut(),
+    }
+}
+
+fn read_box(
+    alloc: Global,
+    trial: Trial<'_>,
+    boxed: Box<Cursor<Vec<u8>>>,
+    name: &str,
+    line: &mut Line,
+) {
+    match name {
+        "dyn Read" => {
+            let mut object: Box<dyn Read + Drop> = boxed;
+            read_all(alloc, trial, &mut object, line);
+        }
+        "dyn BufRead" => {
+            let mut object: Box<dyn BufRead + Drop> = boxed;
+            read_some(alloc, trial, &mut object, line);
+        }
+        _ => {
+            let mut boxed = boxed;
+            read_some(alloc, trial, &mut boxed, line);
+        }
+    }
+}
+
+// By a buffer of 4 bytes that is empty, or full.
+fn read_buffer(alloc: Global, trial: Trial<'_>, bytes: &[u8], is_full: bool, line: &mut Line) {
+    let mut reader = BufReader::<Cursor<&[u8]>, 4>::new(Cursor::new(bytes));
+    if is_full && reader.fill_buf().is_err() {
+        line.malformed("a buffer that is not filled");
+    }
+    read_some(alloc, trial, &mut reader, line);
+}
+
+fn read_limit(alloc: Global, trial: Trial<'_>, bytes: &[u8], limit: &str, line: &mut Line) {
+    let most = match limit {
+        "MAX" => Ok(u64::MAX),
+        _ => limit.parse::<u64>(),
+    };
+    match most {
+        Ok(most) => read_some(alloc, trial, &mut Cursor::new(bytes).take(most), line),
+        Err(_) => line.malformed("no such limit"),
+    }
+}
+
+// Readers of this name, which read these bytes into a vector.
+#[derive(Drop)]
+pub struct Room<'a> {
+    pub name: &'a str,
+}
+
+impl<'a> Room<'a> {
+    fn read(&self, alloc: Global, trial: Trial<'_>, bytes: Vec<u8>, line: &mut Line) {
+        let Some(name) = self.name.strip_prefix("Box ") else {
+            self.read_slice(alloc, trial, bytes.as_slice(), line);
+            return;
+        };
+        match Box::new(alloc, Cursor::new(bytes)) {
+            Ok(boxed) => read_box(alloc, trial, boxed, name, line),
+            Err(_) => line.cut(),
+        }
+    }
+
+    fn read_slice(&self, alloc: Global, trial: Trial<'_>, bytes: &[u8], line: &mut Line) {
+        let mut rest = bytes;
+        let (head, tail) = bytes.split_at(bytes.len() / 2);
+        match self.name {
+            "&[u8]" => read_some(alloc, trial, &mut rest, line),
+            "Cursor" => read_some(alloc, trial, &mut Cursor::new(bytes), line),
+            "&mut Cursor" => read_lent(alloc, trial, &mut Cursor::new(bytes), line),
+            "Feed" => read_feed(alloc, trial, bytes, line),
+            "Tally" => read_all(alloc, trial, &mut Tally::new(Cursor::new(bytes)), line),
+            "BufReader 4" => read_buffer(alloc, trial, bytes, false, line),
+            "BufReader 4 full" => read_buffer(alloc, trial, bytes, true, line),
+            "Chain" => read_some(alloc, trial, &mut head.chain(tail), line),
+            "Chain behind nothing" => {
+                read_some(alloc, trial, &mut b"".chain(Cursor::new(bytes)), line);
+            }
+            _ => match self.name.split_once(" ") {
+                Some(("Take", limit)) => read_limit(alloc, trial, bytes, limit, line),
+                _ => line.malformed("no such stream"),
+            },
+        }
+    }
+}
+
+impl<'a> Stream for Room<'a> {
+    fn play(&mut self, alloc: Global, call: &Call<'_>, line: &mut Line) {
+        let trial = parse_trial(call, line);
+        self.read(alloc, trial, bytes_of(alloc, trial, line), line);
+    }
+}

@@ -1,0 +1,176 @@
+// Single bytes, pieces and lines of readers, played by rows of `next`.
+//
+// The columns behind a call are the item, a piece or a line with its kind in front, and the calls that reached the devices, or in
+// memory the capacity that a piece or a line has.
+use crate::devices::{Devices, NO_STREAM};
+use crate::in_memory::scripts::{cut, new_feed, new_text};
+use crate::streams::show_byte;
+use io_bench::Feed;
+use rows_play::calls::Call;
+use rows_play::fault::Made;
+use rows_play::line::{Line, unescape};
+use rows_play::player::{Player, Stream};
+use rows_play::recorder::Name;
+use no_std_io2::io::{BufRead, BufReader, Bytes, Lines, Read, Result, Split};
+use std::alloc::Global;
+
+// Whether a row asks for an item.
+fn is_next(call: &Call<'_>, line: &mut Line) -> bool {
+    if call.word != "next" {
+        line.malformed("no such call");
+        return false;
+    }
+    true
+}
+
+#[derive(Drop)]
+struct Singles<'j, T: Drop> {
+    bytes: Bytes<T>,
+    devices: Devices<'j>,
+}
+
+impl<'j, T: Read + Drop> Stream for Singles<'j, T> {
+    fn play(&mut self, _alloc: Global, call: &Call<'_>, line: &mut Line) {
+        if is_next(call, line) {
+            show_byte(self.bytes.next(), line);
+            self.devices.show_calls(line);
+        }
+    }
+}
+
+// Prints a piece or a line, and the columns behind it.
+fn show_item(kind: &str, item: Option<Result<Vec<u8>>>, devices: Devices<'_>, line: &mut Line) {
+    let mut capacity = None;
+    match item {
+        None => line.word("-"),
+        Some(Ok(bytes)) => {
+            line.word(kind);
+            line.bytes(&bytes);
+            capacity = Some(bytes.capacity());
+        }
+        Some(Err(e)) => line.error(&e),
+    }
+    devices.show_room(capacity, line);
+}
+
+#[derive(Drop)]
+struct Pieces<'j, T: Drop> {
+    pieces: Split<T>,
+    devices: Devices<'j>,
+}
+
+impl<'j, T: BufRead + Drop> Stream for Pieces<'j, T> {
+    fn play(&mut self, _alloc: Global, call: &Call<'_>, line: &mut Line) {
+        if is_next(call, line) {
+            show_item("piece ", self.pieces.next(), self.devices, line);
+        }
+    }
+}
+
+#[derive(Drop)]
+struct TextLines<'j, T: Drop> {
+    lines: Lines<T>,
+    devices: Devices<'j>,
+}
+
+impl<'j, T: BufRead + Drop> Stream for TextLines<'j, T> {
+    fn play(&mut self, _alloc: Global, call: &Call<'_>, line: &mut Line) {
+        if is_next(call, line) {
+            let item = match self.lines.next() {
+                None => None,
+                Some(Ok(text)) => Some(Ok(text.into_bytes())),
+                Some(Err(e)) => Some(Err(e)),
+            };
+            show_item("line ", item, self.devices, line);
+        }
+    }
+}
+
+pub fn lend_bytes(
+    tower: &str,
+    words: &str,
+    devices: Devices<'_>,
+    player: &mut Player<'_, '_>,
+) -> Made<()> {
+    match tower {
+        "Device" => player.play(&mut Singles {
+            bytes: devices.first()?.bytes(),
+            devices,
+        }),
+        "Chain" => player.play(&mut Singles {
+            bytes: devices
+                .first()?
+                .chain(devices.recorder(Name::Second)?)
+                .bytes(),
+            devices,
+        }),
+        "Feed" => player.play(&mut Singles {
+            bytes: new_feed(player.alloc, words)?.bytes(),
+            devices,
+        }),
+        _ => return Err(NO_STREAM),
+    }
+    Ok(())
+}
+
+// The pieces that commas part, of a text those that each `3` does.
+pub fn lend_pieces(
+    tower: &str,
+    words: &str,
+    devices: Devices<'_>,
+    player: &mut Player<'_, '_>,
+) -> Made<()> {
+    match tower {
+        "Device" => player.play(&mut Pieces {
+            pieces: devices.first()?.split(player.alloc, b','),
+            devices,
+        }),
+        "Cursor" => player.play(&mut Pieces {
+            pieces: new_text(player.alloc, words)?.split(player.alloc, b'3'),
+            devices,
+        }),
+        _ => return Err(NO_STREAM),
+    }
+    Ok(())
+}
+
+pub fn lend_lines(
+    tower: &str,
+    words: &str,
+    devices: Devices<'_>,
+    player: &mut Player<'_, '_>,
+) -> Made<()> {
+    match tower {
+        "Device" => player.play(&mut TextLines {
+            lines: devices.first()?.lines(player.alloc),
+            devices,
+        }),
+        "Cursor" => player.play(&mut TextLines {
+            lines: new_text(player.alloc, words)?.lines(player.alloc),
+            devices,
+        }),
+        "BufReader 2 Feed" => {
+            let reader = BufReader::<Feed, 2>::new(new_feed(player.alloc, words)?);
+            player.play(&mut TextLines {
+                lines: reader.lines(player.alloc),
+                devices,
+            });
+        }
+        "Chain &[u8] &[u8]" => lend_both(words, devices, player)?,
+        _ => return Err(NO_STREAM),
+    }
+    Ok(())
+}
+
+// The lines of two slices.
+fn lend_both(words: &str, devices: Devices<'_>, player: &mut Player<'_, '_>) -> Made<()> {
+    let (first, second) = cut(words);
+    let first = unescape(player.alloc, first)?;
+    let second = unescape(player.alloc, second)?;
+    let both = first.as_slice().chain(second.as_slice());
+    player.play(&mut TextLines {
+        lines: both.lines(player.alloc),
+        devices,
+    });
+    Ok(())
+}

@@ -1,0 +1,121 @@
+// What stands at each level of a reader, the outer one first: a column for each that has such.
+use crate::devices::Columns;
+use crate::in_memory::scripts::show_events;
+use io_bench::{Faulty, Feed, Tally};
+use rows_play::line::Line;
+use rows_play::noted::Noted;
+use rows_play::recorder::Recorder;
+use no_std_io2::io::{BufRead, BufReader, Chain, Cursor, Read, Take};
+
+pub trait Levels {
+    fn show(&self, _columns: Columns, _line: &mut Line) {}
+
+    // Sets the limit, and answers whether there is one.
+    fn limit(&mut self, _limit: usize) -> bool {
+        false
+    }
+}
+
+impl Levels for Recorder {}
+
+impl Levels for Noted<Recorder> {}
+
+// Nothing of what is boxed as an object.
+impl Levels for Box<dyn Read + Drop> {}
+
+impl Levels for Box<dyn BufRead + Drop> {}
+
+impl<R: Levels> Levels for Box<R> {
+    fn show(&self, columns: Columns, line: &mut Line) {
+        R::show(self, columns, line);
+    }
+}
+
+impl<'a, R: Levels> Levels for &'a mut R {
+    fn show(&self, columns: Columns, line: &mut Line) {
+        R::show(self, columns, line);
+    }
+}
+
+// What is left.
+impl<'a> Levels for &'a [u8] {
+    fn show(&self, _columns: Columns, line: &mut Line) {
+        line.column();
+        line.bytes(self);
+    }
+}
+
+// The position of a text in memory.
+impl Levels for Cursor<Vec<u8>> {
+    fn show(&self, columns: Columns, line: &mut Line) {
+        if columns == Columns::Memory {
+            line.column();
+            line.number(self.position());
+        }
+    }
+}
+
+// The events that are left.
+impl Levels for Feed {
+    fn show(&self, _columns: Columns, line: &mut Line) {
+        line.column();
+        show_events(self.left(), line);
+    }
+}
+
+// The bytes that it took.
+impl Levels for Faulty<Vec<u8>> {
+    fn show(&self, _columns: Columns, line: &mut Line) {
+        line.column();
+        line.bytes(self.get_ref());
+    }
+}
+
+// How often it was read.
+impl<R: Levels + Drop> Levels for Tally<R> {
+    fn show(&self, columns: Columns, line: &mut Line) {
+        line.column();
+        line.number(self.reads());
+        self.get_ref().show(columns, line);
+    }
+}
+
+impl<A: Levels + Drop, B: Levels + Drop> Levels for Chain<A, B> {
+    fn show(&self, columns: Columns, line: &mut Line) {
+        let (first, second) = self.get_ref();
+        first.show(columns, line);
+        second.show(columns, line);
+    }
+
+    fn limit(&mut self, limit: usize) -> bool {
+        let (first, _second) = self.get_mut();
+        first.limit(limit)
+    }
+}
+
+// Its limit.
+impl<R: Levels + Drop> Levels for Take<R> {
+    fn show(&self, columns: Columns, line: &mut Line) {
+        line.column();
+        line.number(self.limit());
+        self.get_ref().show(columns, line);
+    }
+
+    fn limit(&mut self, limit: usize) -> bool {
+        self.set_limit(limit as u64);
+        true
+    }
+}
+
+// The bytes held, and in memory those behind.
+impl<R: Levels + Drop, const S: usize> Levels for BufReader<R, S> {
+    fn show(&self, columns: Columns, line: &mut Line) {
+        if columns == Columns::Memory {
+            line.column();
+            line.bytes(self.behind());
+        }
+        line.column();
+        line.bytes(self.buffer());
+        self.get_ref().show(columns, line);
+    }
+}

@@ -1,0 +1,81 @@
+//! Plays the files of rows of readers, their seeks, pieces and copies, over devices that write down each call, and of streams in
+//! memory: those that its arguments name, as [`rows_play`] reads them.
+#![tactic(auto)]
+
+mod copying;
+mod devices;
+mod in_memory;
+mod items;
+mod levels;
+mod moving;
+mod noted;
+mod reading;
+mod streams;
+
+use devices::{Columns, Devices, NO_STREAM};
+use rows_play::calls::new_journal;
+use rows_play::fault::Made;
+use rows_play::files::play_files;
+use rows_play::player::{Player, Streams};
+use std::process::ExitCode;
+
+// The streams of this program.
+struct Readers;
+
+impl Streams for Readers {
+    fn lend(name: &str, words: &str, player: &mut Player<'_, '_>) -> Made<()> {
+        let (word, tower) = name.split_once(" ").unwrap_or((name, ""));
+        let columns = match word {
+            _ if in_memory::has(name) => Columns::Memory,
+            "answers" => Columns::Answers,
+            "noted" => Columns::Calls,
+            _ => Columns::Levels,
+        };
+        let script = if columns == Columns::Memory {
+            ""
+        } else {
+            words
+        };
+        let journal = new_journal(player.alloc, script)?;
+        let devices = Devices {
+            alloc: player.alloc,
+            columns,
+            journal: &journal,
+        };
+        match word {
+            "bytes" => items::lend_bytes(tower, words, devices, player),
+            "split" => items::lend_pieces(tower, words, devices, player),
+            "lines" => items::lend_lines(tower, words, devices, player),
+            "copy" => copying::lend(tower, words, devices, player),
+            _ if columns == Columns::Memory => {
+                in_memory::lend(word, tower, words, devices, player)
+            }
+            _ => lend_recorded(word, tower, devices, player),
+        }
+    }
+
+    // A scripted device has none.
+    fn has_texts(name: &str) -> bool {
+        !in_memory::has(name)
+    }
+}
+
+// Over devices that write down each call.
+fn lend_recorded(
+    word: &str,
+    tower: &str,
+    devices: Devices<'_>,
+    player: &mut Player<'_, '_>,
+) -> Made<()> {
+    match word {
+        "reader" | "answers" => reading::lend(tower, devices, player),
+        "noted" => noted::lend(tower, devices, player),
+        "seeker" => reading::lend_seeker(devices, player),
+        "moved" => moving::lend(devices, player),
+        _ => Err(NO_STREAM),
+    }
+}
+
+fn main(rt: HostRuntime) -> ExitCode {
+    play_files::<Readers>(&rt)
+}

@@ -1,0 +1,81 @@
+// A buffered reader over a recorder that is moved, and from which records are read, played by rows of calls.
+//
+// The columns behind a call are its answer, for a read the bytes that it gave, the bytes behind, those held, and the calls that
+// reached the device.
+use crate::devices::Devices;
+use examples::records::{peek_header, read_record};
+use rows_play::calls::{Call, make_seek};
+use rows_play::fault::Made;
+use rows_play::line::Line;
+use rows_play::player::{Player, Stream};
+use rows_play::reads::make_lend;
+use rows_play::recorder::Recorder;
+use no_std_io2::io::BufReader;
+use std::alloc::Global;
+
+type Reader = BufReader<Recorder, 8>;
+
+fn call_peek(r: &mut Reader, line: &mut Line) {
+    match peek_header(r) {
+        Ok((tag, len)) => {
+            line.bytes(&[tag]);
+            line.word(" ");
+            line.number(u64::from(len));
+        }
+        Err(e) => line.error(&e),
+    }
+}
+
+fn call_record(alloc: Global, r: &mut Reader, tag: u8, line: &mut Line) {
+    match read_record(alloc, r, tag) {
+        Ok(Some(payload)) => line.bytes(&payload),
+        Ok(None) => line.word("another"),
+        Err(e) => line.error(&e),
+    }
+}
+
+// Beside the calls of a reader and a seeker a row has these: `seek_relative N`, `peek`, which answers the next record's tag and
+// length, and `record TAG`.
+#[derive(Drop)]
+struct Moving<'j> {
+    reader: Reader,
+    devices: Devices<'j>,
+}
+
+impl<'j> Moving<'j> {
+    fn make_move(&mut self, alloc: Global, call: &Call<'_>, line: &mut Line) {
+        match call.word {
+            "seek_relative" => match call.rest.parse::<i64>() {
+                Ok(offset) => line.done(&self.reader.seek_relative(offset)),
+                Err(_) => line.malformed("no offset behind a call"),
+            },
+            "peek" => call_peek(&mut self.reader, line),
+            "record" => match call.bytes.first() {
+                Some(tag) => call_record(alloc, &mut self.reader, *tag, line),
+                None => line.malformed("no tag behind a call"),
+            },
+            _ => {
+                if !make_seek(&mut self.reader, call, line) {
+                    make_lend(alloc, &mut self.reader, call, line);
+                }
+            }
+        }
+    }
+}
+
+impl<'j> Stream for Moving<'j> {
+    fn play(&mut self, alloc: Global, call: &Call<'_>, line: &mut Line) {
+        self.make_move(alloc, call, line);
+        line.column();
+        line.bytes(self.reader.behind());
+        line.column();
+        line.bytes(self.reader.buffer());
+        self.devices.show_calls(line);
+    }
+}
+
+pub fn lend(devices: Devices<'_>, player: &mut Player<'_, '_>) -> Made<()> {
+    let reader = Reader::new(devices.first()?);
+    player.play(&mut Moving { reader, devices });
+    Ok(())
+}

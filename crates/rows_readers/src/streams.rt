@@ -1,0 +1,98 @@
+// Readers that are played by rows of calls. The columns behind a call are its answer, for a read the bytes that it gave, and
+// those that the table shows.
+use crate::devices::Devices;
+use crate::levels::Levels;
+use rows_play::calls::{Call, make_seek};
+use rows_play::line::Line;
+use rows_play::player::Stream;
+use rows_play::reads::{make_lend, make_read};
+use no_std_io2::io::{BufRead, Read, Result, Seek};
+use std::alloc::Global;
+
+// A single byte, and a dash at the end.
+pub fn show_byte(item: Option<Result<u8>>, line: &mut Line) {
+    match item {
+        None => line.word("-"),
+        Some(Ok(byte)) => line.bytes(&[byte]),
+        Some(Err(e)) => line.error(&e),
+    }
+}
+
+// One that reads.
+#[derive(Drop)]
+pub struct Reading<'j, T: Drop> {
+    pub tower: T,
+    pub devices: Devices<'j>,
+}
+
+impl<'j, T: Read + Levels + Drop> Stream for Reading<'j, T> {
+    fn play(&mut self, alloc: Global, call: &Call<'_>, line: &mut Line) {
+        make_read(alloc, &mut self.tower, call, line);
+        self.devices.show(&self.tower, line);
+    }
+}
+
+// One that lends. Beside its calls `limit N` sets a limit, and `next` gives a single byte.
+#[derive(Drop)]
+pub struct Lending<'j, T: Drop> {
+    pub tower: T,
+    pub devices: Devices<'j>,
+}
+
+impl<'j, T: BufRead + Levels + Drop> Stream for Lending<'j, T> {
+    fn play(&mut self, alloc: Global, call: &Call<'_>, line: &mut Line) {
+        match call.word {
+            "limit" => {
+                if self.tower.limit(call.number(line)) {
+                    line.word("-");
+                } else {
+                    line.malformed("no limit");
+                }
+            }
+            "next" => show_byte(self.tower.by_ref().bytes().next(), line),
+            _ => make_lend(alloc, &mut self.tower, call, line),
+        }
+        self.devices.show(&self.tower, line);
+    }
+}
+
+// One that lends and seeks. It is lent so often for each call.
+#[derive(Drop)]
+pub struct Seeking<'j, T: Drop> {
+    pub tower: T,
+    pub lent: usize,
+    pub devices: Devices<'j>,
+}
+
+/// A call of a reader that lends and seeks.
+pub fn make_seeking_call<T: BufRead + Seek>(
+    alloc: Global,
+    stream: &mut T,
+    call: &Call<'_>,
+    line: &mut Line,
+) {
+    if !make_seek(stream, call, line) {
+        make_lend(alloc, stream, call, line);
+    }
+}
+
+// The same of one that is lent once more.
+fn make_lent_call<T: BufRead + Seek>(
+    alloc: Global,
+    stream: &mut T,
+    call: &Call<'_>,
+    line: &mut Line,
+) {
+    make_seeking_call(alloc, &mut &mut *stream, call, line);
+}
+
+impl<'j, T: BufRead + Seek + Levels + Drop> Stream for Seeking<'j, T> {
+    fn play(&mut self, alloc: Global, call: &Call<'_>, line: &mut Line) {
+        match self.lent {
+            0 => make_seeking_call(alloc, &mut self.tower, call, line),
+            1 => make_lent_call(alloc, &mut self.tower, call, line),
+            _ => make_lent_call(alloc, &mut &mut self.tower, call, line),
+        }
+        self.devices.show(&self.tower, line);
+    }
+}

@@ -1,0 +1,36 @@
+// `joined`: what a run accepted, by its replies.
+//
+// A row is `joined`, the calls and behind an arrow their replies; then the bytes, or `none`.
+use crate::ops::{ops_of, parse_calls, parse_replies};
+use io_bench::joined;
+use rows_play::calls::Call;
+use rows_play::fault::Made;
+use rows_play::line::Line;
+use rows_play::player::{Player, Stream};
+use std::alloc::Global;
+
+// Nothing but what its rows say.
+#[derive(Drop)]
+struct Joining;
+
+impl Stream for Joining {
+    fn play(&mut self, alloc: Global, call: &Call<'_>, line: &mut Line) {
+        let Some((words, told)) = call.rest.split_once("->") else {
+            line.malformed("no replies behind an arrow");
+            return;
+        };
+        let calls = parse_calls(alloc, words.trim(), line);
+        let ops = ops_of(alloc, &calls, line);
+        let replies = parse_replies(alloc, told.trim(), line);
+        match joined(alloc, &ops, &replies) {
+            Ok(Some(bytes)) => line.bytes(&bytes),
+            Ok(None) => line.word("none"),
+            Err(_refused) => line.cut(),
+        }
+    }
+}
+
+pub fn lend(player: &mut Player<'_, '_>) -> Made<()> {
+    player.play(&mut Joining);
+    Ok(())
+}

@@ -1,0 +1,91 @@
+// The acts of a device as a row has them, `take 2, zero, fail BrokenPipe`, and the events of a feed, `ab!c`.
+use crate::ops::push;
+use io_bench::{Act, Event, Feed};
+use rows_play::fault::{Fault, Made};
+use rows_play::kinds::kind_of_name;
+use rows_play::line::Line;
+use no_std_io2::io::ErrorKind;
+use std::alloc::Global;
+
+fn parse_act(words: &str) -> Option<Act> {
+    let (word, rest) = words.split_once(" ").unwrap_or((words, ""));
+    match word {
+        "zero" => Some(Act::Zero),
+        "take" => Some(Act::Take(rest.parse::<usize>().ok()?)),
+        "fail" => Some(Act::Fail(kind_of_name(rest)?)),
+        _ => None,
+    }
+}
+
+/// The acts that a line names, in order.
+pub fn parse_acts(alloc: Global, words: &str) -> Made<Vec<Act>> {
+    let mut acts = Vec::new(alloc);
+    if words.is_empty() {
+        return Ok(acts);
+    }
+    'acts: for word in words.split(", ") {
+        match parse_act(word) {
+            Some(act) => acts.push(act)?,
+            None => return Err(Fault::Malformed("no such act")),
+        }
+    }
+    Ok(acts)
+}
+
+// A character stands for a byte, but for these: a broken pipe, an interruption, a device's own end, its want of memory, and that
+// it was late.
+fn event_of(byte: u8) -> Event {
+    match byte {
+        b'!' => Event::Fail(ErrorKind::BrokenPipe),
+        b'~' => Event::Fail(ErrorKind::Interrupted),
+        b'?' => Event::Fail(ErrorKind::UnexpectedEof),
+        b'#' => Event::Fail(ErrorKind::OutOfMemory),
+        b'%' => Event::Fail(ErrorKind::TimedOut),
+        _ => Event::Byte(byte),
+    }
+}
+
+/// The character that stands for a failure.
+pub fn mark_of(kind: ErrorKind) -> u8 {
+    match kind {
+        ErrorKind::BrokenPipe => b'!',
+        ErrorKind::Interrupted => b'~',
+        ErrorKind::UnexpectedEof => b'?',
+        ErrorKind::OutOfMemory => b'#',
+        ErrorKind::TimedOut => b'%',
+        _ => b'*',
+    }
+}
+
+/// The events that a text stands for.
+pub fn events_of(alloc: Global, script: &[u8], line: &mut Line) -> Vec<Event> {
+    let mut events = Vec::new(alloc);
+    'bytes: for byte in script {
+        push(&mut events, event_of(*byte), line);
+    }
+    events
+}
+
+/// The feed of a line that says its piece and its events.
+pub fn parse_feed(alloc: Global, words: &str) -> Made<Feed> {
+    let (piece, script) = words.split_once(" ").unwrap_or((words, ""));
+    let mut line = Line::new(alloc);
+    let events = events_of(alloc, script.as_bytes(), &mut line);
+    match piece.parse::<usize>() {
+        Ok(n) if n > 0 && !line.is_cut() => Ok(Feed::new(events, n)),
+        _ => Err(Fault::Malformed("no feed of such pieces")),
+    }
+}
+
+/// Prints the events that are left, and none as a dash.
+pub fn show_left(events: &[Event], line: &mut Line) {
+    if events.is_empty() {
+        line.word("-");
+    }
+    'events: for event in events {
+        line.bytes(&[match *event {
+            Event::Byte(byte) => byte,
+            Event::Fail(kind) => mark_of(kind),
+        }]);
+    }
+}

@@ -1,0 +1,170 @@
+// `run_reads`: asks of a buffered reader of 4 bytes over a tally.
+//
+// A row is `ask` and the asks, each a run of its own; then how many met the end and how many failed, what the buffer holds, what
+// is left below, and how many inner reads there were since the row before, of a filling reader also how many at most.
+ghost use Rattle.io_bench.specs.Asks.{Fits};
+
+use crate::NO_STREAM;
+use crate::acts::{parse_feed, show_left};
+use io_bench::{Ask, Feed, ReadTotals, Tally, run_reads};
+use rows_play::calls::Call;
+use rows_play::fault::{Fault, Made};
+use rows_play::line::Line;
+use rows_play::player::{Player, Stream};
+use no_std_io2::io::{BufReader, Read};
+use std::alloc::Global;
+
+// The most bytes that an ask may want.
+const ROOM: usize = 16;
+
+/// What is asked below the buffer.
+trait Source: Read {
+    /// Prints what it has left.
+    fn show(&self, line: &mut Line);
+
+    /// How many bytes it has left, where each read fills its buffer as far as there are some.
+    fn filling(&self) -> Option<usize>;
+}
+
+impl Source for &'static [u8] {
+    fn show(&self, line: &mut Line) {
+        line.bytes(self);
+    }
+
+    fn filling(&self) -> Option<usize> {
+        Some(self.len())
+    }
+}
+
+impl Source for Feed {
+    fn show(&self, line: &mut Line) {
+        show_left(self.left(), line);
+    }
+
+    fn filling(&self) -> Option<usize> {
+        None
+    }
+}
+
+// An ask of this many bytes, of a read `ROOM` at most.
+fn ask_of(word: &str, count: usize, line: &mut Line) -> Ask
+    ensures { Fits 16 result }
+{
+    match word {
+        "read" => Ask::Read(count.min(ROOM)),
+        "exact" => Ask::Exact(count.min(ROOM)),
+        "fill" => Ask::Fill(count),
+        _ => {
+            line.malformed("no such ask");
+            Ask::Fill(0)
+        }
+    }
+}
+
+/// A buffered reader over a tally.
+trait Asked {
+    /// Makes an ask.
+    fn ask(&mut self, ask: Ask) -> ReadTotals
+        requires { Fits 16 ask };
+
+    /// Prints what is held and what is left, a column each.
+    fn show(&self, line: &mut Line);
+
+    /// How many inner reads there were.
+    fn reads(&self) -> u64;
+
+    /// How many bytes are held or left, of a filling reader.
+    fn to_come(&self) -> Option<u64>;
+}
+
+impl<R: Source + Drop, const S: usize> Asked for BufReader<Tally<R>, S> {
+    fn ask(&mut self, ask: Ask) -> ReadTotals {
+        run_reads(self, &[ask], &mut [0; ROOM])
+    }
+
+    fn show(&self, line: &mut Line) {
+        line.column();
+        line.bytes(self.buffer());
+        line.column();
+        self.get_ref().get_ref().show(line);
+        line.column();
+    }
+
+    fn reads(&self) -> u64 {
+        self.get_ref().reads()
+    }
+
+    fn to_come(&self) -> Option<u64> {
+        let left = self.get_ref().get_ref().filling()?;
+        Some(left.wrapping_add(self.buffer().len()) as u64)
+    }
+}
+
+// Makes the asks of a row, and adds up what they come to.
+fn ask_all<T: Asked>(reader: &mut T, words: &str, line: &mut Line) -> ReadTotals {
+    let mut totals = ReadTotals {
+        at_end: 0,
+        failed: 0,
+    };
+    if words.is_empty() {
+        return totals;
+    }
+    'asks: for words in words.split(", ") {
+        let (word, count) = words.split_once(" ").unwrap_or((words, ""));
+        let Ok(count) = count.parse::<usize>() else {
+            line.malformed("no number of an ask");
+            return totals;
+        };
+        let more = reader.ask(ask_of(word, count, line));
+        totals.at_end = totals.at_end.wrapping_add(more.at_end);
+        totals.failed = totals.failed.wrapping_add(more.failed);
+    }
+    totals
+}
+
+// Asks of a reader.
+#[derive(Drop)]
+struct Asking<T: Drop> {
+    reader: T,
+}
+
+impl<T: Asked + Drop> Stream for Asking<T> {
+    fn play(&mut self, _alloc: Global, call: &Call<'_>, line: &mut Line) {
+        let reads = self.reader.reads();
+        let before = self.reader.to_come();
+        let totals = ask_all(&mut self.reader, call.rest, line);
+        line.number(totals.at_end);
+        line.word(" ");
+        line.number(totals.failed);
+        self.reader.show(line);
+        line.number(self.reader.reads().wrapping_sub(reads));
+        if let (Some(before), Some(after)) = (before, self.reader.to_come()) {
+            let most = before.wrapping_sub(after) / 4;
+            line.word(" of ");
+            line.number(most.wrapping_add(totals.at_end).wrapping_add(1));
+        }
+    }
+}
+
+// The bytes of a slice, of which a line says the number.
+const DIGITS: &[u8] = b"0123456789";
+
+pub fn lend(name: &str, words: &str, player: &mut Player<'_, '_>) -> Made<()> {
+    match name {
+        "of a slice" => {
+            let Ok(count) = words.parse::<usize>() else {
+                return Err(Fault::Malformed("no number of bytes"));
+            };
+            let slice = &DIGITS[..count.min(10)];
+            let reader = BufReader::<Tally<&'static [u8]>, 4>::new(Tally::new(slice));
+            player.play(&mut Asking { reader });
+        }
+        "of a feed" => {
+            let feed = parse_feed(player.alloc, words)?;
+            let reader = BufReader::<Tally<Feed>, 4>::new(Tally::new(feed));
+            player.play(&mut Asking { reader });
+        }
+        _ => return Err(NO_STREAM),
+    }
+    Ok(())
+}

@@ -1,0 +1,45 @@
+// A `Patient` over a device of the standard library's that notes its calls.
+//
+// A line `new` says the turns, and behind a colon the device's answers. A row is a call; then its answer, for a read the
+// bytes that it gave, and the calls that reached the device.
+use rows_play::calls::{Call, make_call, new_journal, show_calls};
+use rows_play::fault::{Fault, Made};
+use rows_play::journal::Journal;
+use rows_play::line::Line;
+use rows_play::player::{Player, Stream};
+use rows_play::reads::make_read;
+use rows_play::recorder::{Name, Recorder};
+use std::alloc::Global;
+use std::cell::RefCell;
+use std::rc::Rc;
+use system_streams::{Patient, ToStd};
+
+// A patient, and its device's journal.
+#[derive(Drop)]
+struct Patience {
+    patient: Patient<ToStd<Recorder>>,
+    journal: Rc<RefCell<Journal>>,
+}
+
+impl Stream for Patience {
+    fn play(&mut self, alloc: Global, call: &Call<'_>, line: &mut Line) {
+        if call.word.starts_with("read") {
+            make_read(alloc, &mut self.patient, call, line);
+        } else {
+            make_call(&mut self.patient, call, line);
+        }
+        show_calls(&self.journal, line);
+    }
+}
+
+pub fn lend(words: &str, player: &mut Player<'_, '_>) -> Made<()> {
+    let (turns, answers) = words.split_once(": ").unwrap_or((words, ""));
+    let Ok(turns) = turns.parse::<u64>() else {
+        return Err(Fault::Malformed("no number of turns"));
+    };
+    let journal = new_journal(player.alloc, answers)?;
+    let device = Recorder::new(player.alloc, journal.clone()?, Name::Only);
+    let patient = Patient::new(ToStd::new(device), turns);
+    player.play(&mut Patience { patient, journal });
+    Ok(())
+}

@@ -1,0 +1,154 @@
+// Devices with a journal, alone and below towers.
+use crate::levels::{NO_STREAM, NOTED, RECORDER, lend, play_level};
+use crate::tower::{Device, Object};
+use crate::writing::{Columns, make_any_call, play, play_seeking};
+use rows_play::calls::{Call, make_seek, new_journal, show_calls};
+use rows_play::fault::Made;
+use rows_play::journal::Journal;
+use rows_play::line::Line;
+use rows_play::noted::Noted;
+use rows_play::player::{Player, Stream};
+use rows_play::recorder::{Name, Recorder};
+use no_std_io2::io::{BufWriter, Seek};
+use std::alloc::Global;
+use std::cell::RefCell;
+use std::rc::Rc;
+
+/// A recorder on this journal.
+pub fn new_recorder(alloc: Global, journal: &Rc<RefCell<Journal>>) -> Made<Recorder> {
+    Ok(Recorder::new(alloc, journal.clone()?, Name::Only))
+}
+
+/// One that notes the name of each call, too.
+pub fn new_device(alloc: Global, journal: &Rc<RefCell<Journal>>) -> Made<Device> {
+    Ok(Noted::new(new_recorder(alloc, journal)?, journal.clone()?))
+}
+
+/// A recorder below levels.
+pub fn lend_recorder(name: &str, words: &str, player: &mut Player<'_, '_>) -> Made<()> {
+    let journal = new_journal(player.alloc, words)?;
+    let recorder = new_recorder(player.alloc, &journal)?;
+    let columns = Columns::All(journal, 2);
+    if let Some(levels) = name.strip_suffix("Box dyn") {
+        let object = Box::new(player.alloc, recorder)?;
+        return lend_object(levels.trim(), object, columns, player);
+    }
+    match name {
+        "Device" => play_seeking(recorder, columns, player),
+        "Box Device" => play_seeking(Box::new(player.alloc, recorder)?, columns, player),
+        "BufWriter 8 BufWriter 3" => {
+            let below = BufWriter::<Recorder, 3>::new(recorder);
+            return play_level::<_, 8>("BufWriter", below, columns, player);
+        }
+        _ => return lend_tower(name, recorder, columns, words, player),
+    }
+    Ok(())
+}
+
+// A level over a buffer of 8 bytes over a recorder, or one over the recorder.
+fn lend_tower(
+    name: &str,
+    recorder: Recorder,
+    columns: Columns,
+    words: &str,
+    player: &mut Player<'_, '_>,
+) -> Made<()> {
+    let below = BufWriter::<Recorder, 8>::new(recorder);
+    match name {
+        "BufWriter 4 BufWriter 8" => play_level::<_, 4>("BufWriter", below, columns, player),
+        "LineWriter 8 BufWriter 8" => play_level::<_, 8>("LineWriter", below, columns, player),
+        "LineWriter 8 Box BufWriter 8" => {
+            let below = Box::new(player.alloc, below)?;
+            play_level::<_, 8>("LineWriter", below, columns, player)
+        }
+        _ => lend::<RECORDER>(name, words, player),
+    }
+}
+
+/// A boxed object, alone or below levels.
+pub fn lend_object(
+    levels: &str,
+    object: Object,
+    columns: Columns,
+    player: &mut Player<'_, '_>,
+) -> Made<()> {
+    match levels {
+        "" => {
+            play(object, columns, player);
+            Ok(())
+        }
+        "BufWriter 4" => play_level::<_, 4>("BufWriter", object, columns, player),
+        "LineWriter 8" => play_level::<_, 8>("LineWriter", object, columns, player),
+        "BufWriter 8 BufWriter 3" => {
+            let below = BufWriter::<Object, 3>::new(object);
+            play_level::<_, 8>("BufWriter", below, columns, player)
+        }
+        "LineWriter 8 BufWriter 8" => {
+            let below = BufWriter::<Object, 8>::new(object);
+            play_level::<_, 8>("LineWriter", below, columns, player)
+        }
+        _ => Err(NO_STREAM),
+    }
+}
+
+/// A device that notes the name of each call, too.
+pub fn lend_device(name: &str, words: &str, player: &mut Player<'_, '_>) -> Made<()> {
+    let journal = new_journal(player.alloc, words)?;
+    let device = new_device(player.alloc, &journal)?;
+    match name {
+        "Device" | "&mut Device" | "&mut &mut Device" => player.play(&mut Handed {
+            name,
+            device,
+            journal,
+        }),
+        "Box dyn Seek" => {
+            let seeker = Box::new(player.alloc, device)?;
+            player.play(&mut Boxed { seeker, journal });
+        }
+        "Box dyn Write" => {
+            let object: Object = Box::new(player.alloc, device)?;
+            play(object, Columns::Calls(journal), player);
+        }
+        "Box Device" => {
+            let boxed = Box::new(player.alloc, device)?;
+            play_seeking(boxed, Columns::Calls(journal), player);
+        }
+        _ => return lend::<NOTED>(name, words, player),
+    }
+    Ok(())
+}
+
+// A boxed seeker, and the device's journal.
+#[derive(Drop)]
+struct Boxed {
+    seeker: Box<dyn Seek + Drop>,
+    journal: Rc<RefCell<Journal>>,
+}
+
+impl Stream for Boxed {
+    fn play(&mut self, _alloc: Global, call: &Call<'_>, line: &mut Line) {
+        if !make_seek(&mut self.seeker, call, line) {
+            line.malformed("no such call");
+        }
+        show_calls(&self.journal, line);
+    }
+}
+
+// A device, which is called itself, or lent.
+#[derive(Drop)]
+struct Handed<'a> {
+    name: &'a str,
+    device: Device,
+    journal: Rc<RefCell<Journal>>,
+}
+
+impl<'a> Stream for Handed<'a> {
+    fn play(&mut self, _alloc: Global, call: &Call<'_>, line: &mut Line) {
+        match self.name {
+            "&mut Device" => make_any_call(&mut &mut self.device, call, line),
+            "&mut &mut Device" => make_any_call(&mut &mut &mut self.device, call, line),
+            _ => make_any_call(&mut self.device, call, line),
+        }
+        show_calls(&self.journal, line);
+    }
+}

@@ -1,0 +1,115 @@
+// A level over a device, whose name is its kind and its size.
+ghost use Rattle.no_std_io2.specs.BufWriter.{BufWriterFits};
+ghost use Rattle.no_std_io2.specs.LineWriter.{LineWriterFits};
+
+use crate::benches::new_faulty;
+use crate::devices::{new_device, new_recorder};
+use crate::tower::Tower;
+use crate::writing::{Columns, play, play_seeking};
+use rows_play::calls::new_journal;
+use rows_play::fault::{Fault, Made};
+use rows_play::player::Player;
+use no_std_io2::io::{BufWriter, LineWriter, Seek};
+
+pub const NO_STREAM: Fault = Fault::Malformed("no such stream");
+
+/// A recorder.
+pub const RECORDER: usize = 0;
+
+/// A device that notes the name of each call, too.
+pub const NOTED: usize = 1;
+
+/// An empty vector, behind a writer that fails as a row's `new` says.
+pub const FAULTY: usize = 2;
+
+/// Over one of these.
+pub fn lend<const BASE: usize>(level: &str, words: &str, player: &mut Player<'_, '_>) -> Made<()> {
+    let (kind, size) = level.split_once(" ").unwrap_or((level, ""));
+    match size {
+        "0" => lend_size::<BASE, 0>(kind, words, player),
+        "1" => lend_size::<BASE, 1>(kind, words, player),
+        "2" => lend_size::<BASE, 2>(kind, words, player),
+        "4" => lend_size::<BASE, 4>(kind, words, player),
+        "8" => lend_size::<BASE, 8>(kind, words, player),
+        "64" => lend_size::<BASE, 64>(kind, words, player),
+        "300" => lend_size::<BASE, 300>(kind, words, player),
+        "1030" => lend_size::<BASE, 1030>(kind, words, player),
+        "8192" => lend_size::<BASE, 8192>(kind, words, player),
+        "65536" => lend_size::<BASE, 65536>(kind, words, player),
+        _ => Err(NO_STREAM),
+    }
+}
+
+fn lend_size<const BASE: usize, const S: usize>(
+    kind: &str,
+    words: &str,
+    player: &mut Player<'_, '_>,
+) -> Made<()> {
+    match BASE {
+        RECORDER => lend_recorder::<S>(kind, words, player),
+        NOTED => lend_device::<S>(kind, words, player),
+        _ => lend_faulty::<S>(kind, words, player),
+    }
+}
+
+/// Plays the rows on a level over a base.
+pub fn play_level<W: Tower, const S: usize>(
+    kind: &str,
+    base: W,
+    columns: Columns,
+    player: &mut Player<'_, '_>,
+) -> Made<()>
+    requires buffer { BufWriterFits W.row S }
+    requires lines { LineWriterFits W.row S }
+{
+    match kind {
+        "BufWriter" => play(BufWriter::<W, S>::new(base), columns, player),
+        "LineWriter" => play(LineWriter::<W, S>::new(base), columns, player),
+        _ => return Err(NO_STREAM),
+    }
+    Ok(())
+}
+
+// The same over one that seeks, as a buffer does then.
+fn play_seeking_level<W: Tower + Seek, const S: usize>(
+    kind: &str,
+    base: W,
+    columns: Columns,
+    player: &mut Player<'_, '_>,
+) -> Made<()>
+    requires buffer { BufWriterFits W.row S }
+    requires lines { LineWriterFits W.row S }
+{
+    match kind {
+        "BufWriter" => play_seeking(BufWriter::<W, S>::new(base), columns, player),
+        "LineWriter" => play(LineWriter::<W, S>::new(base), columns, player),
+        _ => return Err(NO_STREAM),
+    }
+    Ok(())
+}
+
+fn lend_recorder<const S: usize>(kind: &str, words: &str, player: &mut Player<'_, '_>) -> Made<()> {
+    let journal = new_journal(player.alloc, words)?;
+    let recorder = new_recorder(player.alloc, &journal)?;
+    if S < 1 << 32 {
+        return play_seeking_level::<_, S>(kind, recorder, Columns::All(journal, 1), player);
+    }
+    Err(NO_STREAM)
+}
+
+fn lend_device<const S: usize>(kind: &str, words: &str, player: &mut Player<'_, '_>) -> Made<()> {
+    let journal = new_journal(player.alloc, words)?;
+    let device = new_device(player.alloc, &journal)?;
+    if S < 1 << 32 {
+        return play_seeking_level::<_, S>(kind, device, Columns::Calls(journal), player);
+    }
+    Err(NO_STREAM)
+}
+
+fn lend_faulty<const S: usize>(kind: &str, words: &str, player: &mut Player<'_, '_>) -> Made<()> {
+    let device = new_faulty(player.alloc, words)?;
+    if S < 1 << 32 {
+        return play_level::<_, S>(kind, device, Columns::State, player);
+    }
+    Err(NO_STREAM)
+}

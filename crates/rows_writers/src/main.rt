@@ -1,0 +1,40 @@
+//! Plays the files of rows of writers, over devices that write down each call and over refused memory: those that its arguments
+//! name, as [`rows_play`] reads them.
+#![tactic(auto)]
+
+mod benches;
+mod devices;
+mod levels;
+mod refused;
+mod tower;
+mod writing;
+
+use rows_play::fault::Made;
+use rows_play::files::play_files;
+use rows_play::player::{Player, Streams};
+use std::process::ExitCode;
+
+// The streams of writers: the first word says which columns a row has.
+struct Writers;
+
+impl Streams for Writers {
+    fn lend(name: &str, words: &str, player: &mut Player<'_, '_>) -> Made<()> {
+        let (word, rest) = name.split_once(" ").unwrap_or((name, ""));
+        match word {
+            "writer" | "seeker" => devices::lend_recorder(rest, words, player),
+            "noted" => devices::lend_device(rest, words, player),
+            "bench" => benches::lend(rest, words, player),
+            "heap" => refused::lend(rest, words, player),
+            _ => Err(levels::NO_STREAM),
+        }
+    }
+
+    // The acts of a bench have none.
+    fn has_texts(name: &str) -> bool {
+        !name.starts_with("bench ")
+    }
+}
+
+fn main(rt: HostRuntime) -> ExitCode {
+    play_files::<Writers>(&rt)
+}

@@ -1,0 +1,20 @@
+// Rows of refused memory: vectors, and what stands on them, over a heap that has room for so many bytes.
+use rows_play::fault::Made;
+use rows_play::player::Player;
+use reads::Reading;
+use runs::Running;
+
+mod heaps;
+mod readers;
+mod reads;
+mod runs;
+mod writes;
+
+pub fn lend(name: &str, words: &str, player: &mut Player<'_, '_>) -> Made<()> {
+    match name {
+        "reads" => player.play(&mut Reading { forms: words }),
+        "runs" => player.play(&mut Running),
+        _ => writes::lend(name, words, player)?,
+    }
+    Ok(())
+}

@@ -1,0 +1,251 @@
+// `read_to_end` and `read_until` into a vector over a heap.
+//
+// A line `new` says the readers, which all come to the same. A row is a call, the heap's size, and the vector's capacity, how
+// many bytes it has and how many are to come; then the answer, how many bytes the vector has, how many of the heap are in use,
+// and how many bytes are left.
+// A row `within` is a heap's size, a call and how many bytes are to come; then that a heap of this size, or which smaller one,
+// has room for all of it. In each smaller heap the call is refused, and the vector and what is left are all that was to come.
+use super::heaps::{cut_number, number, vector_of};
+use super::readers::read_form;
+use rows_play::calls::Call;
+use rows_play::fault::{Fault, Made};
+use rows_play::line::Line;
+use rows_play::player::Stream;
+use linked_list_allocator::LocalHeap;
+use no_std_io2::io::{BufRead, ErrorKind, Read, Result};
+use std::alloc::Global;
+
+const TEXT: &[u8] = &[b'a'; 600];
+
+const DOTS: &[u8] = &[b'.'; 16];
+
+/// A vector over a heap, and how many bytes are to come.
+#[derive(Clone, Copy)]
+pub struct Trial {
+    pub alloc: Global,
+    // Whether smaller heaps are tried too.
+    is_within: bool,
+    is_until: bool,
+    heap: usize,
+    capacity: usize,
+    held: usize,
+    pub bytes: usize,
+}
+
+// Whether a call is `read_until`, of the two that there are.
+fn is_until(word: &str) -> Made<bool> {
+    match word {
+        "read_to_end" => Ok(false),
+        "read_until" => Ok(true),
+        _ => Err(Fault::Malformed("no such call")),
+    }
+}
+
+impl Trial {
+    fn parse(alloc: Global, call: &Call<'_>) -> Made<Trial> {
+        let is_within = call.word == "within";
+        let (heap, rest) = cut_number(call.rest)?;
+        let (word, capacity, held, bytes) = if is_within {
+            let (word, bytes) = rest.split_once(" ").unwrap_or((rest, ""));
+            (word, 0, 0, bytes)
+        } else {
+            let (capacity, rest) = cut_number(rest)?;
+            let (held, bytes) = cut_number(rest)?;
+            (call.word, capacity, held, bytes)
+        };
+        Ok(Trial {
+            alloc,
+            is_within,
+            is_until: is_until(word)?,
+            heap,
+            capacity,
+            held,
+            bytes: number(bytes)?,
+        })
+    }
+
+    /// What is to come.
+    pub fn text(self) -> &'static [u8] {
+        text_of(self.bytes)
+    }
+
+    // What stands in the vector at first.
+    fn dots(self) -> &'static [u8] {
+        &DOTS[..self.held.min(DOTS.len())]
+    }
+
+    // What came of a read into a vector.
+    fn end<R: Read>(
+        self,
+        answer: &Result<usize>,
+        all: &[u8],
+        used: usize,
+        r: &mut R,
+        line: &mut Line,
+    ) -> Outcome {
+        let (front, given) = all.split_at(self.held.min(all.len()));
+        if front != self.dots() || given != text_of(given.len()) {
+            line.malformed("another vector");
+        }
+        Outcome {
+            is_refused: is_refused(answer, given.len(), line),
+            len: all.len(),
+            used,
+            left: left_of(self.alloc, r, line),
+        }
+    }
+}
+
+// The first bytes of the text.
+fn text_of(bytes: usize) -> &'static [u8] {
+    &TEXT[..bytes.min(TEXT.len())]
+}
+
+// Whether a read was refused. It gave so many bytes where it was not.
+fn is_refused(answer: &Result<usize>, given: usize, line: &mut Line) -> bool {
+    match answer {
+        Ok(n) => {
+            if *n != given {
+                line.malformed("another length");
+            }
+            false
+        }
+        Err(e) => {
+            if e.kind() != ErrorKind::OutOfMemory || e.get_ref().is_some() {
+                line.malformed("another error than the refusal");
+            }
+            true
+        }
+    }
+}
+
+// How many bytes are left, all of the text.
+fn left_of<R: Read>(alloc: Global, r: &mut R, line: &mut Line) -> usize {
+    let mut rest = Vec::new(alloc);
+    match r.read_to_end(&mut rest) {
+        Ok(left) if rest.as_slice() == text_of(left) => left,
+        _ => {
+            line.malformed("another rest");
+            0
+        }
+    }
+}
+
+/// What came of a trial.
+#[derive(Clone, Copy)]
+pub struct Outcome {
+    is_refused: bool,
+    len: usize,
+    used: usize,
+    left: usize,
+}
+
+/// Reads all.
+pub fn read_all<R: Read>(trial: Trial, r: &mut R, line: &mut Line) -> Made<Outcome> {
+    let heap = LocalHeap::new(trial.alloc, trial.heap)?;
+    let mut all = vector_of(&heap, trial.capacity, trial.dots())?;
+    let answer = r.read_to_end(&mut all);
+    Ok(trial.end(&answer, &all, heap.used(), r, line))
+}
+
+/// The same, or by `read_until`, of which no byte is the delimiter.
+pub fn read<R: BufRead>(trial: Trial, r: &mut R, line: &mut Line) -> Made<Outcome> {
+    if !trial.is_until {
+        return read_all(trial, r, line);
+    }
+    let heap = LocalHeap::new(trial.alloc, trial.heap)?;
+    let mut all = vector_of(&heap, trial.capacity, trial.dots())?;
+    let answer = r.read_until(b'\n', &mut all);
+    Ok(trial.end(&answer, &all, heap.used(), r, line))
+}
+
+fn show(trial: Trial, outcome: Outcome, line: &mut Line) {
+    if outcome.is_refused {
+        line.word("!OutOfMemory");
+    } else {
+        line.number(outcome.len.wrapping_sub(trial.held) as u64);
+    }
+    'numbers: for number in &[outcome.len, outcome.used, outcome.left] {
+        line.column();
+        line.number(*number as u64);
+    }
+}
+
+// Tries each heap up to the first one in which a read is not refused, and prints whether that is one of this size at most.
+fn show_need(trial: Trial, form: &str, line: &mut Line) -> Made<()> {
+    'heaps: for units in 1..400 {
+        let heap = 16 * units;
+        let outcome = read_form(Trial { heap, ..trial }, form, line)?;
+        if outcome.len.wrapping_add(outcome.left) != trial.bytes {
+            return Err(Fault::Malformed("bytes that are lost"));
+        }
+        if !outcome.is_refused {
+            if heap <= trial.heap {
+                line.word("ok");
+            } else {
+                line.number(heap as u64);
+            }
+            return Ok(());
+        }
+    }
+    Err(Fault::Malformed("no heap is enough"))
+}
+
+fn try_form(trial: Trial, form: &str, line: &mut Line) -> Made<()> {
+    if trial.is_within {
+        return show_need(trial, form, line);
+    }
+    show(trial, read_form(trial, form, line)?, line);
+    Ok(())
+}
+
+// What a reader of this form comes to.
+fn play_form(trial: Trial, form: &str) -> Line {
+    let mut line = Line::new(trial.alloc);
+    if let Err(fault) = try_form(trial, form, &mut line) {
+        line.tell(fault);
+    }
+    line
+}
+
+// Goes on with another line.
+fn append(shown: &Line, line: &mut Line) {
+    line.word(shown.as_str());
+    if shown.is_cut() {
+        line.cut();
+    }
+    if shown.is_malformed() {
+        line.malformed("");
+    }
+}
+
+// Prints what a reader of the first form comes to, and each other that comes to something else.
+fn play_forms(trial: Trial, forms: &str, line: &mut Line) {
+    let mut forms = forms.split(", ");
+    let first = play_form(trial, forms.next().unwrap_or(""));
+    append(&first, line);
+    'forms: for form in forms {
+        let shown = play_form(trial, form);
+        if shown.as_str() != first.as_str() {
+            line.word(", otherwise by a reader ");
+            line.word(form);
+            line.word(": ");
+            append(&shown, line);
+        }
+    }
+}
+
+/// Readers of these forms.
+#[derive(Drop)]
+pub struct Reading<'a> {
+    pub forms: &'a str,
+}
+
+impl<'a> Stream for Reading<'a> {
+    fn play(&mut self, alloc: Global, call: &Call<'_>, line: &mut Line) {
+        match Trial::parse(alloc, call) {
+            Ok(trial) => play_forms(trial, self.forms, line),
+            Err(fault) => line.tell(fault),
+        }
+    }
+}

@@ -1,0 +1,160 @@
+// Towers of writers: what stands on a device, level by level.
+use io_bench::{Faulty, Sink, Tally};
+use rows_play::calls::Call;
+use rows_play::line::Line;
+use rows_play::noted::Noted;
+use rows_play::recorder::Recorder;
+use no_std_io2::io::{BufWriter, Error, IntoInnerError, LineWriter, Write};
+use std::alloc::Global;
+
+/// A device that notes the name of each call.
+pub type Device = Noted<Recorder>;
+
+/// A boxed object that writes.
+pub type Object = Box<dyn Write + Drop>;
+
+/// What a column of a tower shows.
+#[derive(Clone, Copy)]
+pub enum Part {
+    /// What the device took, where it keeps that itself.
+    Taken,
+    /// What each level holds.
+    Held,
+}
+
+/// A writer that stands on a device.
+pub trait Tower: Write + Drop {
+    /// Prints a column of each level that has this part, the outer one first.
+    fn show(&self, _part: Part, _line: &mut Line) {}
+
+    /// Makes a call of the outer level that a device has not: `below TEXT` writes to the level below, and `into_inner` takes the
+    /// outer level off, and puts an empty one on. A refusal gives the tower back, and for `into_error` becomes an error alone.
+    fn call_level(_tower: &mut Option<Self>, _alloc: Global, _call: &Call<'_>, line: &mut Line)
+    where
+        Self: Sized,
+    {
+        line.malformed("no level above");
+    }
+}
+
+impl Tower for Recorder {}
+
+impl Tower for Device {}
+
+impl Tower for Object {}
+
+impl Tower for Vec<u8> {
+    fn show(&self, part: Part, line: &mut Line) {
+        if let Part::Taken = part {
+            line.column();
+            line.bytes(self);
+        }
+    }
+}
+
+impl Tower for Faulty<Vec<u8>> {
+    fn show(&self, part: Part, line: &mut Line) {
+        self.get_ref().show(part, line);
+    }
+}
+
+// The number of the writes stands in place of the bytes.
+impl Tower for Tally<Sink> {
+    fn show(&self, part: Part, line: &mut Line) {
+        if let Part::Taken = part {
+            line.column();
+            line.number(self.writes());
+        }
+    }
+}
+
+impl<W: Tower> Tower for Box<W> {
+    fn show(&self, part: Part, line: &mut Line) {
+        W::show(self, part, line);
+    }
+}
+
+// What a refused `into_inner` says: the error, and what the whole prints.
+fn show_refusal<W>(alloc: Global, refused: &IntoInnerError<W>, line: &mut Line) {
+    line.error(refused.error());
+    match format!(in alloc; "{refused}") {
+        Ok(whole) => line.aside(whole.as_str()),
+        Err(_) => line.cut(),
+    }
+}
+
+impl<W: Tower, const S: usize> Tower for BufWriter<W, S> {
+    fn show(&self, part: Part, line: &mut Line) {
+        if let Part::Held = part {
+            line.column();
+            line.bytes(self.buffer());
+        }
+        self.get_ref().show(part, line);
+    }
+
+    fn call_level(
+        tower: &mut Option<BufWriter<W, S>>,
+        alloc: Global,
+        call: &Call<'_>,
+        line: &mut Line,
+    ) {
+        if call.word == "below" {
+            if let Some(writer) = tower {
+                line.done(&writer.get_mut().write_all(&call.bytes));
+            }
+            return;
+        }
+        let Some(writer) = tower.take() else {
+            return;
+        };
+        match writer.into_inner() {
+            Ok(inner) => {
+                line.word("ok");
+                *tower = Some(BufWriter::new(inner));
+            }
+            Err(e) if call.word == "into_inner" => {
+                show_refusal(alloc, &e, line);
+                *tower = Some(e.into_inner());
+            }
+            Err(e) => line.error(&Error::from(e)),
+        }
+    }
+}
+
+impl<W: Tower, const S: usize> Tower for LineWriter<W, S> {
+    fn show(&self, part: Part, line: &mut Line) {
+        if let Part::Held = part {
+            line.column();
+            line.bytes(self.buffer());
+        }
+        self.get_ref().show(part, line);
+    }
+
+    fn call_level(
+        tower: &mut Option<LineWriter<W, S>>,
+        alloc: Global,
+        call: &Call<'_>,
+        line: &mut Line,
+    ) {
+        if call.word == "below" {
+            if let Some(writer) = tower {
+                line.done(&writer.get_mut().write_all(&call.bytes));
+            }
+            return;
+        }
+        let Some(writer) = tower.take() else {
+            return;
+        };
+        match writer.into_inner() {
+            Ok(inner) => {
+                line.word("ok");
+                *tower = Some(LineWriter::new(inner));
+            }
+            Err(e) if call.word == "into_inner" => {
+                show_refusal(alloc, &e, line);
+                *tower = Some(e.into_parts().1);
+            }
+            Err(e) => line.error(&e.into_parts().0),
+        }
+    }
+}

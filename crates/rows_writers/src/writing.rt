@@ -1,0 +1,146 @@
+// Towers of writers, played by rows of calls.
+//
+// The columns behind a call are its answer, what the device took, the bytes held at each level, the outer one first, and over a
+// recorder the calls that reached it.
+use crate::tower::{Part, Tower};
+use rows_play::calls::{Call, expect, make_call, make_seek, show_calls, show_out};
+use rows_play::journal::Journal;
+use rows_play::line::Line;
+use rows_play::player::{Player, Stream};
+use no_std_io2::io::{Seek, Write};
+use std::alloc::Global;
+use std::cell::RefCell;
+use std::rc::Rc;
+
+/// What stands behind an answer.
+#[derive(Drop)]
+pub enum Columns {
+    /// What the device keeps, and what is held.
+    State,
+    /// What a device took that has this journal, what is held at so many levels, and the calls.
+    All(Rc<RefCell<Journal>>, usize),
+    /// The calls alone.
+    Calls(Rc<RefCell<Journal>>),
+}
+
+// A tower until it is dropped. Beside the calls of a writer, and those of a level, a row has these: `expect ANSWERS` sets the
+// device's next answers, and `drop` ends the tower.
+#[derive(Drop)]
+struct Writing<T: Drop> {
+    tower: Option<T>,
+    columns: Columns,
+}
+
+/// Makes a call of a writer that seeks.
+pub fn make_any_call<T: Write + Seek>(stream: &mut T, call: &Call<'_>, line: &mut Line) {
+    if !make_seek(stream, call, line) {
+        make_call(stream, call, line);
+    }
+}
+
+/// Plays the rows on a tower.
+pub fn play<T: Tower>(tower: T, columns: Columns, player: &mut Player<'_, '_>) {
+    player.play(&mut Writing {
+        tower: Some(tower),
+        columns,
+    });
+}
+
+impl<T: Tower> Writing<T> {
+    fn expect(&self, alloc: Global, words: &str, line: &mut Line) {
+        let Columns::All(journal, _) = &self.columns else {
+            line.malformed("no such call");
+            return;
+        };
+        match expect(alloc, journal, words) {
+            Ok(()) => line.word("-"),
+            Err(fault) => line.tell(fault),
+        }
+    }
+
+    // Makes a call, and prints its answer.
+    fn call(&mut self, alloc: Global, call: &Call<'_>, line: &mut Line) {
+        let Some(tower) = &mut self.tower else {
+            line.malformed("the tower is gone");
+            return;
+        };
+        match call.word {
+            "expect" => self.expect(alloc, call.rest, line),
+            "below" | "into_inner" | "into_error" => {
+                T::call_level(&mut self.tower, alloc, call, line);
+            }
+            "drop" => {
+                self.tower = None;
+                line.word("-");
+            }
+            _ => make_call(tower, call, line),
+        }
+    }
+
+    // Prints the columns behind the answer.
+    fn show(&self, line: &mut Line) {
+        match &self.columns {
+            Columns::State => {
+                self.show_part(Part::Taken, 0, line);
+                self.show_part(Part::Held, 0, line);
+            }
+            Columns::All(journal, levels) => {
+                show_out(journal, line);
+                self.show_part(Part::Held, *levels, line);
+                show_calls(journal, line);
+            }
+            Columns::Calls(journal) => show_calls(journal, line),
+        }
+    }
+
+    // Prints a column of each level. Where the tower is gone none holds anything.
+    fn show_part(&self, part: Part, levels: usize, line: &mut Line) {
+        if let Some(tower) = &self.tower {
+            tower.show(part, line);
+            return;
+        }
+        'levels: for _ in 0..levels {
+            line.column();
+            line.bytes(b"");
+        }
+    }
+}
+
+impl<T: Tower> Stream for Writing<T> {
+    fn play(&mut self, alloc: Global, call: &Call<'_>, line: &mut Line) {
+        self.call(alloc, call, line);
+        self.show(line);
+    }
+}
+
+/// Plays the rows on one that seeks.
+pub fn play_seeking<T: Tower + Seek>(tower: T, columns: Columns, player: &mut Player<'_, '_>) {
+    let tower = Some(tower);
+    player.play(&mut Seeking {
+        writing: Writing { tower, columns },
+    });
+}
+
+// The same, with the calls of a seeker.
+#[derive(Drop)]
+struct Seeking<T: Drop> {
+    writing: Writing<T>,
+}
+
+impl<T: Tower + Seek> Seeking<T> {
+    fn call(&mut self, alloc: Global, call: &Call<'_>, line: &mut Line) {
+        if let Some(tower) = &mut self.writing.tower {
+            if make_seek(tower, call, line) {
+                return;
+            }
+        }
+        self.writing.call(alloc, call, line);
+    }
+}
+
+impl<T: Tower + Seek> Stream for Seeking<T> {
+    fn play(&mut self, alloc: Global, call: &Call<'_>, line: &mut Line) {
+        self.call(alloc, call, line);
+        self.writing.show(line);
+    }
+}
