@@ -6,9 +6,9 @@ ghost use Rattle.no_std_io2.specs.Read.{ReadLaw, ReadExactLaw, ReadToEndLaw};
 ghost use Rattle.no_std_io2.specs.Writers.{WriteOf};
 ghost use Rattle.io_bench.specs.Calls.{CountsLoop, CountsToEnd};
 
+use no_std_io2::internal::{LEAST_ROOM, failed_to_fill, open_room, reserve_room};
 use no_std_io2::io::{Read, Result, Stored, Write};
 use no_std_io2::trace::Trace;
-use no_std_io2::internal::{LEAST_ROOM, failed_to_fill, open_room, reserve_room};
 use std::alloc::Allocator;
 use std::fmt;
 

@@ -9,6 +9,8 @@ mod buffers;
 #[cfg(test)]
 mod clients;
 #[cfg(test)]
+mod debug;
+#[cfg(test)]
 mod devices;
 #[cfg(test)]
 mod kinds;

@@ -8,34 +8,38 @@ use std::alloc::Global;
 
 type Log<'a> = LineLog<Cursor<&'a mut [u8]>, 64>;
 
-fn try_log(to: &mut Log<'_>, line: &str) -> Outcome {
+// Logs a line as it stands, or as it is printed.
+fn try_log(to: &mut Log<'_>, line: &str, is_printed: bool) -> Outcome {
     if to.is_under_way() {
         return Outcome::Wrong("a line is under way");
+    }
+    if is_printed {
+        return Outcome::of(&to.log_text(format_args!("{line}")));
     }
     Outcome::of(&to.log(line))
 }
 
-fn log(to: &mut Log<'_>, line: &str) -> Outcome {
-    match try_log(to, line) {
-        Outcome::Refused => Outcome::Refused.and(try_log(to, line)),
+fn log(to: &mut Log<'_>, line: &str, is_printed: bool) -> Outcome {
+    match try_log(to, line, is_printed) {
+        Outcome::Refused => Outcome::Refused.and(try_log(to, line, is_printed)),
         other => other,
     }
 }
 
-fn log_both(alloc: Global, room: &mut [u8], first: &str, second: &str) -> Outcome {
+fn log_both(alloc: Global, room: &mut [u8], lines: [&str; 2], is_printed: bool) -> Outcome {
     let mut to = Log::new(alloc, Cursor::new(room));
-    log(&mut to, first).and(log(&mut to, second))
+    log(&mut to, lines[0], is_printed).and(log(&mut to, lines[1], is_printed))
 }
 
-/// Two lines of these lengths, one after the other.
-pub fn by_log(alloc: Global, text: &[u8], first: usize, second: usize) -> Outcome {
+/// Two lines of these lengths, one after the other, as they stand or as they are printed.
+pub fn by_log(alloc: Global, text: &[u8], lens: [usize; 2], is_printed: bool) -> Outcome {
     let mut room = [0u8; 150_000];
-    let Ok(line) = std::str::from_utf8(front(text, first)) else {
+    let Ok(line) = std::str::from_utf8(front(text, lens[0])) else {
         return Outcome::Wrong("no text");
     };
-    let Ok(other) = std::str::from_utf8(front(text, second)) else {
+    let Ok(other) = std::str::from_utf8(front(text, lens[1])) else {
         return Outcome::Wrong("no text");
     };
-    let logged = log_both(alloc, &mut room, line, other);
+    let logged = log_both(alloc, &mut room, [line, other], is_printed);
     logged.if_right(is_line(&room, line.as_bytes()))
 }

@@ -6,12 +6,12 @@ use crate::devices::{Columns, Devices, NO_STREAM};
 use crate::in_memory::scripts::{new_feed, new_text, new_writer};
 use crate::levels::Levels;
 use io_bench::{Faulty, Feed};
+use no_std_io2::io::{BufReader, Read, Write, copy};
 use rows_play::calls::Call;
 use rows_play::fault::Made;
 use rows_play::line::{Line, unescape};
 use rows_play::player::{Player, Stream};
 use rows_play::recorder::Recorder;
-use no_std_io2::io::{BufReader, Read, Write, copy};
 use std::alloc::Global;
 
 // Copies by pieces of S bytes.

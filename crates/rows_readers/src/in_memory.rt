@@ -9,12 +9,13 @@ mod readers;
 mod room;
 pub mod scripts;
 mod vectors;
+mod wrapped;
 
 /// Whether a stream of this name is one of these: the first word or the last one says so.
 pub fn has(name: &str) -> bool {
     let (word, _) = name.split_once(" ").unwrap_or((name, ""));
     let (_, base) = name.rsplit_once(" ").unwrap_or(("", name));
-    matches!(word, "boxed" | "cursor" | "grown" | "room")
+    matches!(word, "boxed" | "cursor" | "grown" | "queue" | "room")
         || matches!(base, "Cursor" | "Feed" | "&[u8]")
 }
 
@@ -32,6 +33,7 @@ pub fn lend(
         "reader" => readers::lend(name, words, devices, player),
         "boxed" => boxes::lend(name, words, devices, player),
         "grown" => vectors::lend(name, words, player),
+        "queue" => vectors::lend_queue(words, player),
         "room" => {
             player.play(&mut room::Room { name });
             Ok(())

@@ -6,12 +6,12 @@ use crate::devices::{Devices, NO_STREAM};
 use crate::in_memory::scripts::{cut, new_feed, new_text};
 use crate::streams::show_byte;
 use io_bench::Feed;
+use no_std_io2::io::{BufRead, BufReader, Bytes, Lines, Read, Result, Split};
 use rows_play::calls::Call;
 use rows_play::fault::Made;
 use rows_play::line::{Line, unescape};
 use rows_play::player::{Player, Stream};
 use rows_play::recorder::Name;
-use no_std_io2::io::{BufRead, BufReader, Bytes, Lines, Read, Result, Split};
 use std::alloc::Global;
 
 // Whether a row asks for an item.

@@ -2,10 +2,10 @@
 use crate::devices::Columns;
 use crate::in_memory::scripts::show_events;
 use io_bench::{Faulty, Feed, Tally};
+use no_std_io2::io::{BufRead, BufReader, Chain, Cursor, Read, Take};
 use rows_play::line::Line;
 use rows_play::noted::Noted;
 use rows_play::recorder::Recorder;
-use no_std_io2::io::{BufRead, BufReader, Chain, Cursor, Read, Take};
 
 pub trait Levels {
     fn show(&self, _columns: Columns, _line: &mut Line) {}

@@ -4,13 +4,13 @@
 // reached the device.
 use crate::devices::Devices;
 use examples::records::{peek_header, read_record};
+use no_std_io2::io::BufReader;
 use rows_play::calls::{Call, make_seek};
 use rows_play::fault::Made;
 use rows_play::line::Line;
 use rows_play::player::{Player, Stream};
 use rows_play::reads::make_lend;
 use rows_play::recorder::Recorder;
-use no_std_io2::io::BufReader;
 use std::alloc::Global;
 
 type Reader = BufReader<Recorder, 8>;

@@ -1,11 +1,11 @@
 // References, boxes, boxed objects, a buffer and a limit in front of a device that notes the name of each call.
 use crate::devices::{Devices, NO_STREAM};
 use crate::streams::{Lending, Reading, Seeking};
+use no_std_io2::io::{BufRead, BufReader, Read};
 use rows_play::fault::Made;
 use rows_play::noted::Noted;
 use rows_play::player::Player;
 use rows_play::recorder::Recorder;
-use no_std_io2::io::{BufRead, BufReader, Read};
 
 type Device = Noted<Recorder>;
 

@@ -2,10 +2,10 @@
 use crate::devices::{Devices, NO_STREAM};
 use crate::in_memory::scripts::new_text;
 use crate::streams::{Lending, Seeking};
+use no_std_io2::io::{BufRead, BufReader, Chain, Read};
 use rows_play::fault::Made;
 use rows_play::player::Player;
 use rows_play::recorder::{Name, Recorder};
-use no_std_io2::io::{BufRead, BufReader, Chain, Read};
 
 pub fn lend(tower: &str, devices: Devices<'_>, player: &mut Player<'_, '_>) -> Made<()> {
     let device = devices.first()?;

@@ -2,11 +2,11 @@
 // those that the table shows.
 use crate::devices::Devices;
 use crate::levels::Levels;
+use no_std_io2::io::{BufRead, Read, Result, Seek};
 use rows_play::calls::{Call, make_seek};
 use rows_play::line::Line;
 use rows_play::player::Stream;
 use rows_play::reads::{make_lend, make_read};
-use no_std_io2::io::{BufRead, Read, Result, Seek};
 use std::alloc::Global;
 
 // A single byte, and a dash at the end.

@@ -1,10 +1,10 @@
 // The acts of a device as a row has them, `take 2, zero, fail BrokenPipe`, and the events of a feed, `ab!c`.
 use crate::ops::push;
 use io_bench::{Act, Event, Feed};
+use no_std_io2::io::ErrorKind;
 use rows_play::fault::{Fault, Made};
 use rows_play::kinds::kind_of_name;
 use rows_play::line::Line;
-use no_std_io2::io::ErrorKind;
 use std::alloc::Global;
 
 fn parse_act(words: &str) -> Option<Act> {

@@ -7,11 +7,11 @@ ghost use Rattle.io_bench.specs.Asks.{Fits};
 use crate::NO_STREAM;
 use crate::acts::{parse_feed, show_left};
 use io_bench::{Ask, Feed, ReadTotals, Tally, run_reads};
+use no_std_io2::io::{BufReader, Read};
 use rows_play::calls::Call;
 use rows_play::fault::{Fault, Made};
 use rows_play::line::Line;
 use rows_play::player::{Player, Stream};
-use no_std_io2::io::{BufReader, Read};
 use std::alloc::Global;
 
 // The most bytes that an ask may want.

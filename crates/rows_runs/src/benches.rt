@@ -5,6 +5,7 @@
 use crate::NO_STREAM;
 use crate::acts::parse_acts;
 use io_bench::{Faulty, Tally};
+use no_std_io2::io::Write;
 use rows_play::calls::{Call, make_call, new_journal, show_calls};
 use rows_play::fault::Made;
 use rows_play::journal::Journal;
@@ -13,7 +14,6 @@ use rows_play::noted::Noted;
 use rows_play::player::{Player, Stream};
 use rows_play::reads::make_read;
 use rows_play::recorder::{Name, Recorder};
-use no_std_io2::io::Write;
 use std::alloc::Global;
 use std::cell::RefCell;
 

@@ -7,11 +7,11 @@ ghost use Rattle.std.specs.Prelude.{⊤, refl, ◌<◌};
 use crate::NO_STREAM;
 use crate::ops::{ops_of, parse_calls, show_replies};
 use io_bench::{Op, Reply, Sink, Tally, run_closed};
+use no_std_io2::io::{Result, Write};
 use rows_play::calls::Call;
 use rows_play::fault::Made;
 use rows_play::line::Line;
 use rows_play::player::{Player, Stream};
-use no_std_io2::io::{Result, Write};
 use std::alloc::Global;
 
 // Takes all, and notes the lengths of its writes, and its flushes.

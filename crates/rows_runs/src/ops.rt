@@ -1,10 +1,10 @@
 // Runs of a writer's calls as a row has them, `write ab, write_all c, flush`, and their replies, `2, ok, !BrokenPipe`.
 use io_bench::{Op, Reply};
+use no_std_io2::io::Error;
 use rows_play::calls::Call;
 use rows_play::fault::Fault;
 use rows_play::kinds::kind_of_name;
 use rows_play::line::Line;
-use no_std_io2::io::Error;
 use std::alloc::Global;
 
 /// Appends an item.

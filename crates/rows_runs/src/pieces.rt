@@ -6,13 +6,13 @@
 use crate::NO_STREAM;
 use crate::acts::events_of;
 use io_bench::{Feed, run_lines, run_split};
+use no_std_io2::io::{BufRead, BufReader, ErrorKind, Read, Result};
 use rows_play::calls::{Call, new_journal, show_calls};
 use rows_play::fault::Made;
 use rows_play::journal::Journal;
 use rows_play::line::Line;
 use rows_play::player::{Player, Stream};
 use rows_play::recorder::{Name, Recorder};
-use no_std_io2::io::{BufRead, BufReader, ErrorKind, Read, Result};
 use std::alloc::Global;
 use std::cell::RefCell;
 use std::rc::Rc;

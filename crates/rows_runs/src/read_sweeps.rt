@@ -5,10 +5,10 @@
 use crate::acts::{events_of, mark_of};
 use crate::ops::push;
 use io_bench::Feed;
+use no_std_io2::io::{BufRead, BufReader, Chain, ErrorKind, Read, Result, Take};
 use rows_play::calls::Call;
 use rows_play::line::Line;
 use rows_play::player::{Player, Stream};
-use no_std_io2::io::{BufRead, BufReader, Chain, ErrorKind, Read, Result, Take};
 use std::alloc::Global;
 
 // What the first feed gives, by the marks of `acts`.

@@ -7,13 +7,13 @@ use crate::acts::parse_acts;
 use crate::ops::{ops_of, parse_calls, show_replies};
 use crate::towers::{Device, Tower};
 use io_bench::{Faulty, Sink, run_writes};
+use no_std_io2::io::{BufWriter, LineWriter, Write};
 use rows_play::calls::{Call, new_journal, show_calls, show_out};
 use rows_play::fault::Made;
 use rows_play::journal::Journal;
 use rows_play::line::Line;
 use rows_play::player::{Player, Stream};
 use rows_play::recorder::{Name, Recorder};
-use no_std_io2::io::{BufWriter, LineWriter, Write};
 use std::alloc::Global;
 use std::cell::RefCell;
 
@@ -135,6 +135,9 @@ pub fn lend_acts(name: &str, words: &str, player: &mut Player<'_, '_>) -> Made<(
                 tower: LineWriter::<BufWriter<Object, 8>, 8>::new(inner),
             });
         }
+        "Vec" => player.play(&mut Acting {
+            tower: Vec::<u8>::new(player.alloc),
+        }),
         "Device" => player.play(&mut Acting { tower: device }),
         "BufWriter 8" => player.play(&mut Acting {
             tower: BufWriter::<Device, 8>::new(device),

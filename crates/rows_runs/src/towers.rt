@@ -1,8 +1,8 @@
 // Towers of writers over one device, which can be looked at.
 use io_bench::Faulty;
+use no_std_io2::io::{BufWriter, LineWriter, Write};
 use rows_play::line::Line;
 use rows_play::recorder::Recorder;
-use no_std_io2::io::{BufWriter, LineWriter, Write};
 
 /// A device of faults, whose bytes out are its vector's.
 pub type Device = Faulty<Vec<u8>>;
@@ -36,6 +36,12 @@ pub fn push_bytes(bytes: &mut Vec<u8>, more: &[u8], line: &mut Line) {
 impl Tower for Device {
     fn out(&self) -> &[u8] {
         self.get_ref()
+    }
+}
+
+impl Tower for Vec<u8> {
+    fn out(&self) -> &[u8] {
+        self
     }
 }
 

@@ -4,11 +4,11 @@
 use crate::ops::{push, show_replies};
 use crate::towers::{Device, Tower, push_bytes};
 use io_bench::{Act, Faulty, Op, Reply, joined, run_writes};
+use no_std_io2::io::{BufWriter, ErrorKind, LineWriter};
 use rows_play::calls::Call;
 use rows_play::fault::Made;
 use rows_play::line::Line;
 use rows_play::player::{Player, Stream};
-use no_std_io2::io::{BufWriter, ErrorKind, LineWriter};
 use std::alloc::Global;
 
 const OPS: [Op<'static>; 6] = [

@@ -6,12 +6,12 @@ use crate::levels::{self, FAULTY, NO_STREAM, play_level};
 use crate::tower::Object;
 use crate::writing::{Columns, play};
 use io_bench::{Act, Faulty, Sink, Tally};
+use no_std_io2::io::{BufWriter, Write};
 use rows_play::calls::{Call, make_call};
 use rows_play::fault::{Fault, Made};
 use rows_play::line::{Line, unescape};
 use rows_play::player::{Player, Stream};
 use rows_play::script::{Answer, parse_answers};
-use no_std_io2::io::{BufWriter, Write};
 use std::alloc::Global;
 
 // What a device that is told these answers does, the first one first.

@@ -2,6 +2,7 @@
 use crate::levels::{NO_STREAM, NOTED, RECORDER, lend, play_level};
 use crate::tower::{Device, Object};
 use crate::writing::{Columns, make_any_call, play, play_seeking};
+use no_std_io2::io::{BufWriter, Seek};
 use rows_play::calls::{Call, make_seek, new_journal, show_calls};
 use rows_play::fault::Made;
 use rows_play::journal::Journal;
@@ -9,7 +10,6 @@ use rows_play::line::Line;
 use rows_play::noted::Noted;
 use rows_play::player::{Player, Stream};
 use rows_play::recorder::{Name, Recorder};
-use no_std_io2::io::{BufWriter, Seek};
 use std::alloc::Global;
 use std::cell::RefCell;
 use std::rc::Rc;

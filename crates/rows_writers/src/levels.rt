@@ -6,10 +6,10 @@ use crate::benches::new_faulty;
 use crate::devices::{new_device, new_recorder};
 use crate::tower::Tower;
 use crate::writing::{Columns, play, play_seeking};
+use no_std_io2::io::{BufWriter, LineWriter, Seek};
 use rows_play::calls::new_journal;
 use rows_play::fault::{Fault, Made};
 use rows_play::player::Player;
-use no_std_io2::io::{BufWriter, LineWriter, Seek};
 
 pub const NO_STREAM: Fault = Fault::Malformed("no such stream");
 

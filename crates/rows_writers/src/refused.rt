@@ -1,7 +1,7 @@
 // Rows of refused memory: vectors, and what stands on them, over a heap that has room for so many bytes.
+use reads::Reading;
 use rows_play::fault::Made;
 use rows_play::player::Player;
-use reads::Reading;
 use runs::Running;
 
 mod heaps;

@@ -1,10 +1,10 @@
 // Towers of writers: what stands on a device, level by level.
 use io_bench::{Faulty, Sink, Tally};
+use no_std_io2::io::{BufWriter, Error, IntoInnerError, LineWriter, Write};
 use rows_play::calls::Call;
 use rows_play::line::Line;
 use rows_play::noted::Noted;
 use rows_play::recorder::Recorder;
-use no_std_io2::io::{BufWriter, Error, IntoInnerError, LineWriter, Write};
 use std::alloc::Global;
 
 /// A device that notes the name of each call.

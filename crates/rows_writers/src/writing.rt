@@ -3,11 +3,11 @@
 // The columns behind a call are its answer, what the device took, the bytes held at each level, the outer one first, and over a
 // recorder the calls that reached it.
 use crate::tower::{Part, Tower};
+use no_std_io2::io::{Seek, Write};
 use rows_play::calls::{Call, expect, make_call, make_seek, show_calls, show_out};
 use rows_play::journal::Journal;
 use rows_play::line::Line;
 use rows_play::player::{Player, Stream};
-use no_std_io2::io::{Seek, Write};
 use std::alloc::Global;
 use std::cell::RefCell;
 use std::rc::Rc;

@@ -16,7 +16,7 @@ use Rattle.no_std_io2.specs.declared.io.Write.{Ghosts as Writer}
 use Rattle.no_std_io2.specs.Read.{Reader}
 use Rattle.no_std_io2.specs.Write.{FlushLaw, WriteCall, Flushed, Made}
 use Rattle.no_std_io2.specs.BufWriter.{CallOf}
-use Rattle.no_std_io2.specs.Copy.{Handed, SameAnswer}
+use Rattle.no_std_io2.specs.Copy.{Handed, HandsOn}
 use Rattle.no_std_io2.specs.Towers.{Through}
 use Rattle.no_std_io2.proofs.CallsLemmas.{made_more}
 use Rattle.no_std_io2.proofs.TowerCalls.{through}
@@ -91,7 +91,7 @@ comes_apart held buffer none back =
 
 -- a flush behind a copy
 pub flushed_behind : {R W : Type 0} {K : Reader R} {I : Writer W} {from from' : R} {old mid new : W}
-    → SameAnswer K I 64 from old (Ok tt) from' mid → FlushLaw I.told I.takes_all I.cost I.is_metered I.may mid (Ok tt) new
+    → HandsOn K I 64 from old (Ok tt) from' mid → FlushLaw I.told I.takes_all I.cost I.is_metered I.may mid (Ok tt) new
     → HandsAndFlushes I old new
 flushed_behind {I = I} {old = old} hands flushed = record {
   pieces = hands.pieces;

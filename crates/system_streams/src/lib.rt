@@ -14,8 +14,8 @@
 #![tactic(auto)]
 
 mod copy;
-mod pins;
 mod patient;
+mod pins;
 mod system;
 mod telling;
 mod to_std;

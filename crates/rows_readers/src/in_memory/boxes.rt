@@ -1,12 +1,13 @@
 // Boxed objects, played by rows of calls.
 use super::scripts::{cut, new_text};
+use super::wrapped::{Held, Slice, slice_of};
 use crate::devices::{Devices, NO_STREAM};
 use crate::streams::{Lending, Reading};
+use no_std_io2::io::{BufRead, BufReader, Chain, Cursor, Read, Seek, Take};
 use rows_play::calls::{Call, make_seek};
 use rows_play::fault::Made;
 use rows_play::line::Line;
 use rows_play::player::{Player, Stream};
-use no_std_io2::io::{BufRead, BufReader, Chain, Cursor, Read, Seek, Take};
 use std::alloc::Global;
 
 // One that seeks.
@@ -33,7 +34,8 @@ pub fn lend(
         "Read" => lend_read(words, devices, player),
         "BufRead" => lend_buf_read(words, devices, player),
         "Seek" => lend_seek(words, player),
-        "Chain Read Read" => lend_both(words, devices, player),
+        "Chain Cursor &[u8]" => lend_both(words, devices, player),
+        "BufReader 4" => lend_held(words, devices, player),
         "BufReader 4 Chain Box &mut Take" => lend_tower(words, devices, player),
         _ => Err(NO_STREAM),
     }
@@ -65,11 +67,20 @@ fn lend_seek(words: &str, player: &mut Player<'_, '_>) -> Made<()> {
 fn lend_both(words: &str, devices: Devices<'_>, player: &mut Player<'_, '_>) -> Made<()> {
     let (first, second) = cut(words);
     let first: Box<dyn Read + Drop> = new_box(player.alloc, first)?;
-    let second: Box<dyn Read + Drop> = new_box(player.alloc, second)?;
+    let bytes = slice_of(second)?;
+    let second: Box<dyn Read + Drop> = Box::new(player.alloc, Slice { bytes })?;
     player.play(&mut Reading {
         tower: first.chain(second),
         devices,
     });
+    Ok(())
+}
+
+fn lend_held(words: &str, devices: Devices<'_>, player: &mut Player<'_, '_>) -> Made<()> {
+    let bytes = slice_of(words)?;
+    let reader = BufReader::new(Slice { bytes });
+    let tower: Box<dyn BufRead + Drop> = Box::new(player.alloc, Held { reader })?;
+    player.play(&mut Lending { tower, devices });
     Ok(())
 }
 

@@ -6,11 +6,11 @@ use super::scripts::new_text;
 use super::vectors::Buffered;
 use crate::devices::Devices;
 use crate::streams::make_seeking_call;
+use no_std_io2::io::{BufRead, BufReader, BufWriter, Cursor, Seek, Write};
 use rows_play::calls::{Call, make_call};
 use rows_play::fault::Made;
 use rows_play::line::{Line, unescape};
 use rows_play::player::{Player, Stream};
-use no_std_io2::io::{BufRead, BufReader, BufWriter, Cursor, Seek, Write};
 use std::alloc::Global;
 
 type Text = Cursor<Vec<u8>>;
@@ -76,7 +76,7 @@ impl Stream for OnVector {
     }
 }
 
-// A cursor on what is lent, made anew for each call where the last one stood. It has `place N` too.
+// A cursor on what is lent, or on a boxed slice, made anew for each call where the last one stood. It has `place N` too.
 #[derive(Drop)]
 struct OnLent<'a> {
     name: &'a str,
@@ -99,6 +99,15 @@ impl<'a> OnLent<'a> {
                 cursor.set_position(self.position);
                 make_any_call(alloc, &mut cursor, call, line);
                 cursor.position()
+            }
+            "Box [u8]" => {
+                let content = std::mem::replace(&mut self.content, Vec::new(alloc));
+                let mut cursor = Cursor::new(content.into_boxed_slice());
+                cursor.set_position(self.position);
+                make_any_call(alloc, &mut cursor, call, line);
+                let position = cursor.position();
+                self.content = cursor.into_inner().into_vec();
+                position
             }
             "&[u8]" => {
                 let mut cursor = Cursor::new(self.content.as_slice());

@@ -3,10 +3,10 @@ use super::scripts::{cut, new_feed, new_text};
 use crate::devices::{Devices, NO_STREAM};
 use crate::streams::{Lending, Reading};
 use io_bench::{Feed, Tally};
+use no_std_io2::io::{BufReader, Chain, Read};
 use rows_play::fault::{Fault, Made};
 use rows_play::line::unescape;
 use rows_play::player::Player;
-use no_std_io2::io::{BufReader, Chain, Read};
 
 // A stream's name ends with its device's.
 pub fn lend(

@@ -4,10 +4,10 @@
 // columns behind it are the answer, the length and the capacity then, and how many bytes are left to come.
 use super::scripts::push_bytes;
 use io_bench::{Feed, Tally};
+use no_std_io2::io::{BufRead, BufReader, Cursor, Read};
 use rows_play::calls::Call;
 use rows_play::line::Line;
 use rows_play::player::Stream;
-use no_std_io2::io::{BufRead, BufReader, Cursor, Read};
 use std::alloc::Global;
 
 // What stands behind the letters to come of a piece or a line.

@@ -1,10 +1,10 @@
 // What a group's `new` says: feeds of `io_bench`, its faulty writers, and texts.
 use io_bench::{Act, Event, Faulty, Feed};
+use no_std_io2::io::Cursor;
 use rows_play::fault::{Fault, Made};
 use rows_play::kinds::name_of_kind;
 use rows_play::line::{Line, unescape};
 use rows_play::script::{Answer, parse_answers};
-use no_std_io2::io::Cursor;
 use std::alloc::{AllocError, Global};
 
 // Two texts on both sides of a plus: where there is none the first is empty.

@@ -1,12 +1,14 @@
-// Vectors that grow, and a buffer over a cursor on one.
+// Vectors that grow, a buffer over a cursor on one, and a queue.
 use super::cursors::{place_of, show};
 use crate::devices::NO_STREAM;
+use no_std_io2::io::{BufWriter, Cursor};
 use rows_play::calls::{Call, make_call, make_seek};
 use rows_play::fault::{Fault, Made};
-use rows_play::line::Line;
+use rows_play::line::{Line, unescape};
 use rows_play::player::{Player, Stream};
-use no_std_io2::io::{BufWriter, Cursor};
+use rows_play::reads::make_read;
 use std::alloc::Global;
+use std::collections::VecDeque;
 
 // A buffer over a cursor, whose place `place N` sets. The columns are those of the cursor, and behind them the bytes held.
 #[derive(Drop)]
@@ -48,6 +50,35 @@ impl Stream for Grown {
         line.column();
         line.number(self.cursor.get_ref().capacity() as u64);
     }
+}
+
+// A queue. The column behind a call is what it holds.
+#[derive(Drop)]
+struct Queue {
+    bytes: VecDeque<u8>,
+}
+
+impl Stream for Queue {
+    fn play(&mut self, alloc: Global, call: &Call<'_>, line: &mut Line) {
+        if call.word.starts_with("write") || call.word == "flush" {
+            make_call(&mut self.bytes, call, line);
+        } else {
+            make_read(alloc, &mut self.bytes, call, line);
+        }
+        line.column();
+        let (front, back) = self.bytes.as_slices();
+        let mut held = Vec::new(alloc);
+        if held.extend_from_slice(front).is_err() || held.extend_from_slice(back).is_err() {
+            line.cut();
+        }
+        line.bytes(&held);
+    }
+}
+
+pub fn lend_queue(words: &str, player: &mut Player<'_, '_>) -> Made<()> {
+    let bytes = VecDeque::from_vec(unescape(player.alloc, words)?);
+    player.play(&mut Queue { bytes });
+    Ok(())
 }
 
 // With room for so many bytes as a row's `new` says.

@@ -5,13 +5,13 @@
 ghost use Rattle.no_std_io2.specs.BufReader.{BufReaderFits};
 
 use io_bench::{Event, Feed};
+use no_std_io2::io::Read;
 use rows_play::calls::{Call, new_journal, show_calls};
 use rows_play::fault::Made;
 use rows_play::journal::Journal;
 use rows_play::line::Line;
 use rows_play::player::{Player, Stream};
 use rows_play::recorder::{Name, Recorder};
-use no_std_io2::io::Read;
 use std::alloc::Global;
 use std::cell::RefCell;
 use std::rc::Rc;

@@ -3,16 +3,17 @@
 // A row of what sends is a call; then its answer, whether a frame or a line is under way, the bytes out and the calls that
 // reached the device; `drop` and `into_inner` end what sends. A row of a reader is a call; then its answer and the calls.
 use framing::{FrameReader, FrameWriter};
+use line_log::LineLog;
+use no_std_io2::io::Result as IoResult;
 use rows_play::calls::{Call, new_journal, show_calls, show_out};
 use rows_play::fault::{Fault, Made};
 use rows_play::journal::Journal;
 use rows_play::line::Line;
 use rows_play::player::{Player, Stream};
 use rows_play::recorder::{Name, Recorder};
-use line_log::LineLog;
-use no_std_io2::io::Result as IoResult;
 use std::alloc::Global;
 use std::cell::RefCell;
+use std::fmt;
 use std::rc::Rc;
 
 // Prints the columns behind the answer of what sends.
@@ -123,9 +124,26 @@ struct Logging {
     journal: Rc<RefCell<Journal>>,
 }
 
-fn log(to: &mut LineLog<Recorder, 4>, bytes: &[u8], line: &mut Line) {
-    match std::str::from_utf8(bytes) {
+// A value that prints a part, and then fails.
+#[derive(Drop)]
+struct Broken;
+
+impl fmt::Display for Broken {
+    fn fmt<W: fmt::Write>(&self, f: &mut fmt::Formatter<W>) -> fmt::Result {
+        f.write_str("ab")?;
+        Err(fmt::Error)
+    }
+}
+
+// `log TEXT`, `log_text TEXT`, which prints the text in two pieces with a number behind it, and `log_broken`.
+fn log(to: &mut LineLog<Recorder, 4>, call: &Call<'_>, line: &mut Line) {
+    match std::str::from_utf8(&call.bytes) {
         Ok(_) if to.is_under_way() => line.malformed("a line is under way"),
+        Ok(text) if call.word == "log_text" => line.done(&to.log_text(format_args!(
+            "{text}={}",
+            5
+        ))),
+        Ok(_) if call.word == "log_broken" => line.done(&to.log_text(Broken)),
         Ok(text) => line.done(&to.log(text)),
         Err(_) => line.malformed("no text"),
     }
@@ -133,7 +151,7 @@ fn log(to: &mut LineLog<Recorder, 4>, bytes: &[u8], line: &mut Line) {
 
 fn log_by(to: &mut LineLog<Recorder, 4>, call: &Call<'_>, line: &mut Line) {
     match call.word {
-        "log" => log(to, &call.bytes, line),
+        "log" | "log_text" | "log_broken" => log(to, call, line),
         "retry" => line.done(&to.retry()),
         "flush" => line.done(&to.flush()),
         _ => line.malformed("no such call"),

@@ -8,12 +8,12 @@ ghost use Rattle.no_std_io2.specs.BufReader.{BufReaderFits};
 
 use super::copies::Ends;
 use io_bench::{Act, Event, Faulty, Feed};
+use no_std_io2::io::{ErrorKind, Read};
 use rows_play::calls::{Call, show_calls};
 use rows_play::fault::{Fault, Made};
 use rows_play::kinds::kind_of_name;
 use rows_play::line::Line;
 use rows_play::player::{Player, Stream};
-use no_std_io2::io::{ErrorKind, Read};
 use std::alloc::Global;
 use tower_play::{Fault as PlayFault, Shape, play};
 

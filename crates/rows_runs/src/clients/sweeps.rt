@@ -5,13 +5,13 @@
 use super::copies::events_of;
 use framing::{FrameReader, FrameWriter};
 use io_bench::{Act, Event, Faulty, Feed};
+use line_log::LineLog;
+use no_std_io2::io::{self, ErrorKind};
 use rows_play::calls::Call;
 use rows_play::fault::Made;
 use rows_play::kinds::name_of_kind;
 use rows_play::line::Line;
 use rows_play::player::{Player, Stream};
-use line_log::LineLog;
-use no_std_io2::io::{self, ErrorKind};
 use std::alloc::Global;
 
 // The payloads, and their frames.

@@ -1,7 +1,7 @@
 // What stands in heaps. A heap has room for so many bytes, in blocks that are rounded up to 16; what does not fit is refused. A
 // block that grows stands beside its copy until that is made.
-use rows_play::fault::{Fault, Made};
 use linked_list_allocator::LocalHeap;
+use rows_play::fault::{Fault, Made};
 
 /// A vector over a heap.
 pub type HeapVec<'a> = Vec<u8, &'a LocalHeap>;

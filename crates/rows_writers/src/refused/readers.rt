@@ -1,9 +1,9 @@
 // The readers of a trial, by their forms.
 use super::reads::{Outcome, Trial, read, read_all};
 use io_bench::{Event, Feed, Tally};
+use no_std_io2::io::{BufRead, BufReader, Chain, Cursor, Read};
 use rows_play::fault::{Fault, Made};
 use rows_play::line::Line;
-use no_std_io2::io::{BufRead, BufReader, Chain, Cursor, Read};
 
 fn read_lent<R: BufRead>(trial: Trial, r: &mut R, line: &mut Line) -> Made<Outcome> {
     read(trial, &mut &mut *r, line)

@@ -7,12 +7,12 @@
 // has room for all of it. In each smaller heap the call is refused, and the vector and what is left are all that was to come.
 use super::heaps::{cut_number, number, vector_of};
 use super::readers::read_form;
+use linked_list_allocator::LocalHeap;
+use no_std_io2::io::{BufRead, ErrorKind, Read, Result};
 use rows_play::calls::Call;
 use rows_play::fault::{Fault, Made};
 use rows_play::line::Line;
 use rows_play::player::Stream;
-use linked_list_allocator::LocalHeap;
-use no_std_io2::io::{BufRead, ErrorKind, Read, Result};
 use std::alloc::Global;
 
 const TEXT: &[u8] = &[b'a'; 600];

@@ -6,12 +6,12 @@ ghost use Rattle.std.specs.Prelude.{⊤, refl};
 
 use super::heaps::{cut_number, number};
 use io_bench::{Op, Reply, Sink, Tally, run_closed, run_writes};
+use linked_list_allocator::LocalHeap;
+use no_std_io2::io::{BufWriter, Result, Write};
 use rows_play::calls::Call;
 use rows_play::fault::{Fault, Made};
 use rows_play::line::Line;
 use rows_play::player::Stream;
-use linked_list_allocator::LocalHeap;
-use no_std_io2::io::{BufWriter, Result, Write};
 use std::alloc::Global;
 use std::cell::RefCell;
 

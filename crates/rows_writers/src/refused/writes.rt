@@ -5,12 +5,12 @@
 // `fill`, which takes all of the heap that is left, and `free`, which gives it back.
 use super::heaps::{HeapVec, cut_number, vector_of};
 use crate::writing::make_any_call;
+use linked_list_allocator::LocalHeap;
+use no_std_io2::io::{BufWriter, Cursor, LineWriter, Write};
 use rows_play::calls::{Call, make_call};
 use rows_play::fault::{Fault, Made};
 use rows_play::line::Line;
 use rows_play::player::{Player, Stream};
-use linked_list_allocator::LocalHeap;
-use no_std_io2::io::{BufWriter, Cursor, LineWriter, Write};
 use std::alloc::{Allocator, Global};
 
 // A writer over a vector in a heap.

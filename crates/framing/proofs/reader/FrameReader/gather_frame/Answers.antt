@@ -109,4 +109,4 @@ pub returns-clause-spends_turn : goal.returns-clause-spends_turn
 returns-clause-spends_turn g c = λ h.
     let said = c.in_ok-fill_header.ensures in
     turn_spent (length (part_bytes c.args.self.now.part)) (length (part_bytes c.fill_header.new.self))
-    (said.some c.if-not-branch.false) said.turn said.turns c.in_ok-fill_payload.ensures.turns_never_rise
+    (said.some c.if-not-branch.false) said.spends_turn said.turns_never_rise c.in_ok-fill_payload.ensures.turns_never_rise

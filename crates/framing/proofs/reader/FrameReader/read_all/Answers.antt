@@ -68,7 +68,7 @@ frames-preserved g c =
     let payload = c.in-Some.payload in
     let pushed : new ≡ had ++ payload ∷ [] = c.push_reserved.ensures.items ∙ ap (λ l. l ++ payload ∷ []) c.reserve.ensures.items in
     record {
-      appends = appended-more old {had} {new} payload before.appends pushed;
+      appends = appended-more old {mid = had} {new = new} payload before.appends pushed;
       told = λ t.
           let run = before.told t in
           let said = (rw c.in-Some.is at c.in_ok-next.ensures.told) run.0 in (

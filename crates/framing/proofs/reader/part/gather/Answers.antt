@@ -30,10 +30,10 @@ pieces-preserved-in-Ok g c =
       grows = omega (arith, before.grows, more);
       room = omega (arith, before.room, done.capacity);
       len = omega (arith, more, is, c.min-len.ensures, c.len.ensures, c.pieces-test.true);
-      turns = omega (arith, dropped.turns, filled.turns, before.turns);
+      turns = omega (arith, dropped.turns_never_rise, filled.turns_never_rise, before.turns);
       turn = λ _. let one : 0 < len =
           omega (arith, c.min-len.ensures, c.len-in-Ok.ensures, c.len.ensures, c.pieces-test.true) in
-          omega (arith, dropped.turn one, filled.turns, before.turns);
+          omega (arith, dropped.spends_turn one, filled.turns_never_rise, before.turns);
     }
 
 pub pieces-preserved : goal.pieces-preserved
@@ -51,6 +51,6 @@ pieces-preserved g c =
       grows = before.grows;
       len = before.len;
       room = before.room;
-      turns = le_trans filled.turns before.turns;
-      turn = λ more. omega (arith, before.turn more, filled.turns);
+      turns = le_trans filled.turns_never_rise before.turns;
+      turn = λ more. omega (arith, before.turn more, filled.turns_never_rise);
     }

@@ -31,7 +31,7 @@ returns-in-Ok-eq0 g c =
         whole = tt;
         device = got_none at (length old - at) old c.read.new.buf _ _ _ before.law.within before.got none;
       };
-      ends = (omega (arith, read.law.turns_never_rise, before.law.turns_never_rise), inr (inr c.gave_too_little.ensures));
+      ends = (omega (arith, read.law.turns_never_rise, before.law.turns), inr (inr c.gave_too_little.ensures));
       taken = read.taken ∙ before.taken;
     }
 
@@ -90,7 +90,7 @@ returns-in-Err-2 g c =
         whole = tt;
         device = got_same at (length old - at) old c.read.new.buf _ _ _ before.law.within before.got kept;
       };
-      ends = ends_reads (length c.args.buf.now) c.in-Err.e fault before.law.turns_never_rise read.law.spends_turn (read.last room) (read.asked room);
+      ends = ends_reads (length c.args.buf.now) c.in-Err.e fault before.law.turns read.law.spends_turn (read.last room) (read.asked room);
       taken = read.taken ∙ before.taken;
     }
 
@@ -105,6 +105,6 @@ returns g c =
         whole = omega (arith, before.law.within, c.reads-test.false);
         device = before.got;
       };
-      ends = (before.law.turns_never_rise, λ some. before.law.spends_turn (omega (arith, some, c.reads-test.false, before.law.long)));
+      ends = (before.law.turns, λ some. before.law.turn (omega (arith, some, c.reads-test.false, before.law.long)));
       taken = before.taken;
     }
