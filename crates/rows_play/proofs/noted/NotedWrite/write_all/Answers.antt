@@ -7,10 +7,10 @@ returns g c =
     let wrote = c.write_all.ensures.law in
     record {
       law = record {
-        never_interrupted = wrote.fault;
+        never_interrupted = wrote.never_interrupted;
         moves = wrote.moves;
         all = wrote.all;
         counts = wrote.counts;
-        calls = all_own _ _ _ (tt, wrote.fault, wrote.moves, wrote.all, wrote.counts);
+        calls = all_own _ _ _ (tt, wrote.never_interrupted, wrote.moves, wrote.all, wrote.counts);
       };
     }

@@ -7,11 +7,11 @@ returns g c =
     let wrote = c.write_rest.ensures.law in
     record {
       law = record {
-        never_interrupted = wrote.fault;
+        never_interrupted = wrote.never_interrupted;
         sends = wrote.sends;
         done = wrote.done;
         all = λ a. let all = wrote.all a in (all.0, all.1);
         counts = wrote.counts;
-        calls = rest_own _ _ _ _ (tt, wrote.fault, wrote.sends, wrote.done, (λ a. (wrote.all a).0), wrote.counts);
+        calls = rest_own _ _ _ _ (tt, wrote.never_interrupted, wrote.sends, wrote.done, (λ a. (wrote.all a).0), wrote.counts);
       };
     }
