@@ -33,13 +33,13 @@ pub record Adds (line : List ℕ) (old new : Script) : Type 0 where
   pub adds : AddsSaid said old new
 
 -- what makes a line bad that says something: an act behind a call, a text that stands for nothing
-abbrev pub IsBadLine : Line → Script → Type 0
-IsBadLine Empty old = ⊥
-IsBadLine (Act act) old = 0 < vec_len old.calls.steps
-IsBadLine (Write text) old = unescaped text.now ≡ None
-IsBadLine (WriteAll text) old = unescaped text.now ≡ None
-IsBadLine Flush old = ⊥
-IsBadLine Bad old = ⊥
+abbrev pub IsUnfit : Line → Script → Type 0
+IsUnfit Empty old = ⊥
+IsUnfit (Act act) old = 0 < vec_len old.calls.steps
+IsUnfit (Write text) old = unescaped text.now ≡ None
+IsUnfit (WriteAll text) old = unescaped text.now ≡ None
+IsUnfit Flush old = ⊥
+IsUnfit Bad old = ⊥
 
 -- there is no room for what a line that says this may add: an act before the first call, a text and a call, or a call
 abbrev pub LineLacksRoom : Line → Script → Type 0
@@ -52,7 +52,7 @@ LineLacksRoom Bad old = ⊥
 
 -- a bad line behind those that made this script: it says nothing, or is refused
 abbrev pub IsBadLine : List ℕ → Script → Type 0
-IsBadLine line old = (IsGood line → ⊥) ⊎ ((said : Line) × Says line said × IsBadLine said old)
+IsBadLine line old = (IsGood line → ⊥) ⊎ ((said : Line) × Says line said × IsUnfit said old)
 
 -- what lines add, one after another
 abbrev pub AddsAll : List (List ℕ) → Script → Script → Type 0
