@@ -4,7 +4,7 @@ use Rattle.std.proofs.Common.{Option, Some, None, refl, sym, ap, subst, ◌∙�
 use Rattle.std.proofs.Common.{length-append}
 use Rattle.std.proofs.lemmas.Grind.{common_steps}
 use Rattle.std.proofs.lemmas.Bool.Decides.{nat_tests}
-use Rattle.tower_play.specs.Script.{before, unescaped, AddsText}
+use Rattle.tower_play.specs.Script.{before, unescaped, IsAppended}
 
 -- the text that is left, behind a backslash that was read
 abbrev pub waiting : Bool → List ℕ → List ℕ
@@ -85,13 +85,13 @@ goes_by_itself {old} {new} {new2} {text} i in' plain was is more so =
     subst (λ e. Halfway old new2 text (waiting e rest)) (sym is) (goes_on (b ∷ []) (by_itself b rest plain) more here)
 
 -- what a good text stands for stands behind the old bytes
-pub is_meant : (o : Option (List ℕ)) (old new : List ℕ) → AddsText o true old new
+pub is_meant : (o : Option (List ℕ)) (old new : List ℕ) → IsAppended o true old new
     → (bytes : List ℕ) × (o ≡ Some bytes) × (new ≡ old ++ bytes)
 is_meant (Some bytes) old new so = (bytes, refl, so.1)
 is_meant None old new so = absurd (cc so)
 
 -- a bad text stands for nothing
-pub is_not_meant : (o : Option (List ℕ)) (old new : List ℕ) → AddsText o false old new → o ≡ None
+pub is_not_meant : (o : Option (List ℕ)) (old new : List ℕ) → IsAppended o false old new → o ≡ None
 is_not_meant (Some bytes) old new so = absurd (cc so.0)
 is_not_meant None old new so = refl
 

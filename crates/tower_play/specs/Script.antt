@@ -36,9 +36,9 @@ unescaped (b ∷ c ∷ text) =
     else before (b ∷ []) (unescaped (c ∷ text))
 
 -- a text that stands for bytes is good, and they stand behind the old ones
-abbrev pub AddsText : Option (List ℕ) → Bool → List ℕ → List ℕ → Type 0
-AddsText (Some bytes) good old new = (good ≡ true) × (new ≡ old ++ bytes)
-AddsText None good old new = good ≡ false
+abbrev pub IsAppended : Option (List ℕ) → Bool → List ℕ → List ℕ → Type 0
+IsAppended (Some bytes) good old new = (good ≡ true) × (new ≡ old ++ bytes)
+IsAppended None good old new = good ≡ false
 
 -- the name of a kind
 abbrev pub kind_name : ErrorKind → List ℕ

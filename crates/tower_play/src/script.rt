@@ -4,7 +4,7 @@ ghost use Rattle.std.specs.Prelude.{IfOk, IfErr, length, vec_len, vec_capacity, 
 ghost use Rattle.no_std_io2.specs.Errors.{IsOutOfMemory};
 ghost use Rattle.system_streams.specs.Copies.{HasFirstFault};
 ghost use Rattle.tower_play.specs.Faults.{IsNumbered, IfIo, IfLine};
-ghost use Rattle.tower_play.specs.Script.{kind_name, IsCount, IsTextArgument, unescaped, AddsText};
+ghost use Rattle.tower_play.specs.Script.{kind_name, IsCount, IsTextArgument, unescaped, IsAppended};
 ghost use Rattle.tower_play.specs.Calls.{IsNext, AreCalls, AddsText, IsFull};
 ghost use Rattle.tower_play.specs.Reading.{Adds, IsBadLine, IsRead, IsBadAt, LineLacksRoom};
 ghost use Rattle.no_std_io2.specs.Pieces.{split_reader, split_delim, split_is_ended};
@@ -212,7 +212,7 @@ fn split_text(texts: &[u8], len: usize) -> (&[u8], &[u8])
 fn unescape(text: &[u8], bytes: &mut Vec<u8>) -> bool
     requires { vec_len bytes.old + length text.now ≤ vec_capacity bytes.old }
     ensures grows { vec_len bytes.old ≤ vec_len bytes.new }
-    ensures meant { AddsText (unescaped text.now) result bytes.old.items bytes.new.items }
+    ensures meant { IsAppended (unescaped text.now) result bytes.old.items bytes.new.items }
 {
     let mut is_escaped = false;
     'bytes: for b in text {
