@@ -1,12 +1,12 @@
 // Boxed objects, played by rows of calls.
 use super::scripts::{cut, new_text};
-use super::wrapped::{Slice, slice_of};
+use super::wrapped::{Held, Slice, slice_of};
 use crate::devices::{Devices, NO_STREAM};
 use crate::streams::{Lending, Reading};
 use no_std_io2::io::{BufRead, BufReader, Chain, Cursor, Read, Seek, Take};
 use rows_play::calls::{Call, make_seek};
 use rows_play::fault::Made;
-use rows_play::line::Line;
+use rows_play::line::{Line, unescape};
 use rows_play::player::{Player, Stream};
 use std::alloc::Global;
 
@@ -35,6 +35,7 @@ pub fn lend(
         "BufRead" => lend_buf_read(words, devices, player),
         "Seek" => lend_seek(words, player),
         "Chain Cursor &[u8]" => lend_both(words, devices, player),
+        "BufReader 4" => lend_held(words, devices, player),
         "BufReader 4 Chain Box &mut Take" => lend_tower(words, devices, player),
         _ => Err(NO_STREAM),
     }
@@ -72,6 +73,13 @@ fn lend_both(words: &str, devices: Devices<'_>, player: &mut Player<'_, '_>) -> 
         tower: first.chain(second),
         devices,
     });
+    Ok(())
+}
+
+fn lend_held(words: &str, devices: Devices<'_>, player: &mut Player<'_, '_>) -> Made<()> {
+    let reader = BufReader::new(Cursor::new(unescape(player.alloc, words)?));
+    let tower: Box<dyn BufRead + Drop> = Box::new(player.alloc, Held { reader })?;
+    player.play(&mut Lending { tower, devices });
     Ok(())
 }
 

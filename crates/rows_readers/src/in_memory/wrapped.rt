@@ -1,7 +1,7 @@
-// A slice in a type without a lifetime, as a box of an object asks for.
+// A slice in a type without a lifetime, and a buffer of 4 bytes in one without a parameter, as a box of an object asks for.
 ghost use Rattle.std.specs.Prelude.{[], length};
 
-use no_std_io2::io::{Read, Result, Stored};
+use no_std_io2::io::{BufRead, BufReader, Cursor, Read, Result, Stored};
 use rows_play::fault::{Fault, Made};
 
 /// The slice that a row names: one that lives as long as the program.
@@ -41,4 +41,55 @@ impl Read for Slice {
     ghost store_tells = { λ s h. absurd h };
 
     ghost store_fits = { λ s h. absurd h };
+}
+
+#[derive(Drop)]
+pub struct Held {
+    pub reader: BufReader<Cursor<Vec<u8>>, 4>,
+}
+
+impl Stored for Held {
+    ghost has_store = { λ _. ⊥ };
+
+    ghost content = { λ _. [] };
+
+    ghost position = { λ _. 0 };
+}
+
+impl Read for Held {
+    ghost tells = { λ _. ⊥ };
+
+    ghost events = { λ _. [] };
+
+    ghost turns = { λ h. ⟦<BufReader<Cursor<Vec<u8>>, 4> as Read>⟧.turns h.reader };
+
+    fn read(&mut self, buf: &mut [u8]) -> Result<usize> {
+        self.reader.read(buf)
+    }
+
+    ghost filling_tells = { λ h a. absurd a };
+
+    ghost store_tells = { λ h a. absurd a };
+
+    ghost store_fits = { λ h a. absurd a };
+}
+
+impl BufRead for Held {
+    ghost held = { λ h. ⟦<BufReader<Cursor<Vec<u8>>, 4> as BufRead>⟧.held h.reader };
+
+    ghost counts_fills = { λ _. ⊥ };
+
+    ghost fills = { λ _. 0 };
+
+    ghost lends_surely = { λ _. ⊥ };
+
+    ghost lent_length = { λ _. 0 };
+
+    fn fill_buf(&mut self) -> Result<&[u8]> {
+        self.reader.fill_buf()
+    }
+
+    fn consume(&mut self, amount: usize) {
+        self.reader.consume(amount);
+    }
 }
