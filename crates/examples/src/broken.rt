@@ -1,14 +1,14 @@
-// A reader that tells what is to come.
+// [`Broken`], a reader that tells its events.
 ghost use Rattle.std.specs.Prelude.{map, length, []};
 ghost use Rattle.std.specs.Option.{option_to_list};
 ghost use Rattle.no_std_io2.specs.Read.{fails};
 
 use no_std_io2::io::{Error, Read, Result, Stored};
 
-/// A reader that tells what is to come: one fault, and then the end.
+/// A reader that tells its events: one fault, and then the end.
 #[derive(Drop)]
 pub struct Broken {
-    /// The fault that is to come.
+    /// The fault, if it has not come yet.
     pub fault: Option<Error>,
 }
 

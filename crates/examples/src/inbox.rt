@@ -1,21 +1,21 @@
-// A reader with a budget of turns.
+// [`Inbox`], a reader with a budget of turns.
 ghost use Rattle.std.specs.Prelude.{[]};
 
 use no_std_io2::io::{Error, ErrorKind, Read, Result, Stored};
 
 /// The receiving half of a port.
 pub trait Source {
-    /// The next byte, or none for now.
+    /// Returns the next byte, or `None` if there is none yet.
     fn receive(&mut self) -> Option<u8>;
 }
 
-/// A reader with a budget of turns: what its source will give is not known, so each answer spends a turn, and the
-/// last turn is the answer that none is left.
+/// A reader with a budget of turns. It is not known what its source will give, so each result spends a turn. At
+/// the last turn the result is the error that no turns are left.
 #[derive(Drop)]
 pub struct Inbox<S> {
-    /// Where the bytes come from.
+    /// The source of the bytes.
     pub source: S,
-    /// How many answers are left.
+    /// The number of turns that are left.
     pub turns: u64,
 }
 

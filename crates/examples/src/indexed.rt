@@ -1,11 +1,11 @@
-//! Files with an index: the last four bytes tell where the index stands, which has the place of each entry in four bytes. Numbers
-//! stand with the lowest byte first.
+//! Reads an entry of a file with an index. The last four bytes of the file are the place of the index. The index has the place of
+//! each entry, in four bytes each. All numbers are little-endian.
 ghost use Rattle.std.specs.Prelude.{◌≡◌, length, take, drop, IfOk};
 ghost use Rattle.examples.specs.Indexed.{IsNumberAt, entry_place};
 
 use no_std_io2::io::{BufReader, Cursor, Read, Result, Seek, SeekFrom, read_exact_at};
 
-// The number at a place.
+// Returns the number at a place.
 fn read_u32_at<R: Read + Seek>(r: &mut R, at: SeekFrom) -> Result<u32>
     ensures store { R.has_store r.old → R.has_store r.new × (R.content r.new ≡ R.content r.old)
         × IfOk result (λ n. IsNumberAt (R.content r.old) (R.position r.old) at n) }
@@ -15,10 +15,10 @@ fn read_u32_at<R: Read + Seek>(r: &mut R, at: SeekFrom) -> Result<u32>
     Ok(u32::from_le_bytes(bytes))
 }
 
-/// Fills `entry` with the bytes from the start of entry `i` on, of any file that can be read and sought.
+/// Fills `entry` with the first bytes of entry number `i` of a file, which is any `Read + Seek`.
 ///
 /// # Errors
-/// Those of `seek` and of `read_exact`.
+/// Returns the error of a `seek` or `read_exact` that fails.
 pub fn read_entry<R: Read + Seek>(r: &mut R, i: u32, entry: &mut [u8]) -> Result<()>
     ensures store { R.has_store r.old → R.has_store r.new × (R.content r.new ≡ R.content r.old)
         × IfOk result (λ _. entry.new ≡ take (length entry.old) (drop (entry_place i (R.content r.old)) (R.content r.old))) }
@@ -29,10 +29,10 @@ pub fn read_entry<R: Read + Seek>(r: &mut R, i: u32, entry: &mut [u8]) -> Result
     read_exact_at(r, SeekFrom::Start(u64::from(place)), entry)
 }
 
-/// The same of a file in memory, through a buffer.
+/// Fills `entry` with the first bytes of entry number `i` of a file in memory, through a buffer.
 ///
 /// # Errors
-/// Those of `read_entry`.
+/// Returns the errors that `read_entry` returns.
 pub fn entry_of(file: &[u8], i: u32, entry: &mut [u8]) -> Result<()>
     ensures { IfOk result (λ _. entry.new ≡ take (length entry.old) (drop (entry_place i file.now) file.now)) }
 {

@@ -1,14 +1,14 @@
-//! A loop over headers: records, each a byte that tells a length, and so many bytes.
+//! A loop over records. Each record is a length, in one byte, followed by that many bytes.
 ghost use Rattle.std.specs.Prelude.{IfErr};
 ghost use Rattle.no_std_io2.specs.Errors.{IsFault};
 ghost use Rattle.examples.specs.Lengths.{PassesRecords};
 
 use no_std_io2::io::{BufRead, Result, skip};
 
-/// Passes over all records to come, up to the end. Each call of `skip` spends a turn, so the loop ends.
+/// Skips all remaining records. Each call of `skip` spends a turn, so the loop ends.
 ///
 /// # Errors
-/// The reader's first fault, and `UnexpectedEof` where the bytes end inside a record.
+/// Returns the reader's first fault, and `UnexpectedEof` if the bytes end inside a record.
 pub fn pass_records<B: BufRead>(r: &mut B) -> Result<()>
     ensures told { B.tells r.old → B.tells r.new × PassesRecords (B.events r.old) result (B.events r.new) }
     ensures never_interrupted { IfErr result IsFault }

@@ -1,4 +1,5 @@
-//! The examples that README and the CALLING page of `no_std_io2` print, as the gate proves them. They stand on `no_std_io2` alone.
+//! The examples of README, of PROVING and of the CALLING page of `no_std_io2`, which the gate proves. They use no crate except
+//! `no_std_io2`.
 #![tactic(auto)]
 
 ghost use Rattle.std.specs.Prelude.{◌≡◌, ◌++◌, IfOk};
@@ -29,7 +30,7 @@ pub use summed::{Summed, flush_summed, write_summed};
 
 pub mod records;
 
-/// Writes a text through a buffer of 64 bytes, and gives the device back with every byte out.
+/// Writes a text through a buffer of 64 bytes, and returns the device with every byte out.
 pub fn save(device: Vec<u8>, text: &[u8]) -> Result<Vec<u8>>
     ensures { IfOk result (λ out. out.items ≡ device.items ++ text.now) }
 {
@@ -42,7 +43,7 @@ pub fn save(device: Vec<u8>, text: &[u8]) -> Result<Vec<u8>>
     }
 }
 
-/// The same over any device that fits in memory with its buffer.
+/// Does the same as `save`, over any device that fits in memory with its buffer.
 pub fn save_to<W: Write + Drop>(device: W, text: &[u8]) -> Result<W>
     requires { BufWriterFits W.row 64 }
 {

@@ -1,19 +1,19 @@
-// A device that takes bytes.
+// [`Narrow`], a device that takes bytes.
 ghost use Rattle.no_std_io2.specs.Write.{told_out};
 
 use no_std_io2::io::{Result, Write};
 
-/// A device that takes bytes: at most `most` a call, into a vector.
+/// A device that takes bytes into a vector, at most `most` in each call.
 #[derive(Drop)]
 pub struct Narrow {
-    /// What it took.
+    /// The bytes that it took.
     pub taken: Vec<u8>,
-    /// How many bytes it takes a call.
+    /// The most bytes that one call takes.
     pub most: usize,
 }
 
 impl Write for Narrow {
-    // What it took is out, nothing is held, and no failures are told.
+    // The bytes that it took are out, nothing is held, and no mishaps are told.
     ghost told = { λ d. told_out d.taken.items };
 
     fn write(&mut self, buf: &[u8]) -> Result<usize> {

@@ -1,4 +1,4 @@
-//! Readings of an instrument, a line each, printed straight to a writer.
+//! [`write_reading`], which prints a reading of an instrument straight to a writer.
 ghost use Rattle.std.specs.Prelude.{◌⊎◌, IsErrAnd};
 ghost use Rattle.no_std_io2.specs.Text.{IsTextError};
 ghost use Rattle.no_std_io2.specs.Write.{MovesFront};
@@ -9,7 +9,8 @@ use no_std_io2::io::{Result, Write};
 /// Writes `NAME=VALUE` and a newline. It allocates nothing.
 ///
 /// # Errors
-/// Those of `write_all`: a front of the line was accepted. By its contract alone also that printing failed.
+/// Returns the error of a `write_all` if that fails; some first bytes of the line were then accepted. Its
+/// contract also allows that the printing fails.
 pub fn write_reading<W: Write>(w: &mut W, name: &str, value: u32) -> Result<()>
     ensures line { MovesFront (W.told w.old) (reading name.now value) result (W.told w.new) ⊎ IsErrAnd result IsTextError }
 {

@@ -1,4 +1,5 @@
-//! Records whose header is looked at first: a tag, a length, and so many bytes.
+//! Records whose header is read first and stays to be read. A record is a tag, a length, and that
+//! many bytes.
 ghost use Rattle.std.specs.Prelude.{◌≡◌, ◌≢◌, ◌≤◌, ◌<◌, ◌⊎◌, ◌+◌, ℕ, List, [], ◌∷◌, ◌++◌, None, length, take, drop, slice_index};
 ghost use Rattle.std.specs.Prelude.{IsOkAnd, IsSomeAnd, IfOk, IfErr, OnOk};
 ghost use Rattle.no_std_io2.specs.Errors.{IsOutOfMemory, IsUnexpectedEnd};
@@ -10,28 +11,30 @@ ghost use Rattle.examples.specs.Headers.{SoughtBack};
 use no_std_io2::io::{BufReader, Read, Result, Seek};
 use std::alloc::Global;
 
-/// The tag and the length of the next record, which stays to be read, whatever was held.
+/// Returns the tag and the length of the next record. The record stays to be read, whatever was
+/// held.
 ///
-/// With the header held in the buffer, the reader is then as it was, and the one below it was not asked: one that
-/// counts its calls has counted none.
+/// If the header was held in the buffer, no inner call is made, and the reader is afterwards as it was.
 ///
 /// # Errors
-/// Those of `read_exact`, after which all bytes up to the end or the fault are taken, and those of `seek_relative`, after
-/// which the header is. Over a sound store of two bytes or more from the position on there is none.
+/// Returns the error of a `read_exact` that fails; all bytes up to the end or the fault are then taken. Returns the error
+/// of a `seek_relative` that fails; the header is then taken. Over a sound store with at least two bytes from the
+/// position on, it does not fail.
 pub fn peek_header<R: Read + Seek, const S: usize>(r: &mut BufReader<R, S>) -> Result<(u8, u8)>
     ensures held { 2 ≤ length (reader_held r.old)
         → IsOkAnd result (λ header. header.0 ∷ header.1 ∷ [] ≡ take 2 (reader_held r.old))
         × KeepsBuffer r.old r.new × (reader_inner r.new ≡ reader_inner r.old) }
 
-    // Whatever was held, these are the next two bytes.
+    // The result is the next two bytes, whatever was held.
     ensures told { R.tells (reader_inner r.old) → IfOk result (λ header.
         header.0 ∷ header.1 ∷ [] ≡ bytes (cut 2 (reader_events R.events r.old))) }
 
-    // And then they stand first in what is held, or the reader was sought back to them.
+    // Afterwards they are the first held bytes, or the inner reader was sought back to them.
     ensures steps_back { IfOk result (λ header. IsFront (header.0 ∷ header.1 ∷ []) (reader_held r.new)
         ⊎ SoughtBack ⟦<BufReader<R, S> as Read>⟧ R.Seek.may r.old (header.0 ∷ header.1 ∷ []) r.new) }
 
-    // A sound store stays so and where it was. It fails exactly where fewer than two bytes are left, and these are taken.
+    // A sound store stays sound, and its position stays. The call fails if and only if fewer than two bytes are left;
+    // these are then taken.
     ensures store { reader_is_sound R.has_store R.position R.content r.old
         → reader_is_sound R.has_store R.position R.content r.new
         × (R.content (reader_inner r.new) ≡ R.content (reader_inner r.old))
@@ -47,8 +50,7 @@ pub fn peek_header<R: Read + Seek, const S: usize>(r: &mut BufReader<R, S>) -> R
     Ok((header[0], header[1]))
 }
 
-// The payload of the record that comes next, with so many bytes behind its header. Where memory is refused the record
-// stays to be read.
+// Returns the payload of the next record, which has `len` bytes. If an allocation fails, the record stays to be read.
 fn read_payload<R: Read + Seek, const S: usize>(
     alloc: Global,
     r: &mut BufReader<R, S>,
@@ -65,21 +67,23 @@ fn read_payload<R: Read + Seek, const S: usize>(
     Ok(payload)
 }
 
-/// The payload of the next record where that has this tag. Another one stays to be read.
+/// Returns the payload of the next record if it has this tag, and else `None`. A record with
+/// another tag stays to be read.
 ///
 /// # Errors
-/// Those of [`peek_header`] and of `read_exact`, and `OutOfMemory`, after which the record stays to be read.
+/// Returns the errors that [`peek_header`] returns, and the error of a `read_exact` that fails. Returns
+/// `OutOfMemory` if an allocation failed; the record then stays to be read.
 pub fn read_record<R: Read + Seek, const S: usize>(
     alloc: Global,
     r: &mut BufReader<R, S>,
     wanted: u8,
 ) -> Result<Option<Vec<u8>>>
-    // Where the header is held and another's, nothing is taken.
+    // If the held header has another tag, nothing is taken.
     ensures another { 2 ≤ length (reader_held r.old) → slice_index (reader_held r.old) 0 ≢ wanted
         → IsOkAnd result (λ found. found ≡ None)
         × KeepsBuffer r.old r.new × (reader_inner r.new ≡ reader_inner r.old) }
 
-    // A record that is held whole is taken from the buffer alone.
+    // If the whole record is held, it is taken from the buffer, and no inner call is made.
     ensures whole { (payload rest : List ℕ) → reader_held r.old ≡ wanted ∷ length payload ∷ payload ++ rest
         → IfOk result (λ found. IsSomeAnd found (λ bytes. bytes.items ≡ payload))
         × OnOk result (reader_held r.new ≡ rest)

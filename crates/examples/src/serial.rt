@@ -1,4 +1,4 @@
-// A device that knows nothing of itself: a serial line.
+// [`Serial`], a device that does not store the bytes that it takes: a serial line.
 ghost use Rattle.no_std_io2.specs.Write.{told_out};
 
 use no_std_io2::io::{Error, ErrorKind, Result, Write};
@@ -6,21 +6,21 @@ use no_std_io2::trace::Trace;
 
 /// The sending half of a port.
 pub trait Port {
-    /// Whether it took the byte.
+    /// Sends a byte, and returns whether the port took it.
     fn send(&mut self, byte: u8) -> bool;
 }
 
-/// A device that knows nothing of itself. It keeps no byte: those that its port took are seen by contracts alone.
+/// A device that does not store the bytes that it takes. Only contracts see the bytes that its port took.
 #[derive(Drop)]
 pub struct Serial<P> {
-    /// Where the bytes go.
+    /// The port to which the bytes go.
     pub port: P,
-    /// Those that went.
+    /// The bytes that the port took.
     pub taken: Trace,
 }
 
 impl<P: Port> Write for Serial<P> {
-    // What the port took is out.
+    // The bytes that the port took are out.
     ghost told = { λ s. told_out s.taken.bytes };
 
     fn write(&mut self, buf: &[u8]) -> Result<usize> {

@@ -1,4 +1,5 @@
-//! An adaptor with a state of its own: it keeps its promise through the trait's own loops and through a buffer.
+//! [`Summed`], an adaptor with a state of its own. Its promise holds through the trait's loops and through a
+//! buffer.
 ghost use Rattle.std.specs.Prelude.{◌≡◌, ℕ, List, [], ◌++◌, ◌+◌, ◌%◌, ◌^◌, sum, OnOk};
 ghost use Rattle.no_std_io2.specs.BufWriter.{writer_inner, writer_buffer};
 ghost use Rattle.no_std_io2.specs.Write.{CallAdds, WroteRest};
@@ -23,7 +24,7 @@ impl<W> Summed<W> {
     }
 }
 
-// Some bytes added to a sum.
+// Returns a sum with these bytes added.
 fn add_all(start: u64, bytes: &[u8]) -> u64
     ensures { result % 2 ^ 64 ≡ (start + sum bytes.now) % 2 ^ 64 }
 {
@@ -53,14 +54,16 @@ impl<W: Write> Write for Summed<W> {
     ghost steady = { λ s h. absurd h };
 }
 
-/// Writes what is left in `rest` by the trait's own loop: what is gone from it is in the sum, after an error too.
+/// Writes the bytes of `rest` by the trait's loop. The bytes that are gone from `rest` are in the sum, also after
+/// an error.
 pub fn write_summed<W: Write>(w: &mut Summed<W>, rest: &mut &[u8]) -> Result<()>
     ensures { CallAdds Sums w.old (WroteRest rest.old.now result rest.new.now) w.new }
 {
     w.write_rest(rest)
 }
 
-/// Flushes a buffer in front of a checksum: what is no longer held is in the sum, and after `Ok` that is all of it.
+/// Flushes a buffer in front of a checksum. The bytes that are no longer held are in the sum; after `Ok` these are
+/// all bytes.
 pub fn flush_summed<W: Write + Drop, const S: usize>(w: &mut BufWriter<Summed<W>, S>) -> Result<()>
     ensures { CallAdds Sums (writer_inner w.old) (WroteRest (writer_buffer w.old) result (writer_buffer w.new)) (writer_inner w.new) }
 {
@@ -98,14 +101,15 @@ impl<R: Read> Read for Summed<R> {
     ghost store_fits = { λ s h. absurd h };
 }
 
-/// Fills `buf` by the trait's own loop: after `Ok` its bytes are in the sum.
+/// Fills `buf` by the trait's loop. After `Ok` its bytes are in the sum.
 pub fn read_summed<R: Read>(r: &mut Summed<R>, buf: &mut [u8]) -> Result<()>
     ensures { OnOk result (Sums r.old buf.new r.new) }
 {
     r.read_exact(buf)
 }
 
-/// Reads to the end by the trait's own loop: what it appended is in the sum, after an error too.
+/// Reads to the end by the trait's loop. The bytes that it appended are in the sum, also after an
+/// error.
 pub fn drain_summed<R: Read>(r: &mut Summed<R>, buf: &mut Vec<u8>) -> Result<usize>
     ensures { (x : List ℕ) × (buf.new.items ≡ buf.old.items ++ x) × Sums r.old x r.new }
 {

@@ -1,7 +1,8 @@
-//! Reads frames from standard input, and prints a line for each: its payload, with each byte that is no printable ASCII
-//! escaped. A frame is a length, a `u32` in four bytes, the lowest first, and that many bytes.
+//! Reads frames from standard input, and prints a line for each: its payload, with each byte escaped that is not
+//! printable ASCII. A frame is a length, as a little-endian `u32`, followed by that many bytes.
 //!
-//! The status is 0 where the input ends behind a frame, and 1 for a fault, with its text on standard error.
+//! The status is 0 if the input ends after a frame, and 1 after a fault, whose text is printed to standard
+//! error.
 #![tactic(auto)]
 
 use framing::FrameReader;

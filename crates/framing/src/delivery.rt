@@ -1,4 +1,4 @@
-//! Frames that are sent until the device has them all.
+//! [`FrameWriter::deliver`], which sends frames until the device has them all.
 ghost use Rattle.std.specs.Prelude.{◌≡◌, ◌≤◌, ◌⊎◌, [], ◌++◌, None, map, OnOk, IfOk, IfErr, IfSome};
 ghost use Rattle.framing.specs.Frames.{frames, IsPayloadRefusal};
 ghost use Rattle.framing.specs.Sending.{writer_tells, frame_writer, frame_room, under_way, still_to_go, TakesPayloads};
@@ -36,8 +36,9 @@ impl<W: Write + Drop, const S: usize> FrameWriter<W, S> {
     /// if a payload is refused.
     ///
     /// # Errors
-    /// The fault of the last try, with its text: the same call goes on. `InvalidInput` and `OutOfMemory` as of
-    /// [`send`](FrameWriter::send), at once, with the refused payload at the front of `rest`.
+    /// Returns the fault of the last try, with its text, if that try fails too; the same call then continues.
+    /// Returns `InvalidInput` and `OutOfMemory` as [`send`](FrameWriter::send) does, without another try; the
+    /// refused payload is then at the front of `rest`.
     ///
     /// ```rust
     /// let mut w = FrameWriter::<Vec<u8>, 64>::new(rt.alloc(), Vec::new(rt.alloc()));

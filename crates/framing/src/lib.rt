@@ -1,8 +1,8 @@
-//! Frames over byte streams: payloads of known length, over any `Write` and any `Read`.
+//! Frames over byte streams: payloads with their length in front, over any `Write` and any `Read`.
 //!
-//! A frame is its payload's length, a `u32` in four bytes, the lowest first, and then that many bytes.
-//! [`FrameWriter`] sends each payload exactly once, whatever its device does; [`FrameReader`] gives them
-//! back in order, and a fault loses none. [`round_trip`] joins both.
+//! A frame is the length of its payload, as a little-endian `u32`, followed by the payload.
+//! [`FrameWriter`] sends each payload exactly once, whatever its device does. [`FrameReader`] reads them
+//! back in order, and a fault loses none. [`round_trip`] does both.
 //!
 //! ```rust
 //! let mut w = FrameWriter::<Vec<u8>, 64>::new(rt.alloc(), Vec::new(rt.alloc()));

@@ -1,4 +1,4 @@
-//! Frames out of a reader: a fault loses none, and none is given twice.
+//! [`FrameReader`], which reads frames. A fault loses no frame, and no frame is given twice.
 ghost use Rattle.std.specs.Prelude.{◌≡◌, ◌⊎◌, ◌<◌, ◌≤◌, ◌^◌, [], ◌++◌, true, map, All, ℕ, List, length, codes};
 ghost use Rattle.std.specs.Prelude.{IfOk, IfErr, OnOk, OnErr, IfSome};
 ghost use Rattle.no_std_io2.specs.Errors.{IsFault, SaysError};
@@ -18,8 +18,9 @@ use std::alloc::Global;
 
 /// A reader of frames, with a buffer of `S` bytes in front of any reader.
 ///
-/// What was gathered of a frame when the reader failed is kept: the next call goes on with it. So an error
-/// loses no byte. After `Ok(None)` and after an error the same call may be made again.
+/// If the reader below fails inside a frame, this reader keeps the part of the frame that it has, and the
+/// next call continues with it. So an error loses no byte. After `Ok(None)` and after an error the same
+/// call may be made again.
 ///
 /// ```rust
 /// let wire = Cursor::new(*b"\x02\0\0\0ab\x01\0\0\0c");
@@ -36,8 +37,8 @@ pub struct FrameReader<R: Read, const S: usize> {
 }
 
 impl<R: Read, const S: usize> FrameReader<R, S> {
-    /// A reader of the frames of `inner`, each with a payload of at most `limit` bytes. `S` is from 1 to
-    /// 2^63 - 1. Payloads are gathered by `alloc`.
+    /// Makes a reader of the frames of `inner`, whose payloads have at most `limit` bytes. `S` is from 1
+    /// to 2^63 - 1. Payloads are allocated from `alloc`.
     pub fn new(alloc: Global, inner: R, limit: u32) -> FrameReader<R, S>
         requires some_room { 0 < S }
         requires in_memory { S < 2 ^ 63 }
@@ -53,15 +54,16 @@ impl<R: Read, const S: usize> FrameReader<R, S> {
         }
     }
 
-    /// Gets a reference to the reader below. It is ahead of this one by the bytes held and gathered.
+    /// Gets a reference to the reader below, which is ahead by the bytes in the buffer and the part
+    /// of a frame that this reader keeps.
     pub fn get_ref(&self) -> &R
         ensures { result.now ≡ reads_from self.now }
     {
         self.inner.get_ref()
     }
 
-    /// Lets payloads have at most `limit` bytes from now on: a frame that was refused for its length is
-    /// given where it is within the new limit.
+    /// Sets the limit for payloads from now on. A frame that was refused for its length is given if it
+    /// is within the new limit.
     ///
     /// ```rust
     /// let wire = Cursor::new(*b"\x02\0\0\0ab");
@@ -78,7 +80,7 @@ impl<R: Read, const S: usize> FrameReader<R, S> {
         self.limit = limit;
     }
 
-    // Gathers the next frame as a whole. `false`: no byte of one is to come.
+    // Reads until the next frame is whole. `false` means that the bytes ended right before a frame.
     fn gather_frame(&mut self) -> Result<bool>
         ensures told { R.tells (reads_from self.old) → R.tells (reads_from self.new)
             × GathersFrame (most self.old) (LacksRoom (most self.old) self.new.part) (frame_events R.events self.old) result
@@ -107,14 +109,15 @@ impl<R: Read, const S: usize> FrameReader<R, S> {
         Ok(true)
     }
 
-    /// Gives the next frame's payload. `None`: the bytes end here, behind a whole frame. It passes over
-    /// interruptions.
+    /// Returns the payload of the next frame, or `None` if the bytes end after a whole frame. It
+    /// ignores interruptions.
     ///
     /// # Errors
-    /// The reader's first fault, which is gone then: the next call goes on behind it. `UnexpectedEof` where
-    /// the bytes end inside a frame; `InvalidData` where the next frame is longer than the limit, before any
-    /// room for its payload is asked for; `OutOfMemory` where there is no room for its header or payload, before
-    /// any of it is read. After each the frame is still to come, with every byte of it. Never `Interrupted`.
+    /// Returns the first fault of the reader below; the next call continues after it. Returns `UnexpectedEof` if
+    /// the bytes end inside a frame. Returns `InvalidData` if the next payload is longer than the limit; nothing
+    /// is allocated for it. Returns `OutOfMemory` if there is no room for the header or the payload; nothing of
+    /// it is read. After each of these errors the frame is still to come, with all its bytes. Never returns
+    /// `Interrupted`.
     pub fn next(&mut self) -> Result<Option<Vec<u8>>>
         ensures told { R.tells (reads_from self.old) → R.tells (reads_from self.new)
             × TakesFrame (λ v. v.items) (most self.old) (LacksRoom (most self.old) (part_of self.new))
@@ -134,11 +137,11 @@ impl<R: Read, const S: usize> FrameReader<R, S> {
         Ok(Some(self.part.take_payload()))
     }
 
-    /// Appends the payloads of all frames to come to `payloads`, up to the end.
+    /// Appends the payloads of all remaining frames to `payloads`.
     ///
     /// # Errors
-    /// Those of [`next`](FrameReader::next). The payloads that were given before it are appended, and all
-    /// other frames are still to come, so the same call goes on.
+    /// Returns the errors that [`next`](FrameReader::next) returns. The payloads before the error are
+    /// appended, and all other frames are still to come, so the same call continues.
     ///
     /// ```rust
     /// let wire = Cursor::new(*b"\x02\0\0\0ab\x01\0\0\0c");
@@ -160,7 +163,7 @@ impl<R: Read, const S: usize> FrameReader<R, S> {
         ensures limit { most self.new ≡ most self.old }
         ensures never_interrupted { IfErr result IsFault }
     {
-        // Read here so that its range is known.
+        // Read here so that the proof knows its range.
         let _limit = self.limit;
         'frames: loop {
             payloads.reserve(1)?;
@@ -172,7 +175,7 @@ impl<R: Read, const S: usize> FrameReader<R, S> {
     }
 }
 
-// The bytes end inside a frame.
+// Makes the error of bytes that end inside a frame.
 fn ended_inside() -> Error
     ensures { SaysError ErrorKind.UnexpectedEof (codes "the bytes end inside a frame") result }
 {

@@ -1,4 +1,4 @@
-//! What a writer of frames sent, a reader of frames gives back.
+//! [`round_trip`]: a reader of frames gives back what a writer of frames sent.
 ghost use Rattle.std.specs.Prelude.{◌≡◌, ◌⊎◌, ◌<◌, ◌^◌, ℕ, List, [], ◌++◌, map, All, length, IfOk, IfErr};
 ghost use Rattle.no_std_io2.specs.Errors.{IsOutOfMemory};
 ghost use Rattle.framing.specs.Frames.{frames, IsTooLongToSend};
@@ -11,7 +11,7 @@ use crate::writer::FrameWriter;
 use no_std_io2::io::{BufWriter, LineWriter, Result, Write};
 use std::alloc::Global;
 
-/// A writer that shows what it has handed on for good, as a device in memory does.
+/// A writer that can show the bytes that are out, as a device in memory can.
 ///
 /// ```rust
 /// let mut w = BufWriter::<Vec<u8>, 8>::new(Vec::new(rt.alloc()));
@@ -21,7 +21,7 @@ use std::alloc::Global;
 /// assert!(rt; w.shown() == b"abc".as_slice());
 /// ```
 pub trait Shown: Write {
-    /// The bytes that are out.
+    /// Returns the bytes that are out.
     fn shown(&self) -> &[u8]
         ensures { result.now ≡ (Self.told self.now).out };
 }
@@ -56,15 +56,15 @@ impl<W: Shown> Shown for Box<W> {
     }
 }
 
-/// Sends these payloads, with at most `tries` tries after faults, and gives what a reader of frames reads
-/// of the bytes that went out: these payloads, in order, each once, whatever tower of buffers and whatever
-/// device is below. Over a device that tells at most `tries` mishaps to come, and with payloads of fewer
-/// than 2^32 bytes, it fails for want of memory alone: if a frame is longer than the room that the writer has
-/// for one, or, with all frames out, if there is none for what is read. The writer is to be flushed, with no
-/// frame under way.
+/// Sends these payloads, with up to `tries` more tries after faults, and returns what a reader of frames
+/// reads from the bytes that went out: these payloads, in order, each once, for every tower of buffers and
+/// every device. The writer has to be flushed, with no frame under way. If the device tells at most `tries`
+/// mishaps to come, and each payload has fewer than 2^32 bytes, the call fails only if an allocation does:
+/// for a frame that is longer than the writer's room for one, or, after all frames are out, for what is read.
 ///
 /// # Errors
-/// Those of [`FrameWriter::deliver`], and `OutOfMemory` of the reader.
+/// Returns the errors that [`FrameWriter::deliver`] returns, and `OutOfMemory` if the reader could
+/// not allocate.
 ///
 /// ```rust
 /// let mut w = FrameWriter::<Vec<u8>, 64>::new(rt.alloc(), Vec::new(rt.alloc()));

@@ -15,10 +15,12 @@ use std::alloc::Global;
 ///
 /// If the device fails before a whole frame was accepted, that frame is *under way*.
 /// [`retry`](FrameWriter::retry), `send_all` and `flush` continue where it stopped, so no byte goes
-/// out twice. What the device took, then what the buffer holds, then what is still to go of the
-/// frame under way is always what it was, followed by exactly the frames that were sent.
+/// out twice. Take the bytes that the device has, then the bytes in the buffer, then the unsent
+/// rest of the frame under way: together they are always the bytes at the start, followed by
+/// exactly the frames that were sent.
 ///
-/// Dropping it sends the buffer once, ignores a fault, and cuts off the frame under way.
+/// Dropping it tries once to send the buffer, ignores a fault, and drops the rest of the frame
+/// under way.
 #[derive(Drop)]
 pub struct FrameWriter<W: Write + Drop, const S: usize> {
     inner: BufWriter<W, S>,
@@ -26,7 +28,8 @@ pub struct FrameWriter<W: Write + Drop, const S: usize> {
 }
 
 impl<W: Write + Drop, const S: usize> FrameWriter<W, S> {
-    /// A writer of frames to `inner`, with none under way. The frame under way is kept by `alloc`.
+    /// Makes a writer of frames to `inner`, with no frame under way. The frame under way is
+    /// allocated from `alloc`.
     pub fn new(alloc: Global, inner: W) -> FrameWriter<W, S>
         ensures inner { writes_to result ≡ inner }
         ensures empty { frames_held result ≡ [] }
@@ -61,11 +64,13 @@ impl<W: Write + Drop, const S: usize> FrameWriter<W, S> {
         self.pending.is_some()
     }
 
-    /// Goes on with the frame that is under way, where it stopped. With none it makes no call.
+    /// Continues the frame that is under way, where it stopped. If none is under way, it makes no
+    /// call.
     ///
     /// # Errors
-    /// The device's first fault, or `WriteZero` where it took no byte of some; never `Interrupted`. The
-    /// frame is still under way, from the first byte on that was not accepted.
+    /// Returns the device's first fault, and `WriteZero` if the device takes no byte. The frame is
+    /// still under way, and the same call continues at the first byte that was not accepted. Never
+    /// returns `Interrupted`.
     pub fn retry(&mut self) -> Result<()>
         ensures law { RestLaw ⟦<BufWriter<W, S> as Write>⟧ (frame_writer self.old) (still_to_go self.old) result
             (frame_writer self.new) (still_to_go self.new) }
@@ -83,12 +88,14 @@ impl<W: Write + Drop, const S: usize> FrameWriter<W, S> {
         Ok(())
     }
 
-    /// Sends a payload: after `Ok` its whole frame was accepted, and is out or held. It isn't flushed. No
-    /// other frame may be under way: `retry` first where [`is_under_way`](FrameWriter::is_under_way).
+    /// Sends a payload. After `Ok` its whole frame was accepted, and is out or held; it is not flushed.
+    /// No other frame may be under way: if [`is_under_way`](FrameWriter::is_under_way), call `retry`
+    /// first.
     ///
     /// # Errors
-    /// `InvalidInput` where the payload has 2^32 bytes or more, and `OutOfMemory`: nothing was accepted, and
-    /// no frame is under way. Else those of `retry`, and the frame is under way.
+    /// Returns `InvalidInput` if the payload has 2^32 bytes or more, and `OutOfMemory` if an allocation
+    /// failed; nothing was then accepted, and no frame is under way. Otherwise returns the errors that
+    /// `retry` returns; the frame is then under way.
     pub fn send(&mut self, payload: &[u8]) -> Result<()>
         requires { under_way self.old ≡ [] }
         ensures sends { SendsRecord (RestLaw ⟦<BufWriter<W, S> as Write>⟧) (frame payload.now) (IsPayloadRefusal (frame_room self.old) payload.now)
@@ -99,13 +106,14 @@ impl<W: Write + Drop, const S: usize> FrameWriter<W, S> {
         self.retry()
     }
 
-    /// Goes on with the frame under way, then sends these payloads in order, and takes each off the front
-    /// of `rest` once its frame is accepted or under way. So after an error the same call goes on: each
-    /// frame goes out once.
+    /// Continues the frame under way, and then sends these payloads in order. It removes each payload
+    /// from the front of `rest` once its frame is accepted or under way. So after an error the same call
+    /// continues, and each frame goes out once.
     ///
     /// # Errors
-    /// Those of `retry`, with a frame under way. `InvalidInput` and `OutOfMemory` as of `send`, with no
-    /// frame under way and the refused payload at the front of `rest`.
+    /// Returns the errors that `retry` returns; a frame is then under way. Returns `InvalidInput` and
+    /// `OutOfMemory` as `send` does; no frame is then under way, and the refused payload is at the
+    /// front of `rest`.
     ///
     /// ```rust
     /// let mut w = FrameWriter::<Vec<u8>, 64>::new(rt.alloc(), Vec::new(rt.alloc()));
@@ -138,12 +146,12 @@ impl<W: Write + Drop, const S: usize> FrameWriter<W, S> {
         }
     }
 
-    /// Goes on with the frame under way, then hands on all that is held: after `Ok` nothing is held, and
-    /// no frame is under way.
+    /// Continues the frame under way, and then sends all held bytes. After `Ok` nothing is held, and no
+    /// frame is under way.
     ///
     /// # Errors
-    /// Those of `retry`, or the device's own. What was not handed on is still held or to go, and a later
-    /// call goes on there.
+    /// Returns the errors that `retry` returns, and the device's error if its `flush` fails. Bytes that
+    /// were not sent are still held or in the frame under way, and a later call continues with them.
     pub fn flush(&mut self) -> Result<()>
         ensures calls { RestFlushLaw ⟦<BufWriter<W, S> as Write>⟧ (frame_writer self.old) (still_to_go self.old) result
             (frame_writer self.new) (still_to_go self.new) }
@@ -155,12 +163,12 @@ impl<W: Write + Drop, const S: usize> FrameWriter<W, S> {
         self.inner.flush()
     }
 
-    /// Sends what is held and returns the writer below, which isn't flushed; with nothing held it makes no call. No frame may be under way:
-    /// `retry` first where [`is_under_way`](FrameWriter::is_under_way).
+    /// Sends the held bytes and returns the writer below, which is not flushed. If nothing is held, it makes no call. No frame may be under
+    /// way: if [`is_under_way`](FrameWriter::is_under_way), call `retry` first.
     ///
     /// # Errors
-    /// The device's first fault, or `WriteZero`; never `Interrupted`. The error holds the buffered writer,
-    /// which holds what was not sent.
+    /// Returns the device's first fault, and `WriteZero` if the device takes no byte. The error contains
+    /// the buffered writer, which holds the bytes that were not sent. Never returns `Interrupted`.
     pub fn into_inner(self) -> std::result::Result<W, IntoInnerError<BufWriter<W, S>>>
         requires { under_way self ≡ [] }
         ensures law { Unwraps W.Write writer_inner writer_buffer (frame_writer self) result }
@@ -173,7 +181,8 @@ impl<W: Write + Drop, const S: usize> FrameWriter<W, S> {
     }
 }
 
-// Puts the frame of this payload under way, with none of it gone; at an `Err` none is.
+// Puts the frame of this payload under way, none of which is sent yet. After an `Err` no frame is
+// under way.
 fn stage(pending: &mut Pending, payload: &[u8]) -> Result<()>
     ensures frame { OnOk result (pending_bytes pending.new ≡ frame payload.now) }
     ensures rest { OnOk result (pending_rest pending.new ≡ frame payload.now) }

@@ -1,4 +1,4 @@
-// What a run accepted, out of its calls and replies.
+// [`joined`], which finds the bytes that a run accepted from its calls and replies.
 ghost use Rattle.std.specs.Prelude.{◌≡◌, ℕ, List, [], Some, None, true, false, IfSome, IfOk, IfErr};
 ghost use Rattle.no_std_io2.specs.Errors.{IsOutOfMemory};
 ghost use Rattle.io_bench.specs.Runs.{Accepts, Run};
@@ -8,7 +8,7 @@ use crate::runs::{Op, Reply};
 use no_std_io2::io::Result;
 use std::alloc::Global;
 
-// What a call with this reply accepted, where the reply says it.
+// Returns the bytes that a call with this reply accepted, if the reply says so.
 fn front_of<'a>(op: &Op<'a>, reply: &Reply) -> Option<&'a [u8]>
     ensures some { IfSome result (λ front. IsClear op.now reply.now × Accepts op.now reply.now front.now) }
     ensures none { result ≡ None → IsClear op.now reply.now → ⊥ }
@@ -21,7 +21,7 @@ fn front_of<'a>(op: &Op<'a>, reply: &Reply) -> Option<&'a [u8]>
     }
 }
 
-// Whether each call has one reply, and each says what was accepted.
+// Returns whether each call has one reply that says what was accepted.
 fn are_clear(ops: &[Op<'_>], replies: &[Reply]) -> bool
     ensures yes { result ≡ true → AreClear ops.now replies.now }
     ensures no { result ≡ false → AreClear ops.now replies.now → ⊥ }
@@ -41,12 +41,12 @@ fn are_clear(ops: &[Op<'_>], replies: &[Reply]) -> bool
 /// Then `out` followed by `held` of the writer is what it was before the run, followed by these
 /// bytes.
 ///
-/// `None` where the replies leave it open: the lists differ in length, a reply is none that such a call gives (a
-/// `write` that took more than it had, say), or a `write_all` failed, of whose bytes any front may be accepted.
-/// Nothing is allocated for that result.
+/// Returns `None` if the replies do not determine the bytes: if the lists differ in length, if a reply does not
+/// fit its call (such as a `write` that took more bytes than it had), or if a `write_all` failed, which may have
+/// accepted any first bytes. Nothing is allocated for `None`.
 ///
 /// # Errors
-/// `OutOfMemory` where there is no room for the bytes.
+/// Returns `OutOfMemory` if there is no room for the bytes.
 ///
 /// ```rust
 /// let ops = [Op::Write(b"abc"), Op::Flush];
@@ -55,14 +55,16 @@ fn are_clear(ops: &[Op<'_>], replies: &[Reply]) -> bool
 /// assert!(rt; accepted.is_some_and(|bytes| bytes.as_slice() == b"ab".as_slice()));
 /// ```
 pub fn joined(alloc: Global, ops: &[Op<'_>], replies: &[Reply]) -> Result<Option<Vec<u8>>>
-    // Exactly where each reply says what was accepted, there is such a list, and it is the answer.
+    // The result is `Some` if and only if each reply says what was accepted, and then it is the
+    // only such list.
     ensures known { IfOk result (λ answer. IfSome answer (λ bytes. IsJoined ops.now replies.now bytes.items)) }
     ensures clear { IfOk result (λ answer. IfSome answer (λ _. AreClear ops.now replies.now)) }
     ensures open { IfOk result (λ answer. answer ≡ None → AreClear ops.now replies.now → ⊥) }
-    // So where it is left open there is no one such list, but for a `write_all` of nothing that failed.
+    // If the result is `None`, no single list fits the replies, except for a `write_all` of no bytes
+    // that failed.
     ensures no_one { IfOk result (λ answer. answer ≡ None → (bytes : List ℕ) → IsJoined ops.now replies.now bytes
         → HasIdleFailure ops.now replies.now) }
-    // Memory is refused only where some byte was accepted.
+    // An allocation can fail only if some byte was accepted.
     ensures err { IfErr result (λ e. IsOutOfMemory e × AreClear ops.now replies.now × (Run ops.now replies.now [] → ⊥)) }
 {
     if !are_clear(ops, replies) {

@@ -1,4 +1,4 @@
-// Calls of a buffered reader in a row, and what they cost below.
+// [`run_reads`], a list of calls on a buffered reader, and how many inner reads they make.
 ghost use Rattle.std.specs.Prelude.{◌≡◌, ◌+◌, ◌-◌, ◌/◌, ◌≤◌, [], length};
 ghost use Rattle.no_std_io2.specs.BufReader.{reader_held, reader_inner};
 ghost use Rattle.io_bench.specs.Asks.{AllFit, Answered, CameTo, Fits, Steps, TakesFront, asked_events, asked_reader};
@@ -7,29 +7,28 @@ ghost use Rattle.io_bench.specs.Tally.{tally_reads};
 use crate::tally::Tally;
 use no_std_io2::io::{BufRead, BufReader, ErrorKind, Read, Result};
 
-/// A call of a buffered reader.
+/// A call to make on a buffered reader.
 #[derive(Clone, Copy, Debug, PartialEq, Eq, Drop)]
 pub enum Ask {
     /// `read` into this many bytes.
     Read(usize),
     /// `read_exact` into this many bytes.
     Exact(usize),
-    /// `fill_buf`, and then `consume` of this many of the bytes lent, or of all where there are
-    /// fewer.
+    /// `fill_buf`, and then `consume` of this many of the lent bytes, or of all if there are fewer.
     Fill(usize),
 }
 
-/// What a run of asks came to. Each number is at most that of the asks.
+/// The totals of a run of asks. Each is at most the number of asks.
 #[derive(Clone, Copy, Debug, PartialEq, Eq, Drop)]
 pub struct ReadTotals {
-    /// How many asks met the end: a `read` gave no byte and nothing was held afterwards, a
-    /// `read_exact` returned `UnexpectedEof`, or `fill_buf` lent nothing.
+    /// The number of asks that met the end: a `read` gave no byte and nothing was held afterwards,
+    /// a `read_exact` returned `UnexpectedEof`, or a `fill_buf` lent nothing.
     pub at_end: u64,
-    /// How many asks failed otherwise.
+    /// The number of asks that failed in another way.
     pub failed: u64,
 }
 
-// `read`. The answer is whether that met the end.
+// Makes a `read`, and returns whether it met the end.
 fn ask_read<R: Read, const S: usize>(r: &mut BufReader<Tally<R>, S>, buf: &mut [u8]) -> Result<bool>
     ensures { Answered R.Read (Ask.Read (length buf.old)) r.old result r.new }
 {
@@ -37,7 +36,7 @@ fn ask_read<R: Read, const S: usize>(r: &mut BufReader<Tally<R>, S>, buf: &mut [
     Ok(n == 0 && r.buffer().is_empty())
 }
 
-// `read_exact`, likewise.
+// Makes a `read_exact`, and returns whether it met the end.
 fn ask_exact<R: Read, const S: usize>(
     r: &mut BufReader<Tally<R>, S>,
     buf: &mut [u8],
@@ -53,7 +52,7 @@ fn ask_exact<R: Read, const S: usize>(
     }
 }
 
-// `fill_buf` and `consume`, likewise.
+// Makes a `fill_buf` and a `consume`, and returns whether they met the end.
 fn ask_fill<R: Read, const S: usize>(r: &mut BufReader<Tally<R>, S>, most: usize) -> Result<bool>
     ensures { Answered R.Read (Ask.Fill most) r.old result r.new }
 {
@@ -62,7 +61,7 @@ fn ask_fill<R: Read, const S: usize>(r: &mut BufReader<Tally<R>, S>, most: usize
     Ok(lent == 0)
 }
 
-// Makes one ask. The answer is whether that met the end.
+// Makes one ask, and returns whether it met the end.
 fn make_ask<R: Read, const S: usize>(
     r: &mut BufReader<Tally<R>, S>,
     ask: Ask,
@@ -79,8 +78,8 @@ fn make_ask<R: Read, const S: usize>(
     }
 }
 
-/// Makes these asks of a buffered reader, in order, each into the front of `buf`, which has room
-/// for the longest of them. It goes on after an ask that failed.
+/// Makes the calls of `asks` on a buffered reader, in order, and returns their totals. Each reads
+/// into the front of `buf`, which has room for the longest of them. A failed ask does not stop it.
 ///
 /// The totals count the results of all asks. If the reader tells its events, each ask takes some
 /// from the front, as its call does. If the reader is filling, as slices and cursors are, no ask

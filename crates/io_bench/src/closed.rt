@@ -1,4 +1,4 @@
-// A run through one `BufWriter` over a base that takes all.
+// [`run_closed`], a list of calls through one `BufWriter` over a writer that takes all.
 ghost use Rattle.std.specs.Prelude.{◌≡◌, ◌+◌, ◌*◌, ◌/◌, ◌<◌, ◌≤◌, [], ◌++◌, length, IfOk, IfErr, OnOk, OnErr, vec_len, vec_capacity};
 ghost use Rattle.no_std_io2.specs.Errors.{IsOutOfMemory};
 ghost use Rattle.no_std_io2.specs.Write.{Moves};
@@ -13,7 +13,7 @@ use crate::tally::Tally;
 use no_std_io2::io::{BufWriter, Error, Result, Write};
 use std::alloc::Allocator;
 
-// Makes one call, and says what it costs.
+// Makes one call. Its contract says how many inner writes that makes.
 fn make_counted_call<W: Write + Drop, const S: usize>(
     w: &mut BufWriter<Tally<W>, S>,
     op: Op<'_>,
@@ -47,13 +47,13 @@ fn make_counted_call<W: Write + Drop, const S: usize>(
 /// for each call, and returns `w`, which it gets back by `into_inner`. The writer below `w` takes
 /// all, and S is above 0.
 ///
-/// Each call then succeeds whole, the base got exactly the bytes of all calls and takes all as
-/// before, and the inner writes are few: where the calls give N bytes and F of them are flushes,
-/// `w` counted at most `2 * (N / (S + 1)) + F + 1` more.
+/// Each call then succeeds and accepts all its bytes. `w` got exactly the bytes of all calls, and
+/// still takes all. The number of inner writes is bounded: for N bytes and F flushes, `w` counts at
+/// most `2 * (N / (S + 1)) + F + 1` more.
 ///
 /// # Errors
-/// `OutOfMemory` where there is no room for the replies: then no call was made, the replies are as
-/// they were, and `w` is dropped.
+/// Returns `OutOfMemory` if there is no room for the replies. Then no call was made, the replies
+/// are as they were, and `w` is dropped.
 pub fn run_closed<W: Write + Drop, const S: usize>(
     w: Tally<W>,
     ops: &[Op<'_>],
@@ -61,7 +61,7 @@ pub fn run_closed<W: Write + Drop, const S: usize>(
 ) -> Result<Tally<W>>
     requires some { 0 < S }
     requires all { W.takes_all (tally_inner w) }
-    // Its `BufWriter` is below 2^63 bytes.
+    // The `BufWriter` has to be smaller than 2^63 bytes.
     requires fits { CountedWriterFits W.row S.row }
     ensures appends { OnOk result (replies.new.items
         ≡ replies.old.items ++ appended replies.old.items replies.new.items) }
@@ -72,7 +72,7 @@ pub fn run_closed<W: Write + Drop, const S: usize>(
     ensures bound { IfOk result (λ t. tally_writes t ≤ tally_writes w
         + (2 * (length (given_bytes ops.now) / (S + 1)) + flushes ops.now + 1)) }
     ensures kind { IfErr result IsOutOfMemory }
-    // Nothing is refused where there is room for the replies.
+    // It does not fail if there is room for the replies.
     ensures full { OnErr result (vec_capacity replies.old < vec_len replies.old + length ops.now) }
     ensures err { OnErr result (replies.new.items ≡ replies.old.items) }
 {

@@ -1,4 +1,4 @@
-// A writer that fails as it is told.
+// [`Faulty`], a writer that fails as its list of acts says.
 ghost use Rattle.std.specs.Prelude.{◌≡◌, ◌≤◌, [], drop, vec_len};
 
 use no_std_io2::io::{Error, ErrorKind, Result, Write};
@@ -6,18 +6,18 @@ use no_std_io2::io::{Error, ErrorKind, Result, Write};
 /// What a [`Faulty`] does with its next call.
 #[derive(Clone, Copy, Debug, PartialEq, Eq)]
 pub enum Act {
-    /// A `write` hands on at most this many bytes, and for 0 it returns `Ok(0)` by itself. A `flush`
-    /// is handed on.
+    /// A `write` passes on at most this many bytes; for 0 it makes no inner call, and returns
+    /// `Ok(0)`. A `flush` is passed on.
     Take(usize),
-    /// A `write` returns `Ok(0)` by itself. A `flush` is handed on.
+    /// A `write` makes no inner call, and returns `Ok(0)`. A `flush` is passed on.
     Zero,
-    /// The call returns an error of this kind, and does nothing else.
+    /// The call returns an error of this kind, and makes no inner call.
     Fail(ErrorKind),
 }
 
 /// A writer in front of another one that fails as its list of acts says. Each `write` or `flush`
 /// uses up the next act. Once no act is left, calls are passed on unchanged. `write_all` and
-/// `write_rest` are the trait's own, so each of their writes spends one.
+/// `write_rest` have the trait's bodies, so each of their writes uses up one act.
 #[derive(Debug, Drop)]
 pub struct Faulty<W> {
     inner: W,
@@ -29,7 +29,7 @@ pub struct Faulty<W> {
 impl<W> Faulty<W> {
     ghost use Rattle.io_bench.specs.Faulty.{faulty_inner, acts_left, next_act};
 
-    /// Hands calls on to `inner` as these acts say, the first one first.
+    /// Puts these acts in front of `inner`; the first call uses up the first act.
     pub fn new(inner: W, acts: Vec<Act>) -> Faulty<W>
         ensures inner { faulty_inner result ≡ inner }
         ensures acts { acts_left result ≡ acts.items }
@@ -37,21 +37,21 @@ impl<W> Faulty<W> {
         Faulty { inner, acts, at: 0 }
     }
 
-    /// The inner writer.
+    /// Gets a reference to the inner writer.
     pub fn get_ref(&self) -> &W
         ensures { result.now ≡ faulty_inner self.now }
     {
         &self.inner
     }
 
-    /// The inner writer, back. The acts that are left are lost.
+    /// Returns the inner writer. The acts that are left are lost.
     pub fn into_inner(self) -> W
         ensures { result ≡ faulty_inner self }
     {
         self.inner
     }
 
-    // The next act, which is then spent.
+    // Returns the next act, and uses it up.
     fn spend(&mut self) -> Option<Act>
         ensures inner { faulty_inner self.new ≡ faulty_inner self.old }
         ensures act { result ≡ next_act self.old }
@@ -66,9 +66,9 @@ impl<W> Faulty<W> {
     }
 }
 
-/// Tells what the inner writer tells, and where that tells mishaps to come, also those of the acts
-/// that are left. It takes all where the inner writer does and no act is left. Its cost is the
-/// inner writer's, and it is not metered. A call makes at most one call of the inner writer: the one that its act lets through.
+/// Tells what the inner writer tells. If the inner writer tells its mishaps, those of the acts that are left are added. It
+/// takes all if the inner writer does and no act is left. Its cost is the inner writer's, and it is not metered. Each call
+/// makes at most one inner call, the one that its act lets through.
 impl<W: Write> Write for Faulty<W> {
     ghost use Rattle.io_bench.specs.Faulty.{faulty_inner, faulty_told, faulty_steady, acts_left, FaultyMay};
 

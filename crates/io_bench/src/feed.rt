@@ -1,4 +1,4 @@
-// A reader that gives what its script says.
+// [`Feed`], a reader that gives the events of a list.
 ghost use Rattle.std.specs.Prelude.{◌≡◌, ◌<◌, ◌≤◌, ◌+◌, ◌∷◌, [], Some, None, Ok, IfOk, IfErr, IsOkAnd, MatchOption};
 ghost use Rattle.std.specs.Prelude.{length, take, drop, min, vec_len};
 ghost use Rattle.no_std_io2.specs.declared.io.ErrorKind.{ErrorKind};
@@ -7,7 +7,7 @@ ghost use Rattle.no_std_io2.specs.Read.{ReadLaw};
 
 use no_std_io2::io::{Error, ErrorKind, Read, Result, Stored};
 
-/// What a [`Feed`] has to give.
+/// One thing that a [`Feed`] gives: a byte or a failure.
 #[derive(Clone, Copy, Debug, PartialEq, Eq)]
 pub enum Event {
     /// A byte.
@@ -16,10 +16,11 @@ pub enum Event {
     Fail(ErrorKind),
 }
 
-/// A reader that gives these events in order, at most a piece of so many bytes a read.
+/// A reader that gives the events of a list in order, with a maximum number of bytes per read.
 ///
-/// A read gives the bytes that stand first, as many as there are, up to the piece and the buffer;
-/// or, where a failure stands first, that error. A read into an empty buffer takes nothing.
+/// If the next event is a byte, a read gives the bytes up to the next failure, as many as the
+/// maximum and the buffer allow. If it is a failure, a read returns that error. A read into an
+/// empty buffer takes nothing.
 #[derive(Debug, Drop)]
 pub struct Feed {
     events: Vec<Event>,
@@ -32,8 +33,8 @@ pub struct Feed {
 impl Feed {
     ghost use Rattle.io_bench.specs.Feed.{feed_left, feed_piece, feed_gives, leading_bytes, first_failure};
 
-    /// Gives these events, the first one first, and at most `piece` bytes a read. The piece is
-    /// above 0.
+    /// Makes a reader that gives these events, in order, with at most `piece` bytes per read.
+    /// `piece` is above 0.
     pub fn new(events: Vec<Event>, piece: usize) -> Feed
         requires { 0 < piece }
         ensures left { feed_left result ≡ events.items }
@@ -46,14 +47,14 @@ impl Feed {
         }
     }
 
-    /// The events that are left.
+    /// Returns the events that are left.
     pub fn left(&self) -> &[Event]
         ensures { result.now ≡ feed_left self.now }
     {
         &self.events[self.at..]
     }
 
-    // Takes the first event, where it is a byte.
+    // Takes the first event if it is a byte.
     fn take_byte(&mut self) -> Option<u8>
         ensures byte { MatchOption result
             ((leading_bytes (feed_left self.old) ≡ []) × (feed_left self.new ≡ feed_left self.old))
@@ -72,7 +73,7 @@ impl Feed {
         }
     }
 
-    // Takes the first event, where it is a failure.
+    // Takes the first event if it is a failure.
     fn take_failure(&mut self) -> Option<ErrorKind>
         ensures kind { result ≡ first_failure (feed_left self.old) }
         ensures left { MatchOption result (feed_left self.new ≡ feed_left self.old)
@@ -91,7 +92,7 @@ impl Feed {
         }
     }
 
-    // Gives the bytes that stand first, and returns how many.
+    // Gives the bytes at the front of the events, and returns their number.
     fn give(&mut self, buf: &mut [u8]) -> usize
         ensures count { result ≡ feed_gives self.old (length buf.old) }
         ensures bytes { take result buf.new ≡ take result (leading_bytes (feed_left self.old)) }
@@ -113,7 +114,7 @@ impl Feed {
     }
 }
 
-/// A feed has no store.
+/// Tells no store.
 impl Stored for Feed {
     ghost has_store = { λ _. ⊥ };
 
@@ -122,8 +123,8 @@ impl Stored for Feed {
     ghost position = { λ _. 0 };
 }
 
-/// Tells the events that are left. Each byte and each failure is a turn. It isn't metered, and a
-/// read may give less than there is.
+/// Tells the events that are left. Each byte and each failure is a turn. It is not metered and not
+/// filling.
 impl Read for Feed {
     ghost use Rattle.io_bench.specs.Feed.{feed_left, feed_piece, feed_gives, leading_bytes, first_failure, all_to_come};
 
@@ -138,7 +139,7 @@ impl Read for Feed {
     fn read(&mut self, buf: &mut [u8]) -> Result<usize>
         ensures law { ReadLaw ⟦<Self as Read>⟧ self.old buf.old result buf.new self.new }
 
-        // Exactly what is given and taken.
+        // Which bytes it gives, and which events it takes.
         ensures empty { length buf.old ≡ 0
             → (result ≡ Ok 0) × (feed_left self.new ≡ feed_left self.old) }
         ensures gives { 0 < length buf.old → first_failure (feed_left self.old) ≡ None

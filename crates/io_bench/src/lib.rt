@@ -1,13 +1,14 @@
-//! Scripted devices and whole runs, to try writers and readers with.
+//! Devices that fail on command, and functions that make whole lists of calls, for tests and
+//! proofs.
 //!
 //! [`run_writes`] makes the calls of a list on any writer, and keeps each reply. Its contract says
 //! what this does to the writer, for every type of writer. [`Sink`], [`Faulty`] and [`Tally`] are
-//! writers to put below: one that takes all, one that fails as it is told, and one that counts.
-//! [`run_closed`] is a run through one `BufWriter` with a bound on the inner writes. [`joined`] is
-//! what a run accepted, by its replies.
+//! writers to put below: one that takes all, one that fails as its acts say, and one that counts.
+//! [`run_closed`] makes the calls of a list through one `BufWriter`, with a bound on the inner
+//! writes. [`joined`] returns the bytes that a run accepted, by its replies.
 //!
-//! [`run_reads`] is a list of reads through one `BufReader` with a bound on the inner reads. [`Feed`]
-//! is a reader to put below, which gives what its script says; `Tally` counts its reads too.
+//! [`run_reads`] makes a list of reads through one `BufReader`, with a bound on the inner reads.
+//! [`Feed`] is a reader to put below, which gives the events of a list; `Tally` counts reads too.
 #![tactic(auto)]
 
 mod accepted;

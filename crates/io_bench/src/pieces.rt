@@ -1,4 +1,4 @@
-// Whole runs of `split` and of `lines`.
+// [`run_split`] and [`run_lines`], which take all items of a `split` and of a `lines`.
 ghost use Rattle.std.specs.Prelude.{◌≡◌, ◌+◌, ◌<◌, ◌++◌, map, false, OnOk, OnErr, IfErr, vec_items, vec_len, vec_capacity, string_bytes};
 ghost use Rattle.no_std_io2.specs.Errors.{IsFault, IsOutOfMemory};
 ghost use Rattle.no_std_io2.specs.Pieces.{line_text, without};
@@ -9,27 +9,27 @@ ghost use Rattle.no_std_io2.specs.Appended.{appended};
 
 use no_std_io2::io::{BufRead, Lines, Result, Split};
 
-// Makes room for one item more.
+// Makes room for one more item.
 fn make_room<T>(items: &mut Vec<T>) -> Result<()>
     ensures items { items.new.items ≡ items.old.items }
     ensures room { OnOk result (vec_len items.new < vec_capacity items.new) }
     ensures refused { IfErr result IsOutOfMemory }
-    // Nothing is refused where there is room.
+    // It does not fail if there is room.
     ensures full { OnErr result (vec_capacity items.new < vec_len items.new + 1) }
 {
     items.reserve(1)?;
     Ok(())
 }
 
-/// Takes the items of a `split` to its end, and appends them to `items`.
+/// Takes all items of a `split`, and appends them to `items`.
 ///
-/// They are the pieces of all bytes that were to come, in order and without their delimiter,
-/// whatever the reader is and however its pieces fall.
+/// The items are the pieces of all bytes that were to come, in order and without their delimiter,
+/// for every reader and whatever portions the bytes arrive in.
 ///
 /// # Errors
-/// The reader's first fault: the items are the pieces that a delimiter ended before it.
-/// `OutOfMemory`: they are the first pieces, as far as memory reached. Then `items` is full, or a byte
-/// was to come for which the next piece had no room.
+/// Returns the reader's first fault; the items are then the pieces that a delimiter ended before it.
+/// Returns `OutOfMemory` if an allocation failed; the items are then the first pieces. Either `items`
+/// was full, or the next piece had no room for a byte.
 pub fn run_split<R: BufRead + Drop>(mut split: Split<R>, items: &mut Vec<Vec<u8>>) -> Result<()>
     ensures told { split_is_ended split ≡ false → R.tells (split_reader split)
         → GathersPieces (without (split_delim split)) (λ _ _. ⊥) (vec_capacity items.new < vec_len items.new + 1) (split_delim split)
@@ -47,15 +47,16 @@ pub fn run_split<R: BufRead + Drop>(mut split: Split<R>, items: &mut Vec<Vec<u8>
     }
 }
 
-/// Takes the items of a `lines` to its end, and appends them to `items`.
+/// Takes all items of a `lines`, and appends them to `items`.
 ///
-/// They are the lines of all bytes that were to come, in order and without their line ends, whatever
-/// the reader is and however its pieces fall.
+/// The items are the lines of all bytes that were to come, in order and without their line ends, for
+/// every reader and whatever portions the bytes arrive in.
 ///
 /// # Errors
-/// The reader's first fault: the items are the lines that a newline ended before it. `InvalidData`:
-/// they are the lines before one that isn't UTF-8. `OutOfMemory`: they are the first lines, as far
-/// as memory reached. Then `items` is full, or a byte was to come for which the next line had no room.
+/// Returns the reader's first fault; the items are then the lines that a newline ended before it.
+/// Returns `InvalidData` if a line is not UTF-8; the items are the lines before it. Returns
+/// `OutOfMemory` if an allocation failed; the items are the first lines. Either `items` was full, or
+/// the next line had no room for a byte.
 pub fn run_lines<R: BufRead + Drop>(mut lines: Lines<R>, items: &mut Vec<String>) -> Result<()>
     ensures told { lines_is_ended lines ≡ false → R.tells (lines_reader lines)
         → GathersPieces line_text RefusesLine (vec_capacity items.new < vec_len items.new + 1) 10

@@ -1,4 +1,5 @@
-//! Pins what each type tells: with a member that tells nothing, every promise over it would be empty and still be proved.
+//! Functions that nothing calls. Their contracts fix what each type tells. A type whose ghost members say nothing would
+//! still be proved, but every promise about it would be empty.
 ghost use Rattle.std.specs.Prelude.{◌≡◌, [], ◌++◌};
 ghost use Rattle.std.specs.Option.{option_map};
 ghost use Rattle.io_bench.specs.Feed.{feed_left, all_to_come};
@@ -18,7 +19,7 @@ fn tally_tells<T: Write>(t: &Tally<T>)
     ensures metered { ⟦<Tally<T> as Write>⟧.is_metered t.now }
 {}
 
-// Each call is handed on, and a `write` counts.
+// A `Tally` passes each call on, and counts each `write`.
 fn tally_calls<T: Write>(old: &Tally<T>, new: &Tally<T>)
     ensures { (call : WriteCall) → ⟦<Tally<T> as Write>⟧.may old.now call new.now
         → TallyMay T.Write old.now call new.now }
@@ -36,7 +37,7 @@ fn faulty_tells<W: Write>(f: &Faulty<W>)
     ensures plain { ¬ (⟦<Faulty<W> as Write>⟧.is_metered f.now) }
 {}
 
-// A call spends an act, and does what that says.
+// Each call of a `Faulty` uses up one act, and does what the act says.
 fn faulty_calls<W: Write>(old: &Faulty<W>, new: &Faulty<W>)
     ensures { (call : WriteCall) → ⟦<Faulty<W> as Write>⟧.may old.now call new.now
         → FaultyMay W.Write old.now call new.now }

@@ -1,4 +1,4 @@
-// Calls of a writer in a row.
+// [`run_writes`], a list of calls on any writer.
 ghost use Rattle.std.specs.Prelude.{◌≡◌, ◌+◌, ◌<◌, List, [], ◌++◌, Some, OnOk, OnErr, IfErr, length, vec_len, vec_capacity};
 ghost use Rattle.no_std_io2.specs.Errors.{IsOutOfMemory};
 ghost use Rattle.no_std_io2.specs.Write.{WriteCall, Made};
@@ -11,7 +11,7 @@ ghost use Rattle.io_bench.specs.Runs.{HasFewer, AreWhole, IsWhole, OpCalls, RunC
 use no_std_io2::io::{Error, Result, Write};
 use std::alloc::Allocator;
 
-/// A call of a writer.
+/// A call to make on a writer.
 #[derive(Clone, Copy, Debug, PartialEq, Eq, Drop)]
 pub enum Op<'a> {
     /// `write` of these bytes.
@@ -55,17 +55,17 @@ fn make_call<W: Write>(w: &mut W, op: Op<'_>) -> Reply
     }
 }
 
-/// Makes these calls of a writer in order, and appends one reply each. It goes on after a failed
-/// call, so a retry is one more call in the list.
+/// Makes the calls of `ops` on a writer, in order, and appends one reply for each. A failed call
+/// does not stop it, so a retry is one more call in the list.
 ///
-/// Whatever the writer is, it has then accepted exactly what the replies say: out and then held is
-/// what it was, followed by the accepted bytes. Where the last call is a flush that succeeded,
-/// nothing is held. Where the writer tells mishaps to come, at most that many calls failed, and with
-/// those kinds; so none fails where there is none to come.
+/// Every writer has then accepted exactly what the replies say: `out` followed by `held` is what it
+/// was before, followed by the accepted bytes. If the last call is a flush that succeeded, nothing
+/// is held. If the writer tells its mishaps to come, at most that many calls failed, with those
+/// kinds.
 ///
 /// # Errors
-/// `OutOfMemory` where there is no room for the replies: then no call was made, and the writer and
-/// the replies are as they were. A failed call is a reply, and no error of the run.
+/// Returns `OutOfMemory` if there is no room for the replies. Then no call was made, and the writer
+/// and the replies are as they were. A failed call is a reply, not an error of the run.
 pub fn run_writes<W: Write>(
     w: &mut W,
     ops: &[Op<'_>],
@@ -73,15 +73,15 @@ pub fn run_writes<W: Write>(
 ) -> Result<()>
     ensures appends { OnOk result (replies.new.items
         ≡ replies.old.items ++ appended replies.old.items replies.new.items) }
-    // One reply a call, and exactly what the replies say was accepted.
+    // There is one reply for each call, and exactly what the replies say was accepted.
     ensures ran { OnOk result (Ran (W.told w.old) ops.now
         (appended replies.old.items replies.new.items) (W.told w.new)) }
-    // Each call once, in order, and no other call; its reply is its answer.
+    // Each call was made once, in order, and no other call; its reply is its result.
     ensures calls { OnOk result (RunCalls W.Write w.old ops.now
         (appended replies.old.items replies.new.items) w.new) }
     ensures flushed { OnOk result (EndsFlushed ops.now (appended replies.old.items replies.new.items)
         → (W.told w.new).held ≡ []) }
-    // No more failures than mishaps were told.
+    // At most as many calls failed as mishaps were told.
     ensures failures { OnOk result (IsShorterBy
         (failures ops.now (appended replies.old.items replies.new.items))
         (W.told w.old).mishaps (W.told w.new).mishaps) }
@@ -93,7 +93,7 @@ pub fn run_writes<W: Write>(
     ensures all { OnOk result (W.takes_all w.old → W.takes_all w.new
         × AreWhole ops.now (appended replies.old.items replies.new.items)) }
     ensures kind { IfErr result IsOutOfMemory }
-    // Nothing is refused where there is room for the replies.
+    // It does not fail if there is room for the replies.
     ensures full { OnErr result (vec_capacity replies.old < vec_len replies.old + length ops.now) }
     ensures err { OnErr result ((w.new ≡ w.old) × (replies.new.items ≡ replies.old.items)) }
 {

@@ -1,4 +1,4 @@
-// A stream that counts.
+// [`Tally`], a stream that counts its calls.
 ghost use Rattle.std.specs.Prelude.{◌≡◌, ◌+◌, ◌-◌, ◌^◌, ◌≤◌, [], Ok, IfOk, IfErr, OnOk, IsOk, IsOkAnd, ⊤, length, min};
 ghost use Rattle.std.specs.Prelude.{take, vec_len, vec_capacity};
 ghost use Rattle.no_std_io2.specs.Errors.{IsFault, IsNoInterruption};
@@ -12,11 +12,11 @@ use no_std_io2::trace::Trace;
 use std::alloc::Allocator;
 use std::fmt;
 
-/// Hands each call on to an inner stream, and counts the calls of `write`, and those of `read` with
-/// some room, whatever they return.
+/// Passes each call on to an inner stream, and counts each `write`, and each `read` into a buffer
+/// that is not empty, whatever they return.
 ///
-/// The exact counts are seen by contracts alone. The numbers that [`writes`](Tally::writes) and
-/// [`reads`](Tally::reads) give stay at the greatest `u64` once reached.
+/// Only contracts see the exact counts. The numbers that [`writes`](Tally::writes) and
+/// [`reads`](Tally::reads) return stay at `u64::MAX` once they reach it.
 #[derive(Drop)]
 pub struct Tally<T> {
     inner: T,
@@ -31,7 +31,7 @@ pub struct Tally<T> {
 impl<T> Tally<T> {
     ghost use Rattle.io_bench.specs.Tally.{tally_inner, tally_writes, tally_reads};
 
-    /// Counts from 0 over this inner stream.
+    /// Puts counters in front of `inner`, which start at 0.
     pub fn new(inner: T) -> Tally<T>
         ensures inner { tally_inner result ≡ inner }
         ensures writes { tally_writes result ≡ 0 }
@@ -46,36 +46,36 @@ impl<T> Tally<T> {
         }
     }
 
-    /// The inner stream.
+    /// Gets a reference to the inner stream.
     pub fn get_ref(&self) -> &T
         ensures { result.now ≡ tally_inner self.now }
     {
         &self.inner
     }
 
-    /// How many calls of `write` there were. It stays at the greatest `u64` once reached.
+    /// Returns the number of `write` calls. It stays at `u64::MAX` once it reaches that.
     pub fn writes(&self) -> u64
         ensures { result ≡ min (tally_writes self.now) (2 ^ 64 - 1) }
     {
         self.writes
     }
 
-    /// How many calls of `read` with some room there were. It stays at the greatest `u64` once
-    /// reached.
+    /// Returns the number of `read` calls into a buffer that was not empty. It stays at `u64::MAX`
+    /// once it reaches that.
     pub fn reads(&self) -> u64
         ensures { result ≡ min (tally_reads self.now) (2 ^ 64 - 1) }
     {
         self.reads
     }
 
-    /// The inner stream, back. The counts are lost.
+    /// Returns the inner stream. The counts are lost.
     pub fn into_inner(self) -> T
         ensures { result ≡ tally_inner self }
     {
         self.inner
     }
 
-    // One more call of `write`.
+    // Counts one more `write`.
     fn count_write(&mut self)
         ensures inner { tally_inner self.new ≡ tally_inner self.old }
         ensures writes { tally_writes self.new ≡ tally_writes self.old + 1 }
@@ -85,7 +85,7 @@ impl<T> Tally<T> {
         self.writes = self.writes.saturating_add(1);
     }
 
-    // One more call of `read`.
+    // Counts one more `read`.
     fn count_read(&mut self)
         ensures inner { tally_inner self.new ≡ tally_inner self.old }
         ensures writes { tally_writes self.new ≡ tally_writes self.old }
@@ -96,8 +96,8 @@ impl<T> Tally<T> {
     }
 }
 
-/// As the inner writer, and metered: its cost is the exact count. Each call is the same call of the inner writer, once, and its
-/// answer. `write_all` and `write_rest` are the trait's own, so each of their writes counts.
+/// Tells what the inner writer tells, and is metered: its cost is the exact count. Each call makes the same call of the inner
+/// writer, once, and returns its result. `write_all` and `write_rest` have the trait's bodies, so each of their writes counts.
 impl<T: Write> Write for Tally<T> {
     ghost use Rattle.io_bench.specs.Tally.{tally_inner, tally_writes, TallyMay};
 
@@ -114,7 +114,7 @@ impl<T: Write> Write for Tally<T> {
     fn write(&mut self, buf: &[u8]) -> Result<usize>
         ensures law { WriteOf ⟦<Self as Write>⟧ self.old buf.now result self.new }
 
-        // Each call counts, whatever the answer.
+        // Each call counts, whatever it returns.
         ensures writes { tally_writes self.new ≡ tally_writes self.old + 1 }
     {
         self.count_write();
@@ -128,7 +128,7 @@ impl<T: Write> Write for Tally<T> {
     ghost steady = { λ t h. T.steady (tally_inner t) h };
 }
 
-/// The inner stream's store.
+/// Tells the inner stream's store.
 impl<T: Stored> Stored for Tally<T> {
     ghost use Rattle.io_bench.specs.Tally.{tally_inner};
 
@@ -139,8 +139,8 @@ impl<T: Stored> Stored for Tally<T> {
     ghost position = { λ t. T.position (tally_inner t) };
 }
 
-/// As the inner reader, and metered: its cost is the exact count. `read_exact` and `read_to_end` read through `read`,
-/// as the trait's own do, so each of their reads counts.
+/// Tells what the inner reader tells, and is metered: its cost is the exact count. `read_exact` and `read_to_end`
+/// read through `read`, like the trait's bodies, so each of their reads counts.
 impl<T: Read> Read for Tally<T> {
     ghost use Rattle.io_bench.specs.Tally.{tally_inner, tally_writes, tally_reads};
 
@@ -163,7 +163,7 @@ impl<T: Read> Read for Tally<T> {
     fn read(&mut self, buf: &mut [u8]) -> Result<usize>
         ensures law { ReadLaw ⟦<Self as Read>⟧ self.old buf.old result buf.new self.new }
 
-        // One read of the inner reader, and one more in the count where there is some room, whatever the answer.
+        // It makes one inner read, and counts it if the buffer is not empty, whatever it returns.
         ensures handed { ReadLaw T.Read (tally_inner self.old) buf.old result buf.new (tally_inner self.new) }
         ensures writes { tally_writes self.new ≡ tally_writes self.old }
         ensures reads { tally_reads self.new ≡ tally_reads self.old + min 1 (length buf.old) }
@@ -177,8 +177,8 @@ impl<T: Read> Read for Tally<T> {
     fn read_exact(&mut self, buf: &mut [u8]) -> Result<()>
         ensures law { ReadExactLaw ⟦<Self as Read>⟧ self.old buf.old result buf.new self.new }
 
-        // Each read of the inner reader counts, and no other call: at most one for each turn that is spent, and the
-        // one that stopped it.
+        // Each inner read counts, and no other call: at most one for each turn that is spent, and the one that
+        // ended it.
         ensures counts { CountsLoop (length buf.old) (T.turns (tally_inner self.old)) (tally_reads self.old) result
             (T.turns (tally_inner self.new)) (tally_reads self.new) }
         ensures handed { T.is_metered (tally_inner self.old) → T.is_metered (tally_inner self.new)
@@ -201,8 +201,8 @@ impl<T: Read> Read for Tally<T> {
     fn read_to_end<A: Allocator>(&mut self, buf: &mut Vec<u8, A>) -> Result<usize>
         ensures law { ReadToEndLaw ⟦<Self as Read>⟧ self.old buf.old result buf.new self.new }
 
-        // Each read of the inner reader counts, and no other call: at most one for each turn that is spent, and the
-        // one that met the end.
+        // Each inner read counts, and no other call: at most one for each turn that is spent, and the one that met
+        // the end.
         ensures counts { CountsToEnd (tally_reads self.old) (T.turns (tally_inner self.old)) result
             (T.turns (tally_inner self.new)) (tally_reads self.new) }
         ensures handed { T.is_metered (tally_inner self.old) → T.is_metered (tally_inner self.new)

@@ -1,4 +1,4 @@
-// What the contracts come to over towers, proved. These are no calls for users.
+// What the contracts say about some towers, proved. These functions are not for users.
 ghost use Rattle.std.specs.Prelude.{◌≡◌, ◌≤◌, ◌++◌, length, false, IfOk, OnOk};
 ghost use Rattle.no_std_io2.specs.Chain.{chain_first, chain_second, chain_is_done};
 ghost use Rattle.no_std_io2.specs.Read.{bytes as all_bytes};
@@ -13,7 +13,7 @@ use crate::runs::{Op, Reply, run_writes};
 use crate::tally::Tally;
 use no_std_io2::io::{BufWriter, Chain, LineWriter, Read, Result, Sink, Write};
 
-// Over a writer that takes all, a tower of buffers answers each call whole.
+// Over a writer that takes all, each call of a tower of buffers succeeds and accepts all its bytes.
 fn run_whole<const S: usize, const T: usize>(
     w: &mut BufWriter<BufWriter<Tally<Sink>, S>, T>,
     ops: &[Op<'_>],
@@ -24,7 +24,7 @@ fn run_whole<const S: usize, const T: usize>(
     run_writes(w, ops, replies)
 }
 
-// Over a sink no call fails, through lines and boxes.
+// Over a sink, no call of a tower of line buffers and boxes fails.
 fn run_steady<const S: usize, const T: usize>(
     w: &mut LineWriter<Box<BufWriter<Sink, S>>, T>,
     ops: &[Op<'_>],
@@ -35,7 +35,7 @@ fn run_steady<const S: usize, const T: usize>(
     run_writes(w, ops, replies)
 }
 
-// The same over a lent sink.
+// Over a reference to a sink, no call of a tower fails.
 fn run_lent<const S: usize>(
     w: &mut LineWriter<&mut Sink, S>,
     ops: &[Op<'_>],
@@ -46,7 +46,7 @@ fn run_lent<const S: usize>(
     run_writes(w, ops, replies)
 }
 
-// Over a sink that fails as it is told, at most as many calls fail as acts do.
+// Over a sink behind a `Faulty`, at most as many calls fail as acts do.
 fn run_faulty<const S: usize, const T: usize>(
     w: &mut BufWriter<BufWriter<Faulty<Sink>, S>, T>,
     ops: &[Op<'_>],
@@ -58,7 +58,7 @@ fn run_faulty<const S: usize, const T: usize>(
     run_writes(w, ops, replies)
 }
 
-// Over a boxed object, at most as many calls fail as it tells mishaps to come.
+// Over a boxed object, at most as many calls fail as mishaps are told.
 fn run_boxed<const S: usize, const T: usize>(
     w: &mut LineWriter<BufWriter<Box<dyn Write + Drop>, S>, T>,
     ops: &[Op<'_>],
@@ -72,7 +72,8 @@ fn run_boxed<const S: usize, const T: usize>(
     run_writes(w, ops, replies)
 }
 
-// A chain of a boxed object and a lent reader gives the one's events and then the other's.
+// A chain of a boxed object and a borrowed reader gives the events of the object, and then those of
+// the reader.
 fn read_boxed<'a, R: Read>(
     r: &mut Chain<Box<dyn Read + Drop>, &'a mut R>,
     bytes: &mut Vec<u8>,

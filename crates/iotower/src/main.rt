@@ -1,8 +1,8 @@
-//! `iotower copy` copies standard input to standard output through a buffered writer, and
-//! `iotower play` plays a script of writes on a tower of them.
+//! `iotower copy` copies standard input to standard output through a buffered writer, and `iotower
+//! play` plays a script of writes on a tower of buffered writers.
 //!
-//! The status is 0 where all was done, 1 for a fault, with its text on standard error, and 2 for
-//! words that are no command.
+//! The status is 0 after success, 1 after a fault, whose text is printed to standard error, and 2
+//! if the arguments are no command.
 #![tactic(auto)]
 
 ghost use Rattle.std.specs.Prelude.{◌≡◌, ◌^◌, ◌-◌, length, IfSome, IfNone, OnOk, OnErr};
@@ -28,16 +28,16 @@ enum Mode {
     LineBuffered,
 }
 
-// What the words ask for.
+// The command that the arguments name.
 enum Command {
     Copy(Mode),
     Play(Shape),
 }
 
-// The words behind the program's name, where there are two.
+// Returns the arguments after the program's name, if there are two.
 fn two_words(mut words: env::Args) -> Option<(String, String)>
     ensures two { IfSome result (λ two. AreWords (into_iter_items words) two.0 two.1) }
-    // The program's name and two more are always taken.
+    // It returns `Some` if there are the program's name and two more words.
     ensures none { IfNone result (length (into_iter_items words) ≡ 3 → ⊥) }
 {
     let _program = words.next();
@@ -49,7 +49,7 @@ fn two_words(mut words: env::Args) -> Option<(String, String)>
     Some((verb, mode))
 }
 
-// `None` where the words are no command, or no text.
+// Returns the command, or `None` if the arguments are no command or not UTF-8.
 fn parse_words<R: Env + Alloc<A = Global>>(rt: &R) -> Result<Option<Command>, Fault> {
     let words = match env::args(rt) {
         Ok(words) => words,
@@ -79,7 +79,7 @@ fn command_of(verb: &str, mode: &str) -> Option<Command>
     }
 }
 
-// A stream of the system's, asked again however often it is interrupted.
+// Makes a stream of the system a stream of this library, with more turns than a program can use up.
 fn patiently<D>(device: D) -> Patient<D>
     ensures turns { patient_turns result ≡ 2 ^ 64 - 1 }
 {
@@ -100,7 +100,7 @@ fn run(rt: &HostRuntime, command: Command) -> Result<(), Fault> {
     Ok(())
 }
 
-// The status of a run, whose fault is printed on standard error.
+// Returns the status of a run, and prints its fault to standard error.
 fn report(rt: &HostRuntime, answer: Result<(), Fault>) -> ExitCode
     ensures done { OnOk answer (exit_status result ≡ 0) }
     ensures failed { OnErr answer (exit_status result ≡ 1) }

@@ -1,4 +1,4 @@
-//! A log of lines over any `Write`: each line goes out once, as soon as it is complete. [`LineLog`] is all of it.
+//! [`LineLog`], a log of lines over any `Write`: each line goes out once, as soon as it is complete.
 //!
 //! ```rust
 //! let mut log = LineLog::<Vec<u8>, 64>::new(rt.alloc(), Vec::new(rt.alloc()));
@@ -24,12 +24,14 @@ use std::fmt::Display;
 
 /// A log of lines, through a `LineWriter` of `S` bytes in front of any writer.
 ///
-/// A line that was not whole when the device failed is *under way*: [`retry`](LineLog::retry), and likewise
-/// `log_all` and `flush`, go on where it stopped, so no byte goes out twice. What the device took, then what
-/// is held, then what is still to go of the line under way is always what it was, followed by exactly the
-/// lines that were logged, each with its newline.
+/// If the device fails before a whole line was accepted, that line is *under way*.
+/// [`retry`](LineLog::retry), `log_all` and `flush` continue where it stopped, so no byte goes out twice.
+/// Take the bytes that the device has, then the held bytes, then the unsent rest of the line under way:
+/// together they are always the bytes at the start, followed by exactly the lines that were logged, each
+/// with its newline.
 ///
-/// Dropping it sends what is held once, ignores a fault, and cuts off the line under way.
+/// Dropping it tries once to send the held bytes, ignores a fault, and drops the rest of the line
+/// under way.
 #[derive(Drop)]
 pub struct LineLog<W: Write + Drop, const S: usize> {
     lines: LineWriter<W, S>,
@@ -37,7 +39,8 @@ pub struct LineLog<W: Write + Drop, const S: usize> {
 }
 
 impl<W: Write + Drop, const S: usize> LineLog<W, S> {
-    /// An empty log that goes to `inner`. The line under way is kept by `alloc`.
+    /// Makes a log that goes to `inner`, with no line under way. The line under way is allocated
+    /// from `alloc`.
     pub fn new(alloc: Global, inner: W) -> LineLog<W, S>
         ensures inner { log_inner result ≡ inner }
         ensures empty { log_buffer result ≡ [] }
@@ -72,12 +75,13 @@ impl<W: Write + Drop, const S: usize> LineLog<W, S> {
         self.pending.is_some()
     }
 
-    /// Goes on with the line that is under way, where it stopped. With none it makes no call. After `Ok`
-    /// nothing of the line is held here: all is with the writer below.
+    /// Continues the line that is under way, where it stopped. If none is under way, it makes no call.
+    /// After `Ok` the writer below has the whole line, and none of it is held here.
     ///
     /// # Errors
-    /// The device's first fault, or `WriteZero` where it took no byte of some; never `Interrupted`. The line
-    /// is still under way, from the first byte on that was not accepted.
+    /// Returns the device's first fault, and `WriteZero` if the device takes no byte. The line is still
+    /// under way, and the same call continues at the first byte that was not accepted. Never returns
+    /// `Interrupted`.
     pub fn retry(&mut self) -> Result<()>
         ensures calls { LineLaw ⟦<LineWriter<W, S> as Write>⟧ (log_writer self.old) (log_left self.old) result
             (log_writer self.new) (log_left self.new) }
@@ -101,13 +105,14 @@ impl<W: Write + Drop, const S: usize> LineLog<W, S> {
         Ok(())
     }
 
-    /// Logs a line: the text, and a newline behind it. After `Ok` all of it is with the writer below, and
-    /// nothing waits here. No other line may be under way: `retry` first where
-    /// [`is_under_way`](LineLog::is_under_way).
+    /// Logs a line: the text, followed by a newline. After `Ok` the writer below has all of it, and
+    /// nothing is held here. No other line may be under way: if [`is_under_way`](LineLog::is_under_way),
+    /// call `retry` first.
     ///
     /// # Errors
-    /// `InvalidInput` where a newline stands in the text, and `OutOfMemory`: nothing was accepted, and no line
-    /// is under way. Else those of `retry`, and the line is under way.
+    /// Returns `InvalidInput` if the text has a newline in it, and `OutOfMemory` if an allocation failed;
+    /// nothing was then accepted, and no line is under way. Otherwise returns the errors that `retry` returns;
+    /// the line is then under way.
     pub fn log(&mut self, line: &str) -> Result<()>
         requires { log_under_way self.old ≡ [] }
         ensures sends { SendsRecord (LineLaw ⟦<LineWriter<W, S> as Write>⟧) (line_of line.now) (IsLineRefusal (log_room self.old) line.now)
@@ -120,14 +125,14 @@ impl<W: Write + Drop, const S: usize> LineLog<W, S> {
         self.retry()
     }
 
-    /// Logs a text as it is printed, and a newline behind it, as `log` does a line. The text is printed into the memory
-    /// that earlier lines left here, so it allocates only if that is too small. A text that fails sends nothing. No
-    /// other line may be under way: `retry` first if [`is_under_way`](LineLog::is_under_way).
+    /// Logs the printed text of a value, followed by a newline. The text is printed into the memory that earlier lines
+    /// left, so the call allocates only if that is too small. If printing fails, nothing is sent. No other line may be
+    /// under way: if [`is_under_way`](LineLog::is_under_way), call `retry` first.
     ///
     /// # Errors
-    /// Returns `InvalidInput` if there is a newline in the text, `Other`, `formatter error`, if the value's own `fmt`
-    /// failed, and `OutOfMemory` if an allocation failed. Nothing was then accepted, and no line is under way.
-    /// Otherwise it returns the errors of `retry`, and the line is under way.
+    /// Returns `InvalidInput` if the text has a newline in it, `Other`, `formatter error`, if the value's own `fmt`
+    /// failed, and `OutOfMemory` if an allocation failed; nothing was then accepted, and no line is under way.
+    /// Otherwise returns the errors that `retry` returns; the line is then under way.
     ///
     /// ```rust
     /// let mut log = LineLog::<Vec<u8>, 64>::new(rt.alloc(), Vec::new(rt.alloc()));
@@ -146,7 +151,7 @@ impl<W: Write + Drop, const S: usize> LineLog<W, S> {
         <ErrorKind as Answers<E>>::answer(self.print_line(text))
     }
 
-    // The same, with an answer of the one type that there is.
+    // The body of `log_text`, with the only error type that there is.
     fn print_line<D: Display + Drop>(&mut self, text: D) -> Result<()>
         requires { log_under_way self.old ≡ [] }
         ensures logs { LogsText (LineLaw ⟦<LineWriter<W, S> as Write>⟧) (log_room self.old) (D.output text) (log_writer self.old)
@@ -157,13 +162,14 @@ impl<W: Write + Drop, const S: usize> LineLog<W, S> {
         self.retry()
     }
 
-    /// Goes on with the line under way, then logs these lines in order, and takes each off the front of
-    /// `rest` once it is accepted or under way. So after an error the same call goes on: each line goes out
-    /// once.
+    /// Continues the line under way, and then logs these lines in order. It removes each line from the
+    /// front of `rest` once it is accepted or under way. So after an error the same call continues, and
+    /// each line goes out once.
     ///
     /// # Errors
-    /// Those of `retry`, with a line under way. `InvalidInput` and `OutOfMemory` as of `log`, with no line
-    /// under way and the refused line at the front of `rest`.
+    /// Returns the errors that `retry` returns; a line is then under way. Returns `InvalidInput` and
+    /// `OutOfMemory` as `log` does; no line is then under way, and the refused line is at the front of
+    /// `rest`.
     ///
     /// ```rust
     /// let mut log = LineLog::<Vec<u8>, 64>::new(rt.alloc(), Vec::new(rt.alloc()));
@@ -195,12 +201,12 @@ impl<W: Write + Drop, const S: usize> LineLog<W, S> {
         }
     }
 
-    /// Goes on with the line under way, then hands on all that is held: after `Ok` nothing is held, and no
+    /// Continues the line under way, and then sends all held bytes. After `Ok` nothing is held, and no
     /// line is under way.
     ///
     /// # Errors
-    /// Those of `retry`, or the device's own. What was not handed on is still held or to go, and a later
-    /// call goes on there.
+    /// Returns the errors that `retry` returns, and the device's error if its `flush` fails. Bytes that
+    /// were not sent are still held or in the line under way, and a later call continues with them.
     pub fn flush(&mut self) -> Result<()>
         ensures calls { let L = ⟦<LineWriter<W, S> as Write>⟧ in AndThen (LineLaw L) (FlushedLaw L) (log_writer self.old)
             (log_left self.old) result (log_writer self.new) (log_left self.new) }
@@ -211,12 +217,12 @@ impl<W: Write + Drop, const S: usize> LineLog<W, S> {
         self.lines.flush()
     }
 
-    /// Sends what is held and returns the writer below, which isn't flushed; with nothing held it makes no call. No
-    /// line may be under way: `retry` first where [`is_under_way`](LineLog::is_under_way).
+    /// Sends the held bytes and returns the writer below, which is not flushed. If nothing is held, it makes no
+    /// call. No line may be under way: if [`is_under_way`](LineLog::is_under_way), call `retry` first.
     ///
     /// # Errors
-    /// The device's first fault, or `WriteZero`; never `Interrupted`. The error holds the line writer, which
-    /// holds what was not sent.
+    /// Returns the device's first fault, and `WriteZero` if the device takes no byte. The error contains the
+    /// line writer, which holds the bytes that were not sent. Never returns `Interrupted`.
     pub fn into_inner(self) -> std::result::Result<W, IntoInnerError<LineWriter<W, S>>>
         requires { log_under_way self ≡ [] }
         ensures law { Unwraps W.Write line_inner line_buffer (log_writer self) result }
@@ -229,7 +235,8 @@ impl<W: Write + Drop, const S: usize> LineLog<W, S> {
     }
 }
 
-// Puts the line of this text under way, with none of it gone; at an `Err` none is.
+// Puts the line of this text under way, none of which is sent yet. After an `Err` no line is under
+// way.
 fn stage(pending: &mut Pending, text: &str) -> Result<()>
     ensures line { OnOk result (pending_bytes pending.new ≡ line_of text.now) }
     ensures rest { OnOk result (pending_rest pending.new ≡ line_of text.now) }
@@ -246,7 +253,8 @@ fn stage(pending: &mut Pending, text: &str) -> Result<()>
     pending.stage(text.as_bytes(), b"\n")
 }
 
-// Puts the line of this text under way as it is printed, with none of it gone; at an `Err` none is.
+// Puts the line of this printed text under way, none of which is sent yet. After an `Err` no line
+// is under way.
 fn stage_text<D: Display + Drop>(pending: &mut Pending, text: D) -> Result<()>
     ensures { StagesLine (pending_room pending.old) (D.output text) result (pending_bytes pending.new) (pending_rest pending.new) }
 {

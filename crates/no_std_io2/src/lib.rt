@@ -38,7 +38,7 @@ pub mod io {
     }
 }
 
-/// What the crates of this repository share. It is no part of the public interface.
+/// Functions that the crates of this repository share. They are no part of the public interface.
 pub mod internal {
     pub use no_std_io2_base::internal::{LEAST_ROOM, failed_to_fill, open_room, reserve_room};
 }

@@ -25,7 +25,7 @@ fn buffered_writer_tells<W: Write + Drop, const S: usize>(w: &BufWriter<W, S>)
     ensures unmetered { ¬ ⟦<BufWriter<W, S> as Write>⟧.is_metered w.now }
 {}
 
-// Each of its calls makes the inner calls that `BufferMay` lists.
+// A `BufWriter` makes the inner calls that `BufferMay` lists.
 fn buffered_writer_calls<W: Write + Drop, const S: usize>(
     old: &BufWriter<W, S>,
     new: &BufWriter<W, S>,
@@ -34,7 +34,7 @@ fn buffered_writer_calls<W: Write + Drop, const S: usize>(
         → BufferMay W.Write S writer_inner writer_buffer old.now call new.now }
 {}
 
-// A store behind an empty buffer.
+// A `BufWriter` tells the inner writer's store if its buffer is empty.
 fn buffered_store_tells<W: Write + Stored + Drop, const S: usize>(w: &BufWriter<W, S>)
     ensures has_store { writer_buffer w.now ≡ [] → W.has_store (writer_inner w.now)
         → ⟦<BufWriter<W, S> as Stored>⟧.has_store w.now }
@@ -43,7 +43,7 @@ fn buffered_store_tells<W: Write + Stored + Drop, const S: usize>(w: &BufWriter<
     ensures position { ⟦<BufWriter<W, S> as Stored>⟧.position w.now ≡ W.position (writer_inner w.now) }
 {}
 
-// A seek of it sends the held bytes, and then makes one seek of the inner writer.
+// A seek of a `BufWriter` sends the held bytes, and then makes one seek of the inner writer.
 fn buffered_seeker_tells<W: Write + Seek + Drop, const S: usize>(
     old: &BufWriter<W, S>,
     new: &BufWriter<W, S>,
@@ -52,7 +52,8 @@ fn buffered_seeker_tells<W: Write + Seek + Drop, const S: usize>(
         → WriterMaySeek W.Write W.Seek old.now call new.now }
 {}
 
-// It tells the inner writer's `out`, the inner writer's `held` followed by its own buffer, and the inner writer's mishaps and turns.
+// A `LineWriter` tells the inner writer's `out`, mishaps and turns, and as `held` the inner writer's `held` followed by its own
+// buffer.
 fn line_writer_tells<W: Write + Drop, const S: usize>(w: &LineWriter<W, S>)
     ensures out { (⟦<LineWriter<W, S> as Write>⟧.told w.now).out ≡ (W.told (line_inner w.now)).out }
     ensures held { (⟦<LineWriter<W, S> as Write>⟧.told w.now).held
@@ -74,7 +75,7 @@ fn line_writer_calls<W: Write + Drop, const S: usize>(
         → LineMay W.Write S line_inner line_buffer old.now call new.now }
 {}
 
-// Its events are the held bytes, then the inner reader's.
+// The events of a `BufReader` are its held bytes, then the inner reader's events.
 fn reader_tells<R: Read, const S: usize>(r: &BufReader<R, S>)
     ensures tells { R.tells (reader_inner r.now) → ⟦<BufReader<R, S> as Read>⟧.tells r.now }
     ensures events { ⟦<BufReader<R, S> as Read>⟧.events r.now
@@ -84,7 +85,8 @@ fn reader_tells<R: Read, const S: usize>(r: &BufReader<R, S>)
     ensures takes_all { ⟦<BufReader<R, S> as Read>⟧.may_take_none r.now → ⊥ }
 {}
 
-// Its position is the inner reader's minus the held bytes, if these are what the store has there.
+// The position of a `BufReader` is the inner reader's minus the number of held bytes, if these are
+// the bytes of the store there.
 fn reader_stores<R: Stored, const S: usize>(r: &BufReader<R, S>)
     ensures has_store { R.has_store (reader_inner r.now)
         → IsSound (reader_held r.now) (R.position (reader_inner r.now)) (R.content (reader_inner r.now))
@@ -94,8 +96,8 @@ fn reader_stores<R: Stored, const S: usize>(r: &BufReader<R, S>)
         ≡ R.position (reader_inner r.now) - length (reader_held r.now) }
 {}
 
-// It is sound if the bytes behind and held are those of the store before the inner reader's position;
-// then it tells that store.
+// A `BufReader` is sound if the bytes behind and held are those of the store right before the inner
+// reader's position. Then it tells that store.
 #[tactic(auto, using(crate::proofs::BufReaderBehind::sound_held))]
 fn reader_is_sound_where<R: Stored, const S: usize>(r: &BufReader<R, S>)
     ensures sound { R.has_store (reader_inner r.now)
@@ -106,8 +108,8 @@ fn reader_is_sound_where<R: Stored, const S: usize>(r: &BufReader<R, S>)
         → ⟦<BufReader<R, S> as Stored>⟧.has_store r.now }
 {}
 
-// Its events begin with the held bytes. Over a metered reader its fills are counted, and over a filling one their lengths are
-// known.
+// The events of a `BufReader` begin with its held bytes. Over a metered reader its fills are counted, and over a filling
+// reader their lengths are known.
 fn reader_lends<R: Read, const S: usize>(r: &BufReader<R, S>)
     ensures held { ⟦<BufReader<R, S> as BufRead>⟧.held r.now ≡ reader_held r.now }
     ensures front { BeginsWith (⟦<BufReader<R, S> as Read>⟧.events r.now) (⟦<BufReader<R, S> as BufRead>⟧.held r.now) }
@@ -119,7 +121,7 @@ fn reader_lends<R: Read, const S: usize>(r: &BufReader<R, S>)
         else min S (length (R.events (reader_inner r.now)))) }
 {}
 
-// Lends once. If nothing is held, that is one inner read; if bytes are held, the inner reader is not called.
+// Lends once. If nothing is held, this makes one inner read; if bytes are held, it makes none.
 fn lend_counted<R: Read, const S: usize>(r: &mut BufReader<R, S>) -> Result<usize>
     ensures reads { R.is_metered (reader_inner r.old) → R.is_metered (reader_inner r.new)
         × (R.cost (reader_inner r.new) ≡ R.cost (reader_inner r.old)
@@ -134,7 +136,7 @@ fn lend_counted<R: Read, const S: usize>(r: &mut BufReader<R, S>) -> Result<usiz
     Ok(lent.len())
 }
 
-// Consumes once, and reads nothing.
+// Consumes once. This makes no inner read.
 fn consume_counted<R: Read, const S: usize>(r: &mut BufReader<R, S>, amount: usize)
     requires { amount ≤ length (reader_held r.old) }
     ensures reads { R.is_metered (reader_inner r.old) → R.is_metered (reader_inner r.new)
@@ -144,18 +146,18 @@ fn consume_counted<R: Read, const S: usize>(r: &mut BufReader<R, S>, amount: usi
     r.consume(amount);
 }
 
-// A read of it makes one read of the inner reader, or none while it holds bytes.
+// A read of a `BufReader` makes one inner read, or none if bytes are held.
 fn reader_reads_tell<R: Read, const S: usize>(old: &BufReader<R, S>, new: &BufReader<R, S>)
     ensures { (call : ReadCall) → ⟦<BufReader<R, S> as Read>⟧.may old.now call new.now → ReaderMay R.may old.now call new.now }
 {}
 
-// A seek of it makes one or two seeks of the inner reader.
+// A seek of a `BufReader` makes one or two inner seeks.
 fn reader_seeks_tell<R: Seek, const S: usize>(old: &BufReader<R, S>, new: &BufReader<R, S>)
     ensures { (call : SeekCall) → ⟦<BufReader<R, S> as Seek>⟧.may old.now call new.now
         → ReaderMaySeek R.may old.now call new.now }
 {}
 
-// Moves once inside the buffer. The events to come move with it, and the inner reader gives none.
+// Seeks once inside the buffer. The events to come move along, and the inner reader gives none.
 fn move_told<R: Read + Seek, const S: usize>(r: &mut BufReader<R, S>, offset: i64) -> Result<()>
     ensures { IsInBuffer offset (length (reader_behind r.old)) (length (reader_held r.old))
         → IsOk result × MovesEvents offset (reader_behind r.old) (reader_held r.old)

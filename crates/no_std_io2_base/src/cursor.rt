@@ -26,7 +26,7 @@ use std::ops::DerefSlice;
 /// assert!(rt; AsSlice::as_slice(b"abc") == b"abc".as_slice());
 /// ```
 pub trait AsSlice<T> {
-    // The elements that are lent.
+    // The elements of the slice.
     ghost slice: { Self → List T };
 
     /// Lends the elements, in order.
@@ -153,7 +153,7 @@ impl<T> Cursor<T> {
         self.pos
     }
 
-    /// Moves to this position, past the end too. Follows `std::io::Cursor::set_position`.
+    /// Moves to this position, which may be past the end. Follows `std::io::Cursor::set_position`.
     pub fn set_position(&mut self, pos: u64)
         ensures position { cursor_position self.new ≡ pos }
         ensures inner { cursor_inner self.new ≡ cursor_inner self.old }

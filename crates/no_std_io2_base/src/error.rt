@@ -35,9 +35,9 @@ pub enum ErrorKind {
     AddrNotAvailable,
     /// A pipe has no reader any more.
     BrokenPipe,
-    /// An entity exists already.
+    /// An entity already exists.
     AlreadyExists,
-    /// The operation would have to block, and is not to.
+    /// The operation would have to block, and must not.
     WouldBlock,
     /// An argument is wrong.
     InvalidInput,
@@ -45,13 +45,13 @@ pub enum ErrorKind {
     InvalidData,
     /// The time, or the number of tries, is over.
     TimedOut,
-    /// A write took no byte of some: nothing more can be written.
+    /// A write of some bytes took none of them: nothing more can be written.
     WriteZero,
     /// The call was interrupted, did nothing, and may be made again.
     Interrupted,
-    /// A fault that no other kind names.
+    /// A fault that is of no other kind.
     Other,
-    /// The stream ended before all that was asked for had come.
+    /// The stream ended before all of the requested bytes had come.
     UnexpectedEof,
     /// The operation is not supported.
     Unsupported,
@@ -71,7 +71,7 @@ impl fmt::Display for ErrorKind {
 }
 
 impl ErrorKind {
-    // One text for each kind: Display, and so each error without a text of its own, stands on it.
+    // The text of each kind. An error without a text of its own prints it too.
     fn text(self) -> &'static str
         ensures { result.now ≡ kind_text self }
     {
@@ -101,8 +101,8 @@ impl ErrorKind {
     }
 }
 
-/// The error of all calls on streams: a kind alone, or a kind with a static text. It owns no
-/// memory. Follows `std::io::Error`, without its boxed payload.
+/// The error of all calls on streams: a kind, with or without a static text. It owns no memory.
+/// Follows `std::io::Error`, without its boxed payload.
 ///
 /// An error of kind [`ErrorKind::Interrupted`] is an interruption; every other error is a fault.
 ///

@@ -1,4 +1,4 @@
-//! What the crates above share with this one. It is no part of the public interface.
+//! Functions that `no_std_io2` shares with this crate. They are no part of the public interface.
 ghost use Rattle.no_std_io2_base.specs.Errors.{IsUnexpectedEnd, IsUnwritten};
 
 use crate::error::{Error, ErrorKind};
@@ -6,7 +6,7 @@ pub use crate::impls::{append, append_rest, copy_bytes};
 pub use crate::traits::pieces::{append_line, append_text};
 pub use crate::traits::room::{LEAST_ROOM, open_room, reserve_room, rest_to_end};
 
-// The refusals that the library words itself, each in one place. Users meet them as errors alone.
+// The errors whose text is the library's own, each made in one place.
 
 /// Makes the error of bytes that end before a buffer is full.
 pub fn failed_to_fill() -> Error
@@ -15,7 +15,7 @@ pub fn failed_to_fill() -> Error
     Error::new(ErrorKind::UnexpectedEof, "failed to fill whole buffer")
 }
 
-/// Makes the error of a device that takes no byte of some.
+/// Makes the error of a device that takes no byte of a write.
 pub fn failed_to_write() -> Error
     ensures { IsUnwritten result }
 {

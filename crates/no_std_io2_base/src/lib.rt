@@ -1,5 +1,5 @@
 //! The lower half of `no_std_io2`: errors, the stream traits with their laws, and the streams in
-//! memory. Users name `no_std_io2` alone, which shows all of it under `io`.
+//! memory. Users name only the crate `no_std_io2`, which exports all of this under `io`.
 #![tactic(auto)]
 
 pub mod cursor;

@@ -1,4 +1,4 @@
-//! As `laws`, of the streams over what std allocates beside vectors: boxed slices and queues.
+//! Like `pins`, for boxed slices and queues.
 ghost use Rattle.std.specs.Prelude.{◌≡◌, ◌-◌, ◌++◌, length, take, replicate, [], None};
 ghost use Rattle.std.specs.Box.{boxed_slice_items};
 ghost use Rattle.no_std_io2_base.specs.Cursor.{cursor_inner, cursor_position};
@@ -26,7 +26,7 @@ fn boxed_slice_cursor_writes<A: Allocator>(c: &Cursor<BoxedSlice<u8, A>>)
         } }
 {}
 
-// What a queue holds is what is to come of it, and what it has accepted.
+// A queue tells its bytes as the events to come, and as the bytes that it has accepted.
 fn queue_tells<A: Allocator>(queue: &VecDeque<u8, A>)
     ensures tells { ⟦<VecDeque<u8, A> as Read>⟧.tells queue.now }
     ensures events { ⟦<VecDeque<u8, A> as Read>⟧.events queue.now ≡ events_of queue.now.items }

@@ -32,31 +32,32 @@ fn kind_is(a: ErrorKind, b: ErrorKind) -> bool
     a == b
 }
 
-// A kind feeds a hasher its place in that order, from 0.
+// A kind gives a hasher its place in that order, from 0.
 fn kind_feeds(kind: ErrorKind)
     ensures { ⟦<ErrorKind as Hash>⟧.hash_input kind ≡ fed.u64 (kind_number kind - 1) }
 {}
 
-// What an error prints: its text, or what its kind says.
+// An error prints its text, or else the text of its kind.
 fn error_prints(error: &Error)
     ensures { ⟦<Error as fmt::Display>⟧.output error.now ≡ Some (error_display error.now) }
 {}
 
-// Two places are equal if they are the same.
+// Two targets of a seek are equal if they are the same.
 fn place_is(a: SeekFrom, b: SeekFrom) -> bool
     ensures { IsTrue result ↔ (a ≡ b) }
 {
     a == b
 }
 
-// Two cursors are equal if their contents are, by the content's `==`, and their positions are.
+// Two cursors are equal if their contents are equal, by the content's `==`, and their positions are
+// equal.
 fn cursor_is<T: PartialEq>(a: &Cursor<T>, b: &Cursor<T>) -> bool
     ensures { IsTrue result ↔ IsTrue (T.eq (cursor_inner a.now) (cursor_inner b.now)) × (cursor_position a.now ≡ cursor_position b.now) }
 {
     a == b
 }
 
-// So over bytes, whatever their capacity.
+// Two cursors over vectors are equal if their bytes and positions are, whatever their capacities.
 fn bytes_cursor_is(a: &Cursor<Vec<u8>>, b: &Cursor<Vec<u8>>) -> bool
     ensures { IsTrue result ↔ ((cursor_inner a.now).items ≡ (cursor_inner b.now).items)
         × (cursor_position a.now ≡ cursor_position b.now) }
@@ -64,7 +65,7 @@ fn bytes_cursor_is(a: &Cursor<Vec<u8>>, b: &Cursor<Vec<u8>>) -> bool
     a == b
 }
 
-// By default a cursor stands at the start of a default content.
+// A default cursor is at the start of a default content.
 fn cursor_by_default<T: Default>() -> Cursor<T>
     ensures content { T.is_default (cursor_inner result) }
     ensures position { cursor_position result ≡ 0 }
@@ -72,7 +73,7 @@ fn cursor_by_default<T: Default>() -> Cursor<T>
     Cursor::default()
 }
 
-// A clone is the same kind, and the same place.
+// A clone of a kind or of a target is equal to it.
 fn kind_clone(kind: &ErrorKind) -> std::result::Result<ErrorKind, AllocError>
     ensures { result ≡ Ok kind.now }
 {
@@ -108,7 +109,7 @@ fn boxed_object_tells(w: &Box<dyn Write + Drop>)
     ensures cost { ⟦<Box<dyn Write + Drop> as Write>⟧.cost w.now ≡ 0 }
 {}
 
-// A call of a reference or a box may do what the same call of its target may.
+// A call of a reference or a box may do what the same call of the stream behind it may do.
 fn lent_writer_calls<'a, W: Write>(old: &&'a mut W, new: &&'a mut W)
     ensures { (call : WriteCall) → ⟦<&'a mut W as Write>⟧.may old.now call new.now
         → W.may old.now.now call new.now.now }
@@ -136,7 +137,7 @@ fn boxed_store_tells<T: Stored>(b: &Box<T>)
     ensures position { ⟦<Box<T> as Stored>⟧.position b.now ≡ T.position b.now.value }
 {}
 
-// A lent seeker makes the seeks of its target, and a boxed one those of what is in the box.
+// A reference or a box makes the seeks of the stream behind it.
 fn lent_seeker_tells<'a, T: Seek>(old: &&'a mut T, new: &&'a mut T)
     ensures { (call : SeekCall) → ⟦<&'a mut T as Seek>⟧.may old.now call new.now → T.may old.now.now call new.now.now }
 {}
@@ -214,7 +215,7 @@ fn lending_object_tells(r: &Box<dyn BufRead + Drop>)
     ensures held { ⟦<Box<dyn BufRead + Drop> as BufRead>⟧.held r.now ≡ held r.now }
 {}
 
-// Its bytes, and each read gives as many as fit.
+// A slice tells its bytes as the events to come, and each read gives as many as fit.
 fn slice_tells<'a>(s: &&'a [u8])
     ensures tells { ⟦<&'a [u8] as Read>⟧.tells s.now }
     ensures events { ⟦<&'a [u8] as Read>⟧.events s.now ≡ events_of s.now.now }
@@ -226,7 +227,7 @@ fn slice_tells<'a>(s: &&'a [u8])
     ensures store { ⟦<&'a [u8] as Stored>⟧.has_store s.now → ⊥ }
 {}
 
-// All of it is held, and lent at once.
+// A slice holds all of its bytes, and lends them at once.
 fn slice_lends<'a>(s: &&'a [u8])
     ensures held { ⟦<&'a [u8] as BufRead>⟧.held s.now ≡ s.now.now }
     ensures surely { ⟦<&'a [u8] as BufRead>⟧.lends_surely s.now }
@@ -271,7 +272,7 @@ fn take_lends<T: BufRead>(t: &Take<T>)
     ensures { ⟦<Take<T> as BufRead>⟧.held t.now ≡ take (take_limit t.now) (T.held (take_inner t.now)) }
 {}
 
-// Its next byte or fault, and each of them spends a turn.
+// `next` yields the next byte or fault, and spends a turn for it.
 fn next_byte<R: Read + Drop>(bytes: &mut Bytes<R>) -> Option<Result<u8>>
     ensures told { R.tells (bytes_reader bytes.old) → R.tells (bytes_reader bytes.new)
         × NextByte (R.events (bytes_reader bytes.old)) result (R.events (bytes_reader bytes.new)) }
@@ -296,7 +297,7 @@ fn contents_tell<'a, A: Allocator, const N: usize>(
     ensures lent_vector { ⟦<&'a mut Vec<u8, A> as AsSlice<u8>>⟧.slice lent_vector.now ≡ lent_vector.now.now.items }
 {}
 
-// It tells a store: its body alone shows that the length and the position fit.
+// A cursor tells a store, whose length and position fit the numbers that the calls return.
 fn cursor_stores<T: AsSlice<u8>>(c: &Cursor<T>)
     ensures has_store { ⟦<Cursor<T> as Stored>⟧.has_store c.now }
     ensures content { ⟦<Cursor<T> as Stored>⟧.content c.now ≡ T.slice (cursor_inner c.now) }
@@ -323,7 +324,7 @@ fn cursor_lends<T: AsSlice<u8>>(c: &Cursor<T>)
         ≡ length (T.slice (cursor_inner c.now)) - cursor_position c.now }
 {}
 
-// Lending never fails.
+// The `fill_buf` of a cursor never fails, and lends all bytes from the position on.
 fn cursor_lends_all<T: AsSlice<u8>>(c: &mut Cursor<T>) -> Result<usize>
     ensures { IsOkAnd result (λ n. n ≡ length (T.slice (cursor_inner c.old)) - cursor_position c.old) }
 {
@@ -363,7 +364,7 @@ fn slice_cursor_writes<'a>(c: &Cursor<&'a mut [u8]>)
         } }
 {}
 
-// A write to memory makes no other, and is counted as none.
+// A write to a vector or a cursor makes no inner write, and is not counted.
 fn memory_costs_nothing<'a, A: Allocator>(
     vector: &Vec<u8, A>,
     owned: &Cursor<Vec<u8, A>>,
@@ -376,7 +377,7 @@ fn memory_costs_nothing<'a, A: Allocator>(
     ensures slice { ⟦<Cursor<&'a mut [u8]> as Write>⟧.cost slice.now ≡ 0 }
 {}
 
-// A clone of a cursor on bytes has their content and its position.
+// A clone of a cursor over a vector has the same bytes and the same position.
 fn clone_of_bytes<A: Allocator + Clone>(c: &Cursor<Vec<u8, A>>) -> Result<Cursor<Vec<u8, A>>>
     ensures content { IfOk result (λ d. (cursor_inner d).items ≡ (cursor_inner c.now).items) }
     ensures position { IfOk result (λ d. cursor_position d ≡ cursor_position c.now) }

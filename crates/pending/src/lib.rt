@@ -1,4 +1,4 @@
-//! A record that a writer is to get whole and once: its bytes, and how many of them were accepted. [`Pending`] is all of it.
+//! [`Pending`], a record that is sent to a writer whole and once, however often the writer fails.
 #![tactic(auto)]
 
 ghost use Rattle.std.specs.Prelude.{◌≡◌, ◌≤◌, ◌<◌, ◌+◌, [], ◌++◌, length, vec_len, nat_lt, OnOk, OnErr, IfErr};
@@ -13,8 +13,10 @@ use text::append_text;
 
 /// A record that is being sent. If it has no bytes, no record is under way.
 ///
-/// What the writer was told, then what is still to go, is always what it was, followed by exactly the records
-/// that were staged, each once, whatever the device does: after an error the same call of `send_to` goes on.
+/// It keeps the bytes of the record, and how many of them were accepted. Take the bytes that the writer
+/// accepted, then the unsent rest of the record: together they are always the bytes at the start, followed by
+/// exactly the staged records, each once, whatever the device does. So after an error the same call of
+/// `send_to` continues.
 #[derive(Drop)]
 pub struct Pending {
     bytes: Vec<u8>,
@@ -26,7 +28,7 @@ impl Pending {
     ghost use Rattle.pending.specs.Pending.{pending_bytes, pending_rest, pending_room, RestLaw};
     ghost use Rattle.pending.specs.Text.{IsPrintRefusal, StagesText};
 
-    /// No record. Its bytes will be kept by `alloc`.
+    /// Makes an empty place for a record. The bytes of records will be allocated from `alloc`.
     pub fn new(alloc: Global) -> Pending
         ensures bytes { pending_bytes result ≡ [] }
         ensures rest { pending_rest result ≡ [] }
@@ -38,18 +40,20 @@ impl Pending {
         }
     }
 
-    /// Whether a record is under way.
+    /// Returns whether a record is under way.
     pub fn is_some(&self) -> bool
         ensures { result ≡ nat_lt 0 (length (pending_bytes self.now)) }
     {
         !self.bytes.is_empty()
     }
 
-    /// Puts a record under way, a head and a tail, with none of it gone. One that was under way is cut off. Where
-    /// the room of earlier records is too small, it becomes what this one needs, in one piece.
+    /// Puts a record under way, a head followed by a tail, none of which is sent yet. If another record was under
+    /// way, its rest is dropped. If the room of earlier records is too small, it allocates once, as much as this
+    /// record needs.
     ///
     /// # Errors
-    /// `OutOfMemory`: none is under way then, and the room is what it was.
+    /// Returns `OutOfMemory` if an allocation failed. No record is then under way, and the room is
+    /// as it was.
     pub fn stage(&mut self, head: &[u8], tail: &[u8]) -> Result<()>
         ensures bytes { OnOk result (pending_bytes self.new ≡ head.now ++ tail.now) }
         ensures rest { OnOk result (pending_rest self.new ≡ head.now ++ tail.now) }
@@ -60,14 +64,15 @@ impl Pending {
     {
         self.clear();
         self.bytes.reserve_exact(head.len() + tail.len())?;
-        // There is room, so no memory is asked for.
+        // There is room, so this does not allocate.
         let _ = self.bytes.extend_from_slice(head);
         let _ = self.bytes.extend_from_slice(tail);
         Ok(())
     }
 
-    /// Puts a text under way as it is printed, and a tail behind it, with none of it gone. One that was under way is
-    /// cut off. It allocates only if the room of earlier records is too small.
+    /// Puts a record under way, the printed text of a value followed by a tail, none of which is sent yet. If
+    /// another record was under way, its rest is dropped. It allocates only if the room of earlier records is too
+    /// small.
     ///
     /// # Errors
     /// Returns `Other`, `formatter error`, if the value's own `fmt` failed, and `OutOfMemory` if an allocation failed.
@@ -83,7 +88,7 @@ impl Pending {
         printed
     }
 
-    // Appends a text as it is printed, and a tail behind it.
+    // Appends the printed text of a value, and then a tail.
     fn print<D: Display + Drop>(&mut self, text: D, tail: &[u8]) -> Result<()>
         requires { (pending_bytes self.old ≡ []) × (pending_rest self.old ≡ []) }
         ensures ok { OnOk result (StagesText (pending_room self.old) (D.output text) tail.now result (pending_bytes self.new)
@@ -95,19 +100,19 @@ impl Pending {
         Ok(())
     }
 
-    /// The record that is under way, whole.
+    /// Returns the whole record that is under way.
     pub fn as_slice(&self) -> &[u8]
         ensures { result.now ≡ pending_bytes self.now }
     {
         self.bytes.as_slice()
     }
 
-    /// Sends what is still to go, by one `write_rest`. After `Ok` nothing is, and the record is under way until
-    /// `clear`: a writer may have to be asked for more before its bytes count as sent.
+    /// Sends the rest of the record, by one `write_rest`. After `Ok` the rest is empty. The record stays under
+    /// way until `clear`, because a writer may need more calls before its bytes count as sent.
     ///
     /// # Errors
-    /// The writer's first fault, or `WriteZero` where it took no byte of some; never `Interrupted`. What was not
-    /// accepted is still to go.
+    /// Returns the writer's first fault, and `WriteZero` if the writer takes no byte. The bytes that were not
+    /// accepted are the new rest, and the same call continues with them. Never returns `Interrupted`.
     pub fn send_to<W: Write>(&mut self, writer: &mut W) -> Result<()>
         ensures law { RestLaw W.Write writer.old (pending_rest self.old) result writer.new (pending_rest self.new) }
         ensures bytes { pending_bytes self.new ≡ pending_bytes self.old }
@@ -120,7 +125,7 @@ impl Pending {
         reply
     }
 
-    /// Cuts the record off: none is under way.
+    /// Ends the record, and drops its rest. No record is then under way.
     pub fn clear(&mut self)
         ensures bytes { pending_bytes self.new ≡ [] }
         ensures rest { pending_rest self.new ≡ [] }

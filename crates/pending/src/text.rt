@@ -1,4 +1,4 @@
-// A text, printed to the end of a vector.
+// The printing of a value to the end of a vector.
 ghost use Rattle.std.specs.Prelude.{◌≡◌, List, ℕ, ◌++◌, Result, Vec};
 ghost use Rattle.std.specs.Borrow.{MutBor};
 ghost use Rattle.pending.specs.Text.{Appends, AppendsOutput};
@@ -8,7 +8,8 @@ use std::alloc::AllocError;
 use std::fmt;
 use std::fmt::{Display, Formatter};
 
-// A vector for the formatter. It keeps the first refusal, since the formatter's own error carries none, and after it takes nothing.
+// A vector for the formatter. It keeps the first failed allocation, because the formatter's own error does not say what failed, and
+// takes nothing after that.
 #[derive(Drop)]
 struct Adapter<'a> {
     bytes: &'a mut Vec<u8>,
@@ -16,7 +17,7 @@ struct Adapter<'a> {
 }
 
 impl fmt::Write for Adapter<'_> {
-    // What was printed before, and then these bytes.
+    // The bytes are appended to what was printed before.
     ghost write_str_gives = { λ s bs t. (old : MutBor _) (text : List ℕ)
         → (s.bytes.ghost_name ≡ old.ghost_name) × Appends old.now text s.met s.bytes.now
         → (t.bytes.ghost_name ≡ old.ghost_name) × Appends old.now (text ++ bs) t.met t.bytes.now };
@@ -29,7 +30,7 @@ impl fmt::Write for Adapter<'_> {
     }
 }
 
-// Appends a text as it is printed.
+// Appends the printed text of a value.
 pub(crate) fn append_text<D: Display + Drop>(bytes: &mut Vec<u8>, text: D) -> Result<()>
     ensures { AppendsOutput bytes.old (D.output text) result bytes.new }
 {

@@ -1,4 +1,4 @@
-// The copy from a reader to a writer, with a buffer at each.
+// [`copy_through`], a copy from a reader to a writer with a buffer at each.
 ghost use Rattle.std.specs.Prelude.{◌≡◌, ◌⊎◌, [], Some, IfOk, IsOk, IfErr};
 ghost use Rattle.no_std_io2.specs.Read.{bytes, HasNoFault};
 ghost use Rattle.no_std_io2.specs.BufReader.{BufReaderFits};
@@ -9,10 +9,10 @@ ghost use Rattle.no_std_io2.specs.LineWriter.{LineWriterFits};
 
 use no_std_io2::io::{BufReader, BufWriter, LineWriter, Read, Result, Write, copy};
 
-// The room of each buffer, in bytes.
+// The size of each buffer, in bytes.
 const ROOM: usize = 64;
 
-// Copies all of `input` to `tower`, flushes it, and hands it back.
+// Copies all of `input` to `tower`, flushes `tower`, and returns it.
 fn copy_and_flush<R: Read + Drop, T: Write + Drop>(mut input: R, mut tower: T) -> Result<(u64, T)>
     ensures some { IfOk result (λ r. MovesSome (T.told tower) r.0 (T.told r.1)) }
     ensures all { R.tells input → IfOk result (λ r. HasNoFault (R.events input)
@@ -27,17 +27,17 @@ fn copy_and_flush<R: Read + Drop, T: Write + Drop>(mut input: R, mut tower: T) -
     Ok((count, tower))
 }
 
-/// Copies all of `input` to `output` through a buffer of 64 bytes, sends and flushes it, and returns
-/// how many bytes these were, at most the greatest `u64`, with the output. With `line`, each line is
-/// sent as it ends. The reader's interruptions are passed over. As `std::io::copy`, with a buffer at each end.
+/// Copies all of `input` to `output`, through a buffer of 64 bytes at each, and flushes. It returns the number
+/// of bytes, or `u64::MAX` if there are more, and the output. If `line` is true, each line is sent as it ends.
+/// It ignores the reader's interruptions. Follows `std::io::copy`, which takes no buffers.
 ///
-/// Of an input that tells nothing, as a [`Patient`](crate::Patient), contracts know how many bytes the output
-/// accepted, and not that they are the device's.
+/// If the input tells nothing, as a [`Patient`](crate::Patient), contracts know how many bytes the output
+/// accepted, but not that the device gave these bytes.
 ///
 /// # Errors
-/// The first fault of `input`, or the first failure of `output`, an interruption of its flush too. An output that tells
-/// its mishaps to come fails with one of those alone, and of one that tells none nothing is known.
-/// The output is dropped then, with what its buffer had left sent once more.
+/// Returns the first fault of `input`, or the first failure of `output`; an interruption of its flush is one too. If
+/// the output tells its mishaps to come, its failure is one of those. The output is then dropped, and this drop tries
+/// once more to send what its buffer still holds.
 ///
 /// ```rust
 /// let (count, out) = copy_through(&b"abc\nde"[..], Vec::<u8>::new(rt.alloc()), true)?;
@@ -49,7 +49,7 @@ pub fn copy_through<R: Read + Drop, W: Write + Drop>(
     output: W,
     line: bool,
 ) -> Result<(u64, W)>
-    // The language's: each buffer fits in memory.
+    // Each buffer has to fit in memory.
     requires reader_fits { BufReaderFits R.row 64 }
     requires buffer_fits { BufWriterFits W.row 64 }
     requires lines_fit { LineWriterFits W.row 64 }
@@ -57,7 +57,7 @@ pub fn copy_through<R: Read + Drop, W: Write + Drop>(
     ensures all { R.tells input → IfOk result (λ r. HasNoFault (R.events input)
         × MovesCounted (W.told output) (bytes (R.events input)) r.0 (W.told r.1)) }
     ensures empty { IfOk result (λ r. (W.told r.1).held ≡ []) }
-    // Through the buffer that was asked for, and no other: the output got the calls that it makes.
+    // The output got the calls that the chosen buffer makes, and no others.
     ensures calls { IfOk result (λ r. HandsThrough W.Write line output r.1) }
     ensures err { R.tells input → IfErr result (λ e. HasFirstFault (R.events input) e
         ⊎ MayFail (W.told output) e) }

@@ -1,11 +1,12 @@
-//! Readers and writers of the system's as streams of `no_std_io2`, and the other way round.
+//! The system's readers and writers as streams of `no_std_io2`, and streams of `no_std_io2` as
+//! readers and writers of `std::io`.
 //!
-//! A real device tells nothing of what it will give or take, and may be interrupted for ever. [`Patient`] makes a
-//! reader or writer of Rust's `std::io` one of this library's, with a number of turns that bounds every loop over it.
+//! A real device does not tell what it will give or take, and may be interrupted for ever. [`Patient`] makes a reader
+//! or writer of Rust's `std::io` one of this library's, with a number of turns that bounds every loop over it.
 //! [`copy_through`] copies one stream to another with a buffer at each. [`ToStd`] and [`Telling`] make a stream of this
-//! library one of `std::io`, for the crates that ask for those.
+//! library one of `std::io`, for crates that need those.
 //!
-//! Standard input and standard output, each asked until it is at its end, however often it is interrupted:
+//! These are standard input and standard output, with more turns than a program can use up:
 //!
 //! ```rust
 //! let input = Patient::new(rt.reader(), u64::MAX);

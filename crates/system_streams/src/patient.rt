@@ -1,4 +1,5 @@
-// A reader or a writer of the system's, with a number of turns that bounds every loop over it.
+// [`Patient`], a reader or writer of the system with a number of turns that bounds every loop over
+// it.
 ghost use Rattle.std.specs.Prelude.{◌≡◌, ℕ, ◌+◌, ◌<◌, ◌⊎◌, [], Ok, IsErrAnd, Result, length};
 ghost use Rattle.std.specs.Io.KnownBytes.{ReadConsumes};
 ghost use Rattle.std.specs.declared.io.Error.{Error as StdError};
@@ -12,16 +13,16 @@ use no_std_io2::io::{Error, ErrorKind, Read, Result, Stored, Write};
 use no_std_io2::trace::Trace;
 use std::io::ErrorKind as SystemKind;
 
-/// A reader or writer of Rust's `std::io` as one of this library's.
+/// Makes a reader or writer of Rust's `std::io` a stream of this library.
 ///
 /// Nothing is known about what such a device will do, so a number of turns bounds how often it is
 /// called again. A reader spends one turn for each result except the end, and a writer spends one
 /// for each interruption. In contracts, the bytes that a writer's device reported as taken are out.
 ///
 /// # Errors
-/// Of a call: `Interrupted` where the device was interrupted; `TimedOut`, `no turns left`, at a
-/// reader's last turn, and where a writer without turns is interrupted; `Other`, `device fault`, for
-/// any other fault of the device. What the device took or gave before stands.
+/// A call returns `Interrupted` if the device was interrupted; `TimedOut`, `no turns left`, at a
+/// reader's last turn, and if a writer without turns is interrupted; and `Other`, `device fault`,
+/// for any other fault of the device. What the device took or gave before does not change.
 ///
 /// ```rust
 /// let mut p = Patient::new(&b"abcdef"[..], 3);
@@ -41,8 +42,8 @@ pub struct Patient<D> {
 impl<D> Patient<D> {
     ghost use Rattle.system_streams.specs.Patient.{patient_device, patient_turns, patient_taken};
 
-    /// The device with this many turns, from 0 up. A reader's last turn is the error that no turns
-    /// are left.
+    /// Wraps a device, with this number of turns, which may be 0. At its last turn a reader returns
+    /// the error that no turns are left.
     pub fn new(device: D, turns: u64) -> Patient<D>
         ensures device { patient_device result ≡ device }
         ensures turns { patient_turns result ≡ turns }
@@ -55,7 +56,7 @@ impl<D> Patient<D> {
         }
     }
 
-    /// The device, where it stands.
+    /// Returns the device as it is now.
     ///
     /// ```rust
     /// let mut p = Patient::new(&b"abcdef"[..], 3);
@@ -68,7 +69,8 @@ impl<D> Patient<D> {
         self.device
     }
 
-    // What a writer answers in place of its device's error.
+    // The error that a writer returns in place of its device's error. An interruption spends a
+    // turn.
     fn refuse(&mut self, kind: SystemKind) -> Error
         ensures taken { patient_taken self.new ≡ patient_taken self.old }
         ensures device { patient_device self.new ≡ patient_device self.old }
@@ -112,7 +114,7 @@ fn device_fault() -> Error
     Error::new(ErrorKind::Other, "device fault")
 }
 
-// What a reader answers in place of its device's error.
+// The error that a reader returns in place of its device's error.
 fn device_error(kind: SystemKind) -> Error
     ensures fault { (kind ≡ SystemKind.Interrupted → ⊥) → IsDeviceFault result }
     ensures interrupted { kind ≡ SystemKind.Interrupted → IsPlainInterruption result }
@@ -124,7 +126,7 @@ fn device_error(kind: SystemKind) -> Error
     }
 }
 
-/// A patient tells no store.
+/// Tells no store.
 impl<D> Stored for Patient<D> {
     ghost has_store = { λ _. ⊥ };
 
@@ -133,7 +135,7 @@ impl<D> Stored for Patient<D> {
     ghost position = { λ _. 0 };
 }
 
-/// A patient tells no events: its device's are not known.
+/// Tells no events, because those of its device are not known.
 impl<D: SystemRead> Read for Patient<D> {
     ghost use Rattle.system_streams.specs.Patient.{patient_device, patient_turns, patient_taken};
 
@@ -148,15 +150,15 @@ impl<D: SystemRead> Read for Patient<D> {
     fn read(&mut self, buf: &mut [u8]) -> Result<usize>
         ensures law { ReadLaw ⟦<Self as Read>⟧ self.old buf.old result buf.new self.new }
 
-        // Into an empty buffer, or with no turns, it reads nothing.
+        // If the buffer is empty or no turns are left, it reads nothing.
         ensures empty { length buf.old ≡ 0 → (result ≡ Ok 0) × (self.new ≡ self.old) }
         ensures over { patient_turns self.old ≡ 0 → (result ≡ Ok 0) × (self.new ≡ self.old) }
 
-        // The last turn is an answer of its own.
+        // At the last turn it returns `TimedOut`, and does not call the device.
         ensures last { 0 < length buf.old → patient_turns self.old ≡ 1 → IsErrAnd result IsOutOfTurns
             × (patient_turns self.new ≡ 0) × (patient_device self.new ≡ patient_device self.old) }
 
-        // With more turns the device is asked, once.
+        // With more turns it calls the device once.
         ensures asked { 0 < length buf.old → 1 < patient_turns self.old
             → AnswersRead result (patient_turns self.old) (patient_turns self.new) }
         ensures device { 0 < length buf.old → 1 < patient_turns self.old → (answer : Result ℕ StdError)
@@ -188,7 +190,8 @@ impl<D: SystemRead> Read for Patient<D> {
     fn read_exact(&mut self, buf: &mut [u8]) -> Result<()>
         ensures law { ReadExactLaw ⟦<Self as Read>⟧ self.old buf.old result buf.new self.new }
 
-        // What was read is what the device gave, and each answer of it but its end spent a turn.
+        // The bytes are those that the device gave, and each result of it except the end spent a
+        // turn.
         ensures bytes { Got (D.known (patient_device self.old)) (D.known (patient_device self.new))
             result buf.new }
         ensures ends { EndsReads (length buf.old) result (patient_turns self.old) (patient_turns self.new) }
@@ -213,8 +216,8 @@ impl<D: SystemRead> Read for Patient<D> {
     ghost store_fits = { λ p h. absurd h };
 }
 
-/// The bytes that the device answered for are out, nothing is held, and mishaps are not told. Each call asks the device once, for the
-/// same; `write_all` and `write_rest` are the trait's own.
+/// Tells that the bytes that its device reported as taken are out, and that nothing is held; it tells no mishaps. Each call makes the
+/// same call of the device, once. `write_all` and `write_rest` have the trait's bodies.
 impl<D: SystemWrite> Write for Patient<D> {
     ghost use Rattle.system_streams.specs.Patient.{patient_told, PatientMay};
 

@@ -1,4 +1,5 @@
-//! Pins what each type tells: with a member that tells nothing, every promise over it would be empty and still be proved.
+//! Functions that nothing calls. Their contracts fix what each type tells. A type whose ghost members say nothing would
+//! still be proved, but every promise about it would be empty.
 ghost use Rattle.std.specs.Prelude.{◌≡◌, Some};
 ghost use Rattle.no_std_io2.specs.Read.{bytes};
 ghost use Rattle.system_streams.specs.Patient.{patient_turns, patient_told, PatientMay};
@@ -13,7 +14,7 @@ use crate::to_std::ToStd;
 use no_std_io2::io::{Read, Stored, Write};
 use std::io;
 
-/// No events and no store, but its turns. No read of it is counted.
+/// A `Patient` reader tells its turns, and no events and no store. Its reads are not counted.
 pub fn patient_reader_tells<D: SystemRead>(p: &Patient<D>)
     ensures tells { ⟦<Patient<D> as Read>⟧.tells p.now → ⊥ }
     ensures turns { ⟦<Patient<D> as Read>⟧.turns p.now ≡ patient_turns p.now }
@@ -24,7 +25,8 @@ pub fn patient_reader_tells<D: SystemRead>(p: &Patient<D>)
     ensures has_store { ⟦<Patient<D> as Stored>⟧.has_store p.now → ⊥ }
 {}
 
-/// The bytes that its device answered for are out. No write of it is counted.
+/// A `Patient` writer tells that the bytes that its device reported as taken are out. Its writes
+/// are not counted.
 pub fn patient_writer_tells<D: SystemWrite>(p: &Patient<D>)
     ensures told { ⟦<Patient<D> as Write>⟧.told p.now ≡ patient_told p.now }
     ensures takes_all { ⟦<Patient<D> as Write>⟧.takes_all p.now → ⊥ }
@@ -32,18 +34,18 @@ pub fn patient_writer_tells<D: SystemWrite>(p: &Patient<D>)
     ensures is_metered { ⟦<Patient<D> as Write>⟧.is_metered p.now → ⊥ }
 {}
 
-/// A call asks its device once.
+/// Each call of a `Patient` writer makes one call of its device.
 pub fn patient_writer_calls<D: SystemWrite>(old: &Patient<D>, new: &Patient<D>)
     ensures { (call : WriteCall) → ⟦<Patient<D> as Write>⟧.may old.now call new.now
         → PatientMay ⟦<D as SystemWrite>⟧ old.now call new.now }
 {}
 
-/// Its bytes to come.
+/// A `Telling` tells `std::io` the bytes to come.
 pub fn telling_tells<R: Read>(t: &Telling<R>)
     ensures { ⟦<Telling<R> as io::Read>⟧.remaining t.now ≡ Some (bytes (R.events (telling_inner t.now))) }
 {}
 
-/// The bytes that it accepted.
+/// A `ToStd` tells `std::io` the bytes that its writer accepted.
 pub fn to_std_writer_tells<W: Write>(s: &ToStd<W>)
     ensures { ⟦<ToStd<W> as io::Write>⟧.contents s.now ≡ Some (accepted (W.told (std_inner s.now))) }
 {}

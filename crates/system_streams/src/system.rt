@@ -1,4 +1,4 @@
-// What a patient asks: readers and writers of the system's.
+// The readers and writers of the system, as a `Patient` calls them.
 ghost use Rattle.std.specs.Prelude.{ℕ, List, Option, Result};
 ghost use Rattle.std.specs.Io.{ReadsAtMost, WritesAtMost};
 ghost use Rattle.std.specs.Io.KnownBytes.{ReadConsumes, WriteAppends, Keeps};
@@ -6,19 +6,20 @@ ghost use Rattle.std.specs.declared.io.Error.{Error as StdError};
 
 use std::io;
 
-/// A reader as a [`Patient`](crate::Patient) asks it: every `std::io::Read` is one. What one call does is a member of it, so that
-/// contracts can say of a device of which nothing is known that it was asked, once, and what its answer became.
+/// A reader as a [`Patient`](crate::Patient) calls it. Every `std::io::Read` is one. A ghost member says what one call does. So
+/// contracts can state that a device was called once, and what became of its result, even if nothing else is known about the
+/// device.
 pub trait SystemRead {
-    // The bytes to come, where they are known.
+    // The bytes to come, if they are known.
     ghost known: { Self → Option (List ℕ) };
 
-    // What one call may do, with its answer and what the buffer holds then.
+    // What one call may do, with its result and the buffer afterwards.
     ghost may_read: { Self → Result ℕ StdError → List ℕ → Self → Type 0 };
 
-    /// Reads as `std::io::Read::read`.
+    /// Reads like `std::io::Read::read`.
     ///
     /// # Errors
-    /// The device's own.
+    /// Returns the device's error if the device fails.
     fn ask_read(&mut self, buf: &mut [u8]) -> io::Result<usize>
         ensures bound { ReadsAtMost result buf.new }
         ensures bytes { ReadConsumes (known self.old) (known self.new) result buf.new }
@@ -35,25 +36,25 @@ impl<D: io::Read> SystemRead for D {
     }
 }
 
-/// A writer as a [`Patient`](crate::Patient) asks it: every `std::io::Write` is one.
+/// A writer as a [`Patient`](crate::Patient) calls it. Every `std::io::Write` is one.
 pub trait SystemWrite {
-    // What one call of each may do, with its answer.
+    // What one `write` and one `flush` may do, with their results.
     ghost may_write: { Self → List ℕ → Result ℕ StdError → Self → Type 0 };
 
     ghost may_flush: { Self → Result (Unit {0}) StdError → Self → Type 0 };
 
-    /// Writes as `std::io::Write::write`.
+    /// Writes like `std::io::Write::write`.
     ///
     /// # Errors
-    /// The device's own.
+    /// Returns the device's error if the device fails.
     fn ask_write(&mut self, buf: &[u8]) -> io::Result<usize>
         ensures bound { WritesAtMost result buf.now }
         ensures may { may_write self.old buf.now result self.new };
 
-    /// Flushes as `std::io::Write::flush`.
+    /// Flushes like `std::io::Write::flush`.
     ///
     /// # Errors
-    /// The device's own.
+    /// Returns the device's error if the device fails.
     fn ask_flush(&mut self) -> io::Result<()>
         ensures { may_flush self.old result self.new };
 }

@@ -1,4 +1,4 @@
-// A reader that tells its events, as one of Rust's `std::io`.
+// [`Telling`], which makes a reader that tells its events one of Rust's `std::io`.
 ghost use Rattle.std.specs.Prelude.{◌≡◌, ℕ, Some, Result};
 ghost use Rattle.std.specs.Io.{ReadsAtMost};
 ghost use Rattle.std.specs.Io.KnownBytes.{ReadConsumes};
@@ -13,8 +13,8 @@ use std::io;
 /// Makes a reader that tells its events a reader of Rattle's `std::io` whose bytes are known in
 /// advance.
 ///
-/// These are the bytes among the events. An error among them is answered in its turn, as by
-/// [`ToStd`], and what comes behind it is still to come.
+/// These are the bytes among the events. An error among the events is returned when it comes, as by
+/// [`ToStd`], and the events after it are still to come.
 ///
 /// ```rust
 /// let table = BufReader::<_, 8>::new(Cursor::new(text).take(len));
@@ -31,7 +31,7 @@ pub struct Telling<R: Read> {
 impl<R: Read> Telling<R> {
     ghost use Rattle.system_streams.specs.Telling.{telling_inner};
 
-    /// The reader, where it stands. Slices and cursors tell, and so do adaptors over these.
+    /// Wraps a reader that tells its events. Slices and cursors do, and so do adaptors over these.
     pub fn new(inner: R) -> Telling<R>
         requires { R.tells inner }
         ensures { telling_inner result ≡ inner }
@@ -41,7 +41,7 @@ impl<R: Read> Telling<R> {
         }
     }
 
-    /// The reader again, where it stands now.
+    /// Returns the reader as it is now.
     pub fn into_inner(self) -> R
         ensures value { result ≡ telling_inner self }
         ensures tells { ∥ R.tells result ∥₁ }
@@ -60,7 +60,7 @@ impl<R: Read> io::Read for Telling<R> {
         ensures bytes { ReadConsumes (Some (bytes (R.events (telling_inner self.old))))
             (Some (bytes (R.events (telling_inner self.new)))) result buf.new }
 
-        // It is one call of the reader, and its answer.
+        // It makes one call of the reader, and returns its result.
         ensures law { (reply : Result ℕ Error) × SameAnswer reply result
             × ReadLaw R.Read (telling_inner self.old) buf.old reply buf.new (telling_inner self.new) }
     {

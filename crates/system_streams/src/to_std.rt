@@ -1,4 +1,4 @@
-// A stream of this library as one of Rust's `std::io`.
+// [`ToStd`], which makes a stream of this library one of Rust's `std::io`.
 ghost use Rattle.std.specs.Prelude.{◌≡◌, ℕ, Some, Result};
 ghost use Rattle.std.specs.Io.{ReadsAtMost, WritesAtMost};
 ghost use Rattle.std.specs.IoError.{error_kind as std_error_kind};
@@ -13,15 +13,15 @@ use no_std_io2::io::{Error, ErrorKind, Read, Write};
 use std::io;
 use std::io::ErrorKind as StdKind;
 
-/// A reader or writer of this library as one of Rust's `std::io`, for code that asks for those.
+/// Makes a reader or writer of this library one of Rust's `std::io`, for code that needs those.
 ///
 /// Each call is one call of the stream. In contracts of `std::io`, a writer has the bytes that it
 /// accepted, and nothing is known about what a reader will give. For a reader that tells its events
 /// there is [`Telling`](crate::Telling).
 ///
 /// # Errors
-/// Of a call: the stream's own, with the kind of the same name and its text, cut short past 80 bytes.
-/// What stands after it is what the stream says.
+/// A call returns the stream's error, with the kind of the same name and at most the first 80 bytes
+/// of its text. The stream is then in the state that its own call promises.
 ///
 /// ```rust
 /// let lines = LineWriter::<Vec<u8>, 8>::new(Vec::new(rt.alloc()));
@@ -33,7 +33,7 @@ pub struct ToStd<T> {
 }
 
 impl<T> ToStd<T> {
-    /// The stream, where it stands.
+    /// Wraps a stream.
     pub fn new(inner: T) -> ToStd<T>
         ensures { std_inner result ≡ inner }
     {
@@ -47,7 +47,7 @@ impl<T> ToStd<T> {
         &self.inner
     }
 
-    /// The stream again, where it stands now.
+    /// Returns the stream as it is now.
     pub fn into_inner(self) -> T
         ensures { result ≡ std_inner self }
     {
@@ -95,7 +95,7 @@ fn std_error(e: Error) -> io::Error
 
 impl<R: Read> io::Read for ToStd<R> {
     fn read(&mut self, buf: &mut [u8]) -> io::Result<usize>
-        // It is one call of the reader, and its answer.
+        // It makes one call of the reader, and returns its result.
         ensures law { (reply : Result ℕ Error) × SameAnswer reply result
             × ReadLaw R.Read (std_inner self.old) buf.old reply buf.new (std_inner self.new) }
     {
@@ -110,7 +110,7 @@ impl<W: Write> io::Write for ToStd<W> {
     ghost contents = { λ s. Some (accepted (W.told (std_inner s))) };
 
     fn write(&mut self, buf: &[u8]) -> io::Result<usize>
-        // It is one call of the writer, and its answer.
+        // It makes one call of the writer, and returns its result.
         ensures law { (reply : Result ℕ Error) × SameAnswer reply result
             × WriteOf W.Write (std_inner self.old) buf.now reply (std_inner self.new) }
     {
@@ -121,7 +121,7 @@ impl<W: Write> io::Write for ToStd<W> {
     }
 
     fn flush(&mut self) -> io::Result<()>
-        // It is one call of the writer, and its answer.
+        // It makes one call of the writer, and returns its result.
         ensures law { (reply : Result (Unit {0}) Error) × SameAnswer reply result
             × FlushOf W.Write (std_inner self.old) reply (std_inner self.new) }
     {

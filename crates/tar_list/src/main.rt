@@ -1,8 +1,8 @@
-//! Lists the members of the tar archive on standard input, a line for each: its size and its name. With a name as its one
-//! word it copies the member of this name to standard output.
+//! Lists the members of the tar archive on standard input, one in each line: its size and its name. If it has a name as
+//! its only argument, it copies the member with this name to standard output.
 //!
-//! The status is 0 where the archive was read to its end, or the member copied, and 1 for a fault, with its text on
-//! standard error.
+//! The status is 0 if the archive was read to its end or the member was copied, and 1 after a fault, whose text is
+//! printed to standard error.
 #![tactic(auto)]
 
 use no_std_io2::io::{BufReader, BufWriter, Error, ErrorKind, Result, Write, copy};
@@ -13,7 +13,7 @@ use std::{env, io};
 use system_streams::Patient;
 use tar_reader::{Archive, Kind};
 
-// The word behind the program's name, where there is one alone.
+// Returns the argument after the program's name, if there is exactly one.
 fn one_word<R: Env + Alloc<A = Global>>(rt: &R) -> Option<String> {
     let mut words = env::args(rt).ok()?;
     let _program = words.next();
@@ -25,7 +25,7 @@ fn one_word<R: Env + Alloc<A = Global>>(rt: &R) -> Option<String> {
     }
 }
 
-// Prints a line for each member, or copies the member of this name.
+// Prints a line for each member, or copies the member with this name.
 fn list(rt: &HostRuntime, name: Option<String>) -> Result<()> {
     let input = Patient::new(rt.reader(), u64::MAX);
     let mut archive = Archive::new(rt.alloc(), BufReader::<_, 8192>::new(input));

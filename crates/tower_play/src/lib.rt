@@ -1,7 +1,7 @@
 //! Plays a script of writes on a tower of buffered writers over a device that fails as the script says.
 //!
-//! [`play`] reads the script from any reader and writes what came of it to any writer: a line for each reply, and then what
-//! is out and what is held.
+//! [`play`] reads the script from any reader, and writes its results to any writer: a line for each reply, and then the
+//! bytes that are out and those that are held.
 #![tactic(auto)]
 
 mod memory;

@@ -1,5 +1,5 @@
-// Asking for memory. Only this module makes a `Refused`, and only where memory was asked for and refused: nothing else in the
-// program can answer that there was none.
+// The functions that allocate. Only this module makes a `Refused`, and only if an allocation failed. So no other code of the
+// program can report a failed allocation.
 ghost use Rattle.std.specs.Prelude.{◌≡◌, ℕ, List, ◌++◌, ◌+◌, ◌≤◌, ◌<◌, length, vec_len, vec_capacity, Some, OnOk, OnErr, IfOk};
 ghost use Rattle.io_bench.specs.Runs.{Ran, RunCalls};
 
@@ -8,15 +8,15 @@ use std::alloc::{Allocator, Global};
 use std::fmt::Display;
 use std::io::Write;
 
-/// Memory was refused.
+/// The error of a failed allocation.
 #[derive(Drop)]
 pub struct Refused(());
 
-/// Room for so many more.
+/// Makes room in a vector for `more` more elements.
 pub fn reserve<T>(list: &mut Vec<T>, more: usize) -> Result<(), Refused>
     ensures items { list.new.items ≡ list.old.items }
     ensures room { OnOk result (vec_len list.new + more ≤ vec_capacity list.new) }
-    // Nothing is refused where there is room.
+    // It does not fail if there is room.
     ensures full { OnErr result (vec_capacity list.old < vec_len list.old + more) }
 {
     match list.reserve(more) {
@@ -25,10 +25,10 @@ pub fn reserve<T>(list: &mut Vec<T>, more: usize) -> Result<(), Refused>
     }
 }
 
-/// Appends these bytes as they are.
+/// Appends these bytes.
 pub fn push<A: Allocator>(text: &mut Vec<u8, A>, bytes: &[u8]) -> Result<(), Refused>
     ensures ok { OnOk result (text.new.items ≡ text.old.items ++ bytes.now) }
-    // Nothing is refused where there is room for the bytes.
+    // It does not fail if there is room for the bytes.
     ensures full { OnErr result (vec_capacity text.old < vec_len text.old + length bytes.now) }
 {
     match text.extend_from_slice(bytes) {
@@ -37,7 +37,7 @@ pub fn push<A: Allocator>(text: &mut Vec<u8, A>, bytes: &[u8]) -> Result<(), Ref
     }
 }
 
-/// Appends what a value prints.
+/// Appends the printed text of a value.
 pub fn push_shown<A: Allocator, D: Display>(text: &mut Vec<u8, A>, value: &D) -> Result<(), Refused>
     ensures ok { (shown : List ℕ) → D.output value.now ≡ Some shown → OnOk result (text.new.items ≡ text.old.items ++ shown) }
 {
@@ -47,7 +47,8 @@ pub fn push_shown<A: Allocator, D: Display>(text: &mut Vec<u8, A>, value: &D) ->
     }
 }
 
-/// Makes these calls of a writer in order, and gives their replies. Where memory is refused, none was made.
+/// Makes these calls of a writer in order, and returns their replies. If an allocation fails, no call was
+/// made.
 pub fn replies_of<W: no_std_io2::io::Write>(
     alloc: Global,
     w: &mut W,
@@ -56,7 +57,7 @@ pub fn replies_of<W: no_std_io2::io::Write>(
     ensures ran { IfOk result (λ replies. Ran (W.told w.old) ops.now replies.items (W.told w.new)) }
     ensures calls { IfOk result (λ replies. RunCalls W.Write w.old ops.now replies.items w.new) }
     ensures err { OnErr result (w.new ≡ w.old) }
-    // No calls want no memory.
+    // It does not fail if there are no calls.
     ensures full { OnErr result (0 < length ops.now) }
 {
     let mut replies = Vec::new(alloc);

@@ -1,4 +1,4 @@
-// Plays a script on a tower of buffered writers.
+// [`play`], which plays a script on a tower of buffered writers.
 ghost use Rattle.no_std_io2.specs.BufReader.{BufReaderFits};
 ghost use Rattle.std.specs.Prelude.{◌≡◌, ◌++◌, ◌⊎◌, Some, IfOk, IfErr};
 ghost use Rattle.no_std_io2.specs.Errors.{IsOutOfMemory};
@@ -16,7 +16,7 @@ use no_std_io2::io::{BufRead, BufReader, BufWriter, Error, ErrorKind, LineWriter
 use std::alloc::Global;
 use std::fmt;
 
-/// Which tower a script is played on: the first word is the outer level.
+/// The tower on which a script is played. The first word of each name is the outer level.
 #[derive(Clone, Copy, Debug, PartialEq, Eq)]
 pub enum Shape {
     /// A `BufWriter`.
@@ -29,12 +29,12 @@ pub enum Shape {
     LineBuf,
 }
 
-/// Why a script was not played.
+/// The reason why a script was not played.
 #[derive(Debug, Drop)]
 pub enum Fault {
-    /// A device's fault, or want of memory.
+    /// A fault of the input or output, or a failed allocation.
     Io(Error),
-    /// The first bad line of the script, by its number from 1.
+    /// The script has bad lines; this is the number of the first, from 1.
     Line(u64),
 }
 
@@ -65,21 +65,21 @@ impl fmt::Display for Fault {
     }
 }
 
-// The device at the bottom of each tower, and the room of each level.
+// The device below each tower, and the size of each buffer.
 type Base = Faulty<Vec<u8>>;
 
 const ROOM: usize = 8;
 
-// The room through which a script is read.
+// The size of the buffer through which a script is read.
 const INPUT_ROOM: usize = 64;
 
-// What is shown of a tower.
+// A tower that can show which bytes are out and held.
 trait Tower: Write {
-    // The bytes that are out.
+    // Returns the bytes that are out.
     fn out(&self) -> &[u8]
         ensures { result.now ≡ (Self.told self.now).out };
 
-    // The bytes that are held: the inner level's, and then the outer level's.
+    // Returns the bytes that are held: the inner level's, and then the outer level's.
     fn held(&self) -> (&[u8], &[u8])
         ensures { result.0.now ++ result.1.now ≡ (Self.told self.now).held };
 }
@@ -124,13 +124,13 @@ impl Tower for LineWriter<BufWriter<Base, ROOM>, ROOM> {
     }
 }
 
-/// Reads a script, plays it on a tower over a faulty vector, and writes what came of it: a line for
-/// each reply, what is out and what is held. The whole script is read first, and the text is made
-/// whole and then written by one `write_all` and flushed.
+/// Reads a script, plays it on a tower over a vector that fails on command, and writes the results:
+/// a line for each reply, the bytes that are out, and those that are held. It first reads the whole
+/// script. It writes the results by one `write_all`, and flushes.
 ///
 /// # Errors
-/// A fault of the input, of the output, or want of memory; else the first bad line, and then nothing
-/// was played. The output is dropped.
+/// Returns a fault of the input or the output, an `OutOfMemory` if an allocation failed, or the
+/// number of the first bad line; nothing was played then. The output is dropped.
 pub fn play<R: Read + Drop, W: Write + Drop>(
     alloc: Global,
     input: R,
@@ -140,12 +140,13 @@ pub fn play<R: Read + Drop, W: Write + Drop>(
     requires reader_fits { BufReaderFits R.row 64 }
     // The tower has this shape: the device got the calls that such a tower makes.
     ensures ok { IfOk result (λ w. WritesText (IsPlay ⟦<Faulty<Vec<u8>> as Write>⟧ shape) (W.told output) (W.told w)) }
-    // The script is what the input tells.
+    // The script is the text that the input tells.
     ensures script { R.tells input → IfOk result (λ w. WritesText (IsPlayOf ⟦<Faulty<Vec<u8>> as Write>⟧ shape (R.events input))
         (W.told output) (W.told w)) }
-    // A bad line is the first one of all that the input tells.
+    // A reported bad line is the first one of the input.
     ensures first { R.tells input → IfErr result (IfLine (IsBadAt 10 (R.events input))) }
-    // Any other fault is the input's first one, want of memory, or an error of the output.
+    // Any other error is the first fault of the input, a failed allocation, or an error of the
+    // output.
     ensures other { R.tells input → IfErr result (IfIo (λ e. HasFirstFault (R.events input) e
         ⊎ IsOutOfMemory e ⊎ MayFail (W.told output) e)) }
 {
@@ -184,7 +185,7 @@ fn play_ops(alloc: Global, acts: Vec<Act>, ops: &[Op<'_>], shape: Shape) -> Resu
     }
 }
 
-// Makes the calls, and then the text, before the tower is dropped.
+// Makes the calls, and then the text of the results, before the tower is dropped.
 fn play_on<T: Tower + Drop>(alloc: Global, mut tower: T, ops: &[Op<'_>]) -> Result<Vec<u8>, Refused>
     ensures ok { IfOk result (λ text. ShowsRun T.Write tower ops.now text.items) }
 {

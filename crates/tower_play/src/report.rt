@@ -1,4 +1,5 @@
-// What `play` prints: a line for each reply, and then what is out and what is held.
+// The text that `play` prints: a line for each reply, and then the bytes that are out and those
+// that are held.
 ghost use Rattle.std.specs.Prelude.{◌≡◌, ◌∷◌, [], ◌++◌, ℕ, codes, List, Some, IfSome, IfNone, OnOk, IfOk};
 ghost use Rattle.tower_play.specs.Script.{escaped, escaped_byte};
 ghost use Rattle.tower_play.specs.Report.{reply_line, report};
@@ -11,7 +12,7 @@ use std::fmt::Display;
 /// Appends the line of a reply.
 ///
 /// # Errors
-/// Where memory was refused.
+/// Returns an error if an allocation failed.
 pub fn push_reply<A: Allocator>(text: &mut Vec<u8, A>, reply: &Reply) -> Result<(), Refused>
     ensures ok { OnOk result (text.new.items ≡ text.old.items ++ reply_line reply.now) }
 {
@@ -22,7 +23,7 @@ pub fn push_reply<A: Allocator>(text: &mut Vec<u8, A>, reply: &Reply) -> Result<
     }
 }
 
-// Appends a line: a name, and what a value prints.
+// Appends a line: a name, and the printed text of a value.
 fn push_line<A: Allocator, D: Display>(
     text: &mut Vec<u8, A>,
     name: &[u8],
@@ -37,10 +38,10 @@ fn push_line<A: Allocator, D: Display>(
     Ok(())
 }
 
-/// Appends these bytes, a newline as a backslash and `n`, a backslash as two.
+/// Appends these bytes, with a newline as `\n` and a backslash as `\\`.
 ///
 /// # Errors
-/// Where memory was refused.
+/// Returns an error if an allocation failed.
 pub fn push_escaped<A: Allocator>(text: &mut Vec<u8, A>, bytes: &[u8]) -> Result<(), Refused>
     ensures ok { OnOk result (text.new.items ≡ text.old.items ++ escaped bytes.now) }
 {
@@ -59,7 +60,7 @@ pub fn push_escaped<A: Allocator>(text: &mut Vec<u8, A>, bytes: &[u8]) -> Result
     Ok(())
 }
 
-// What stands for a byte that is not shown as it is.
+// Returns the escape of a byte that is not printed as it is.
 fn escape_of(byte: u8) -> Option<&'static [u8]>
     ensures some { IfSome result (λ shown. shown.now ≡ escaped_byte byte) }
     ensures none { IfNone result (escaped_byte byte ≡ byte ∷ []) }
@@ -71,11 +72,11 @@ fn escape_of(byte: u8) -> Option<&'static [u8]>
     }
 }
 
-/// The text of a play: the line of each reply, and then what is out and what is held, the inner
-/// level's bytes first.
+/// Returns the text of the results: the line of each reply, and then the bytes that are out and
+/// those that are held, the inner level's first.
 ///
 /// # Errors
-/// Where memory was refused.
+/// Returns an error if an allocation failed.
 pub fn report_of<A: Allocator>(
     alloc: A,
     replies: &[Reply],

@@ -1,4 +1,4 @@
-// The script of `play`: acts of a faulty device, and then calls of a writer, a line each.
+// The script of `play`: acts of the device, and then calls of a writer, one in each line.
 ghost use Rattle.std.specs.Prelude.{◌≡◌, ℕ, ◌+◌, ◌-◌, ◌≤◌, List, [], ◌∷◌, ◌++◌, take, drop, IfSome, IfNone, None, ◌<◌, OnOk, OnErr};
 ghost use Rattle.std.specs.Prelude.{IfOk, IfErr, length, vec_len, vec_capacity, true, false, ◌⊎◌};
 ghost use Rattle.no_std_io2.specs.Errors.{IsOutOfMemory};
@@ -30,7 +30,8 @@ enum Line<'a> {
     Bad,
 }
 
-/// A call of the script. A text is the next so many bytes of the script's texts.
+/// A call of the script. The number is the length of its text, which is the next part of the
+/// script's texts.
 #[derive(Clone, Copy)]
 enum Step {
     Write(usize),
@@ -38,7 +39,7 @@ enum Step {
     Flush,
 }
 
-/// A script whose lines are all good: what the device does, and the calls that are made.
+/// A script whose lines are all good: the acts of the device, and the calls.
 #[derive(Drop)]
 pub struct Script {
     pub acts: Vec<Act>,
@@ -54,20 +55,21 @@ pub struct Calls {
 }
 
 impl Script {
-    /// Reads a script by its lines, which are numbered from 1. A line is kept no longer than it takes to read it,
-    /// and all are read before a bad one is told.
+    /// Reads a script line by line. It keeps no line after it has read it, and reads all lines before it reports
+    /// a bad one.
     ///
     /// # Errors
-    /// A fault of the reader, or `OutOfMemory`; else the first bad line, by its number.
+    /// Returns a fault of the reader, `OutOfMemory` if an allocation failed, or the number of the
+    /// first bad line, from 1.
     pub fn read<R: BufRead + Drop>(alloc: Global, lines: Split<R>) -> Result<Script, Fault>
         ensures numbered { IfErr result IsNumbered }
-        // Every line of the reader's is read, and adds what it says.
+        // It reads every line, and the script has what each line says.
         ensures read { split_is_ended lines ≡ false → R.tells (split_reader lines)
             → IfOk result (IsRead (split_delim lines) (R.events (split_reader lines))) }
-        // A bad line is told once all are read, and is the first one.
+        // A reported bad line is the first one; all lines were read.
         ensures first { split_is_ended lines ≡ false → R.tells (split_reader lines)
             → IfErr result (IfLine (IsBadAt (split_delim lines) (R.events (split_reader lines)))) }
-        // Any other fault is the reader's first one, or want of memory.
+        // Any other error is the first fault of the reader, or a failed allocation.
         ensures stops { split_is_ended lines ≡ false → R.tells (split_reader lines)
             → IfErr result (IfIo (λ e. HasFirstFault (R.events (split_reader lines)) e ⊎ IsOutOfMemory e)) }
     {
@@ -93,12 +95,12 @@ impl Script {
         }
     }
 
-    // `false` where the line is bad.
+    // Adds what a line says. Returns `false` if the line is bad.
     fn add_line(&mut self, line: &[u8]) -> Result<bool, Refused>
         ensures good { IfOk result (λ good. good ≡ true → IsGood line.now) }
         ensures adds { IfOk result (λ good. good ≡ true → Adds line.now self.old self.new) }
         ensures bad { IfOk result (λ good. good ≡ false → IsBadLine line.now self.old) }
-        // Nothing is refused where there is room for what the line may add, nor where it is empty or says nothing.
+        // It does not fail if there is room for what the line says, nor if the line is empty or says nothing.
         ensures full { OnErr result ((said : Said) × Says line.now said × LineLacksRoom said self.old) }
     {
         match parse_line(line) {
@@ -114,7 +116,7 @@ impl Script {
         }
     }
 
-    // `false` where a call stands before it.
+    // Adds an act of the device. Returns `false` if a call came before it.
     fn add_act(&mut self, act: Act) -> Result<bool, Refused>
         ensures added { IfOk result (λ good. good ≡ true → (vec_len self.old.calls.steps ≡ 0)
             × (self.new.acts.items ≡ self.old.acts.items ++ act ∷ []) × (self.new.calls ≡ self.old.calls)) }
@@ -131,14 +133,14 @@ impl Script {
 }
 
 impl Calls {
-    /// The calls, in order.
+    /// Returns the calls, in order.
     ///
     /// # Errors
-    /// Where memory was refused.
+    /// Returns an error if an allocation failed.
     pub fn ops(&self, alloc: Global) -> Result<Vec<Op<'_>>, Refused>
         ensures count { IfOk result (λ ops. vec_len ops ≡ vec_len self.now.steps) }
         ensures calls { IfOk result (λ ops. AreCalls self.now ops.items) }
-        // No calls want no memory.
+        // It does not fail if there are no calls.
         ensures full { OnErr result (0 < vec_len self.now.steps) }
     {
         let mut ops = Vec::new(alloc);
@@ -152,7 +154,7 @@ impl Calls {
         Ok(ops)
     }
 
-    // `false` where the text stands for no bytes.
+    // Adds a call with this escaped text. Returns `false` if the text has a bad escape.
     fn add_text(&mut self, text: &[u8], is_whole: bool) -> Result<bool, Refused>
         ensures adds { IfOk result (λ good. good ≡ true → AddsText is_whole text.now self.old self.new) }
         ensures bad { IfOk result (λ good. good ≡ false → unescaped text.now ≡ None) }
@@ -184,7 +186,7 @@ impl Calls {
     }
 }
 
-// The call of a step whose text stands at the front of `texts`, and what follows that.
+// Returns the call of a step whose text is at the front of `texts`, and the texts after it.
 fn next_op(step: Step, texts: &[u8]) -> (Op<'_>, &[u8])
     ensures { IsNext step texts.now result.0 result.1.now }
 {
@@ -208,7 +210,7 @@ fn split_text(texts: &[u8], len: usize) -> (&[u8], &[u8])
     texts.split_at(len.min(texts.len()))
 }
 
-// Appends the bytes that an escaped text stands for; `false` where it stands for none.
+// Appends the bytes that an escaped text stands for. Returns `false` if it has a bad escape.
 fn unescape(text: &[u8], bytes: &mut Vec<u8>) -> bool
     requires { vec_len bytes.old + length text.now ≤ vec_capacity bytes.old }
     ensures grows { vec_len bytes.old ≤ vec_len bytes.new }
@@ -262,7 +264,7 @@ fn parse_line(line: &[u8]) -> Line<'_>
     }
 }
 
-// What stands behind one space.
+// Returns what follows one space.
 fn argument(rest: &[u8]) -> Option<&[u8]>
     ensures some { IfSome result (λ x. rest.now ≡ 32 ∷ x.now) }
     ensures none { IfNone result ((x : List ℕ) → rest.now ≡ 32 ∷ x → ⊥) }
@@ -273,7 +275,7 @@ fn argument(rest: &[u8]) -> Option<&[u8]>
     }
 }
 
-// The same, or nothing at all.
+// Returns what follows one space, or an empty text if there is nothing at all.
 fn text_argument(rest: &[u8]) -> Option<&[u8]>
     ensures some { IfSome result (λ x. IsTextArgument rest.now x.now) }
     ensures none { IfNone result ((x : List ℕ) → IsTextArgument rest.now x → ⊥) }
@@ -285,7 +287,7 @@ fn text_argument(rest: &[u8]) -> Option<&[u8]>
     }
 }
 
-// The kind of this name.
+// Returns the kind of this name.
 fn parse_kind(name: &[u8]) -> Option<ErrorKind>
     ensures kind { IfSome result (λ kind. name.now ≡ kind_name kind) }
     ensures none { IfNone result ((kind : Kind) → name.now ≡ kind_name kind → ⊥) }
@@ -323,7 +325,7 @@ fn kind_of_name(name: &str) -> Option<ErrorKind>
     }
 }
 
-// The number that one to five digits write, where it is below 2^16.
+// Returns the number of one to five digits, if it is below 2^16.
 fn parse_count(digits: &[u8]) -> Option<usize>
     ensures count { IfSome result (IsCount digits.now) }
     ensures none { IfNone result ((n : ℕ) → IsCount digits.now n → ⊥) }

@@ -1,4 +1,4 @@
-//! The part of the next frame that was gathered.
+//! The part of the next frame that was read already.
 ghost use Rattle.std.specs.Prelude.{◌≡◌, ◌⊎◌, ◌+◌, ◌≤◌, ◌<◌, [], ◌++◌, true, ◌==◌, length, vec_len, vec_capacity, IfOk, IfErr};
 ghost use Rattle.std.specs.Int.{w32, to_le_bytes, from_le_bytes};
 ghost use Rattle.no_std_io2.specs.Errors.{IsFault};
@@ -9,10 +9,11 @@ use no_std_io2::io::{BufRead, Result};
 use std::alloc::Global;
 use std::mem;
 
-// How many bytes tell a frame's length.
+// The number of bytes in which a frame has its length.
 const HEADER: usize = 4;
 
-// Reads until `part` has `want` bytes, for which it has room. `false`: the end came first.
+// Reads until `part` has `want` bytes, for which it has room. `false` means that the end came
+// first.
 fn gather<B: BufRead>(from: &mut B, part: &mut Vec<u8>, want: usize) -> Result<bool>
     requires within { vec_len part.old ≤ want }
     requires room { want ≤ vec_capacity part.old }
@@ -41,7 +42,7 @@ fn gather<B: BufRead>(from: &mut B, part: &mut Vec<u8>, want: usize) -> Result<b
     Ok(true)
 }
 
-// The length that these bytes tell.
+// Returns the length that these four bytes say.
 fn length_of(header: [u8; HEADER]) -> u32
     ensures value { result ≡ from_le_bytes w32 header }
     ensures back { to_le_bytes w32 result ≡ header }
@@ -49,7 +50,7 @@ fn length_of(header: [u8; HEADER]) -> u32
     u32::from_le_bytes(header)
 }
 
-/// A frame's header and payload, as far as they were gathered.
+/// A frame's header and payload, as far as they were read.
 #[derive(Drop)]
 pub struct Part {
     header: Vec<u8>,
@@ -60,7 +61,7 @@ pub struct Part {
 impl Part {
     ghost use Rattle.framing.specs.Part.{part_bytes, part_header, part_payload, header_room, payload_room};
 
-    /// Nothing was gathered.
+    /// Makes a part of which nothing was read.
     pub fn new(alloc: Global) -> Part
         ensures none { part_bytes result ≡ [] }
         ensures room { payload_room result ≡ 0 }
@@ -71,17 +72,18 @@ impl Part {
         }
     }
 
-    /// Whether nothing was gathered.
+    /// Returns whether nothing was read.
     pub fn is_empty(&self) -> bool
         ensures { result ≡ (length (part_bytes self.now) == 0) }
     {
         self.header.is_empty()
     }
 
-    /// Gathers the frame's header. `false`: the end came first.
+    /// Reads the rest of the frame's header. `false` means that the end came first.
     ///
     /// # Errors
-    /// The reader's first fault, and `OutOfMemory`.
+    /// Returns the reader's first fault, and `OutOfMemory` if an allocation failed. The bytes
+    /// before the error are kept.
     pub fn fill_header<B: BufRead>(&mut self, from: &mut B) -> Result<bool>
         ensures told { B.tells from.old → B.tells from.new
             × GathersPart 4 (header_room self.new < 4) (B.events from.old) result
@@ -101,7 +103,7 @@ impl Part {
         gather(from, &mut self.header, HEADER)
     }
 
-    /// The length that the header tells.
+    /// Returns the length that the header says.
     pub fn told_len(&self) -> u32
         requires { length (part_header self.now) ≡ 4 }
         ensures value { result ≡ from_le_bytes w32 (part_header self.now) }
@@ -112,11 +114,12 @@ impl Part {
         length_of(header)
     }
 
-    /// Gathers the payload, of the length that the header tells. `false`: the end came first. Room for
-    /// all of it, and for no more, is made before anything is read.
+    /// Reads the rest of the payload, whose length the header says. `false` means that the end came
+    /// first. It makes room for exactly the payload before it reads any of it.
     ///
     /// # Errors
-    /// The reader's first fault, and `OutOfMemory`.
+    /// Returns the reader's first fault, and `OutOfMemory` if an allocation failed. The bytes
+    /// before the error are kept.
     pub fn fill_payload<B: BufRead>(&mut self, from: &mut B, len: usize) -> Result<bool>
         requires header { length (part_header self.old) ≡ 4 }
         requires len { len ≡ from_le_bytes w32 (part_header self.old) }
@@ -132,7 +135,7 @@ impl Part {
         gather(from, &mut self.payload, len)
     }
 
-    /// Gives the payload, with nothing gathered any more.
+    /// Returns the payload, and starts again with an empty part.
     pub fn take_payload(&mut self) -> Vec<u8>
         ensures payload { result.items ≡ part_payload self.old }
         ensures empty { part_bytes self.new ≡ [] }

@@ -1,4 +1,4 @@
-// A buffer in front of a reader.
+// [`BufReader`], a buffer in front of a reader.
 ghost use Rattle.std.specs.Prelude.{◌≡◌, ◌<◌, ◌≤◌, ◌^◌, [], length};
 ghost use Rattle.std.specs.Borrow.{Lends, sem};
 

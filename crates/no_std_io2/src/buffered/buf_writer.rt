@@ -1,4 +1,4 @@
-//! A buffer in front of a writer.
+//! [`BufWriter`], a buffer in front of a writer.
 ghost use Rattle.std.specs.Prelude.{◌≡◌, ◌≤◌, [], length};
 ghost use Rattle.std.specs.Borrow.{Lends, sem};
 ghost use Rattle.no_std_io2.specs.contracts.buffered.buf_writer.BufWriter.{the_row as writer-row};

@@ -1,4 +1,4 @@
-//! Bytes that are held inside an array, from a start to an end: what all buffers here stand on.
+//! An array whose bytes from a start to an end are held. All buffers of this crate contain one.
 ghost use Rattle.std.specs.Prelude.{◌≡◌, ◌+◌, ◌-◌, ◌<◌, ◌≤◌, [], ◌++◌, min, length, take, drop, IsOk, IfErr, OnOk, OnErr};
 ghost use Rattle.std.specs.Prelude.{vec_len, vec_capacity};
 ghost use Rattle.std.specs.Bool.{OnTrue, OnFalse};
@@ -54,7 +54,7 @@ impl<const S: usize> Buffer<S> {
         &all[self.start..self.end]
     }
 
-    /// The bytes that were given since the last read, right before those held.
+    /// Returns the bytes that were given since the last read, right before the held ones.
     pub(crate) fn behind(&self) -> &[u8]
         ensures value { result.now ≡ buffer_behind self.now }
         ensures bound { length result.now ≤ S }
@@ -118,7 +118,7 @@ impl<const S: usize> Buffer<S> {
         self.start = end;
     }
 
-    /// Gives as many bytes as both have.
+    /// Gives as many bytes as are held and fit in `buf`.
     #[inline(always)]
     pub(crate) fn give(&mut self, buf: &mut [u8]) -> usize
         ensures count { result ≡ min (length (buffer_held self.old)) (length buf.old) }
@@ -130,7 +130,7 @@ impl<const S: usize> Buffer<S> {
         if self.start == self.end {
             return 0;
         }
-        // A caller that reads byte by byte asks for one.
+        // A caller that reads byte by byte reads one.
         if buf.len() == 1 {
             buf[0] = self.bytes[self.start];
             self.start += 1;
@@ -162,7 +162,7 @@ impl<const S: usize> Buffer<S> {
         Ok(())
     }
 
-    /// Reads once. What was held before is lost, and nothing lies behind.
+    /// Reads once into the array. Bytes that were held before are lost, and none lie behind.
     #[inline]
     pub(crate) fn fill<R: Read>(&mut self, from: &mut R) -> Result<()>
         requires { 0 < S }
@@ -190,7 +190,7 @@ impl<const S: usize> Buffer<S> {
         Ok(())
     }
 
-    /// Drops the first held bytes, and moves none. If none are left, both ends go back to the front.
+    /// Drops the first held bytes. No byte moves. If none are left, start and end go back to 0.
     #[inline]
     pub(crate) fn drop_front(&mut self, n: usize)
         requires { n ≤ length (buffer_held self.old) }

@@ -1,4 +1,4 @@
-//! The error of `into_inner` of a buffered writer.
+//! [`IntoInnerError`], the error of `into_inner` of a buffered writer.
 ghost use Rattle.std.specs.Prelude.{Some, ◌≡◌};
 ghost use Rattle.no_std_io2_base.specs.Errors.{error_display};
 ghost use Rattle.no_std_io2.specs.BufWriter.{into_inner_error_writer, into_inner_error_cause};
@@ -89,7 +89,7 @@ impl<W: Drop> From<IntoInnerError<W>> for Error {
     }
 }
 
-/// Prints what the error prints.
+/// Prints the error that stopped the sending.
 impl<W> Display for IntoInnerError<W> {
     ghost output = { λ e. Some (error_display (into_inner_error_cause e)) };
 

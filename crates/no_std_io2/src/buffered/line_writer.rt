@@ -1,4 +1,4 @@
-// A buffer that is sent at the end of each line.
+// [`LineWriter`], a buffer that is sent at the end of each line.
 ghost use Rattle.std.specs.Prelude.{◌≡◌, ◌+◌, ◌≤◌, [], ◌++◌, length, IsOk, IfOk, IfErr, OnOk};
 ghost use Rattle.std.specs.Borrow.{Lends, sem};
 ghost use Rattle.no_std_io2.specs.contracts.buffered.line_writer.LineWriter.{the_row as line-row};
@@ -96,7 +96,7 @@ impl<W: Write + Drop, const S: usize> LineWriter<W, S> {
     pub fn into_inner(self) -> std::result::Result<W, IntoInnerError<LineWriter<W, S>>>
         ensures law { Unwraps W.Write line_inner line_buffer self result }
 
-        // What is still held has no newline, or ends in one.
+        // The bytes that are still held have no newline, or end in one.
         ensures line { IfErr result (λ e. IsLineState (line_buffer (into_inner_error_writer e))) }
     {
         let LineWriter { core } = self;
@@ -161,7 +161,7 @@ impl<W: Write + Drop, const S: usize> Write for LineWriter<W, S> {
             → IsOk result × (line_inner self.new ≡ line_inner self.old)
             × (line_buffer self.new ≡ line_buffer self.old ++ buf.now) }
 
-        // Over an inner writer that takes all.
+        // Over an inner writer that takes all: which bytes are held afterwards.
         ensures held { W.takes_all (line_inner self.old)
             → line_buffer self.new ≡ line_buffer_filled S (line_buffer self.old) buf.now }
         ensures inner { KeepsTaking W.Write (line_inner self.old) result (line_inner self.new) }

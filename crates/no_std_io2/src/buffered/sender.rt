@@ -38,7 +38,7 @@ impl<W: Write + Drop, const S: usize> Sender<W, S> {
         &self.inner
     }
 
-    // A write through the result lands in the inner writer, and nothing else changes.
+    // Gets a mutable reference to the inner writer. A write through it changes nothing else.
     pub fn get_mut(&mut self) -> &mut W
         ensures value { result.now ≡ sender_inner self.old }
         ensures* writes_back { sem 𝓛 (Lends (sender-row W.row S.row) W.row self.entry result
@@ -72,7 +72,7 @@ impl<W: Write + Drop, const S: usize> Sender<W, S> {
         self.send_held()
     }
 
-    // The whole of `send`, which the cold functions inline.
+    // The body of `send`. The cold functions inline it.
     #[inline(always)]
     fn send_held(&mut self) -> Result<()>
         ensures calls { Takes W.Write sender_inner sender_buffer SendCalls self.old result self.new }
@@ -169,8 +169,9 @@ impl<W: Write + Drop, const S: usize> Sender<W, S> {
         Ok(buf.len())
     }
 
-    /// Does as `write`, but passes a `buf` of `S` bytes or more to the inner `write_all`. If nothing is
-    /// held, that is a hot path too.
+    /// Holds `buf` if it is shorter than `S`, and passes it to the inner `write_all` if it is not. If
+    /// both together are longer than `S`, the held bytes are sent first. If nothing is held, the call
+    /// of the inner `write_all` is a hot path too.
     ///
     /// # Errors
     /// Returns the error of `send` or of the inner `write_all`.
@@ -187,7 +188,7 @@ impl<W: Write + Drop, const S: usize> Sender<W, S> {
         self.write_all_out_of_line(buf)
     }
 
-    // As `write_out_of_line`.
+    // Calls `write_all_cold`, like `write_out_of_line`.
     #[inline(always)]
     fn write_all_out_of_line(&mut self, buf: &[u8]) -> Result<()>
         ensures { Takes W.Write sender_inner sender_buffer (WriteAllCalls S buf.now) self.old result self.new }
@@ -195,7 +196,7 @@ impl<W: Write + Drop, const S: usize> Sender<W, S> {
         self.write_all_cold(buf)
     }
 
-    /// The whole of `write_all`, as `write_cold`.
+    /// The whole of `write_all`. It is a function of its own, like `write_cold`.
     #[cold]
     #[inline(never)]
     fn write_all_cold(&mut self, buf: &[u8]) -> Result<()>
@@ -233,7 +234,7 @@ impl<W: Write + Drop, const S: usize> Sender<W, S> {
         }
     }
 
-    /// Takes it apart, and sends nothing.
+    /// Returns the inner writer and the held bytes, and sends nothing.
     pub(crate) fn into_parts(self) -> (W, Unsent<S>)
         ensures inner { result.0 ≡ sender_inner self }
         ensures unsent { unsent_bytes result.1 ≡ sender_buffer self }

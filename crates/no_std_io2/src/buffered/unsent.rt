@@ -1,4 +1,4 @@
-//! The bytes of a buffered writer that was taken apart.
+//! [`Unsent`], the held bytes of a buffered writer that was taken apart.
 ghost use Rattle.std.specs.Prelude.{◌≡◌};
 
 use super::buffer::Buffer;

@@ -1,4 +1,4 @@
-//! A read at a place.
+//! [`read_exact_at`], a seek followed by a read.
 ghost use Rattle.std.specs.Prelude.{◌≡◌, ◌+◌, ◌≤◌, ℕ, length, IfOk, IsOk};
 ghost use Rattle.no_std_io2_base.specs.Seek.{IsTarget};
 ghost use Rattle.no_std_io2.specs.ReadAt.{ReadsAt, SeeksThenReads};

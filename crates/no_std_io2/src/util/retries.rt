@@ -1,4 +1,4 @@
-//! A write and a flush that are made again after a fault.
+//! [`write_with_retries`], a write and a flush that are made again after a fault.
 ghost use Rattle.std.specs.Prelude.{◌≡◌, [], OnOk, IsOk};
 ghost use Rattle.no_std_io2_base.specs.Write.{Sends};
 ghost use Rattle.no_std_io2.specs.Retries.{HasAtMost, RestFlushLaw, Tries};
@@ -6,7 +6,7 @@ ghost use Rattle.no_std_io2.specs.Retries.{HasAtMost, RestFlushLaw, Tries};
 use no_std_io2_base::error::Result;
 use no_std_io2_base::traits::Write;
 
-// Writes what is left and flushes, once.
+// Writes the rest and flushes, once.
 fn write_and_flush<W: Write>(writer: &mut W, rest: &mut &[u8]) -> Result<()>
     ensures sends { Sends (W.told writer.old) rest.old.now result (W.told writer.new) rest.new.now }
     ensures done { OnOk result (rest.new.now ≡ []) }

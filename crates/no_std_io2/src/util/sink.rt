@@ -1,4 +1,4 @@
-// A writer that takes all.
+// [`Sink`], a writer that takes all.
 ghost use Rattle.std.specs.Prelude.{◌≡◌, [], ⊤};
 ghost use Rattle.no_std_io2.specs.Sink.{sink_taken};
 

@@ -20,7 +20,7 @@ impl<T: AsSlice<u8>> Stored for Cursor<T> {
 }
 
 impl<T: AsSlice<u8>> Cursor<T> {
-    // The content from the position on.
+    // Returns the bytes from the position on.
     fn left(&self) -> &[u8]
         ensures left { result.now ≡ cursor_left T.slice self.now }
         ensures fits { length (T.slice (cursor_inner self.now)) < 2 ^ 64 }
@@ -107,7 +107,7 @@ impl<T: AsSlice<u8>> BufRead for Cursor<T> {
         requires { amount ≤ length (cursor_left T.slice self.old) }
         ensures law { ConsumeLaw ⟦<Self as BufRead>⟧ self.old amount self.new }
 
-        // It moves the position.
+        // It moves the position by `n`.
         ensures position { cursor_position self.new ≡ cursor_position self.old + amount }
         ensures inner { cursor_inner self.new ≡ cursor_inner self.old }
     {

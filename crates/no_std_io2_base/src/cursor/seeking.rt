@@ -10,7 +10,7 @@ impl<T: AsSlice<u8>> Seek for Cursor<T> {
     fn seek(&mut self, pos: SeekFrom) -> Result<u64>
         ensures law { SeekLaw ⟦<Self as Seek>⟧ self.old pos result self.new }
 
-        // It goes to its target, whatever the content is, and the content stays.
+        // It goes to its target, whatever the content is, and the content does not change.
         ensures seeks { Seeks (length (T.slice (cursor_inner self.old))) (cursor_position self.old) pos result (cursor_position self.new) }
         ensures inner { cursor_inner self.new ≡ cursor_inner self.old }
     {
@@ -55,7 +55,7 @@ impl<T: AsSlice<u8>> Seek for Cursor<T> {
         Ok(())
     }
 
-    // Nothing moves.
+    // The length is known, so nothing moves.
     fn stream_len(&mut self) -> Result<u64>
         ensures law { StreamLenLaw ⟦<Self as Seek>⟧ self.old result self.new }
         ensures same { self.new ≡ self.old }

@@ -13,7 +13,7 @@ use crate::traits::Write;
 use std::alloc::Allocator;
 use std::boxed::BoxedSlice;
 
-// Writes what fits into the slice at the position, and moves that behind it.
+// Writes as many bytes as fit into the slice at the position, and moves the position behind them.
 fn write_fitting(content: &mut [u8], pos: &mut u64, buf: &[u8]) -> usize
     ensures count { result ≡ min (length buf.now) (length content.old - pos.old) }
     ensures puts { PutsFitting content.old pos.old buf.now content.new pos.new }
@@ -37,7 +37,7 @@ impl Write for Cursor<&mut [u8]> {
     fn write(&mut self, buf: &[u8]) -> Result<usize>
         ensures law { WriteOf ⟦<Self as Write>⟧ self.old buf.now result self.new }
 
-        // What fits, at the position.
+        // It writes as many bytes as fit, at the position.
         ensures answer { IsOkAnd result (λ n. n
             ≡ min (length buf.now) (length (cursor_inner self.old).now - cursor_position self.old)) }
         ensures puts { PutsFitting (cursor_inner self.old).now (cursor_position self.old) buf.now
@@ -50,7 +50,7 @@ impl Write for Cursor<&mut [u8]> {
     fn flush(&mut self) -> Result<()>
         ensures law { FlushOf ⟦<Self as Write>⟧ self.old result self.new }
 
-        // It does nothing.
+        // It changes nothing.
         ensures ok { IsOk result }
         ensures same { self.new ≡ self.old }
     {
@@ -60,7 +60,8 @@ impl Write for Cursor<&mut [u8]> {
     fn write_all(&mut self, buf: &[u8]) -> Result<()>
         ensures law { WriteAllOf ⟦<Self as Write>⟧ self.old buf.now result self.new }
 
-        // What fits, at the position, and an error if and only if that is not all.
+        // It writes as many bytes as fit, at the position. It fails if and only if these are not
+        // all.
         ensures variant { IsOk result ↔ (length buf.now ≤ length (cursor_inner self.old).now - cursor_position self.old) }
         ensures says { IfErr result IsUnwritten }
         ensures puts { PutsFitting (cursor_inner self.old).now (cursor_position self.old) buf.now
@@ -86,7 +87,7 @@ impl<const N: usize> Write for Cursor<[u8; N]> {
     fn write(&mut self, buf: &[u8]) -> Result<usize>
         ensures law { WriteOf ⟦<Self as Write>⟧ self.old buf.now result self.new }
 
-        // What fits, at the position.
+        // It writes as many bytes as fit, at the position.
         ensures answer { IsOkAnd result (λ n. n ≡ min (length buf.now) (length (cursor_inner self.old) - cursor_position self.old)) }
         ensures puts { PutsFitting (cursor_inner self.old) (cursor_position self.old) buf.now
             (cursor_inner self.new) (cursor_position self.new) }
@@ -97,7 +98,7 @@ impl<const N: usize> Write for Cursor<[u8; N]> {
     fn flush(&mut self) -> Result<()>
         ensures law { FlushOf ⟦<Self as Write>⟧ self.old result self.new }
 
-        // It does nothing.
+        // It changes nothing.
         ensures ok { IsOk result }
         ensures same { self.new ≡ self.old }
     {
@@ -117,7 +118,7 @@ impl<A: Allocator> Write for Cursor<BoxedSlice<u8, A>> {
     fn write(&mut self, buf: &[u8]) -> Result<usize>
         ensures law { WriteOf ⟦<Self as Write>⟧ self.old buf.now result self.new }
 
-        // What fits, at the position.
+        // It writes as many bytes as fit, at the position.
         ensures answer { IsOkAnd result (λ n. n
             ≡ min (length buf.now) (length (boxed_slice_items (cursor_inner self.old)) - cursor_position self.old)) }
         ensures puts { PutsFitting (boxed_slice_items (cursor_inner self.old)) (cursor_position self.old) buf.now
@@ -129,7 +130,7 @@ impl<A: Allocator> Write for Cursor<BoxedSlice<u8, A>> {
     fn flush(&mut self) -> Result<()>
         ensures law { FlushOf ⟦<Self as Write>⟧ self.old result self.new }
 
-        // It does nothing.
+        // It changes nothing.
         ensures ok { IsOk result }
         ensures same { self.new ≡ self.old }
     {

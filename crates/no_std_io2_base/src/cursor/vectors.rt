@@ -45,7 +45,7 @@ fn put<A: Allocator>(content: &mut Vec<u8, A>, start: usize, buf: &[u8]) -> Resu
     Ok(())
 }
 
-// `write` of a cursor on a vector: puts `buf` at the position, and moves that behind it.
+// `write` of a cursor on a vector: puts `buf` at the position, and moves the position behind it.
 #[inline(always)]
 fn write_at<A: Allocator>(content: &mut Vec<u8, A>, pos: &mut u64, buf: &[u8]) -> Result<usize>
     ensures puts { PutsWhole content.old.items pos.old buf.now result content.new.items pos.new }
@@ -98,7 +98,7 @@ impl<A: Allocator> Write for Cursor<Vec<u8, A>> {
     fn flush(&mut self) -> Result<()>
         ensures law { FlushOf ⟦<Self as Write>⟧ self.old result self.new }
 
-        // It does nothing.
+        // It changes nothing.
         ensures ok { IsOk result }
         ensures same { self.new ≡ self.old }
     {
@@ -149,7 +149,7 @@ impl<A: Allocator> Write for Cursor<&mut Vec<u8, A>> {
     fn flush(&mut self) -> Result<()>
         ensures law { FlushOf ⟦<Self as Write>⟧ self.old result self.new }
 
-        // It does nothing.
+        // It changes nothing.
         ensures ok { IsOk result }
         ensures same { self.new ≡ self.old }
     {

@@ -2,7 +2,8 @@ ghost use Rattle.std.specs.Prelude.{◌≡◌, ◌≤◌, ◌<◌, ◌+◌, ◌+
 
 use std::simd::Simd;
 
-// Copies a slice of N to 2 N bytes by two moves of N, its front and its back, which may overlap.
+// Copies a slice of N to 2 N bytes by two moves of N bytes, its first and its last, which may
+// overlap.
 #[inline(always)]
 fn copy_ends<const N: usize>(from: &[u8], to: &mut [u8])
     requires same { length from.now ≡ length to.old }
@@ -35,8 +36,8 @@ fn copy_few(from: &[u8], to: &mut [u8])
     }
 }
 
-// Copies a slice of more than 32 bytes, in place up to 128. It is a call, since between slices that may overlap, for all that LLVM
-// knows, a copy is a test, a call and loops, which each caller would have inline.
+// Copies a slice of more than 32 bytes, in place up to 128. It is not inlined: LLVM does not know that the slices cannot overlap,
+// and compiles a copy to a test, a call and loops.
 #[inline(never)]
 fn copy_long(to: &mut [u8], from: &[u8])
     requires same { length to.old ≡ length from.now }
@@ -70,13 +71,13 @@ pub fn copy_bytes(from: &[u8], to: &mut [u8])
     }
 }
 
-// Copies as many bytes as both have, and returns how many.
+// Copies as many bytes as both slices have, and returns their number.
 #[inline(always)]
 pub(crate) fn copy_prefix(from: &[u8], to: &mut [u8]) -> usize
     ensures count { result ≡ min (length from.now) (length to.old) }
     ensures copied { to.new ≡ take result from.now ++ drop result to.old }
 {
-    // Who reads byte by byte asks for one.
+    // A caller that reads byte by byte reads one.
     if to.len() == 1 && !from.is_empty() {
         to[0] = from[0];
         return 1;

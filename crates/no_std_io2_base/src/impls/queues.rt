@@ -11,7 +11,7 @@ use crate::traits::{Read, Stored, Write};
 use std::alloc::Allocator;
 use std::collections::VecDeque;
 
-// Drops the first `n` bytes.
+// Drops the first `n` bytes of the queue.
 fn drop_front<A: Allocator>(queue: &mut VecDeque<u8, A>, n: usize)
     requires { n ≤ deque_len queue.old }
     ensures { queue.new.items ≡ drop n queue.old.items }
@@ -21,13 +21,13 @@ fn drop_front<A: Allocator>(queue: &mut VecDeque<u8, A>, n: usize)
     queue.truncate(left);
 }
 
-// Appends bytes for which there is room.
+// Appends bytes to a queue that has room for them.
 fn push_all<A: Allocator>(queue: &mut VecDeque<u8, A>, bytes: &[u8])
     requires { deque_len queue.old + length bytes.now ≤ deque_capacity queue.old }
     ensures { queue.new.items ≡ queue.old.items ++ bytes.now }
 {
     'bytes: for b in bytes {
-        // There is room, so no memory is asked for.
+        // There is room, so this does not allocate.
         let _ = queue.push_back(*b);
     }
 }
@@ -41,8 +41,8 @@ impl<A: Allocator> Stored for VecDeque<u8, A> {
     ghost position = { λ _. 0 };
 }
 
-/// Reads from the front of a queue. A `read` gives what lies in one piece there, so it may give fewer bytes than
-/// fit. Follows `std::io::Read for VecDeque<u8>`.
+/// Reads from the front of a queue. A `read` gives bytes of the first of the two slices of the queue, so it may
+/// give fewer bytes than fit. Follows `std::io::Read for VecDeque<u8>`.
 impl<A: Allocator> Read for VecDeque<u8, A> {
     ghost tells = { λ _. Unit {0} };
 
@@ -79,7 +79,7 @@ impl<A: Allocator> Write for VecDeque<u8, A> {
         ensures law { WriteOf ⟦<Self as Write>⟧ self.old buf.now result self.new }
 
         // It appends the whole buffer or nothing. It fails only if the capacity was too small and
-        // memory was refused.
+        // the allocation failed.
         ensures whole { IfOk result (λ n. n ≡ length buf.now) }
         ensures err { IfErr result IsOutOfMemory }
         ensures same { OnErr result (self.new.items ≡ self.old.items) }
@@ -93,7 +93,7 @@ impl<A: Allocator> Write for VecDeque<u8, A> {
     fn flush(&mut self) -> Result<()>
         ensures law { FlushOf ⟦<Self as Write>⟧ self.old result self.new }
 
-        // It does nothing.
+        // It changes nothing.
         ensures ok { IsOk result }
         ensures same { self.new ≡ self.old }
     {

@@ -8,8 +8,8 @@ use crate::error::{Result, failed_to_fill};
 use crate::traits::{BufRead, LEAST_ROOM, Read, Stored, reserve_room};
 use std::alloc::Allocator;
 
-// Makes room for so many bytes to come and 32 more at once if they would otherwise make the vector grow twice. If the allocation
-// fails, the vector is as it was.
+// Makes room for the `coming` bytes and 32 more at once if the vector would otherwise grow twice. If the allocation fails, the
+// vector is as it was.
 fn reserve_ahead<A: Allocator>(buf: &mut Vec<u8, A>, coming: usize)
     ensures items { buf.new.items ≡ buf.old.items }
     ensures len { vec_len buf.new ≡ vec_len buf.old }
@@ -21,9 +21,9 @@ fn reserve_ahead<A: Allocator>(buf: &mut Vec<u8, A>, coming: usize)
 }
 
 /// Moves bytes from the front of a slice to the end of a vector: all of them, or as many as fit if an
-/// allocation fails. It first asks for room for all of them and 32 more. If that fails, or if they are
-/// fewer than 32, it asks as any reader does in `read_to_end`: for 32 bytes, and once these are full
-/// for the rest and 32 more.
+/// allocation fails. It first allocates for all of them and 32 more. If that fails, or if they are
+/// fewer than 32, it allocates like the `read_to_end` of any reader: for 32 bytes, and once these are
+/// full for the rest and 32 more.
 ///
 /// # Errors
 /// Returns `OutOfMemory` if the vector could not grow; bytes that were not appended are still in the slice.
@@ -76,11 +76,11 @@ impl Read for &[u8] {
         Ok(n)
     }
 
-    // If the bytes are too few, nothing is taken and the buffer is as it was.
+    // If there are too few bytes, it takes none, and the buffer does not change.
     fn read_exact(&mut self, buf: &mut [u8]) -> Result<()>
         ensures law { ReadExactLaw ⟦<Self as Read>⟧ self.old buf.old result buf.new self.new }
 
-        // Its own.
+        // What was taken is now in the buffer.
         ensures ok { OnOk result (self.old.now ≡ buf.new ++ self.new.now) }
         ensures short { OnErr result ((length self.old.now < length buf.old) × (self.new ≡ self.old) × (buf.new ≡ buf.old)) }
     {

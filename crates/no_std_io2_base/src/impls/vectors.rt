@@ -9,10 +9,10 @@ use crate::error::Result;
 use crate::traits::Write;
 use std::alloc::Allocator;
 
-// The longest piece that is appended in place.
+// The longest piece that is appended without a call.
 const IN_PLACE: usize = 32;
 
-// Appends a short piece over zeros, for which there is room: that takes no call, and no test of whether the two lie apart.
+// Appends a short piece for which there is room, over zeros. This takes no call, and no test for overlap.
 #[inline(always)]
 fn append_in_place<A: Allocator>(buf: &mut Vec<u8, A>, bytes: &[u8])
     requires short { length bytes.now ≤ 32 }
@@ -23,7 +23,7 @@ fn append_in_place<A: Allocator>(buf: &mut Vec<u8, A>, bytes: &[u8])
 {
     let start = buf.len();
     let end = start + bytes.len();
-    // They are within the capacity, so no memory is asked for.
+    // They are within the capacity, so this does not allocate.
     let _ = buf.extend_from_slice(&[0; IN_PLACE]);
     copy_bytes(bytes, &mut buf[start..end]);
     buf.truncate(end);
@@ -42,7 +42,7 @@ pub fn append<A: Allocator>(buf: &mut Vec<u8, A>, bytes: &[u8]) -> Result<()>
     ensures full { OnErr result (vec_capacity buf.old < vec_len buf.old + length bytes.now) }
     ensures grows { vec_capacity buf.old ≤ vec_capacity buf.new }
 {
-    // Who writes byte by byte appends one.
+    // A caller that writes byte by byte appends one.
     if bytes.len() == 1 {
         buf.reserve(1)?;
         buf.push_reserved(bytes[0]);
@@ -66,7 +66,7 @@ impl<A: Allocator> Write for Vec<u8, A> {
         ensures law { WriteOf ⟦<Self as Write>⟧ self.old buf.now result self.new }
 
         // It appends the whole buffer or nothing. It fails only if the capacity was too small and
-        // memory was refused.
+        // the allocation failed.
         ensures whole { IfOk result (λ n. n ≡ length buf.now) }
         ensures err { IfErr result IsOutOfMemory }
         ensures same { OnErr result (self.new.items ≡ self.old.items) }
@@ -82,7 +82,7 @@ impl<A: Allocator> Write for Vec<u8, A> {
         ensures law { WriteAllOf ⟦<Self as Write>⟧ self.old buf.now result self.new }
 
         // It appends the whole buffer or nothing. It fails only if the capacity was too small and
-        // memory was refused.
+        // the allocation failed.
         ensures err { IfErr result IsOutOfMemory }
         ensures same { OnErr result (self.new.items ≡ self.old.items) }
         ensures empty { length buf.now ≡ 0 → IsOk result }
@@ -94,7 +94,7 @@ impl<A: Allocator> Write for Vec<u8, A> {
     fn flush(&mut self) -> Result<()>
         ensures law { FlushOf ⟦<Self as Write>⟧ self.old result self.new }
 
-        // It does nothing.
+        // It changes nothing.
         ensures ok { IsOk result }
         ensures same { self.new ≡ self.old }
     {

@@ -1,4 +1,4 @@
-// Lines of text, one at a time.
+// [`Lines`], the iterator over lines of text.
 ghost use Rattle.std.specs.Prelude.{◌≡◌, ◌≤◌, ◌<◌, true, false, None, IfSome, IfErr, OnSome, string_bytes};
 ghost use Rattle.std.specs.Iterator.{at_most};
 ghost use Rattle.no_std_io2_base.specs.Errors.{IsFault};
@@ -12,7 +12,7 @@ use std::alloc::Global;
 /// An iterator over a reader's lines, without the newline and a carriage return right before it.
 /// Made by [`BufRead::lines`]; follows Rust's `std::io::Lines`.
 ///
-/// A last line without a newline is an item too, and keeps its carriage return. A line that isn't
+/// A last line without a newline is an item too, and keeps its carriage return. A line that is not
 /// UTF-8 is the item `InvalidData`. After an error it returns `None` for good, unlike Rust's
 /// `Lines`; the bytes that were read for that item are lost.
 #[derive(Drop)]
@@ -35,7 +35,7 @@ impl<R> Lines<R> {
     }
 }
 
-// The next line of the reader's.
+// Reads the next line, and drops its newline. `None` means the end.
 fn next_line<R: BufRead>(reader: &mut R, alloc: Global) -> Option<Result<String>>
     ensures told { R.tells reader.old → R.tells reader.new
         × YieldsPiece string_bytes line_text RefusesLine 10 (R.events reader.old) result (R.events reader.new) }

@@ -1,4 +1,4 @@
-// What the calls that read pieces are made of.
+// The parts of which the calls that read pieces are made.
 ghost use Rattle.std.specs.Prelude.{◌≡◌, ◌≢◌, ◌<◌, ◌≤◌, ◌+◌, ◌++◌, false, All, length, take, slice_index, IfSome};
 ghost use Rattle.std.specs.Prelude.{IfNone, OnOk, OnErr, IfErr, IfOk, IsOk, IsUtf8, vec_len, vec_capacity};
 ghost use Rattle.std.specs.Prelude.{string_bytes, string_len, string_capacity};
@@ -10,10 +10,11 @@ ghost use Rattle.no_std_io2_base.specs.Write.{IsFront};
 
 use crate::error::{Error, ErrorKind, Result};
 
-// How many bytes are looked at in one step.
+// The number of bytes that are compared in one step.
 const STEP: usize = 16;
 
-// Whether this byte stands among the next `STEP`. It looks at all of them, so that one comparison of vectors does.
+// Returns whether the byte is among the next `STEP`. It compares all of them, so that one vector instruction does
+// it.
 #[inline(always)]
 fn stands_in_step(bytes: &[u8], at: usize, wanted: u8) -> bool
     requires { at + 16 ≤ length bytes.now }
@@ -26,7 +27,7 @@ fn stands_in_step(bytes: &[u8], at: usize, wanted: u8) -> bool
     stands
 }
 
-// Passes over steps without this byte.
+// Returns the number of bytes in the first steps that do not have this byte.
 #[inline(always)]
 fn skip_steps(bytes: &[u8], wanted: u8) -> usize
     ensures within { result ≤ length bytes.now }
@@ -39,8 +40,8 @@ fn skip_steps(bytes: &[u8], wanted: u8) -> usize
     at
 }
 
-// How many of the lent bytes belong to a piece, and whether it is whole with them: they end in its
-// delimiter, or nothing was lent.
+// Returns how many of the lent bytes belong to the next piece, and whether they complete it. They
+// do if they end in the delimiter, or if none were lent.
 pub(crate) fn find_piece(lent: &[u8], delim: u8) -> (usize, bool)
     ensures { FindsPiece delim lent.now result.0 result.1 }
 {
@@ -77,7 +78,7 @@ pub(super) fn trim_line(line: &mut Vec<u8>)
     }
 }
 
-// The text of these bytes, or `InvalidData`.
+// Returns these bytes as a string, or `InvalidData` if they are not UTF-8.
 pub(super) fn text_of(bytes: Vec<u8>) -> Result<String>
     ensures ok { IfOk result (λ text. string_bytes text ≡ bytes.items) }
     ensures err { IfErr result (λ e. (IsUtf8 bytes.items → ⊥) × IsInvalidText e) }
@@ -128,12 +129,12 @@ pub fn append_text(buf: &mut String, line: &[u8]) -> bool
     let Ok(text) = std::str::from_utf8(line) else {
         return false;
     };
-    // It has the room, so no memory is asked for.
+    // There is room, so this does not allocate.
     let _ = buf.push_str(text);
     true
 }
 
-// The bytes aren't UTF-8.
+// The error of bytes that are not UTF-8.
 fn invalid_text() -> Error
     ensures { IsInvalidText result }
 {

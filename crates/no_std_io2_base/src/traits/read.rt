@@ -15,9 +15,10 @@ use std::alloc::{Allocator, Global};
 
 /// A source of bytes. Follows Rust's `std::io::Read`.
 ///
-/// A reader may tell, to contracts alone, the *events* that are to come: bytes and errors, in
-/// order. Each call then takes exactly a front of them. It also tells a number of *turns*, which
-/// each call that gives bytes or an error lowers, so that every loop of reads ends.
+/// A reader may tell the *events* that are to come: bytes and errors, in order. Only contracts see
+/// them. Each call then takes events from the front of this list, and no others. It also tells a
+/// number of *turns*, which each call that gives bytes or an error lowers, so that every loop of
+/// reads ends.
 ///
 /// ```rust
 /// let mut r = Cursor::new(*b"abc");
@@ -27,7 +28,7 @@ use std::alloc::{Allocator, Global};
 /// assert!(rt; r.read(&mut buf)? == 0); // the end
 /// ```
 pub trait Read: Stored {
-    // That the reader tells the events to come, and these.
+    // Whether the reader tells the events to come, and these events.
     ghost tells: { Self → Type 0 };
 
     ghost events: { Self → List Event };
@@ -35,19 +36,19 @@ pub trait Read: Stored {
     // A number that no call raises. Each call that gives bytes or returns an error lowers it.
     ghost turns: { Self → ℕ };
 
-    // How many reads into some room were made, and whether they are counted.
+    // How many reads into a buffer that is not empty were made, and whether they are counted.
     ghost cost: { Self → ℕ } = { λ _. 0 };
 
     ghost is_metered: { Self → Type 0 } = { λ _. ⊥ };
 
-    // Bytes alone are to come, and each read gives as many of them as fit.
+    // Only bytes are to come, no errors, and each read gives as many of them as fit.
     ghost is_filling: { Self → Type 0 } = { λ _. ⊥ };
 
     // Whether a `read_exact` may take nothing if too few bytes are left. If this is `⊥`, it takes
     // all of them.
     ghost may_take_none: { Self → Type 0 } = { λ _. Unit {0} };
 
-    // What one call, with its answer, may do to it. Left out, anything.
+    // What one call with its result may do to the reader. By default it may do anything.
     ghost may: { Self → ReadCall → Self → Type 0 } = { λ _ _ _. Unit {0} };
 
     /// Reads some bytes into the front of `buf` and returns their number, which is at most the
@@ -217,10 +218,10 @@ pub trait Read: Stored {
         Take::new(self, limit)
     }
 
-    // A filling reader tells, and bytes alone.
+    // A filling reader tells its events, and they are only bytes.
     ghost filling_tells: { (x : Self) → is_filling x → tells x × (events x ≡ events_of (bytes (events x))) };
 
-    // What is to come of a told store is its content from the position on.
+    // If a store is told, the events are the bytes of its content from the position on.
     ghost store_tells: { (x : Self) → Self.has_store x → tells x
         × (events x ≡ events_of (drop (Self.position x) (Self.content x))) };
 

@@ -1,4 +1,4 @@
-// Room in a vector for the reads of `read_to_end`.
+// The room that `read_to_end` makes in a vector for its reads.
 ghost use Rattle.std.specs.Prelude.{◌≡◌, ℕ, List, ◌++◌, take, ◌+◌, ◌≤◌, ◌<◌, false, IfOk, IfErr, OnOk, OnErr, vec_len, vec_capacity};
 ghost use Rattle.no_std_io2_base.specs.Errors.{IsFault, IsOutOfMemory};
 ghost use Rattle.no_std_io2_base.specs.Read.{FillsRoom, ReadToEndLaw, GoesOn, ReadCall, RoomCalls};
@@ -8,7 +8,8 @@ use super::read::Read;
 use crate::error::Result;
 use std::alloc::Allocator;
 
-/// The least room that `read_to_end` makes if there is none. For a reader with a loop of its own.
+/// The least number of bytes for which `read_to_end` makes room if there is none. For a reader with
+/// a loop of its own.
 pub const LEAST_ROOM: usize = 32;
 
 // The least and the most zeros that it opens for reads at a time, if there is room for them.
@@ -62,7 +63,7 @@ pub fn open_room<A: Allocator>(
     }
     let opened = read.max(FIRST_OPENED).min(MOST_OPENED);
     let end = filled + opened.min(buf.capacity() - filled);
-    // `end` is within the capacity, so no memory is asked for.
+    // `end` is within the capacity, so this does not allocate.
     let _ = buf.resize(end, 0);
     Ok(())
 }

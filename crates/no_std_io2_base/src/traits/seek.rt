@@ -27,7 +27,7 @@ pub trait Seek: Stored {
     ghost use Rattle.no_std_io2_base.specs.SeekRelative.{SeekRelativeLaw};
     ghost use Rattle.no_std_io2_base.specs.Seek.{SeekCall, SeekLaw, StreamPositionLaw, RewindLaw, StreamLenLaw};
 
-    // What one call, with its answer, may do to it. Left out, anything.
+    // What one call with its result may do to the stream. By default it may do anything.
     ghost may: { Self → SeekCall → Self → Type 0 } = { λ _ _ _. Unit {0} };
 
     /// Moves to `pos`, which may be past the end, and returns the new position, counted from the
@@ -107,6 +107,6 @@ pub trait Seek: Stored {
         Ok(())
     }
 
-    // A told store fits the numbers that the calls give.
+    // The length and the position of a told store fit the numbers that the calls return.
     ghost seek_fits: { (x : Self) → Self.has_store x → (length (Self.content x) < 2 ^ 64) × (Self.position x < 2 ^ 64) };
 }

@@ -1,4 +1,4 @@
-// Pieces, one at a time.
+// [`Split`], the iterator over pieces.
 ghost use Rattle.std.specs.Prelude.{◌≡◌, ◌≤◌, ◌<◌, true, false, None, IfSome, IfErr, OnSome, vec_items};
 ghost use Rattle.std.specs.Iterator.{at_most};
 ghost use Rattle.no_std_io2_base.specs.Errors.{IsFault};
@@ -38,7 +38,7 @@ impl<R> Split<R> {
     }
 }
 
-// The next piece of the reader's, without its delimiter.
+// Reads the next piece, and drops its delimiter. `None` means the end.
 fn next_piece<R: BufRead>(reader: &mut R, alloc: Global, delim: u8) -> Option<Result<Vec<u8>>>
     ensures told { R.tells reader.old → R.tells reader.new
         × YieldsPiece vec_items (without delim) (λ _ _. ⊥) delim (R.events reader.old) result (R.events reader.new) }

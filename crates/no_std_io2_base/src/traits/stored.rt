@@ -15,7 +15,7 @@ ghost use Rattle.std.specs.Prelude.{ℕ, List};
 /// }
 /// ```
 pub trait Stored {
-    // Whether it tells a store, and then its bytes, and the position in them.
+    // Whether the stream tells a store; the bytes of its content, and the position in them.
     ghost has_store: { Self → Type 0 };
 
     ghost content: { Self → List ℕ };

@@ -28,18 +28,19 @@ use std::marker::Brand;
 /// assert!(rt; device.as_slice() == b"hello world".as_slice());
 /// ```
 pub trait Write {
-    // What it tells of itself.
+    // What the writer tells: the bytes out and held, the mishaps to come, and the turns.
     ghost told: { Self → Told };
 
-    // It takes all that it is given from here on, and never fails. Left out, that isn't claimed.
+    // Whether the writer accepts every write whole from now on, and never fails. By default nothing
+    // is claimed.
     ghost takes_all: { Self → Type 0 } = { λ _. ⊥ };
 
-    // How many calls were counted, and whether each one is. Left out, none was, and none is.
+    // How many calls were counted, and whether calls are counted. By default they are not.
     ghost cost: { Self → ℕ } = { λ _. 0 };
 
     ghost is_metered: { Self → Type 0 } = { λ _. ⊥ };
 
-    // What one call, with its answer, may do to it. Left out, anything.
+    // What one call with its result may do to the writer. By default it may do anything.
     ghost may: { Self → WriteCall → Self → Type 0 } = { λ _ _ _. Unit {0} };
 
     /// Writes some of `buf`, from its front. `Ok(n)` means that its first `n` bytes were accepted,

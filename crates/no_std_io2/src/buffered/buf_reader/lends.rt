@@ -1,4 +1,4 @@
-// A `BufReader` as a reader that lends.
+// The `impl` of `BufRead` for `BufReader`.
 ghost use Rattle.std.specs.Prelude.{◌≡◌, ◌+◌, ◌-◌, ◌<◌, ◌≤◌, [], ◌++◌, min, length, take, drop, Some, IfOk, IfErr, IfSome, IfNone};
 ghost use Rattle.std.specs.Prelude.{ℕ, List, Result, IsOkAnd, OnOk, OnErr, vec_len, vec_capacity};
 ghost use Rattle.std.specs.Prelude.{string_bytes, string_len, string_capacity};
@@ -19,8 +19,8 @@ use no_std_io2_base::traits::{BufRead, Read};
 use std::alloc::{Allocator, Global};
 
 impl<R: Read, const S: usize> BufReader<R, S> {
-    // Appends the first held line to the text if it is whole and the text has room for it, and returns its length. If not, nothing
-    // changes.
+    // Appends the first held line to `text` if the line is held whole and `text` has room for it, and returns its length. If not,
+    // nothing changes.
     #[inline(always)]
     fn take_line(&mut self, buf: &mut String) -> Option<usize>
         ensures line { IfSome result (λ n. (n ≤ length (reader_held self.old))
@@ -83,7 +83,7 @@ impl<R: Read, const S: usize> BufRead for BufReader<R, S> {
         self.buffer.consume(amount);
     }
 
-    // The trait's body, with a faster search.
+    // Like the trait's body, but the search is that of the crate `memchr`, which is faster.
     fn read_until<A: Allocator>(&mut self, delim: u8, buf: &mut Vec<u8, A>) -> Result<usize>
         ensures law { ReadUntilLaw ⟦<Self as BufRead>⟧ self.old delim buf.old result buf.new self.new }
 
@@ -91,7 +91,8 @@ impl<R: Read, const S: usize> BufRead for BufReader<R, S> {
         ensures held { (piece rest : List ℕ) → reader_held self.old ≡ piece ++ rest → EndsPiece delim piece
             → TakesHeld piece rest self.old buf.old.items result buf.new.items self.new }
 
-        // The bytes then behind are a suffix of those behind before, followed by the appended ones.
+        // The bytes behind afterwards are a suffix of those behind before, followed by the appended
+        // ones.
         ensures behind { IsSuffix (reader_behind self.old ++ drop (vec_len buf.old) buf.new.items) (reader_behind self.new) }
         ensures sound { StaysSound R.has_store R.position R.content self.old self.new }
     {
@@ -112,7 +113,8 @@ impl<R: Read, const S: usize> BufRead for BufReader<R, S> {
         }
     }
 
-    // A line that is held whole goes straight to the text; any other as in the trait's body.
+    // Appends a line that is held whole straight to the string. Any other line goes through a
+    // vector, as in the trait's body.
     fn read_line(&mut self, alloc: Global, buf: &mut String) -> Result<usize>
         ensures law { ReadLineLaw ⟦<Self as BufRead>⟧ self.old buf.old result buf.new self.new }
 
@@ -120,7 +122,8 @@ impl<R: Read, const S: usize> BufRead for BufReader<R, S> {
         ensures held { (line rest : List ℕ) → reader_held self.old ≡ line ++ rest → EndsPiece 10 line
             → TakesHeldLine line rest self.old (string_bytes buf.old) result (string_bytes buf.new) self.new }
 
-        // The bytes then behind are a suffix of those behind before, followed by the line, or by what was lost of it.
+        // The bytes behind afterwards are a suffix of those behind before, followed by the line; also if the line was
+        // lost.
         ensures behind { OnOk result (IsSuffix (reader_behind self.old ++ drop (string_len buf.old) (string_bytes buf.new))
             (reader_behind self.new)) }
         ensures lost { OnErr result ((line : List ℕ) × (read : Result ℕ Error) × AnswersLine line read (string_len buf.old)

@@ -1,10 +1,10 @@
-// Where a piece of lent bytes ends, by `memchr`.
+// The search for the end of a piece in lent bytes, by the crate `memchr`.
 ghost use Rattle.std.specs.Prelude.{◌≡◌, ◌≢◌, ◌<◌, false, All, length, take, slice_index, IfSome, IfNone};
 ghost use Rattle.no_std_io2_base.specs.Pieces.{FindsPiece};
 
 use memchr::memchr;
 
-// The place of the first such byte.
+// Returns the index of the first such byte, if there is one.
 fn find_byte(bytes: &[u8], wanted: u8) -> Option<usize>
     ensures some { IfSome result (λ at. (at < length bytes.now) × (slice_index bytes.now at ≡ wanted)
         × All (λ b. b ≢ wanted) (take at bytes.now)) }
@@ -13,8 +13,8 @@ fn find_byte(bytes: &[u8], wanted: u8) -> Option<usize>
     memchr(wanted, bytes)
 }
 
-// How many of the lent bytes belong to a piece, and whether the piece is then whole: they end in its
-// delimiter, or nothing was lent. If it is not whole, all of them belong to it.
+// Returns how many of the lent bytes belong to the next piece, and whether they complete it. They do
+// if they end in the delimiter, or if none were lent. If they do not, all of them belong to it.
 pub(super) fn find_piece(lent: &[u8], delim: u8) -> (usize, bool)
     ensures finds { FindsPiece delim lent.now result.0 result.1 }
     ensures all { result.1 ≡ false → result.0 ≡ length lent.now }

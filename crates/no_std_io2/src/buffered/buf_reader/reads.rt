@@ -1,4 +1,4 @@
-// A `BufReader` as a reader.
+// The `impl` of `Read` for `BufReader`.
 ghost use Rattle.std.specs.Prelude.{◌≡◌, ◌+◌, ◌-◌, ◌<◌, ◌≤◌, [], ◌++◌, min, length, take, drop, IsOk, IsOkAnd, IfOk};
 ghost use Rattle.std.specs.Prelude.{IfErr, OnErr, vec_len, vec_capacity, OnOk};
 ghost use Rattle.no_std_io2_base.specs.Read.{events_of, given, ReadLaw, ReadExactLaw, ReadToEndLaw};
@@ -36,7 +36,7 @@ impl<R: Read, const S: usize> BufReader<R, S> {
         self.buffer.give(buf)
     }
 
-    // Reads once into the buffer, in which nothing is held.
+    // Reads once into the buffer. Nothing is held before.
     #[inline(always)]
     pub(super) fn read_ahead(&mut self) -> Result<()>
         requires { length (reader_held self.old) ≡ 0 }
@@ -145,7 +145,8 @@ impl<R: Read, const S: usize> Read for BufReader<R, S> {
             × (reader_behind self.new ≡ reader_behind self.old ++ buf.new)
             × (reader_inner self.new ≡ reader_inner self.old) }
 
-        // How many reads of a filling reader it makes, and how many bytes are then held and left.
+        // Over a filling reader: how many inner reads it makes, and how many bytes are held and
+        // left afterwards.
         ensures asks { R.is_metered (reader_inner self.old) → R.is_filling (reader_inner self.old)
             → R.is_metered (reader_inner self.new) × (R.cost (reader_inner self.new)
             ≡ R.cost (reader_inner self.old) + exact_reads (length buf.old)
@@ -156,8 +157,8 @@ impl<R: Read, const S: usize> Read for BufReader<R, S> {
             × (length (reader_events R.events self.new)
             ≡ length (reader_events R.events self.old) - length buf.old) }
 
-        // If it went past the held bytes, the last of the given bytes lie behind, fewer than the buffer has room for. An error
-        // leaves nothing in the buffer.
+        // If it needed more than the held bytes, the last of the given bytes lie behind, fewer than `S`. An error leaves
+        // nothing in the buffer.
         ensures behind { length (reader_held self.old) < length buf.old
             → OnOk result (IsSuffix buf.new (reader_behind self.new) × (length (reader_behind self.new) < S)) }
         ensures failed { OnErr result (HasNoBuffer self.new) }
@@ -172,11 +173,12 @@ impl<R: Read, const S: usize> Read for BufReader<R, S> {
         Ok(())
     }
 
-    // Appends the held bytes first, and then those that the inner reader's `read_to_end` appends. With nothing held it is that call.
+    // Appends the held bytes, and then those that the inner reader's `read_to_end` appends. If nothing is held, this is just that
+    // inner call.
     fn read_to_end<A: Allocator>(&mut self, buf: &mut Vec<u8, A>) -> Result<usize>
         ensures law { ReadToEndLaw ⟦<Self as Read>⟧ self.old buf.old result buf.new self.new }
 
-        // The held bytes are appended, whatever the inner reader then returns, and the buffer is dropped.
+        // The held bytes are appended, also if the inner reader then fails, and the buffer is dropped.
         ensures empties { EmptiesInto self.old buf.old.items result buf.new.items self.new }
         ensures sound { StaysSound R.has_store R.position R.content self.old self.new }
     {

@@ -1,4 +1,4 @@
-// A `BufReader` as a seeker.
+// The `impl` of `Seek` for `BufReader`, and `seek_relative`.
 ghost use Rattle.std.specs.Prelude.{FitsSigned, SomeIff, ◌≡◌, ◌<◌, ◌^◌, ◌⊎◌, ◌-ℤ◌, pos, [], List, length, IfOk, IsOk, IsOkAnd, OnOk, OnErr};
 ghost use Rattle.std.specs.Int.{w64};
 ghost use Rattle.no_std_io2_base.specs.Seek.{Seeks, Sought, WithoutPosition, SeekLaw, StreamPositionLaw, RewindLaw, StreamLenLaw};
@@ -12,7 +12,8 @@ use super::BufReader;
 use no_std_io2_base::error::Result;
 use no_std_io2_base::traits::{Seek, SeekFrom};
 
-// The same offset, counted from `held` bytes further on, if it fits an `i64`.
+// Returns `offset` minus `held`, if this fits an `i64`. It leads to the same place, counted from
+// `held` bytes further on.
 fn offset_behind(offset: i64, held: usize) -> Option<i64>
     requires { held < 2 ^ 63 }
     ensures { SomeIff result (FitsSigned w64 (offset -ℤ pos held)) (offset -ℤ pos held) }
@@ -60,7 +61,8 @@ impl<R: Seek, const S: usize> BufReader<R, S> {
         Ok(())
     }
 
-    // The inner reader is ahead by the held bytes. An offset too far back for one seek takes two.
+    // Seeks by `offset` from the user's position. The inner reader is ahead of it by the held
+    // bytes. If the offset is too far back for one inner seek, this makes two.
     fn seek_current(&mut self, offset: i64) -> Result<u64>
         ensures store { reader_has_store R.has_store R.position R.content self.old
             → reader_has_store R.has_store R.position R.content self.new
@@ -104,12 +106,13 @@ impl<R: Seek, const S: usize> BufReader<R, S> {
     /// an error the position is as it was, and so is the buffer, unless the offset is too far back
     /// for one seek of the inner reader; then the buffer is dropped.
     pub fn seek_relative(&mut self, offset: i64) -> Result<()>
-        // In the buffer the border between behind and held moves.
+        // Inside the buffer, only the border between the bytes behind and the held bytes moves.
         ensures within { IsInBuffer offset (length (reader_behind self.old)) (length (reader_held self.old))
             → IsOk result × (reader_inner self.new ≡ reader_inner self.old)
             × IsCutOn offset (reader_behind self.old) (reader_held self.old)
             (reader_behind self.new) (reader_held self.new) }
-        // Whatever the inner reader tells, that moves the events to come.
+        // Inside the buffer, the events to come move along with the border, also over an inner
+        // reader that tells nothing.
         ensures events { IsInBuffer offset (length (reader_behind self.old)) (length (reader_held self.old))
             → (events : R → List Event) → MovesEvents offset (reader_behind self.old) (reader_held self.old)
             (reader_events events self.old) (reader_events events self.new) }
@@ -128,7 +131,8 @@ impl<R: Seek, const S: usize> BufReader<R, S> {
             (SeekFrom.Current offset) (led_to (reader_position R.position self.new) result)
             (reader_position R.position self.new) }
 
-        // Over a sound store it succeeds if and only if there is a target, in the buffer or outside.
+        // Over a sound store it succeeds if and only if its target exists, inside the buffer or
+        // outside.
         ensures store { reader_is_sound R.has_store R.position R.content self.old
             → reader_is_sound R.has_store R.position R.content self.new
             × (R.content (reader_inner self.new) ≡ R.content (reader_inner self.old))
@@ -172,7 +176,7 @@ impl<R: Seek, const S: usize> Seek for BufReader<R, S> {
         }
     }
 
-    // Both drop the buffer, as `seek` does.
+    // `stream_position` and `rewind` drop the buffer, as `seek` does.
     fn stream_position(&mut self) -> Result<u64>
         ensures law { StreamPositionLaw ⟦<Self as Seek>⟧ self.old result self.new }
         ensures empty { OnOk result (reader_held self.new ≡ []) }

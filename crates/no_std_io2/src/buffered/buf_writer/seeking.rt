@@ -15,8 +15,8 @@ impl<W: Write + Stored + Drop, const S: usize> Stored for BufWriter<W, S> {
     ghost position = { λ w. W.position (writer_inner w) };
 }
 
-/// Sends the held bytes before a seek. The other calls are the trait's, so their first seek sends the held bytes. Follows
-/// `std::io::Seek for BufWriter`.
+/// Sends the held bytes before a seek. The other calls of `Seek` have the trait's bodies, so their first seek sends the
+/// held bytes. Follows `std::io::Seek for BufWriter`.
 impl<W: Write + Seek + Drop, const S: usize> Seek for BufWriter<W, S> {
     /// Sends the held bytes, then seeks the inner writer.
     ///
@@ -26,7 +26,7 @@ impl<W: Write + Seek + Drop, const S: usize> Seek for BufWriter<W, S> {
     fn seek(&mut self, pos: SeekFrom) -> Result<u64>
         ensures law { SeekLaw ⟦<Self as Seek>⟧ self.old pos result self.new }
 
-        // If all was sent, the inner seek started from there.
+        // If all held bytes were sent, one inner seek was made after that.
         ensures first { SendsFirst W.Write writer_inner writer_buffer self.old result self.new }
         ensures sent { writer_buffer self.new ≡ [] → SeeksAfterSending W.Write W.Seek (writer_inner self.old)
             (writer_buffer self.old) pos (writer_inner self.new) result }

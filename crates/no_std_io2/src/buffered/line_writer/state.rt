@@ -1,4 +1,4 @@
-// The inner half of a line writer: its buffer has no newline, or one at the end.
+// A `Sender` whose held bytes have no newline, or end in one.
 ghost use Rattle.std.specs.Prelude.{◌≡◌};
 ghost use Rattle.std.specs.Borrow.{Lends, sem};
 ghost use Rattle.std.proofs.Props.{props};
@@ -8,7 +8,8 @@ ghost use Rattle.no_std_io2.specs.BufWriter.{sender_inner, sender_buffer};
 use crate::buffered::sender::Sender;
 use no_std_io2_base::traits::Write;
 
-// A ghost field beside a bound has no proof over a boxed object, so this struct has no bound.
+// The ghost field says so. A struct with a bound and a ghost field has no proof over a boxed
+// object, so this one has no bound.
 #[derive(Drop)]
 pub struct LineSender<W, const S: usize> {
     pub(super) buffered: Sender<W, S>,
@@ -19,7 +20,7 @@ impl<W: Write + Drop, const S: usize> LineSender<W, S> {
     ghost use Rattle.no_std_io2.specs.LineWriter.{line_sender_with_inner};
     ghost use Rattle.no_std_io2.specs.contracts.buffered.line_writer.state.LineSender.{the_row as sender-row};
 
-    // Wraps a sender whose buffer is like that.
+    // Wraps a sender whose held bytes have no newline, or end in one.
     pub(super) fn new(buffered: Sender<W, S>) -> LineSender<W, S>
         requires { IsLineState (sender_buffer buffered) }
         ensures { result.buffered ≡ buffered }
@@ -27,7 +28,7 @@ impl<W: Write + Drop, const S: usize> LineSender<W, S> {
         LineSender { buffered }
     }
 
-    // The buffer stays, whatever is written to the inner writer.
+    // Gets a mutable reference to the inner writer. The buffer stays, whatever is written there.
     pub(super) fn get_mut(&mut self) -> &mut W
         ensures value { result.now ≡ sender_inner self.old.buffered }
         ensures* writes_back { sem 𝓛 (Lends (sender-row W.row S.row) W.row self.entry result

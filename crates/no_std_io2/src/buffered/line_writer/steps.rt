@@ -1,4 +1,4 @@
-// The steps of a line writer's calls.
+// The steps of the calls of a `LineWriter`.
 ghost use Rattle.std.specs.Bool.{OnTrue, OnFalse};
 ghost use Rattle.std.specs.Prelude.{◌≡◌, ◌≢◌, ◌+◌, ◌-◌, ◌<◌, ◌≤◌, length, slice_index, slice_range};
 ghost use Rattle.no_std_io2.specs.Lines.{IsLineState, HasNoNewline, IsLinesLen, held_tail};
@@ -10,7 +10,7 @@ use memchr::memrchr;
 use no_std_io2_base::error::Result;
 use no_std_io2_base::traits::Write;
 
-// How long the lines at the front of x are.
+// Returns the length of the lines of x: everything up to and including its last newline.
 pub(super) fn lines_len(x: &[u8]) -> usize
     ensures lines { IsLinesLen x.now result }
     ensures plain { result ≡ 0 → HasNoNewline x.now }
@@ -21,7 +21,8 @@ pub(super) fn lines_len(x: &[u8]) -> usize
     }
 }
 
-// Where the held tail ends if `sent` bytes of x were sent, of which the first `len` are lines.
+// Returns where the held tail of x ends if `sent` bytes of x were sent. The first `len` bytes of x
+// are its lines.
 fn tail_end(x: &[u8], len: usize, sent: usize, room: usize) -> usize
     requires lines { IsLinesLen x.now len }
     requires some { 0 < sent }
@@ -41,7 +42,7 @@ fn tail_end(x: &[u8], len: usize, sent: usize, room: usize) -> usize
     if part == 0 { sent + room } else { sent + part }
 }
 
-// Whether the last byte is a newline.
+// Returns whether the last byte is a newline.
 fn ends_in_newline(bytes: &[u8]) -> bool
     ensures yes { OnTrue result ((0 < length bytes.now)
         × (slice_index bytes.now (length bytes.now - 1) ≡ 10)) }
@@ -62,7 +63,7 @@ fn send_line<W: Write + Drop, const S: usize>(w: &mut Sender<W, S>) -> Result<()
     Ok(())
 }
 
-// A write of x, which has no newline.
+// Writes some first bytes of x, which has no newline.
 pub(super) fn write_plain<W: Write + Drop, const S: usize>(
     w: &mut Sender<W, S>,
     x: &[u8],
@@ -75,7 +76,7 @@ pub(super) fn write_plain<W: Write + Drop, const S: usize>(
     w.write(x)
 }
 
-// A write of x, whose first `len` bytes are lines.
+// Writes some first bytes of x, whose first `len` bytes are lines.
 pub(super) fn write_lines<W: Write + Drop, const S: usize>(
     w: &mut Sender<W, S>,
     x: &[u8],
@@ -108,7 +109,8 @@ pub(super) fn write_all_plain<W: Write + Drop, const S: usize>(
     w.write_all(x)
 }
 
-// Writes all of x, which is lines: straight to the inner writer, or after the held bytes, which are then sent with it.
+// Writes all of x, which consists of lines: straight to the inner writer if nothing is held. If not, x goes through
+// the buffer, which is then sent.
 fn send_lines<W: Write + Drop, const S: usize>(w: &mut Sender<W, S>, x: &[u8]) -> Result<()>
     ensures { Takes W.Write sender_inner sender_buffer (SendLinesCalls S x.now) w.old result w.new }
 {
