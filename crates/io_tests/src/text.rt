@@ -143,6 +143,15 @@ fn a_text_that_fails_is_told(rt: HostRuntime) -> Result<(), Fail> {
         }
     }
     assert!(rt; device.as_slice() == b"<ab".as_slice());
+    let mut room = [0u8; 2];
+    let mut full = Cursor::new(&mut room[..]);
+    match write!(full, "<{Broken}>") {
+        Ok(()) => assert!(rt; false),
+        Err(e) => {
+            assert!(rt; e.kind() == ErrorKind::WriteZero);
+            assert!(rt; e.get_ref().copied() == Some("formatter error"));
+        }
+    }
     Ok(())
 }
 

@@ -1,10 +1,9 @@
 -- What each call adds to a writer's own state, the calls of a `write_all` or a `write_rest` add together.
-use Rattle.std.proofs.Common.{◌≡◌, ℕ, List, [], ◌∷◌, ◌++◌, Result, Ok, Err, OnOk, refl, sym, ap, subst, ◌∙◌, inl, inr}
-use Rattle.std.proofs.Common.{take, drop, append_assoc, append-nil, take-append-drop}
+use Rattle.std.proofs.Common.{◌≡◌, ℕ, List, [], ◌++◌, Result, Ok, Err, OnOk, refl, sym, ap, subst, ◌∙◌, inl, inr}
+use Rattle.std.proofs.Common.{take, append_assoc, append-nil, take-append-drop}
 use Rattle.no_std_io2_base.specs.declared.error.Error.{Error}
 use Rattle.no_std_io2_base.specs.Write.{WriteCall, Wrote, WroteAll, WroteRest, CallAdds, Made}
 use Rattle.no_std_io2_base.specs.Write.{Writes, none, took, again, stuck, fault, AllCalls, RestCalls}
-use Rattle.no_std_io2_base.proofs.CallsLemmas.{writes_whole}
 
 -- No bytes add nothing, and bytes that were added one after another were added joined.
 pub record Joins {W : Type 0} (Adds : W → List ℕ → W → Type 0) : Type 0 where

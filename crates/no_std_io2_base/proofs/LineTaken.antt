@@ -6,7 +6,7 @@ use Rattle.no_std_io2_base.specs.Write.{IsFront}
 use Rattle.no_std_io2_base.specs.Errors.{IsFault}
 use Rattle.no_std_io2_base.specs.Read.{events_of}
 use Rattle.no_std_io2_base.specs.BufRead.{Lender, ConsumeLaw, ReadUntilLaw, ReadLineLaw}
-use Rattle.no_std_io2_base.specs.Pieces.{AnswersLine, EndsPiece, Follows, TakesLine, TakesPiece}
+use Rattle.no_std_io2_base.specs.Pieces.{AnswersLine, EndsPiece, Follows, TakesPiece}
 use Rattle.no_std_io2_base.proofs.EventLemmas.{length-events_of}
 use Rattle.no_std_io2_base.proofs.PieceLemmas.{piece_none, piece_ended}
 

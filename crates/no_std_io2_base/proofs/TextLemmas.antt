@@ -1,7 +1,7 @@
 -- How the calls that print a text follow one another, and what is known behind any formatter.
 use Rattle.std.proofs.Common.{◌≡◌, ℕ, List, [], ◌++◌, Option, None, Some, Result, Ok, Err, OnOk, OnErr, IsOk, is_ok, IfSome}
 use Rattle.std.proofs.Common.{◌∷◌, ◌⊎◌, Bool, true, false, true≢false, IsErrAnd}
-use Rattle.std.proofs.Common.{refl, sym, ap, subst, ◌∙◌, append_assoc, append-nil, length, drop, inl, inr}
+use Rattle.std.proofs.Common.{refl, sym, ap, subst, ◌∙◌, append-nil, length, drop, inl, inr}
 use Rattle.std.proofs.Math.Seq.{drop-append_seam}
 use Rattle.std.proofs.Math.Logic.{∥∥₁_elim, ∥∥₁_map}
 use Rattle.std.proofs.Props.{props}
@@ -15,8 +15,8 @@ use Rattle.std.specs.declared.fmt.Formatter.{Formatter}
 use Rattle.std.specs.declared.fmt.Error.{Error as FormatError}
 use Rattle.no_std_io2_base.specs.declared.error.Error.{Error}
 use Rattle.no_std_io2_base.specs.declared.error.ErrorKind.{ErrorKind}
-use Rattle.no_std_io2_base.specs.Write.{Told, Moves, MovesFront, HasSpent, WriteCall, WriteAllLaw, call_mishap}
-use Rattle.no_std_io2_base.specs.Text.{Prints, nothing, piece, silent, IsTextError, AnswersText, MovesText, WriteFmtLaw}
+use Rattle.no_std_io2_base.specs.Write.{Told, Moves, MovesFront, HasSpent, WriteCall, WriteAllLaw}
+use Rattle.no_std_io2_base.specs.Text.{Prints, nothing, piece, silent, IsTextError, FailsText, AnswersText, MovesText, WriteFmtLaw}
 use Rattle.no_std_io2_base.specs.Errors.{is_interruption, IsNoInterruption}
 use Rattle.no_std_io2_base.proofs.MovesLemmas.{IsFront-refl, Moves-refl, MovesFront-join, MovesFront-first}
 
@@ -172,9 +172,11 @@ IsNoInterruption-prop : (r : Result (Unit {0}) Error) → IsProp (IsNoInterrupti
 IsNoInterruption-prop (Ok u) = Unit-prop
 IsNoInterruption-prop (Err e) = Prim.hlevel props
 
-text_fault : (r : Result (Unit {0}) Error) → IsErrAnd r IsTextError → IsNoInterruption r
-text_fault (Ok u) why = absurd why
-text_fault (Err e) why = ap is_interruption why.0
+-- an error that keeps the kind of a fault is a fault
+text_fault : (met r : Result (Unit {0}) Error) → FailsText met r → IsNoInterruption met → IsNoInterruption r
+text_fault met (Ok u) why fault = absurd why
+text_fault (Ok u) (Err e) why fault = ap is_interruption why.0
+text_fault (Err d) (Err e) why fault = ap is_interruption why.0 ∙ fault
 
 -- the name of the loan is what it was
 pub name_kept : {S : Type 0} {at : S → Type 0} {name was : ℕ} {R : S → List ℕ → Type 0} {Q : List ℕ → Type 0}
@@ -187,7 +189,7 @@ module _ {S : Type 0} {told : S → Told} {takes_all : S → Type 0} {cost : S �
   pub law_shown : (formatted : Result (Unit {0}) FormatError) (reply : Result (Unit {0}) Error)
       → ∥ ((x : S) × (text : List ℕ) × (((x ≡ old) × (name ≡ was)) × Prints told takes_all cost is_metered may x text met new)
       × (IsOk formatted → IfSome output (λ bs. text ≡ bs))) ∥₁
-      → OnOk formatted (reply ≡ met) → OnErr formatted (IsErrAnd reply IsTextError)
+      → OnOk formatted (reply ≡ met) → OnErr formatted (FailsText met reply)
       → WriteFmtLaw told takes_all cost is_metered may old output reply new
   law_shown (Ok u) reply had same why =
       let prints : ∥ ((text : List ℕ) × Prints told takes_all cost is_metered may old text met new × IfSome output (λ bs. text ≡ bs)) ∥₁ =
@@ -201,7 +203,7 @@ module _ {S : Type 0} {told : S → Told} {takes_all : S → Type 0} {cost : S �
       let prints : ∥ ((text : List ℕ) × Prints told takes_all cost is_metered may old text met new) ∥₁ =
       ∥∥₁_map had (λ p. (p.1, subst (λ x. Prints told takes_all cost is_metered may x p.1 met new) p.2.0.0 p.2.1)) in
       record {
-        never_interrupted = text_fault reply why;
+        never_interrupted = text_fault met reply why (∥∥₁_elim prints (IsNoInterruption-prop met) (λ p. prints_fault p.1));
         moves = record {
           text = since (told old) (told new);
           met = met;
@@ -216,6 +218,10 @@ pub MovesFront-text : {a b : Told} {bs : List ℕ} {r : Result (Unit {0}) Error}
     → MovesFront a bs r b ⊎ IsErrAnd r IsTextError
 MovesFront-text {a} {b} {bs} {r} f = of_answer f.answers
   where
+    said : (r : Result (Unit {0}) Error) → FailsText f.met r → IsErrAnd r IsTextError
+    said (Ok u) failed = failed
+    said (Err e) failed = failed.1
+
     of_answer : AnswersText (Some bs) f.text f.met r → MovesFront a bs r b ⊎ IsErrAnd r IsTextError
     of_answer (inl (same, is)) = inl (subst (λ r. MovesFront a bs r b) (sym is) (subst (λ l. MovesFront a l f.met b) same f.moves))
-    of_answer (inr failed) = inr failed
+    of_answer (inr failed) = inr (said r failed)

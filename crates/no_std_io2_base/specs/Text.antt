@@ -1,8 +1,9 @@
 -- What `write_fmt` does to a writer.
-use Rattle.std.specs.Prelude.{◌≡◌, ◌⊎◌, ℕ, List, [], ◌++◌, Option, Result, Ok, Err, IfSome, IsErrAnd, codes}
+use Rattle.std.specs.Prelude.{◌≡◌, ◌⊎◌, ℕ, List, [], ◌++◌, Option, Some, Result, Ok, Err, IfSome, IsErrAnd, codes}
 use Rattle.no_std_io2_base.specs.declared.error.Error.{Error}
+use Rattle.no_std_io2_base.specs.declared.error.ErrorKind.{ErrorKind}
 use Rattle.no_std_io2_base.specs.declared.error.ErrorKind.TheVariants.{Other}
-use Rattle.no_std_io2_base.specs.Errors.{SaysError, IsNoInterruption}
+use Rattle.no_std_io2_base.specs.Errors.{error_kind, error_text, IsNoInterruption}
 use Rattle.no_std_io2_base.specs.Write.{Told, MovesFront, WriteCall, WriteAllLaw}
 
 -- From old to new this text was printed to a writer by calls of `write_all`, one after another, of which the last one answered this.
@@ -16,13 +17,22 @@ pub data Prints {S : Type 0} (told : S → Told) (takes_all : S → Type 0) (cos
   silent : {text : List ℕ} (x : List ℕ) {e : Error} {new : S} → Prints told takes_all cost is_metered may old text (Err e) new
       → Prints told takes_all cost is_metered may old (text ++ x) (Err e) new
 
--- a value's own `fmt` answered an error, which no writer made
+-- the error says that a value's own `fmt` failed
 abbrev pub IsTextError : Error → Type 0
-IsTextError e = SaysError Other (codes "formatter error") e
+IsTextError e = error_text e ≡ Some (codes "formatter error")
+
+-- the kind of the writer's error, or else `Other`
+abbrev pub kind_met : Result (Unit {0}) Error → ErrorKind
+kind_met (Ok _) = Other
+kind_met (Err e) = error_kind e
+
+-- a value's own `fmt` failed, and the writer answered this: the error has the kind of the writer's
+abbrev pub FailsText : Result (Unit {0}) Error → Result (Unit {0}) Error → Type 0
+FailsText met reply = IsErrAnd reply (λ e. (error_kind e ≡ kind_met met) × IsTextError e)
 
 -- The answer is the writer's, and what was printed is the text's output where that is specified; or the text's own `fmt` failed.
 abbrev pub AnswersText : Option (List ℕ) → List ℕ → Result (Unit {0}) Error → Result (Unit {0}) Error → Type 0
-AnswersText output text met reply = (IfSome output (λ bs. text ≡ bs) × (reply ≡ met)) ⊎ IsErrAnd reply IsTextError
+AnswersText output text met reply = (IfSome output (λ bs. text ≡ bs) × (reply ≡ met)) ⊎ FailsText met reply
 
 -- From old to new some text was printed to a writer: with `met` it answered that it accepted a front, all of it at `Ok`.
 pub record MovesText (old : Told) (output : Option (List ℕ)) (reply : Result (Unit {0}) Error) (new : Told) : Type 0 where

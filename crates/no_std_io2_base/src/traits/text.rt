@@ -1,7 +1,7 @@
 // A text to a writer, as it is printed: what `write_fmt` stands on.
-ghost use Rattle.std.specs.Prelude.{◌≡◌, ℕ, List, ◌++◌, Ok, IfSome, IsOk, OnOk, OnErr, IsErrAnd, Result};
+ghost use Rattle.std.specs.Prelude.{◌≡◌, ℕ, List, ◌++◌, Ok, IfSome, IsOk, OnOk, OnErr, Result};
 ghost use Rattle.no_std_io2_base.specs.declared.error.Error.{Error};
-ghost use Rattle.no_std_io2_base.specs.Text.{Prints, IsTextError};
+ghost use Rattle.no_std_io2_base.specs.Text.{Prints, FailsText};
 
 use super::write::Write;
 use crate::error::{Error, ErrorKind, Result};
@@ -100,13 +100,15 @@ pub(super) fn print_to<'a, W: Write, D: Display + Drop, K: Began<W>>(
     }
 }
 
-// What the writer answered, or else that the text's own `fmt` failed.
+// What the writer answered, or that the text's own `fmt` failed. The kind of the writer's error is kept; the text tells the
+// caller that more than the writer failed, so what the writer accepted may be no front of the text.
 pub(super) fn answer_of(formatted: fmt::Result, met: Result<()>) -> Result<()>
     ensures ok { OnOk formatted (result ≡ met) }
-    ensures err { OnErr formatted (IsErrAnd result IsTextError) }
+    ensures err { OnErr formatted (FailsText met result) }
 {
-    match formatted {
-        Ok(()) => met,
-        Err(_) => Err(Error::new(ErrorKind::Other, "formatter error")),
+    match (formatted, met) {
+        (Ok(()), met) => met,
+        (Err(_), Ok(())) => Err(Error::other("formatter error")),
+        (Err(_), Err(e)) => Err(Error::new(e.kind(), "formatter error")),
     }
 }

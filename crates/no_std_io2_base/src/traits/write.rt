@@ -137,8 +137,8 @@ pub trait Write {
     ///
     /// # Errors
     /// Returns the error of a `write_all` if that fails; some first bytes of the text were then accepted, and the device
-    /// gets no more calls. Returns `Other`, `formatter error`, if the text's own `fmt` fails; some bytes, possibly none,
-    /// were then accepted.
+    /// gets no more calls. Returns `formatter error` if the text's own `fmt` fails, with the kind of the device's error if
+    /// that had failed before, and else `Other`; some bytes, possibly none, were then accepted.
     ///
     /// ```rust
     /// let mut device = Vec::<u8>::new(rt.alloc());

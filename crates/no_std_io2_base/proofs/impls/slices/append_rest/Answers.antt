@@ -1,5 +1,5 @@
 -- What is gone from the slice was appended, in one part or in two.
-use Rattle.std.proofs.Common.{◌-◌, length, take, drop, refl, ◌∙◌, le_trans, le_refl}
+use Rattle.std.proofs.Common.{◌-◌, length, take, drop, ◌∙◌, le_trans, le_refl}
 use Rattle.std.proofs.lemmas.List.{take_rest, drop_all}
 use Rattle.std.proofs.lemmas.Result.{err_from_is_err_and}
 use Rattle.no_std_io2_base.proofs.SliceReads.{moved_none, moved_on, moved_first, moved_second, no_room, wants_least}

@@ -1,6 +1,5 @@
 -- What the call did to the target, it did to the reference.
-use Rattle.std.proofs.Common.{rules, subst}
-use Rattle.no_std_io2_base.specs.Write.{Made, CallLaw}
+use Rattle.no_std_io2_base.specs.Write.{CallLaw}
 use Rattle.no_std_io2_base.proofs.CallsLemmas.{made_map, law_of_part}
 use Rattle.no_std_io2_base.proofs.impls.lent.RefMutWrite.write_rest.Goals as goal
 
