@@ -1,4 +1,4 @@
--- What looking at a header of two bytes leaves.
+-- What a look at a header of two bytes changes.
 use Rattle.std.specs.Prelude.{ℕ, negsuc, List, [], ◌∷◌, Result, Ok}
 use Rattle.no_std_io2.specs.BufReader.{ReaderSeeks}
 use Rattle.no_std_io2.specs.Read.{Reader, ReadExactLaw}
@@ -6,7 +6,7 @@ use Rattle.no_std_io2.specs.Seek.{SeekCall, WithoutPosition}
 use Rattle.no_std_io2.specs.declared.buffered.buf_reader.BufReader.{BufReader}
 use Rattle.no_std_io2.specs.declared.io.SeekFrom.TheVariants.{Current}
 
--- it was read by `read_exact`, and then the reader was sought back by two, outside its buffer
+-- the header was read by `read_exact`, and then a seek went back by two bytes, outside the buffer
 abbrev pub SoughtBack : {R : Type 0} {S : ℕ} → Reader (BufReader R S) → (R → SeekCall → R → Type 0)
     → BufReader R S → List ℕ → BufReader R S → Type 0
 SoughtBack {R} {S} reader may old header new =

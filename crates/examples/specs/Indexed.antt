@@ -1,4 +1,4 @@
--- What stands in a file with an index.
+-- The numbers in a file with an index.
 use Rattle.std.specs.Prelude.{◌≡◌, ℕ, ◌+◌, ◌-◌, ◌*◌, List, length, take, drop}
 use Rattle.std.specs.Int.{w32, from_le_bytes}
 use Rattle.no_std_io2.specs.Seek.{IsTarget}
@@ -8,7 +8,7 @@ use Rattle.no_std_io2.specs.declared.io.SeekFrom.{SeekFrom}
 abbrev pub u32_at : ℕ → List ℕ → ℕ
 u32_at p content = from_le_bytes w32 (take 4 (drop p content))
 
--- n is the number where this seek goes
+-- n is the number at the target of this seek
 abbrev pub IsNumberAt : List ℕ → ℕ → SeekFrom → ℕ → Type 0
 IsNumberAt content position at n = (p : ℕ) × IsTarget (length content) position at p × (n ≡ u32_at p content)
 

@@ -1,4 +1,4 @@
--- What a reading is written as.
+-- The text of a reading.
 use Rattle.std.specs.Prelude.{ℕ, List, [], ◌∷◌, ◌++◌, decimal}
 
 -- `NAME=VALUE` and a newline

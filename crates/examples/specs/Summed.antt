@@ -1,4 +1,4 @@
--- A writer or a reader with a checksum.
+-- What a stream with a checksum adds to its sum.
 use Rattle.std.specs.Prelude.{◌≡◌, ℕ, List, [], Ok, Err, ◌+◌, ◌%◌, ◌^◌, sum}
 use Rattle.no_std_io2.specs.Read.{ReadCall, Gave, GaveExactly, GaveAll}
 use Rattle.examples.specs.declared.summed.Summed.{Summed}

@@ -6,7 +6,7 @@ use Rattle.no_std_io2.specs.declared.io.Error.{Error}
 use Rattle.no_std_io2.specs.declared.io.ErrorKind.TheVariants.{InvalidInput}
 use Rattle.std.specs.Int.{w32, to_le_bytes, from_le_bytes}
 
--- a frame: its payload's length in four bytes, the lowest first, and the payload
+-- a frame: the length of its payload, as a little-endian number of four bytes, and then the payload
 abbrev pub frame : List ℕ → List ℕ
 frame payload = to_le_bytes w32 (length payload) ++ payload
 
@@ -14,7 +14,7 @@ frame payload = to_le_bytes w32 (length payload) ++ payload
 abbrev pub frames : List (List ℕ) → List ℕ
 frames payloads = concat (map frame payloads)
 
--- the length of the payload, as the first four bytes tell it
+-- the length of the payload, as the first four bytes say
 abbrev pub told_length : List ℕ → ℕ
 told_length bs = from_le_bytes w32 (take 4 bs)
 
@@ -26,10 +26,10 @@ IsPart bs = (length bs < 4) ⊎ (length bs < 4 + told_length bs)
 abbrev pub IsWithin : List ℕ → List ℕ → Type 0
 IsWithin header payload = (length header ≤ 4) × (length header < 4 → payload ≡ []) × (length payload ≤ from_le_bytes w32 header)
 
--- a payload was refused: it is too long for a frame
+-- e is the error of a payload that is too long for a frame
 abbrev pub IsTooLongToSend : List ℕ → Error → Type 0
 IsTooLongToSend payload e = (2 ^ 32 ≤ length payload) × SaysError InvalidInput (codes "a frame has fewer than 2^32 bytes") e
 
--- a payload was refused: it is too long for a frame, or there was room for so many bytes, too few, and no memory for more
+-- a payload was refused: it is too long for a frame; or the room was too small for its frame, and an allocation failed
 abbrev pub IsPayloadRefusal : ℕ → List ℕ → Error → Type 0
 IsPayloadRefusal room payload e = IsTooLongToSend payload e ⊎ (IsOutOfMemory e × (room < 4 + length payload))

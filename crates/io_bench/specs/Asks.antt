@@ -1,4 +1,4 @@
--- What asks do to a buffered reader, and what they cost where it gives bytes alone.
+-- What asks do to a buffered reader, and how many inner reads they make if it is filling.
 use Rattle.std.specs.Prelude.{◌≡◌, ◌≢◌, ℕ, ◌+◌, ◌-◌, ◌≤◌, ◌⊎◌, ◌&&◌, min, nat_eq, nat_lt, nat_le, Bool, true, false, if◌then◌else◌}
 use Rattle.std.specs.Prelude.{List, [], ◌∷◌, ◌++◌, length, take, drop, ⊤, Result, Ok, Err, is_err, IsOkAnd}
 use Rattle.no_std_io2.specs.declared.io.Error.{Error}
@@ -13,41 +13,41 @@ use Rattle.io_bench.specs.Tally.{tally_inner, tally_reads}
 use Rattle.io_bench.specs.declared.asks.Ask.{Ask}
 use Rattle.io_bench.specs.declared.asks.Ask.TheVariants.{Read, Exact, Fill}
 
--- What one ask does to the events E to come; `Ok` says whether it met the end, and `held` is held then.
+-- What one ask does to the events E to come. `Ok` says whether it met the end, and `held` are the bytes held afterwards.
 abbrev pub AskTakes : Ask → List Event → Result Bool Error → List ℕ → List Event → Type 0
--- a read meets the end where it gives no byte and nothing is held,
+-- a read meets the end if it gives no byte and nothing is held,
 AskTakes (Read len) E (Ok is_end) held after =
     (n : ℕ) × (buf : List ℕ) × (length buf ≡ len) × (n ≤ len) × Reads E (Ok n) buf after
     × (is_end ≡ (nat_eq n 0 && nat_eq (length held) 0))
 AskTakes (Read len) E (Err e) held after = E ≡ fails e ∷ after
--- an exact read where its error is of this kind,
+-- an exact read if its error is of this kind,
 AskTakes (Exact len) E (Ok false) held after = (buf : List ℕ) × (length buf ≡ len) × Fills E buf after
 AskTakes (Exact len) E (Ok true) held after =
     (e : Error) × (error_kind e ≡ UnexpectedEof) × (StopsAtFault E len e after ⊎ FallsShort ⊥ E len e after)
 AskTakes (Exact len) E (Err e) held after = (error_kind e ≢ UnexpectedEof) × StopsAtFault E len e after
--- and a fill where nothing is lent
+-- and a fill if nothing is lent
 AskTakes (Fill most) E (Ok is_end) held after =
     (lent : List ℕ) × BeginsWith E lent × (lent ≡ [] → E ≡ []) × (E ≡ events_of (take most lent) ++ after)
     × (is_end ≡ nat_eq (length lent) 0)
 AskTakes (Fill most) E (Err e) held after = E ≡ fails e ∷ after
 
--- at least one of the leading events is gone, where some are asked for, and at most `most`
+-- at most `most` events are gone from the front, and at least one if `most` is above 0 and there are any
 abbrev pub Drops : ℕ → List Event → List Event → Type 0
 Drops most E after = (n : ℕ) × (min 1 most ≤ n) × (n ≤ most) × (after ≡ drop n E)
 
--- one ask turned E into after
+-- one ask took the events of E up to `after`
 abbrev pub AskStep : Ask → List Event → List Event → Type 0
 AskStep (Read len) E after = Drops len E after
 AskStep (Fill most) E after = Drops most E after
 AskStep (Exact len) E after = after ≡ drop len E
 
--- whether an ask meets the end, with so many events to come
+-- whether an ask meets the end, with this many events to come
 abbrev pub meets_end : Ask → ℕ → Bool
 meets_end (Read len) all = nat_lt all 1
 meets_end (Fill most) all = nat_lt all 1
 meets_end (Exact len) all = nat_lt all len
 
--- one step an ask, from E to after; `ends` of them meet the end
+-- one step for each ask, from E to `after`; `ends` of them meet the end
 abbrev pub Steps : List Ask → List Event → List Event → ℕ → Type 0
 Steps [] E after ends = (after ≡ E) × (ends ≡ 0)
 Steps (ask ∷ asks) E after ends =
@@ -58,7 +58,7 @@ Steps (ask ∷ asks) E after ends =
 abbrev pub TakesFront : List Event → List Event → Type 0
 TakesFront E after = (front : List Event) × (E ≡ front ++ after)
 
--- a buffer of this length has room for what is asked for
+-- a buffer of this length has room for the bytes of the ask
 abbrev pub Fits : ℕ → Ask → Type 0
 Fits room (Read len) = len ≤ room
 Fits room (Exact len) = len ≤ room
@@ -69,7 +69,7 @@ abbrev pub AllFit : ℕ → List Ask → Type 0
 AllFit room [] = ⊤
 AllFit room (ask ∷ asks) = Fits room ask × AllFit room asks
 
--- How many events an ask takes of a buffer of `room` bytes, with `held` held and `all` to come with them,
+-- How many events an ask takes through a buffer of `room` bytes, with `held` bytes held and `all` to come in all,
 abbrev pub asked_bytes : ℕ → Ask → ℕ → ℕ → ℕ
 asked_bytes room (Read len) held all = min len (if nat_lt 0 held then held else all)
 asked_bytes room (Fill most) held all = min most (filled_length room held (all - held))
@@ -81,7 +81,7 @@ asked_reads (Read len) held all = 1 - held
 asked_reads (Fill most) held all = 1 - held
 asked_reads (Exact len) held all = exact_reads len held all
 
--- and how many bytes are held then.
+-- and how many bytes are held afterwards.
 abbrev pub asked_left : ℕ → Ask → ℕ → ℕ → ℕ
 asked_left room (Read len) held all =
     if nat_lt 0 held then held - len
@@ -90,28 +90,28 @@ asked_left room (Read len) held all =
 asked_left room (Fill most) held all = filled_length room held (all - held) - most
 asked_left room (Exact len) held all = exact_left room len held all
 
--- one ask of a reader with a buffer of `room` bytes that gives bytes alone
+-- one ask of a filling reader through a buffer of `room` bytes
 pub record Asked (room : ℕ) (ask : Ask) (held made : ℕ) (E : List Event) (is_end : Bool) (held' made' : ℕ) (E' : List Event) : Type 0 where
   pub events : E' ≡ drop (asked_bytes room ask held (length E)) E
   pub end : is_end ≡ meets_end ask (length E)
   pub reads : made' ≡ made + asked_reads ask held (length E)
   pub left : held' ≡ asked_left room ask held (length E)
 
--- the reader that is asked in the end
+-- the reader below the buffer and the tally
 abbrev pub asked_reader : {R : Type 0} {S : ℕ} → BufReader (Tally R) S → R
 asked_reader r = tally_inner (reader_inner r)
 
--- what is held, and then the events of that one
+-- the held bytes, and then the events of the reader below
 abbrev pub asked_events : {R : Type 0} {S : ℕ} → (R → List Event) → BufReader (Tally R) S → List Event
 asked_events events r = reader_events (λ t. events (tally_inner t)) r
 
--- one ask and its answer, from old to new
+-- one ask and its result, from old to new
 pub record Answered {R : Type 0} {S : ℕ} (inner : Reader R) (ask : Ask) (old : BufReader (Tally R) S) (answer : Result Bool Error)
     (new : BufReader (Tally R) S) : Type 0 where
-  -- the events to come go on by what its call does
+  -- the events to come change as its call says
   pub told : inner.tells (asked_reader old) → inner.tells (asked_reader new)
       × AskTakes ask (asked_events inner.events old) answer (reader_held new) (asked_events inner.events new)
-  -- over a reader that gives bytes alone it does not fail
+  -- over a filling reader it does not fail
   pub filling : inner.is_filling (asked_reader old) → inner.is_filling (asked_reader new) × IsOkAnd answer (λ is_end. Asked S ask
       (length (reader_held old)) (tally_reads (reader_inner old)) (asked_events inner.events old)
       is_end (length (reader_held new)) (tally_reads (reader_inner new)) (asked_events inner.events new))
@@ -121,7 +121,7 @@ abbrev pub met_end : Result Bool Error → Bool
 met_end (Ok is_end) = is_end
 met_end (Err e) = false
 
--- asks one after another, each with its answer: so many met the end, and so many failed
+-- the asks were made one after another; `at_end` of them met the end, and `failed` of them failed
 abbrev pub CameTo : {R : Type 0} {S : ℕ} → Reader R → List Ask → BufReader (Tally R) S → ℕ → ℕ → BufReader (Tally R) S → Type 0
 CameTo inner [] old at_end failed new = (new ≡ old) × (at_end ≡ 0) × (failed ≡ 0)
 CameTo {R} {S} inner (ask ∷ asks) old at_end failed new =

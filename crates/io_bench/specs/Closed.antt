@@ -9,7 +9,7 @@ use Rattle.no_std_io2.specs.Write.{calls_for}
 use Rattle.io_bench.specs.declared.runs.Op.{Op}
 use Rattle.io_bench.specs.declared.runs.Op.TheVariants.{Write, WriteAll, Flush}
 
--- the bytes that a call is given
+-- the bytes of a call
 abbrev pub op_bytes : Op → List ℕ
 op_bytes (Write x) = x.now
 op_bytes (WriteAll x) = x.now
@@ -31,13 +31,13 @@ abbrev pub flushes : List Op → ℕ
 flushes [] = 0
 flushes (op ∷ ops) = op_flushes op + flushes ops
 
--- how many inner writes a call takes, and what it leaves in the buffer
+-- how many inner writes a call makes
 abbrev pub op_calls : ℕ → List ℕ → Op → ℕ
 op_calls S buffer (Write x) = writing_calls S buffer x.now
 op_calls S buffer (WriteAll x) = writing_calls S buffer x.now
 op_calls S buffer Flush = calls_for buffer
 
--- what a call leaves in the buffer
+-- the bytes in the buffer after a call
 abbrev pub op_buffer : ℕ → List ℕ → Op → List ℕ
 op_buffer S buffer (Write x) = buffer_after S buffer x.now
 op_buffer S buffer (WriteAll x) = buffer_after S buffer x.now

@@ -1,4 +1,4 @@
--- What a clause reads of a `Faulty`, and what its acts make of a call.
+-- What a `Faulty` tells, and what its acts do to a call.
 use Rattle.std.proofs.Common.{ap, ◌∙◌}
 use Rattle.std.specs.Prelude.{◌≡◌, Some, None, Option, List, [], ◌∷◌, ◌++◌, drop, if◌then◌else◌, ◌==◌, ℕ, ◌+◌, ◌<◌}
 use Rattle.std.specs.Prelude.{count_by, take, Result, Ok}
@@ -32,7 +32,7 @@ first_act (act ∷ acts) = Some act
 abbrev pub next_act : {W : Type 0} → Faulty W → Option Act
 next_act f = first_act (acts_left f)
 
--- A `write` of x behind this act: a front of x is handed on, or nothing is.
+-- A `write` of x with this act: a front of x is passed on, or nothing is.
 abbrev pub WritesBehind : {W : Type 0} → Writer W → Option Act → W → List ℕ → Result ℕ Error → W → Type 0
 WritesBehind I None old x reply new = CallOf I old (Wrote x reply) new
 WritesBehind I (Some (Take n)) old x reply new =
@@ -40,14 +40,14 @@ WritesBehind I (Some (Take n)) old x reply new =
 WritesBehind I (Some Zero) old x reply new = (reply ≡ Ok 0) × (new ≡ old)
 WritesBehind I (Some (Fail kind)) old x reply new = FailsWith kind reply × (new ≡ old)
 
--- A `flush` behind this act is handed on, or fails.
+-- A `flush` with this act: it is passed on, or fails.
 abbrev pub FlushesBehind : {W : Type 0} → Writer W → Option Act → W → Result (Unit {0}) Error → W → Type 0
 FlushesBehind I None old reply new = CallOf I old (Flushed reply) new
 FlushesBehind I (Some (Take n)) old reply new = CallOf I old (Flushed reply) new
 FlushesBehind I (Some Zero) old reply new = CallOf I old (Flushed reply) new
 FlushesBehind I (Some (Fail kind)) old reply new = FailsWith kind reply × (new ≡ old)
 
--- what one call does: it spends an act, and does what that says
+-- what one call does: it uses up an act, and does what the act says
 abbrev pub FaultyMay : {W : Type 0} → Writer W → Faulty W → WriteCall → Faulty W → Type 0
 FaultyMay I old (Wrote x reply) new =
     (acts_left new ≡ drop 1 (acts_left old)) × WritesBehind I (next_act old) (faulty_inner old) x reply (faulty_inner new)
@@ -56,7 +56,7 @@ FaultyMay I old (Flushed reply) new =
 FaultyMay I old (WroteAll x reply) new = ⊥
 FaultyMay I old (WroteRest x reply left) new = ⊥
 
--- the mishap that an act makes of a call
+-- the mishap that an act causes
 abbrev pub act_mishap : Act → List ErrorKind
 act_mishap (Take n) = if n == 0 then WriteZero ∷ [] else []
 act_mishap Zero = WriteZero ∷ []
@@ -67,18 +67,18 @@ abbrev pub act_mishaps : List Act → List ErrorKind
 act_mishaps [] = []
 act_mishaps (act ∷ acts) = act_mishap act ++ act_mishaps acts
 
--- what a writer tells behind these acts: each act that interrupts is one turn more
+-- what is told with these acts in front of a writer: their mishaps are added, and a turn for each act that interrupts
 abbrev pub with_acts : Told → List Act → Told
 with_acts told acts = record told {
   mishaps = option_map (λ kinds. kinds ++ act_mishaps acts) told.mishaps;
   turns = told.turns + count_by is_interruption (act_mishaps acts);
 }
 
--- what a `Faulty` tells, where its inner writer tells `told`
+-- what a `Faulty` tells if its inner writer tells `told`
 abbrev pub faulty_told : {W : Type 0} → (W → Told) → Faulty W → Told
 faulty_told told f = with_acts (told f.inner) (acts_left f)
 
--- behind no act, a writer with no mishap to come has none
+-- with no act left, and no mishap to come from the inner writer, no mishap is to come
 pub faulty_steady : {W : Type 0} (told : W → Told) (f : Faulty W) → (told (faulty_inner f)).mishaps ≡ Some []
     → acts_left f ≡ [] → (faulty_told told f).mishaps ≡ Some []
 faulty_steady told f e g = ap (option_map (λ kinds. kinds ++ act_mishaps (acts_left f))) e ∙ ap (λ acts. Some (act_mishaps acts)) g

@@ -1,4 +1,4 @@
--- What a run accepted, where its replies leave no doubt.
+-- The bytes that a run accepted, if its replies determine them.
 use Rattle.std.specs.Prelude.{◌≡◌, ◌⊎◌, ℕ, ◌≤◌, List, [], ◌∷◌, length, ⊤}
 use Rattle.io_bench.specs.declared.runs.Op.{Op}
 use Rattle.io_bench.specs.declared.runs.Op.TheVariants.{Write, WriteAll, Flush}
@@ -6,7 +6,7 @@ use Rattle.io_bench.specs.declared.runs.Reply.{Reply}
 use Rattle.io_bench.specs.declared.runs.Reply.TheVariants.{Took, Done, Failed}
 use Rattle.io_bench.specs.Runs.{Run}
 
--- such a call gives such a reply, and the reply says what was accepted: a `write_all` that failed does not
+-- the reply fits the call and says what was accepted; that of a failed `write_all` does not
 abbrev pub IsClear : Op → Reply → Type 0
 IsClear (Write x) (Took n) = n ≤ length x.now
 IsClear (Write x) (Failed e) = ⊤
@@ -25,11 +25,11 @@ AreClear (op ∷ ops) (reply ∷ replies) = IsClear op reply × AreClear ops rep
 AreClear [] (reply ∷ replies) = ⊥
 AreClear (op ∷ ops) [] = ⊥
 
--- a run with these replies accepted these bytes, and no run with them accepted others
+-- a run with these replies accepted these bytes, and no other bytes fit these replies
 abbrev pub IsJoined : List Op → List Reply → List ℕ → Type 0
 IsJoined ops replies bytes = Run ops replies bytes × ((other : List ℕ) → Run ops replies other → other ≡ bytes)
 
--- a `write_all` of nothing failed: the one kind of failed `write_all` of which it is known what it accepted
+-- a `write_all` of no bytes failed: only of such a failed `write_all` it is known what it accepted
 abbrev pub IsIdleFailure : Op → Reply → Type 0
 IsIdleFailure (WriteAll x) (Failed e) = x.now ≡ []
 IsIdleFailure (WriteAll x) (Took n) = ⊥
@@ -37,7 +37,7 @@ IsIdleFailure (WriteAll x) Done = ⊥
 IsIdleFailure (Write x) reply = ⊥
 IsIdleFailure Flush reply = ⊥
 
--- some call was one
+-- some call of the run was one
 abbrev pub HasIdleFailure : List Op → List Reply → Type 0
 HasIdleFailure [] replies = ⊥
 HasIdleFailure (op ∷ ops) [] = ⊥

@@ -1,4 +1,4 @@
--- What a whole run of `split` or `lines` gathers.
+-- The items of a whole `split` or `lines`.
 use Rattle.std.specs.Prelude.{◌≡◌, ℕ, ◌⊎◌, ◌<◌, List, ◌∷◌, ◌++◌, length, map, filter, Result, Ok, Err}
 use Rattle.std.specs.List.{concat}
 use Rattle.no_std_io2.specs.declared.io.Error.{Error}
@@ -20,7 +20,7 @@ pub record PiecesToFault (trim : List ℕ → List ℕ) (d : ℕ) (E : List Even
   pub fault : IsFault e
   pub are : items ≡ map trim (filter (ends_in d) (pieces d (bytes before)))
 
--- these are the pieces before one that e refuses, trimmed
+-- these are the pieces, trimmed, before one that is refused with the error e
 pub record PiecesToRefused (trim : List ℕ → List ℕ) (refuses : List ℕ → Error → Type 0) (d : ℕ) (E : List Event)
     (e : Error) (items : List (List ℕ)) : Type 0 where
   pub before : List (List ℕ)
@@ -30,7 +30,8 @@ pub record PiecesToRefused (trim : List ℕ → List ℕ) (refuses : List ℕ �
   pub refused : refuses piece e
   pub are : items ≡ map trim before
 
--- memory was refused, and these are the first pieces, trimmed: the list of them was full, or a byte was to come, for which a new piece has no room
+-- an allocation failed, and these are the first pieces, trimmed: the list of items was full, or a new piece had no room for a byte that was
+-- to come
 pub record PiecesToMemory (trim : List ℕ → List ℕ) (full : Type 0) (d : ℕ) (E : List Event) (e : Error) (items : List (List ℕ))
     : Type 0 where
   pub before : List (List ℕ)
@@ -40,7 +41,7 @@ pub record PiecesToMemory (trim : List ℕ → List ℕ) (full : Type 0) (d : �
   pub short : full ⊎ (length (concat before) < length (bytes_to_fault E))
   pub are : items ≡ map trim before
 
--- a whole run over a reader with these events to come gathered these items and ended so
+-- a whole run over a reader with these events gave these items, and this result
 abbrev pub GathersPieces : {A : Type 0} → (List ℕ → List ℕ) → (List ℕ → Error → Type 0) → Type 0 → ℕ → List Event
     → Result A Error → List (List ℕ) → Type 0
 GathersPieces trim refuses full d E (Ok _) items = AllPieces trim d E items

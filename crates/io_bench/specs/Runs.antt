@@ -1,4 +1,4 @@
--- What replies accept, which of them failed, and whole runs.
+-- The bytes that replies accept, the calls that failed, and whole runs.
 use Rattle.std.specs.Prelude.{◌≡◌, ℕ, ◌+◌, ◌≤◌, ◌==◌, ◌&&◌, nat_lt, Bool, true, false, if◌then◌else◌, List, [], ◌∷◌}
 use Rattle.std.specs.Prelude.{◌++◌, length, take, drop, count_by, ⊤, Option, None, Some, Ok, Err}
 use Rattle.no_std_io2.specs.declared.io.ErrorKind.{ErrorKind}
@@ -19,12 +19,12 @@ Accepts (WriteAll x) Done accepted = accepted ≡ x.now
 Accepts (WriteAll x) (Failed e) accepted = IsFront accepted x.now
 Accepts Flush Done accepted = accepted ≡ []
 Accepts Flush (Failed e) accepted = accepted ≡ []
--- no other reply is given
+-- there is no other reply
 Accepts (Write x) Done accepted = ⊥
 Accepts (WriteAll x) (Took n) accepted = ⊥
 Accepts Flush (Took n) accepted = ⊥
 
--- the calls that one of the run makes of the writer: its own, with the answer that the reply tells
+-- the calls that a call of the run makes of the writer: its own, with the result that the reply says
 abbrev pub OpCalls : Op → Reply → List WriteCall → Type 0
 OpCalls (Write x) (Took n) calls = calls ≡ Wrote x.now (Ok n) ∷ []
 OpCalls (Write x) (Failed e) calls = calls ≡ Wrote x.now (Err e) ∷ []
@@ -32,12 +32,12 @@ OpCalls (WriteAll x) Done calls = AllCalls calls x.now (Ok tt)
 OpCalls (WriteAll x) (Failed e) calls = AllCalls calls x.now (Err e)
 OpCalls Flush Done calls = calls ≡ Flushed (Ok tt) ∷ []
 OpCalls Flush (Failed e) calls = calls ≡ Flushed (Err e) ∷ []
--- no other reply is given
+-- there is no other reply
 OpCalls (Write x) Done calls = ⊥
 OpCalls (WriteAll x) (Took n) calls = ⊥
 OpCalls Flush (Took n) calls = ⊥
 
--- the lists are equally long, and `whole` is what each call and its reply give, one after another
+-- the lists are equally long, and `whole` is the lists that each call and its reply give, joined
 abbrev pub JoinsEach : {A : Type 0} → (Op → Reply → List A → Type 0) → List Op → List Reply → List A → Type 0
 JoinsEach gives [] [] whole = whole ≡ []
 JoinsEach {A} gives (op ∷ ops) (reply ∷ replies) whole =
@@ -45,17 +45,17 @@ JoinsEach {A} gives (op ∷ ops) (reply ∷ replies) whole =
 JoinsEach gives [] (reply ∷ replies) whole = ⊥
 JoinsEach gives (op ∷ ops) [] whole = ⊥
 
--- each call accepted what its reply says, one after another
+-- `accepted` are the bytes that the calls accepted by their replies, joined
 abbrev pub Run : List Op → List Reply → List ℕ → Type 0
 Run ops replies accepted = JoinsEach Accepts ops replies accepted
 
--- A run made these calls of a writer, one after another, each as its law says.
+-- A run made these calls of a writer, one after another, and each kept its law.
 pub record RunCalls {W : Type 0} (I : Writer W) (old : W) (ops : List Op) (replies : List Reply) (new : W) : Type 0 where
   pub calls : List WriteCall
   pub made : Made (CallOf I) old calls new
   pub joined : JoinsEach OpCalls ops replies calls
 
--- A run through a tower of buffers made these calls of the device below. `tower` says which calls of the tower they are.
+-- A run through a tower of buffers made these calls of the device below. `tower` relates them to the calls of the tower.
 pub record RunBelow {W : Type 0} (I : Writer W) (tower : List WriteCall → List WriteCall → Type 0) (old : W) (ops : List Op)
     (replies : List Reply) (new : W) : Type 0 where
   pub calls : List WriteCall
@@ -64,7 +64,7 @@ pub record RunBelow {W : Type 0} (I : Writer W) (tower : List WriteCall → List
   pub made : Made (CallOf I) old below new
   pub is : tower calls below
 
--- the mishap that a reply tells, if it tells one
+-- the mishap that a reply counts as, if it is one
 abbrev pub mishap_of : Op → Reply → List ErrorKind
 mishap_of (Write x) (Took n) = zero_write n x.now
 mishap_of (WriteAll x) (Took n) = []
@@ -84,7 +84,7 @@ pub record Ran (old : Told) (ops : List Op) (replies : List Reply) (new : Told) 
   pub run : Run ops replies accepted
   pub moves : Moves old accepted (mishaps_of ops replies) new
 
--- whether a call failed: with an error, or nothing was taken of some bytes
+-- whether a call failed: with an error, or because a write took none of its bytes
 abbrev pub is_failure : Op → Reply → Bool
 is_failure (Write x) (Took n) = (n == 0) && nat_lt 0 (length x.now)
 is_failure (WriteAll x) (Took n) = false
@@ -106,13 +106,13 @@ count_of kind kinds = count_by (λ other. kind_number other == kind_number kind)
 abbrev pub failures_of : ErrorKind → List Op → List Reply → ℕ
 failures_of kind ops replies = count_of kind (mishaps_of ops replies)
 
--- a told list stays told, and is shorter by n at least
+-- told mishaps stay told, and at least n of them are gone
 abbrev pub IsShorterBy : ℕ → Option (List ErrorKind) → Option (List ErrorKind) → Type 0
 IsShorterBy n None new = ⊤
 IsShorterBy n (Some old) None = ⊥
 IsShorterBy n (Some old) (Some new) = length new + n ≤ length old
 
--- a told list stays told, and has n fewer of this kind at least
+-- told mishaps stay told, and at least n of this kind are gone
 abbrev pub HasFewer : ErrorKind → ℕ → Option (List ErrorKind) → Option (List ErrorKind) → Type 0
 HasFewer kind n None new = ⊤
 HasFewer kind n (Some old) None = ⊥

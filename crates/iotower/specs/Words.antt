@@ -1,4 +1,4 @@
--- The words that ask for each command.
+-- The arguments that name each command.
 use Rattle.std.specs.Prelude.{◌≡◌, ℕ, codes, List, [], ◌∷◌}
 use Rattle.iotower.specs.declared.Command.{Command}
 use Rattle.iotower.specs.declared.Command.TheVariants.{Copy, Play}
@@ -19,6 +19,6 @@ mode_of (Play Line) = codes "line"
 mode_of (Play BufBuf) = codes "buf-buf"
 mode_of (Play LineBuf) = codes "line-buf"
 
--- the program's name and these two words
+-- the arguments are the program's name and these two words
 abbrev pub AreWords : {X : Type 0} → List X → X → X → Type 0
 AreWords {X = X} words verb mode = (program : X) × (words ≡ program ∷ verb ∷ mode ∷ [])

@@ -6,19 +6,19 @@ use Rattle.no_std_io2.specs.Lines.{HasNoNewline, HasNewline}
 use Rattle.no_std_io2.specs.declared.io.Error.{Error}
 use Rattle.no_std_io2.specs.declared.io.ErrorKind.TheVariants.{InvalidInput}
 
--- a line as it goes out
+-- the bytes of a line: its text and a newline
 abbrev pub line_of : List ℕ → List ℕ
 line_of text = text ++ 10 ∷ []
 
--- lines as they go out
+-- the bytes of these lines, one after another
 abbrev pub lines_out : List (List ℕ) → List ℕ
 lines_out texts = concat (map line_of texts)
 
--- an error that says that a newline stands in a text
+-- e is the error that a text has a newline in it
 abbrev pub SaysNewline : Error → Type 0
 SaysNewline e = SaysError InvalidInput (codes "a newline stands in a line") e
 
--- a text was refused: a newline stands in it; or none does, there was room for so many bytes, too few, and no memory for more
+-- a text was refused: it has a newline in it; or it has none, the room was too small for its line, and an allocation failed
 abbrev pub IsLineRefusal : ℕ → List ℕ → Error → Type 0
 IsLineRefusal room text e = (HasNewline text × SaysNewline e)
     ⊎ (HasNoNewline text × IsOutOfMemory e × (room < length text + 1))

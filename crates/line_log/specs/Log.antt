@@ -1,4 +1,4 @@
--- What a clause reads of a log, and what its calls do.
+-- What a log holds and tells, and what its calls do.
 use Rattle.std.specs.Prelude.{ℕ, List}
 use Rattle.no_std_io2.specs.Write.{Told}
 use Rattle.no_std_io2.specs.Lines.{HasNoNewline}
@@ -13,34 +13,34 @@ use Rattle.line_log.specs.declared.LineLog.{LineLog}
 abbrev pub log_inner : {W : Type 0} {S : ℕ} → LineLog W S → W
 log_inner l = line_inner l.lines
 
--- the same with its buffer
+-- the line writer, which has the writer below in it
 abbrev pub log_writer : {W : Type 0} {S : ℕ} → LineLog W S → LineWriter W S
 log_writer l = l.lines
 
--- what is held here
+-- the bytes in the buffer
 abbrev pub log_buffer : {W : Type 0} {S : ℕ} → LineLog W S → List ℕ
 log_buffer l = line_buffer l.lines
 
--- what a log tells, where the writer below tells `told`
+-- what the line writer tells if the writer below tells `told`
 abbrev pub log_told : {W : Type 0} {S : ℕ} → (W → Told) → LineLog W S → Told
 log_told told l = line_told told l.lines
 
--- the line that is under way, with its newline; no byte where there is none
+-- the line that is under way, with its newline, or no byte if there is none
 abbrev pub log_under_way : {W : Type 0} {S : ℕ} → LineLog W S → List ℕ
 log_under_way l = pending_bytes l.pending
 
--- what is still to go of it
+-- the unsent rest of that line
 abbrev pub log_left : {W : Type 0} {S : ℕ} → LineLog W S → List ℕ
 log_left l = pending_rest l.pending
 
--- for how many bytes of a line there is room
+-- the number of bytes of a line for which there is room
 abbrev pub log_room : {W : Type 0} {S : ℕ} → LineLog W S → ℕ
 log_room l = pending_room l.pending
 
--- a `write_rest`, and a `write_all` of nothing behind it: what a `LineWriter` holds of a line goes then
+-- a `write_rest` and then a `write_all` of no bytes, by which a `LineWriter` sends a whole line that it still holds
 abbrev pub LineLaw : {W : Type 0} → Writer W → Law W
 LineLaw I = AndThen (RestLaw I) (NoneLaw I)
 
--- these texts were taken off the front, and no newline stands in any
+-- the texts that are gone from the front have no newline
 abbrev pub TakesLines : List (List ℕ) → List (List ℕ) → Type 0
 TakesLines = records.TakesOff HasNoNewline

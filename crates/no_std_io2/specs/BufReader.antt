@@ -1,4 +1,4 @@
--- What a clause reads of a `BufReader`, what its calls do, and the lemmas that its laws are.
+-- What a `BufReader` holds and tells, what its calls do, and the lemmas that are its laws.
 use Rattle.std.specs.Prelude.{◌≡◌, ℕ, ℤ, ◌^◌, ◌<◌, ◌≤◌, negsuc, pos, ◌+◌, ◌-◌, ◌-ℤ◌, ◌*◌, ◌&&◌, min, nat_lt, nat_le, if◌then◌else◌, List}
 use Rattle.std.specs.Prelude.{[], ◌∷◌, ◌++◌, Ok, Err, Result, IsOk, IsErr, OnOk, OnErr, IfErr, length, ◌⊎◌, take, drop, refl}
 use denote.Param.{param, number}
@@ -33,7 +33,7 @@ reader_behind r = buffer_behind r.buffer
 abbrev pub reader_inner : {R : Type 0} {S : ℕ} → BufReader R S → R
 reader_inner r = r.inner
 
--- what is held, and then the inner reader's events
+-- the events of a `BufReader`: the held bytes, and then the inner reader's events
 abbrev pub reader_events : {R : Type 0} {S : ℕ} → (R → List Event) → BufReader R S → List Event
 reader_events events r = events_of (reader_held r) ++ events (reader_inner r)
 
@@ -41,35 +41,35 @@ reader_events events r = events_of (reader_held r) ++ events (reader_inner r)
 abbrev pub reader_turns : {R : Type 0} {S : ℕ} → (R → ℕ) → BufReader R S → ℕ
 reader_turns {S = room} turns r = length (reader_held r) + (room + 1) * turns (reader_inner r)
 
--- the inner's store, where the held bytes are its bytes that end at the inner's position
+-- the inner reader tells a store, and the held bytes are the bytes of its content right before the inner position
 abbrev pub reader_has_store : {R : Type 0} {S : ℕ} → (R → Type 0) → (R → ℕ) → (R → List ℕ) → BufReader R S → Type 0
 reader_has_store has_store position content r =
     has_store (reader_inner r) × IsSound (reader_held r) (position (reader_inner r)) (content (reader_inner r))
 
--- the inner's store, where what lies behind and then the held bytes are its bytes that end at the inner's position
+-- the inner reader tells a store, and the bytes behind and then the held bytes are the bytes of its content right before the inner position
 abbrev pub reader_is_sound : {R : Type 0} {S : ℕ} → (R → Type 0) → (R → ℕ) → (R → List ℕ) → BufReader R S → Type 0
 reader_is_sound has_store position content r =
     has_store (reader_inner r) × IsSound (reader_behind r ++ reader_held r) (position (reader_inner r)) (content (reader_inner r))
 
--- where that is so, it is so afterwards
+-- if a reader was sound, it still is
 abbrev pub StaysSound : {R : Type 0} {S : ℕ} → (R → Type 0) → (R → ℕ) → (R → List ℕ) → BufReader R S → BufReader R S → Type 0
 StaysSound has_store position content old new =
     reader_is_sound has_store position content old → reader_is_sound has_store position content new
 
--- the inner's position less the bytes held
+-- the inner position minus the number of held bytes
 abbrev pub reader_position : {R : Type 0} {S : ℕ} → (R → ℕ) → BufReader R S → ℕ
 reader_position position r = position (reader_inner r) - length (reader_held r)
 
--- a fill takes no event but the error that it answers
+-- a fill takes no event, except the error that it returns
 abbrev pub FillsFrom : {A : Type 0} → List Event → Result A Error → List Event → Type 0
 FillsFrom E (Ok _) after = after ≡ E
 FillsFrom E (Err e) after = E ≡ fails e ∷ after
 
--- how many bytes a read gives of over a filling reader: those held, else those to come
+-- over a filling reader, from how many bytes a read gives: from those that are held, or if none are, from those to come
 abbrev pub held_or_to_come : ℕ → ℕ → ℕ
 held_or_to_come held to_come = if nat_lt 0 held then held else to_come
 
--- how many bytes a fill of this much room holds afterwards, with this many held before and to come
+-- how many bytes are held after a fill of a buffer of `room` bytes, with this many held before and to come
 abbrev pub filled_length : ℕ → ℕ → ℕ → ℕ
 filled_length room held to_come = if nat_lt 0 held then held else min room to_come
 
@@ -77,33 +77,33 @@ filled_length room held to_come = if nat_lt 0 held then held else min room to_co
 abbrev pub reader_lent_length : {R : Type 0} {S : ℕ} → (R → List Event) → BufReader R S → ℕ
 reader_lent_length {S = room} events r = filled_length room (length (reader_held r)) (length (events (reader_inner r)))
 
--- how many inner reads `read_exact` of `len` bytes makes, with this many held and to come in all, over a filling reader
+-- over a filling reader, how many inner reads a `read_exact` of `len` bytes makes, with this many bytes held and to come in all
 abbrev pub exact_reads : ℕ → ℕ → ℕ → ℕ
 exact_reads len held all =
     (if nat_le len held then 0 else 1) + (if nat_lt held all && nat_lt all len then 1 else 0)
 
--- what lies behind after a read with none held: what it gave of its own buffer, and none where that was passed by
+-- the bytes behind after a read with none held before: those that it gave from its own buffer, or none if it did not use that
 abbrev pub behind_anew : ℕ → ℕ → List ℕ → List ℕ
 behind_anew room len got = if nat_le room len then [] else got
 
--- how many bytes are held after that
+-- how many bytes are held after that `read_exact`
 abbrev pub exact_left : ℕ → ℕ → ℕ → ℕ → ℕ
 exact_left room len held all =
     if nat_le len held then held - len
     else if nat_le room (len - held) then 0
     else min room (all - held) - (len - held)
 
--- how many bytes lie behind after an exact read of `len` bytes, of which `held` were: those that were read into the buffer,
--- and none where they were read past it
+-- how many bytes lie behind after a `read_exact` of `len` bytes with `held` held before: those that were read into the buffer, or none if
+-- they did not go through it
 abbrev pub exact_behind : ℕ → ℕ → ℕ → ℕ
 exact_behind room len held = if nat_le room (len - held) then 0 else len - held
 
--- the offset is so far back that one seek of the inner reader, which is `held` bytes ahead, would not fit an `i64`
+-- the offset is so far back that the offset of one inner seek, which starts `held` bytes further on, would not fit an `i64`
 abbrev pub IsTooFarBack : SeekFrom → ℕ → Type 0
 IsTooFarBack (Current (negsuc k)) held = 2 ^ 63 < held + (k + 1)
 IsTooFarBack _ held = ⊥
 
--- what lies behind and what is held are as they were
+-- the bytes behind and the held bytes did not change
 abbrev pub KeepsBuffer : {R : Type 0} {S : ℕ} → BufReader R S → BufReader R S → Type 0
 KeepsBuffer old new = (reader_held new ≡ reader_held old) × (reader_behind new ≡ reader_behind old)
 
@@ -111,22 +111,22 @@ KeepsBuffer old new = (reader_held new ≡ reader_held old) × (reader_behind ne
 abbrev pub HasNoBuffer : {R : Type 0} {S : ℕ} → BufReader R S → Type 0
 HasNoBuffer r = (reader_held r ≡ []) × (reader_behind r ≡ [])
 
--- what was held stands behind what the vector had and the buffer was dropped, or room was refused and a front of it stands there
+-- all held bytes were appended to the vector, and the buffer was dropped; or the vector could not grow, and a front of them was appended
 abbrev pub EmptiesInto : {R : Type 0} {S : ℕ} → BufReader R S → List ℕ → Result ℕ Error → List ℕ → BufReader R S → Type 0
 EmptiesInto old before (Ok n) after new = IsFront (before ++ reader_held old) after × HasNoBuffer new
 EmptiesInto old before (Err e) after new =
     (IsFront (before ++ reader_held old) after × HasNoBuffer new)
     ⊎ (IsOutOfMemory e × (reader_inner new ≡ reader_inner old) × HasMoved (reader_held old) (reader_held new) before after)
 
--- a piece that was held was appended, and the inner reader left alone; or there was no memory for it, and nothing has changed
+-- a piece that was held whole was appended, and no inner call was made; or an allocation failed, and nothing changed
 abbrev pub TakesHeld : {R : Type 0} {S : ℕ} → List ℕ → List ℕ → BufReader R S → List ℕ → Result ℕ Error → List ℕ → BufReader R S → Type 0
 TakesHeld piece rest old before (Ok n) after new =
     (n ≡ length piece) × (after ≡ before ++ piece) × (reader_held new ≡ rest) × (reader_behind new ≡ reader_behind old ++ piece)
     × (reader_inner new ≡ reader_inner old)
 TakesHeld piece rest old before (Err e) after new = IsOutOfMemory e × (after ≡ before) × (new ≡ old)
 
--- a line that was held was appended, and the inner reader left alone; or the text refused it, and it is taken; or there was no
--- memory to take it by
+-- a line that was held whole was appended, and no inner call was made; or the text did not accept the line, which was taken; or the
+-- allocation for reading it failed
 abbrev pub TakesHeldLine : {R : Type 0} {S : ℕ} → List ℕ → List ℕ → BufReader R S → List ℕ → Result ℕ Error → List ℕ → BufReader R S
     → Type 0
 TakesHeldLine line rest old before (Ok n) after new = TakesHeld line rest old before (Ok n) after new
@@ -138,13 +138,14 @@ TakesHeldLine line rest old before (Err e) after new =
 abbrev pub reader_with_inner : {R : Type 0} {S : ℕ} → BufReader R S → R → BufReader R S
 reader_with_inner r x = record r { inner = x }
 
--- what is given of the bytes that a read into the buffer gave, and what is then held; or its error, with nothing held
+-- a read into the buffer gave bytes: as many as fit the caller's room are given, and the others are held; or it failed: its error is
+-- returned, and nothing is held
 abbrev pub PassesOn : Result (List ℕ) Error → ℕ → Result (List ℕ) Error → List ℕ → Type 0
 PassesOn (Ok x) room answer held = (answer ≡ Ok (take room x)) × (held ≡ drop room x)
 PassesOn (Err e) room answer held = (answer ≡ Err e) × (held ≡ [])
 
--- What a `read` of a `BufReader` does below. It gives of what is held without a call. If nothing is held, it reads once: into the caller's
--- room if that is the buffer's size or more, and else into the buffer.
+-- The inner call of a `read` of a `BufReader`. If bytes are held, there is none. If nothing is held, it reads once: into the caller's room
+-- if that is as large as the buffer, and else into the buffer.
 pub record ReadsBelow {R : Type 0} {S : ℕ} (may : R → ReadCall → R → Type 0) (old : BufReader R S) (room : ℕ)
     (answer : Result (List ℕ) Error) (new : BufReader R S) : Type 0 where
   pub held : 0 < length (reader_held old) → reader_inner new ≡ reader_inner old
@@ -152,14 +153,15 @@ pub record ReadsBelow {R : Type 0} {S : ℕ} (may : R → ReadCall → R → Typ
   pub filled : length (reader_held old) ≡ 0 → room < S → (read : Result (List ℕ) Error)
       × may (reader_inner old) (Gave S read) (reader_inner new) × PassesOn read room answer (reader_held new)
 
--- A `read_exact` of its own gives of held bytes alone, and a `read_to_end` drains what is held and then the inner reader, in its way.
+-- What a call may do to a `BufReader`. A `read_exact` of its own gives only held bytes. A `read_to_end` takes the held bytes, and then
+-- calls the inner `read_to_end`.
 abbrev pub ReaderMay : {R : Type 0} {S : ℕ} → (R → ReadCall → R → Type 0) → BufReader R S → ReadCall → BufReader R S → Type 0
 ReaderMay may old (Gave room answer) new = ReadsBelow may old room answer new
 ReaderMay may old (GaveExactly room answer) new = (room ≤ length (reader_held old)) × (reader_inner new ≡ reader_inner old)
 ReaderMay may old (GaveAll x answer) new = (reader_inner new ≡ reader_inner old)
     ⊎ ((reply : Result ℕ Error) × (ended reply ≡ answer) × ToEndMade may (reader_inner old) (reader_held old) reply x (reader_inner new))
 
--- Where nothing was held, the inner reader was read once into the buffer.
+-- If nothing was held, one inner read into the buffer was made.
 pub record FillsBuffer {R : Type 0} {S : ℕ} (inner : Reader R) (old : BufReader R S) (reply : Result (Unit {0}) Error)
     (new : BufReader R S) : Type 0 where
   pub held : OnErr reply (reader_held new ≡ [])
@@ -167,7 +169,7 @@ pub record FillsBuffer {R : Type 0} {S : ℕ} (inner : Reader R) (old : BufReade
   pub sound : StaysSound inner.has_store inner.position inner.content old new
   pub told : inner.tells (reader_inner old) → inner.tells (reader_inner new)
       × FillsFrom (reader_events inner.events old) reply (reader_events inner.events new)
-  -- nothing is held then only at the end
+  -- afterwards nothing is held only at the end
   pub end : inner.tells (reader_inner old) → OnOk reply (reader_held new ≡ [] → reader_events inner.events old ≡ [])
   pub no_later : reader_turns inner.turns new ≤ reader_turns inner.turns old
   pub turn : OnErr reply (reader_turns inner.turns new < reader_turns inner.turns old)
@@ -181,7 +183,7 @@ pub record FillsBuffer {R : Type 0} {S : ℕ} (inner : Reader R) (old : BufReade
       × (inner.content (reader_inner new) ≡ inner.content (reader_inner old))
       × (reader_position inner.position new ≡ reader_position inner.position old)
 
--- More room than there were bytes held was filled, or the bytes ended, or a fault came.
+-- A `read_exact` of more than the held bytes: the room was filled, or the bytes ended, or a fault came.
 pub record ReadsOn {R : Type 0} {S : ℕ} (inner : Reader R) (old : BufReader R S) (room : ℕ) (reply : Result (Unit {0}) Error)
     (buf : List ℕ) (new : BufReader R S) : Type 0 where
   pub told : inner.tells (reader_inner old) → inner.tells (reader_inner new)
@@ -194,12 +196,12 @@ pub record ReadsOn {R : Type 0} {S : ℕ} (inner : Reader R) (old : BufReader R 
       × (inner.content (reader_inner new) ≡ inner.content (reader_inner old))
       × (reader_position inner.position new + length (reader_events inner.events new)
       ≡ reader_position inner.position old + length (reader_events inner.events old))
-  -- what lies behind is the last of what was given, less than a full buffer
+  -- the bytes behind are the last of the given bytes, fewer than a full buffer
   pub behind : OnOk reply (IsSuffix buf (reader_behind new) × (length (reader_behind new) < S))
-  -- an error is an inner read's answer, which leaves nothing in the buffer
+  -- an error leaves nothing in the buffer
   pub failed : OnErr reply (HasNoBuffer new)
   pub sound : StaysSound inner.has_store inner.position inner.content old new
-  -- over a filling reader: how often that is read, what is held then, and how much of what was given lies behind
+  -- over a filling reader: how many inner reads were made, how many bytes are held, and how many of the given bytes lie behind
   pub asks : inner.is_metered (reader_inner old) → inner.is_filling (reader_inner old) → inner.is_metered (reader_inner new)
       × (inner.cost (reader_inner new) ≡ inner.cost (reader_inner old)
       + exact_reads room (length (reader_held old)) (length (reader_events inner.events old)))
@@ -210,20 +212,20 @@ pub record ReadsOn {R : Type 0} {S : ℕ} (inner : Reader R) (old : BufReader R 
       → OnOk reply (length (reader_behind new) ≡ exact_behind S room (length (reader_held old)))
   pub calls : ExactMade (ReaderMay inner.may) old reply buf new
 
--- the answer of a seek without its number, which led to `place`
+-- the result of a seek that led to `place`, with the position added
 abbrev pub led_to : ℕ → Result (Unit {0}) Error → Result ℕ Error
 led_to place (Ok done) = Ok place
 led_to place (Err e) = Err e
 
--- to the start
+-- the target at the start
 abbrev pub at_start : SeekFrom
 at_start = Start 0
 
--- back by so many bytes
+-- the target that many bytes back
 abbrev pub back_by : ℕ → SeekFrom
 back_by held = Current (pos 0 -ℤ pos held)
 
--- Back by the bytes held, which arrived somewhere, and then by the offset.
+-- Two inner seeks: back by the number of held bytes, which succeeded, and then by the offset.
 pub record SeeksTwice {R : Type 0} (may : R → SeekCall → R → Type 0) (held : ℕ) (old : R) (offset : ℤ)
     (new : R) (reply : Result ℕ Error) : Type 0 where
   pub between : R
@@ -231,8 +233,8 @@ pub record SeeksTwice {R : Type 0} (may : R → SeekCall → R → Type 0) (held
   pub back : may old (Sought (back_by held) (Ok at)) between
   pub on : may between (Sought (Current offset) reply) new
 
--- The inner seeks that stand for one of a reader that holds so many bytes: one, by so many fewer where it counts from the current
--- position; or, where that is too far back for one, two, or the first of them alone where that fails.
+-- The inner seeks of one seek of a reader that holds `held` bytes. If it counts from the current position, the inner seek is by `held`
+-- less. If that is too far back for one seek, there are two; if the first fails, only that.
 abbrev pub SeeksInner : {R : Type 0} → (R → SeekCall → R → Type 0) → ℕ → R → SeekFrom → R → Result ℕ Error → Type 0
 SeeksInner may held old (Current offset) new reply =
     may old (Sought (Current (offset -ℤ pos held)) reply) new
@@ -240,7 +242,7 @@ SeeksInner may held old (Current offset) new reply =
     × (SeeksTwice may held old offset new reply ⊎ (IsErr reply × may old (Sought (back_by held) reply) new)))
 SeeksInner may held old to new reply = may old (Sought to reply) new
 
--- A seek of a `BufReader`. If it succeeds, the inner reader was sought, and the buffer is dropped. If it fails, the buffer is kept; only if
+-- A seek of a `BufReader`. If it succeeds, the inner seeks were made, and the buffer is dropped. If it fails, the buffer is kept; only if
 -- the target needs two inner seeks, it may be dropped.
 pub record ReaderSeeks {R : Type 0} {S : ℕ} (may : R → SeekCall → R → Type 0) (old : BufReader R S)
     (to : SeekFrom) (new : BufReader R S) (reply : Result ℕ Error) : Type 0 where
@@ -248,7 +250,7 @@ pub record ReaderSeeks {R : Type 0} {S : ℕ} (may : R → SeekCall → R → Ty
   pub kept : OnErr reply (KeepsBuffer old new ⊎ (IsTooFarBack to (length (reader_held old)) × HasNoBuffer new))
   pub inner : SeeksInner may (length (reader_held old)) (reader_inner old) to (reader_inner new) reply
 
--- what a call may do to a buffered reader: these seeks, or the inner reader is measured, and the buffer is kept
+-- what a call may do to a buffered reader: these seeks; or an inner `stream_len`, which keeps the buffer
 abbrev pub ReaderMaySeek : {R : Type 0} {S : ℕ} → (R → SeekCall → R → Type 0) → BufReader R S → SeekCall → BufReader R S → Type 0
 ReaderMaySeek may old (Sought to reply) new = ReaderSeeks may old to new reply
 ReaderMaySeek may old (Measured reply) new = KeepsBuffer old new
@@ -258,7 +260,7 @@ ReaderMaySeek may old (Measured reply) new = KeepsBuffer old new
 abbrev pub BufReaderFits : RattleType → ℕ → Type 0
 BufReaderFits R S = FitsInMemory (reader-row R (param 0 (number S)))
 
--- what comes of held bytes that are the content's, and then of the store, is the content from where they begin
+-- sound held bytes, followed by the events of the store, are the content from where the held bytes begin
 pub sound_tells : (held : List ℕ) (position : ℕ) (content : List ℕ) (E : List Event) → IsSound held position content
     → E ≡ events_of (drop position content)
     → events_of held ++ E ≡ events_of (drop (position - length held) content)
@@ -270,7 +272,7 @@ sound_tells held position content E s is =
     ap (λ l. events_of held ++ l) (is ∙ ap events_of rest) ∙ sym (events_of-append held (drop (length held) whole))
     ∙ ap (λ l. events_of (l ++ drop (length held) whole)) s.1 ∙ ap events_of (take-append-drop (length held) whole)
 
--- where the first of them are gone, the others are the content's still
+-- if some first held bytes are gone, the others are still sound
 pub sound_drop : (held : List ℕ) (position : ℕ) (content : List ℕ) (k : ℕ) → IsSound held position content
     → k ≤ length held → IsSound (drop k held) position content
 sound_drop held position content k s fits =
@@ -283,7 +285,7 @@ sound_drop held position content k s fits =
           ∙ ap (take (length (drop k held))) (drop-drop k (position - length held) content ∙ ap (λ n. drop n content) at),
     )
 
--- what was read at the position is held, and the position is behind it
+-- bytes that were just read from the store are sound if they are held
 pub sound_fill : (got : List ℕ) (position : ℕ) (content : List ℕ) (E E' : List Event)
     → E ≡ events_of (drop position content) → E ≡ events_of got ++ E' → IsSound got (position + length got) content
 sound_fill got position content E E' is read =
@@ -301,7 +303,7 @@ sound_fill got position content E E' is read =
     take_whole [] = refl
     take_whole (x ∷ l) = ap (λ m. x ∷ m) (take_whole l)
 
--- where the store's length and position are numbers of 64 bits, so is the position less the held bytes
+-- if the length and the position of the store fit in 64 bits, so does the position minus the held bytes
 pub sound_fits : (content held : List ℕ) (position : ℕ) → (length content < 2 ^ 64) × (position < 2 ^ 64)
     → (length content < 2 ^ 64) × (position - length held < 2 ^ 64)
 sound_fits content held position h = (h.0, omega (arith, h.1))

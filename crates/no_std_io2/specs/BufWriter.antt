@@ -1,5 +1,5 @@
--- What a clause reads of a `BufWriter` and of its error, how a buffer is sent, and what its calls do: each relation is the one
--- clause of the private functions that share it. I is what the inner writer tells, K what it tells as a seeker.
+-- What a `BufWriter` and its error hold and tell, how a buffer is sent, and what the calls do. I are the ghost members of the inner writer,
+-- K those of the inner writer as a seeker.
 use Rattle.std.specs.Prelude.{◌≡◌, ℕ, ◌+◌, List, [], ◌++◌, length, nat_lt, nat_le, ◌&&◌, if◌then◌else◌, ◌<◌, ◌≤◌, ◌⊎◌, ◌∷◌, Some}
 use Rattle.std.specs.Prelude.{Result, Ok, Err, IsOk, IsOkAnd, IfOk, IfErr, OnOk, codes}
 use Rattle.no_std_io2_base.specs.declared.error.Error.{Error}
@@ -22,7 +22,7 @@ use Rattle.no_std_io2.specs.contracts.buffered.buf_writer.BufWriter.{the_row as 
 abbrev pub sender_inner : {W : Type 0} {S : ℕ} → Sender W S → W
 sender_inner w = w.inner
 
--- the bytes that are held
+-- the held bytes
 abbrev pub sender_buffer : {W : Type 0} {S : ℕ} → Sender W S → List ℕ
 sender_buffer w = buffer_held w.buffer
 
@@ -42,15 +42,15 @@ into_inner_error_writer e = e.writer
 abbrev pub into_inner_error_cause : {W : Type 0} → IntoInnerError W → Error
 into_inner_error_cause e = e.error
 
--- what a writer tells that has this buffer in front of it
+-- what is told with this buffer in front of a writer that tells this
 abbrev pub with_buffer : Told → List ℕ → Told
 with_buffer told buffer = record told { held = told.held ++ buffer }
 
--- what such a writer tells, where its inner writer tells `told`
+-- what a `Sender` tells if its inner writer tells `told`
 abbrev pub sender_told : {W : Type 0} {S : ℕ} → (W → Told) → Sender W S → Told
 sender_told told w = with_buffer (told w.inner) (sender_buffer w)
 
--- what a `BufWriter` tells
+-- what a `BufWriter` tells if its inner writer tells `told`
 abbrev pub writer_told : {W : Type 0} {S : ℕ} → (W → Told) → BufWriter W S → Told
 writer_told told w = sender_told told w.core
 
@@ -58,11 +58,11 @@ writer_told told w = sender_told told w.core
 abbrev pub way_calls : ℕ → List ℕ → ℕ → ℕ
 way_calls S buffer n = if nat_lt 0 (length buffer) && nat_lt S (length buffer + n) then 1 else 0
 
--- how many inner calls a write of x takes, where the inner writer takes all
+-- the number of inner calls that a write of x makes, if the inner writer takes all
 abbrev pub writing_calls : ℕ → List ℕ → List ℕ → ℕ
 writing_calls S buffer x = way_calls S buffer (length x) + (if nat_le S (length x) then 1 else 0)
 
--- the buffer after a write of x that answered `Ok`
+-- the buffer after a write of x that returned `Ok`
 abbrev pub buffer_after : ℕ → List ℕ → List ℕ → List ℕ
 buffer_after S buffer x =
     if nat_lt (length x) S then (if nat_le (length buffer + length x) S then buffer ++ x else x) else []
@@ -75,44 +75,45 @@ sender_with_inner w x = record { inner = x; buffer = w.buffer }
 abbrev pub writer_with_inner : {W : Type 0} {S : ℕ} → BufWriter W S → W → BufWriter W S
 writer_with_inner w x = record { core = sender_with_inner w.core x }
 
--- a call of this writer, as its law says
+-- a call of this writer, by its law
 abbrev pub CallOf : {W : Type 0} → Writer W → W → WriteCall → W → Type 0
 CallOf I = CallLaw I.told I.takes_all I.cost I.is_metered I.may
 
--- A step of a writer with a buffer: what was held, which calls of the inner writer were made, the answer, and what is held then.
+-- A step of a writer with a buffer relates the bytes held before, the inner calls that were made, the result, and the bytes held
+-- afterwards.
 abbrev pub Step : Type 0 → Type 1
 Step A = List ℕ → List WriteCall → Result A Error → List ℕ → Type 0
 
--- `first?; next`: an error of the first step is the answer, and the next one is not taken then
+-- `first?; next`: if the first step fails, its error is the result, and the next step is not taken
 pub data Then {A : Type 0} (first : Step (Unit {0})) (next : Step A) (held : List ℕ) : List WriteCall → Result A Error → List ℕ → Type 0
   where
     stops : {C : List WriteCall} {e : Error} {left : List ℕ} → first held C (Err e) left → Then first next held C (Err e) left
     goes_on : {C D : List WriteCall} {mid left : List ℕ} {reply : Result A Error} → first held C (Ok tt) mid → next mid D reply left
         → Then first next held (C ++ D) reply left
 
--- these calls, with nothing held before them or after
+-- these calls, with nothing held before and after them
 abbrev pub PastEmpty : {A : Type 0} → (List WriteCall → Result A Error → Type 0) → Step A
 PastEmpty P held C reply left = (held ≡ []) × (left ≡ []) × P C reply
 
--- what is held is sent: the inner writes of the whole of it, until nothing is left or a fault comes, which is the answer
+-- the held bytes are sent: inner writes of all of them, until nothing is left, or until a fault, which is the result
 abbrev pub SendCalls : Step (Unit {0})
 SendCalls held C reply left = Writes (codes "failed to write the buffered data") C held reply left
 
--- n more bytes are to come: no call where they fit beside what is held, else that is sent
+-- room is made for n more bytes: no call if they fit beside the held bytes; else these are sent
 abbrev pub WayCalls : ℕ → ℕ → Step (Unit {0})
 WayCalls S n held C reply left = ((length held + n ≤ S) × (C ≡ []) × (reply ≡ Ok tt) × (left ≡ held))
     ⊎ ((S < length held + n) × SendCalls held C reply left)
 
--- x is held where it is shorter than S, with the answer `Ok(v)`, else these calls hand it on
+-- x is held if it is shorter than S, with the result `Ok(v)`; else these calls pass it on
 abbrev pub PutCalls : {A : Type 0} → ℕ → List ℕ → A → (List WriteCall → Result A Error → Type 0) → Step A
 PutCalls S x v past held C reply left = ((length x < S) × (C ≡ []) × (reply ≡ Ok v) × (left ≡ held ++ x))
     ⊎ ((S ≤ length x) × PastEmpty past held C reply left)
 
--- x goes through a buffer of S bytes: way is made for it, and then it is held or handed on
+-- x goes through a buffer of S bytes: room is made for it, and then it is held or passed on
 abbrev pub Buffered : {A : Type 0} → ℕ → List ℕ → A → (List WriteCall → Result A Error → Type 0) → Step A
 Buffered S x v past = Then (WayCalls S (length x)) (PutCalls S x v past)
 
--- one write of x, whose answer this is
+-- one `write` of x, with this result
 abbrev pub OneWrite : List ℕ → List WriteCall → Result ℕ Error → Type 0
 OneWrite x C reply = C ≡ Wrote x reply ∷ []
 
@@ -132,11 +133,11 @@ WriteCalls S x = Buffered S x (length x) (OneWrite x)
 abbrev pub WriteAllCalls : ℕ → List ℕ → Step (Unit {0})
 WriteAllCalls S x = Buffered S x tt (OneWriteAll x)
 
--- `flush()`: what is held is sent, and then comes one flush
+-- `flush()`: the held bytes are sent, and then one flush is made
 abbrev pub FlushCalls : Step (Unit {0})
 FlushCalls = Then SendCalls (PastEmpty OneFlush)
 
--- A writer B with a buffer in front of its inner writer took this step: each inner call was one as its law says.
+-- A writer B with a buffer in front of its inner writer took this step, and each inner call kept its law.
 abbrev pub Takes : {W B A : Type 0} → Writer W → (B → W) → (B → List ℕ) → Step A → B → Result A Error → B → Type 0
 Takes I inner buffer step old reply new =
     (C : List WriteCall) × Made (CallOf I) (inner old) C (inner new) × step (buffer old) C reply (buffer new)
@@ -148,12 +149,12 @@ InnerCalls S held (WroteAll x reply) C left = WriteAllCalls S x held C reply lef
 InnerCalls S held (WroteRest x reply rest) C left = ⊥
 InnerCalls S held (Flushed reply) C left = FlushCalls held C reply left
 
--- what a call may do to such a writer: these calls of its inner writer
+-- what a call may do to a writer with a buffer: these inner calls
 abbrev pub BufferMay : {W B : Type 0} → Writer W → ℕ → (B → W) → (B → List ℕ) → B → WriteCall → B → Type 0
 BufferMay I S inner buffer old call new = (C : List WriteCall) × Made (CallOf I) (inner old) C (inner new)
     × InnerCalls S (buffer old) call C (buffer new)
 
--- an inner writer that takes all, and whose calls are counted, got so many
+-- if the inner writer takes all and counts its calls, it counted n more
 abbrev pub CountsCalls : {W : Type 0} → Writer W → W → ℕ → W → Type 0
 CountsCalls I old n new = I.is_metered old → I.takes_all old → I.is_metered new × (I.cost new ≡ I.cost old + n)
 
@@ -164,14 +165,14 @@ buffered_told told inner buffer b = with_buffer (told (inner b)) (buffer b)
 -- What `write(x)` does through a buffer of S bytes.
 pub record Buffers {W B : Type 0} (I : Writer W) (S : ℕ) (inner : B → W) (buffer : B → List ℕ) (old : B) (x : List ℕ)
     (reply : Result ℕ Error) (new : B) : Type 0 where
-  -- these were the inner calls
+  -- these inner calls were made
   pub calls : Takes I inner buffer (WriteCalls S x) old reply new
-  -- where both fit, x is held and there is no inner call
+  -- if both fit, x is held, and no inner call was made
   pub fits : length x < S → length (buffer old) + length x ≤ S
       → (reply ≡ Ok (length x)) × (inner new ≡ inner old) × (buffer new ≡ buffer old ++ x)
-  -- what is shorter than the buffer is taken whole, or an error is answered
+  -- an x that is shorter than the buffer is taken whole, or an error is returned
   pub whole : length x < S → IfOk reply (λ n. n ≡ length x)
-  -- what is held after an `Ok`
+  -- the bytes that are held after `Ok`
   pub after : OnOk reply (buffer new ≡ buffer_after S (buffer old) x)
   -- the number of calls on the inner writer, if that takes all
   pub counts : CountsCalls I (inner old) (writing_calls S (buffer old) x) (inner new)
@@ -179,12 +180,12 @@ pub record Buffers {W B : Type 0} (I : Writer W) (S : ℕ) (inner : B → W) (bu
 -- What `write_all(x)` does.
 pub record BuffersAll {W B : Type 0} (I : Writer W) (S : ℕ) (inner : B → W) (buffer : B → List ℕ) (old : B) (x : List ℕ)
     (reply : Result (Unit {0}) Error) (new : B) : Type 0 where
-  -- these were the inner calls
+  -- these inner calls were made
   pub calls : Takes I inner buffer (WriteAllCalls S x) old reply new
-  -- where both fit, x is held and there is no inner call
+  -- if both fit, x is held, and no inner call was made
   pub fits : length x < S → length (buffer old) + length x ≤ S
       → IsOk reply × (inner new ≡ inner old) × (buffer new ≡ buffer old ++ x)
-  -- what is held after an `Ok`
+  -- the bytes that are held after `Ok`
   pub after : OnOk reply (buffer new ≡ buffer_after S (buffer old) x)
   -- the number of calls on the inner writer, if that takes all; with S = 0 an empty x makes none
   pub counts : 0 < S → CountsCalls I (inner old) (writing_calls S (buffer old) x) (inner new)
@@ -192,75 +193,77 @@ pub record BuffersAll {W B : Type 0} (I : Writer W) (S : ℕ) (inner : B → W) 
 -- What `flush` does.
 pub record Flushes {W B : Type 0} (I : Writer W) (inner : B → W) (buffer : B → List ℕ) (old : B) (reply : Result (Unit {0}) Error)
     (new : B) : Type 0 where
-  -- these were the inner calls
+  -- these inner calls were made
   pub calls : Takes I inner buffer FlushCalls old reply new
-  -- one call of an inner writer that takes all takes what was held
+  -- an inner writer that takes all got the held bytes by one call
   pub counts : CountsCalls I (inner old) (calls_for (buffer old)) (inner new)
 
--- the inner calls of `into_inner()`: what was held was sent, and the inner writer came back, or the error did, with the writer
+-- the inner calls of `into_inner()`: the held bytes were sent, and the result is the inner writer, or the error with the buffered writer
 abbrev pub UnwrapCalls : {W B : Type 0} → Writer W → (B → W) → (B → List ℕ) → B → Result W (IntoInnerError B) → Type 0
 UnwrapCalls I inner buffer old (Ok w) = (C : List WriteCall) × Made (CallOf I) (inner old) C w × SendCalls (buffer old) C (Ok tt) []
 UnwrapCalls I inner buffer old (Err e) =
     Takes I inner buffer SendCalls old (Err (into_inner_error_cause e)) (into_inner_error_writer e)
 
--- `into_inner()` of a writer B with a buffer: all that was held was sent and the inner writer came back, or a fault came with the
--- writer, which holds the rest.
+-- `into_inner()` of a writer B with a buffer: all held bytes were sent, and the result is the inner writer; or a fault came, and the result
+-- is the fault with the writer, which holds the rest.
 pub record Unwraps {W B : Type 0} (I : Writer W) (inner : B → W) (buffer : B → List ℕ) (old : B) (reply : Result W (IntoInnerError B))
     : Type 0 where
-  -- these were the inner calls
+  -- these inner calls were made
   pub calls : UnwrapCalls I inner buffer old reply
   -- no byte is lost
   pub ok : IfOk reply (λ w. Moves (buffered_told I.told inner buffer old) [] [] (I.told w))
   pub err : IfErr reply (λ e. Moves (buffered_told I.told inner buffer old) [] (error_kind (into_inner_error_cause e) ∷ [])
       (buffered_told I.told inner buffer (into_inner_error_writer e)))
-  -- the error is no interruption
+  -- the error is never an interruption
   pub fault : IfErr reply (λ e. IsFault (into_inner_error_cause e))
-  -- with nothing held there is no inner call
+  -- if nothing was held, no inner call was made
   pub empty : buffer old ≡ [] → reply ≡ Ok (inner old)
   -- over an inner writer with no mishap to come there is no error
   pub steady : (I.told (inner old)).mishaps ≡ Some [] → IsOk reply
-  -- an inner writer that takes all comes back so
+  -- an inner writer that takes all still does
   pub all : I.takes_all (inner old) → IsOkAnd reply I.takes_all
-  -- and one call of it takes what was held
+  -- and it got the held bytes by one call
   pub counts : IfOk reply (λ w. CountsCalls I (inner old) (calls_for (buffer old)) w)
 
--- A call of a writer B with a buffer sent first: all that was held, or as much as went until a fault, which is the answer then.
+-- A call of a writer B with a buffer first sent the held bytes: all of them, or as many as went out before a fault, which is then the
+-- result.
 pub record SendsFirst {W B A : Type 0} (I : Writer W) (inner : B → W) (buffer : B → List ℕ) (old : B) (reply : Result A Error) (new : B)
     : Type 0 where
   pub empty : OnOk reply (buffer new ≡ [])
-  -- where some bytes are held still, there was no call but the sending's, and the error is its
+  -- if bytes are still held, only the calls of the sending were made, and the error is that of the sending
   pub stopped : IfErr reply (λ e. 0 < length (buffer new) → Takes I inner buffer SendCalls old (Err e) new)
-  -- and no byte is lost
+  -- no byte is lost
   pub refused : IfErr reply (λ e. 0 < length (buffer new)
       → Moves (buffered_told I.told inner buffer old) [] (error_kind e ∷ []) (buffered_told I.told inner buffer new))
 
--- All that was held was sent, which left the inner writer in this state.
+-- All held bytes were sent, which left the inner writer in this state.
 pub record SendsHeld {W : Type 0} (I : Writer W) (old : W) (held : List ℕ) (sent : W) : Type 0 where
   -- no byte is lost
   pub moves : Moves (with_buffer (I.told old) held) [] [] (I.told sent)
   -- these were the calls
   pub calls : (C : List WriteCall) × Made (CallOf I) old C sent × SendCalls held C (Ok tt) []
 
--- All was sent, and the inner writer was sought from there, once.
+-- All held bytes were sent, and then one inner seek was made.
 pub record SeeksAfterSending {W : Type 0} (I : Writer W) (K : Seeker W) (old : W) (held : List ℕ) (to : SeekFrom) (new : W)
     (reply : Result ℕ Error) : Type 0 where
-  -- the state that the sending left
+  -- the state of the inner writer after the sending
   pub sent : W
   pub sends : SendsHeld I old held sent
-  -- one seek of the inner writer, and its answer
+  -- one seek of the inner writer, whose result is returned
   pub sought : K.may sent (Sought to reply) new
-  -- a store that it told then was sought
+  -- if it then told a store, the seek moved its position
   pub seeks : K.has_store sent
       → K.has_store new × (K.content new ≡ K.content sent)
       × Seeks (length (K.content sent)) (K.position sent) to reply (K.position new)
 
--- A seek of a writer with a buffer: the sending failed, which left some bytes, or all was sent and then the inner writer was sought.
+-- A seek of a writer with a buffer: the sending failed, and bytes are still held; or all held bytes were sent, and then the inner seek was
+-- made.
 pub record SendsThenSeeks {W B : Type 0} (I : Writer W) (K : Seeker W) (inner : B → W) (buffer : B → List ℕ) (old : B) (to : SeekFrom)
     (reply : Result ℕ Error) (new : B) : Type 0 where
   pub first : SendsFirst I inner buffer old reply new
   pub sent : buffer new ≡ [] → SeeksAfterSending I K (inner old) (buffer old) to (inner new) reply
 
--- what a call may do to a buffered writer, which has no `stream_len` of its own
+-- what a call of `Seek` may do to a buffered writer, which has no body of its own for `stream_len`
 abbrev pub WriterMaySeek : {W : Type 0} {S : ℕ} → Writer W → Seeker W → BufWriter W S → SeekCall → BufWriter W S → Type 0
 WriterMaySeek I K old (Sought to reply) new = SendsThenSeeks I K writer_inner writer_buffer old to reply new
 WriterMaySeek I K old (Measured reply) new = ⊥

@@ -1,4 +1,4 @@
--- What `copy` moves.
+-- Which bytes `copy` moves, and which calls it makes.
 use Rattle.std.specs.Prelude.{◌≡◌, ℕ, ◌+◌, ◌-◌, ◌^◌, ◌≤◌, ◌<◌, min, List, [], ◌∷◌, ◌++◌, length, Ok, Err, Result, ◌⊎◌}
 use Rattle.std.specs.Int.{div_ceil}
 use Rattle.std.specs.List.{concat}
@@ -9,7 +9,7 @@ use Rattle.no_std_io2_base.specs.Write.{Told, Moves, IsFront, WriteCall, Made, A
 use Rattle.no_std_io2_base.specs.declared.traits.write.Write.{Ghosts as Writer}
 use Rattle.no_std_io2.specs.BufWriter.{CallOf}
 
--- the number of bytes, up to the greatest `u64`
+-- the number of bytes, at most `u64::MAX`
 abbrev pub counted : List ℕ → ℕ
 counted b = min (length b) (2 ^ 64 - 1)
 
@@ -17,33 +17,33 @@ counted b = min (length b) (2 ^ 64 - 1)
 abbrev pub IsNearlyAll : ℕ → List ℕ → List ℕ → Type 0
 IsNearlyAll room b x = IsFront b x × (length x ≤ length b + room)
 
--- the writer refused: of the bytes taken from the reader it accepted all but at most `room`
+-- the writer failed: of the bytes that were taken from the reader, it accepted all except at most the last `room`
 abbrev pub WriterRefuses : ℕ → List ℕ → Error → Told → Told → Type 0
 WriterRefuses room taken e old new =
     (0 < room) × ((b : List ℕ) × IsNearlyAll room b taken × Moves old b (error_kind e ∷ []) new)
 
--- a copy that took P from the reader ended: at its end, at its fault, or at the writer's
+-- a copy that took P from the reader ended: at the reader's end, at the reader's fault, or at the writer's fault
 abbrev pub CopyEnds : ℕ → Result ℕ Error → List Event → List Event → Told → Told → Type 0
 CopyEnds room (Ok n) P after old new =
     HasNoFault P × (0 < room → after ≡ []) × (n ≡ counted (bytes P)) × Moves old (bytes P) [] new
 CopyEnds room (Err e) P after old new =
     (EndsInFault P e × Moves old (bytes P) [] new) ⊎ (HasNoFault P × WriterRefuses room (bytes P) e old new)
 
--- `copy` with this much room turned the reader's events E into after, and what the writer tells from old into new
+-- `copy` with a buffer of `room` bytes took the reader's events E up to `after`, and changed what the writer tells from old to new
 abbrev pub Copies : ℕ → List Event → Result ℕ Error → List Event → Told → Told → Type 0
 Copies room E r after old new =
     (P : List Event) × (E ≡ P ++ after) × (room ≡ 0 → bytes P ≡ []) × CopyEnds room r P after old new
 
--- over any reader: what the writer accepted is counted, and it had no mishap but the one that is answered
+-- over any reader: the bytes that the writer accepted are counted, and the only mishap is the one that is returned
 abbrev pub CopyMoves : Result ℕ Error → Told → Told → Type 0
 CopyMoves (Ok n) old new = (b : List ℕ) × (n ≡ counted b) × Moves old b [] new
 CopyMoves (Err e) old new = (b : List ℕ) × (Moves old b [] new ⊎ Moves old b (error_kind e ∷ []) new)
 
--- how many reads a copy of n bytes makes of a reader that fills the room: as many as give bytes, and one that gives none
+-- how many reads a copy of n bytes makes of a filling reader: those that give bytes, and one that gives none
 abbrev pub copy_reads : ℕ → ℕ → ℕ
 copy_reads room n = div_ceil n room + 1
 
--- These calls hand the pieces on, one `write_all` each, and none comes behind an error. A piece has a byte, and at most S.
+-- These calls pass the pieces on, one `write_all` for each, and none after an error. A piece has at least one byte, and at most S.
 pub data Handed (S : ℕ) : List (List ℕ) → List WriteCall → Result (Unit {0}) Error → Type 0 where
   nothing : Handed S [] [] (Ok tt)
   piece : {x : List ℕ} {xs : List (List ℕ)} {C D : List WriteCall} {reply : Result (Unit {0}) Error} → 0 < length x → length x ≤ S
@@ -51,20 +51,20 @@ pub data Handed (S : ℕ) : List (List ℕ) → List WriteCall → Result (Unit 
   refused : {x : List ℕ} {C : List WriteCall} {e : Error} → 0 < length x → length x ≤ S → AllCalls C x (Err e)
       → Handed S (x ∷ []) C (Err e)
 
--- What a reader gave was handed on to a writer, piece by piece.
+-- The bytes that a reader gave were passed on to a writer, piece by piece.
 pub record HandsOn {R W : Type 0} (K : Reader R) (I : Writer W) (S : ℕ) (from : R) (old : W) (reply : Result (Unit {0}) Error)
     (from' : R) (new : W) : Type 0 where
   pub pieces : List (List ℕ)
   pub calls : List WriteCall
   pub handed : Handed S pieces calls reply
-  -- no other call was made of the writer
+  -- the writer got no other call
   pub made : Made (CallOf I) old calls new
-  -- each piece is what one read gave, since no two of them came of one turn
+  -- each piece is what one read gave: each piece spent a turn
   pub turns : K.turns from' + length pieces ≤ K.turns from
-  -- joined they are the bytes that are gone from the reader
+  -- joined, they are the bytes that are gone from the reader
   pub bytes : K.tells from → bytes (K.events from) ≡ concat pieces ++ bytes (K.events from')
 
--- a copy that answers so handed on all that it read, or up to the piece that failed with its error
+-- a copy with this result passed on all that it read, or all up to the piece whose `write_all` failed with this error
 abbrev pub CopyHands : {R W : Type 0} → Reader R → Writer W → ℕ → R → W → Result ℕ Error → R → W → Type 0
 CopyHands K I S from old (Ok n) from' new = HandsOn K I S from old (Ok tt) from' new
 CopyHands K I S from old (Err e) from' new = HandsOn K I S from old (Ok tt) from' new ⊎ HandsOn K I S from old (Err e) from' new

@@ -1,4 +1,4 @@
--- What a clause reads of a `LineWriter`, and of what it stands on.
+-- What a `LineWriter` holds and tells, and the inner calls that it makes.
 use Rattle.std.specs.Prelude.{ℕ, List, ◌≡◌, ◌+◌, ◌<◌, ◌≤◌, ◌==◌, ◌⊎◌, [], ◌∷◌, ◌++◌, length, take, if◌then◌else◌}
 use Rattle.std.specs.Prelude.{Result, Ok, Err, IsOk}
 use Rattle.no_std_io2.specs.declared.buffered.line_writer.state.LineSender.{LineSender}
@@ -26,7 +26,7 @@ line_inner w = sender_inner w.core.buffered
 abbrev pub line_buffer : {W : Type 0} {S : ℕ} → LineWriter W S → List ℕ
 line_buffer w = sender_buffer w.core.buffered
 
--- what a `LineWriter` tells, where its inner writer tells `told`
+-- what a `LineWriter` tells if its inner writer tells `told`
 abbrev pub line_told : {W : Type 0} {S : ℕ} → (W → Told) → LineWriter W S → Told
 line_told told w = sender_told told w.core.buffered
 
@@ -34,12 +34,13 @@ line_told told w = sender_told told w.core.buffered
 abbrev pub line_with_inner : {W : Type 0} {S : ℕ} → LineWriter W S → W → LineWriter W S
 line_with_inner w x = record { core = line_sender_with_inner w.core x }
 
--- what is held, a line state, is sent where it ends in a newline; else there is no call
+-- the held bytes, a line state, are sent if they end in a newline; if not, there is no call
 abbrev pub SendLineCalls : Step (Unit {0})
 SendLineCalls held C reply left = (HasNoNewline held × (C ≡ []) × (reply ≡ Ok tt) × (left ≡ held))
     ⊎ (HasNewline held × SendCalls held C reply left)
 
--- what one write of the lines of x makes of the answer to it: of what it left the tail is held, and counts as taken
+-- the inner write of the lines of x had the result `sent`: of the bytes that it left, the tail is held, and the result of the call counts
+-- the tail as taken
 abbrev pub HoldsTail : ℕ → List ℕ → Result ℕ Error → Result ℕ Error → List ℕ → Type 0
 HoldsTail S x (Ok n) reply left = (left ≡ held_tail S x n) × (reply ≡ Ok (n + length left))
 HoldsTail S x (Err e) reply left = (left ≡ []) × (reply ≡ Err e)
@@ -49,18 +50,19 @@ abbrev pub LinesCalls : ℕ → List ℕ → Step ℕ
 LinesCalls S x held C reply left =
     (held ≡ []) × (answer : Result ℕ Error) × (C ≡ Wrote (lines_of x) answer ∷ []) × HoldsTail S x answer reply left
 
--- lines y are handed on by one `write_all` where nothing is held, else behind what is held, which is then sent
+-- the lines y are passed on: by one `write_all` if nothing is held; if not, they go through the buffer after the held bytes, and the buffer
+-- is sent
 abbrev pub SendLinesCalls : ℕ → List ℕ → Step (Unit {0})
 SendLinesCalls S y held C reply left = PastEmpty (OneWriteAll y) held C reply left
     ⊎ ((0 < length held) × Then (WriteAllCalls S y) SendCalls held C reply left)
 
--- `write(x)`: a text without a newline goes the way of a `BufWriter`, once a line that is held was sent; with one, what is held is
--- sent, and then come the lines
+-- `write(x)`: if x has no newline, a held line is sent, and then x is written as by a `BufWriter`; if x has one, the held bytes are sent,
+-- and then the lines of x are written
 abbrev pub LineWriteCalls : ℕ → List ℕ → Step ℕ
 LineWriteCalls S x held C reply left = (HasNoNewline x × Then SendLineCalls (WriteCalls S x) held C reply left)
     ⊎ (HasNewline x × Then SendCalls (LinesCalls S x) held C reply left)
 
--- `write_all(x)`: the same, where the lines go out whole, and then what follows them goes the way of a `BufWriter`
+-- `write_all(x)`: the same, but all lines of x are sent, and then the bytes after them are written as by a `BufWriter`
 abbrev pub LineWriteAllCalls : ℕ → List ℕ → Step (Unit {0})
 LineWriteAllCalls S x held C reply left = (HasNoNewline x × Then SendLineCalls (WriteAllCalls S x) held C reply left)
     ⊎ (HasNewline x × Then (SendLinesCalls S (lines_of x)) (WriteAllCalls S (unfinished_line x)) held C reply left)
@@ -72,16 +74,16 @@ LineCalls S held (WroteAll x reply) C left = LineWriteAllCalls S x held C reply 
 LineCalls S held (WroteRest x reply rest) C left = ⊥
 LineCalls S held (Flushed reply) C left = FlushCalls held C reply left
 
--- what a call may do to such a writer: these calls of its inner writer
+-- what a call may do to a writer with a line buffer: these inner calls
 abbrev pub LineMay : {W B : Type 0} → Writer W → ℕ → (B → W) → (B → List ℕ) → B → WriteCall → B → Type 0
 LineMay I S inner buffer old call new = (C : List WriteCall) × Made (CallOf I) (inner old) C (inner new)
     × LineCalls S (buffer old) call C (buffer new)
 
--- the buffer after a `write_all(x)` that answered `Ok`: the unfinished line, where it is shorter than S
+-- the buffer after a `write_all(x)` that returned `Ok`: the unfinished line, if it is shorter than S
 abbrev pub line_buffer_after : ℕ → List ℕ → List ℕ → List ℕ
 line_buffer_after S held x = buffer_after S (if lines_len x == 0 then unfinished_line held else []) (unfinished_line x)
 
--- the buffer after a `write(x)` to an inner writer that takes all: behind lines, the first S bytes of the unfinished line
+-- the buffer after a `write(x)`, if the inner writer takes all: after lines, the first S bytes of the unfinished line
 abbrev pub line_buffer_filled : ℕ → List ℕ → List ℕ → List ℕ
 line_buffer_filled S held x = if lines_len x == 0 then buffer_after S (unfinished_line held) x else take S (unfinished_line x)
 
@@ -89,7 +91,7 @@ line_buffer_filled S held x = if lines_len x == 0 then buffer_after S (unfinishe
 abbrev pub IsShortText : ℕ → List ℕ → Type 0
 IsShortText S x = HasNoNewline x × (length x < S)
 
--- an inner writer that takes all still does, there was no error, and where its calls are counted it got three at most
+-- if the inner writer takes all, it still does, and there was no error; if it counts its calls, it got at most three
 abbrev pub KeepsTaking : {W A : Type 0} → Writer W → W → Result A Error → W → Type 0
 KeepsTaking I old reply new = I.takes_all old
     → I.takes_all new × IsOk reply × (I.is_metered old → I.is_metered new × (I.cost new ≤ I.cost old + 3))

@@ -1,4 +1,4 @@
--- Lines in a list of bytes, and what is held of them.
+-- The lines in a list of bytes, and the bytes that a `LineWriter` holds of them.
 use Rattle.std.specs.Prelude.{◌≡◌, ◌≢◌, ℕ, ◌-◌, ◌<◌, List, length, slice_index, ◌≤◌, ◌==◌, [], take, drop, nat_lt, nat_le}
 use Rattle.std.specs.Prelude.{if◌then◌else◌}
 use Rattle.std.specs.List.{after_last, Contains}
@@ -7,7 +7,7 @@ use Rattle.std.specs.List.{after_last, Contains}
 abbrev pub HasNoNewline : List ℕ → Type 0
 HasNoNewline xs = (k : ℕ) → k < length xs → slice_index xs k ≢ 10
 
--- No newline, or one at the end: where a newline stands anywhere, one stands at the end.
+-- There is no newline, or one at the end: if any byte is a newline, the last one is.
 abbrev pub IsLineState : List ℕ → Type 0
 IsLineState xs = (k : ℕ) → k < length xs → slice_index xs k ≡ 10 → slice_index xs (length xs - 1) ≡ 10
 
@@ -15,31 +15,30 @@ IsLineState xs = (k : ℕ) → k < length xs → slice_index xs k ≡ 10 → sli
 abbrev pub HasNewline : List ℕ → Type 0
 HasNewline xs = Contains xs 10
 
--- what follows the last newline, all where there is none
+-- the bytes after the last newline, or all bytes if there is none
 abbrev pub unfinished_line : List ℕ → List ℕ
 unfinished_line xs = after_last (λ b. b == 10) xs
 
--- the lines of xs are its first n bytes: they end in the last newline, and none follows; n is 0 where there is none
+-- the lines of xs are its first n bytes: they end in the last newline; n is 0 if there is no newline
 pub record IsLinesLen (xs : List ℕ) (n : ℕ) : Type 0 where
   pub within : n ≤ length xs
   pub ends : 0 < n → slice_index xs (n - 1) ≡ 10
   pub none_after : HasNoNewline (drop n xs)
 
--- how many bytes there are up to and with the last newline, 0 where there is none
+-- the number of bytes up to and including the last newline, or 0 if there is none
 abbrev pub lines_len : List ℕ → ℕ
 lines_len xs = length xs - length (unfinished_line xs)
 
--- the lines of xs: it up to and with its last newline
+-- the lines of xs: its bytes up to and including the last newline
 abbrev pub lines_of : List ℕ → List ℕ
 lines_of xs = take (lines_len xs) xs
 
--- xs up to and with its last newline, all where there is none
+-- the bytes of xs up to and including the last newline, or all if there is none
 abbrev pub lines_or_all : List ℕ → List ℕ
 lines_or_all xs = if nat_lt 0 (lines_len xs) then take (lines_len xs) xs else xs
 
--- what is held of x, where at most S bytes may be and the inner writer took the first n of x: nothing where it took none; of what follows
--- the lines where it took all lines, else the rest of the lines where it fits, else the lines among the next S bytes, or all S where they
--- have no newline
+-- The bytes of x that are held, at most S, if the inner writer took the first n: none if n is 0; if all lines were taken, bytes after the
+-- lines; if not, the rest of the lines if it fits, or else the lines among the next S bytes, or all S if they have no newline.
 abbrev pub held_tail : ℕ → List ℕ → ℕ → List ℕ
 held_tail S x n =
     if n == 0 then []

@@ -1,4 +1,4 @@
--- Events that were taken without meeting a fault.
+-- Events that were taken and have no fault.
 use Rattle.std.specs.Prelude.{◌≡◌, ◌⊎◌, ℕ, ◌+◌, List, [], ◌∷◌, ◌++◌, length, Result, Ok, Err}
 use Rattle.no_std_io2_base.specs.declared.error.Error.{Error}
 use Rattle.no_std_io2_base.specs.Errors.{IsFault, IsUnexpectedEnd}
@@ -11,23 +11,23 @@ pub record Passes (E : List Event) (taken : List ℕ) (after : List Event) : Typ
   pub no_fault : HasNoFault front
   pub gave : bytes front ≡ taken
 
--- More of a part was gathered, from a front of E that is gone and has no fault.
+-- The first events of E are taken. They have no fault, and their bytes were appended: `old` became `new`.
 pub record Gathered (E : List Event) (old new : List ℕ) (after : List Event) : Type 0 where
   pub more : List ℕ
   pub is : new ≡ old ++ more
   pub passes : Passes E more after
 
--- Of n bytes to be passed over, some front of E had all but `left`.
+-- The first events of E are taken. They have no fault, and their bytes were skipped: of n bytes, `left` are still to be skipped.
 pub record PassesOver (n : ℕ) (E : List Event) (left : ℕ) (after : List Event) : Type 0 where
   pub over : List ℕ
   pub count : length over + left ≡ n
   pub passes : Passes E over after
 
--- the reader's fault stood behind them, and is gone; or the end came
+-- the reader's fault came next, and is taken; or the end came
 abbrev pub StopsThere : List Event → Error → List Event → Type 0
 StopsThere mid e after = ((mid ≡ fails e ∷ after) × IsFault e) ⊎ ((mid ≡ []) × (after ≡ []) × IsUnexpectedEnd e)
 
--- n bytes were passed over; or all but `left`, and an error came behind them
+-- n bytes were skipped; or all except `left`, and then an error came
 abbrev pub Skips : ℕ → List Event → Result (Unit {0}) Error → ℕ → List Event → Type 0
 Skips n E (Ok u) left after = PassesOver n E left after
 Skips n E (Err e) left after = (mid : List Event) × PassesOver n E left mid × StopsThere mid e after

@@ -1,4 +1,4 @@
--- What sending again and again after faults does, and which calls it makes.
+-- The calls that are made again after faults, and what they do to a writer.
 use Rattle.std.specs.Prelude.{◌≡◌, ◌⊎◌, ◌≤◌, ◌+◌, ℕ, suc, List, length, Option, Some, None, ⊤, Result, Ok, Err, IsErr, OnErr}
 use Rattle.no_std_io2_base.specs.declared.error.Error.{Error}
 use Rattle.no_std_io2_base.specs.declared.error.ErrorKind.{ErrorKind}
@@ -10,13 +10,13 @@ abbrev pub HasAtMost : ℕ → Option (List ErrorKind) → Type 0
 HasAtMost n None = ⊥
 HasAtMost n (Some mishaps) = length mishaps ≤ n
 
--- a told list stays told, and is shorter by n - left at least
+-- told mishaps stay told, and at least n - left of them are gone
 abbrev pub HasSpentTries : ℕ → ℕ → Option (List ErrorKind) → Option (List ErrorKind) → Type 0
 HasSpentTries n left None new = ⊤
 HasSpentTries n left (Some old) None = ⊥
 HasSpentTries n left (Some old) (Some new) = length new + n ≤ length old + left
 
--- what a call that sends x does to a writer, what it answers, and what it leaves of x
+-- A law relates the writer before a call that sends x, x, the result, the writer after the call, and the bytes that it left of x.
 abbrev pub Law : Type 0 → Type 1
 Law W = W → List ℕ → Result (Unit {0}) Error → W → List ℕ → Type 0
 
@@ -28,7 +28,7 @@ RestLaw I old x reply new left = WriteRestLaw I.told I.takes_all I.cost I.is_met
 abbrev pub FlushedLaw : {W : Type 0} → Writer W → W → Result (Unit {0}) Error → W → Type 0
 FlushedLaw I old reply new = FlushLaw I.told I.takes_all I.cost I.is_metered I.may old reply new
 
--- such a call and, if it succeeded, one more: the result is that of the last
+-- a call by this law and, if it succeeded, one more call; the result is that of the last call
 abbrev pub AndThen : {W : Type 0} → Law W → (W → Result (Unit {0}) Error → W → Type 0) → Law W
 AndThen {W} law last old x reply new left =
     (IsErr reply × law old x reply new left) ⊎ ((mid : W) × law old x (Ok tt) mid left × last mid reply new)
@@ -37,8 +37,8 @@ AndThen {W} law last old x reply new left =
 abbrev pub RestFlushLaw : {W : Type 0} → Writer W → Law W
 RestFlushLaw I = AndThen (RestLaw I) (FlushedLaw I)
 
--- Such calls were made again and again, with so many retries: each failed but the last, and the result is that of the last. If the last
--- one failed, no retry was left.
+-- Calls by this law were made again and again, with so many retries: each except the last failed, and the result is that of the last. If
+-- the last one failed, no retry was left.
 pub data Tries {W : Type 0} (law : Law W) : ℕ → W → List ℕ → Result (Unit {0}) Error → W → List ℕ → Type 0 where
   last : {retries : ℕ} {old new : W} {x left : List ℕ} {reply : Result (Unit {0}) Error} → law old x reply new left
       → OnErr reply (retries ≡ 0) → Tries law retries old x reply new left

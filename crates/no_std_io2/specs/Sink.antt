@@ -1,4 +1,4 @@
--- What a clause reads of a `Sink`.
+-- What a `Sink` tells.
 use Rattle.std.specs.Prelude.{◌≡◌, ℕ, List, [], ◌++◌, length, Some, Ok}
 use Rattle.no_std_io2_base.specs.Write.{Told, WriteCall, Wrote, WroteAll, WroteRest, Flushed}
 use Rattle.no_std_io2.specs.declared.util.sink.Sink.{Sink}
@@ -7,11 +7,11 @@ use Rattle.no_std_io2.specs.declared.util.sink.Sink.{Sink}
 abbrev pub sink_taken : Sink → List ℕ
 sink_taken s = s.taken.bytes
 
--- what a sink tells: what it took is out, and no mishap comes
+-- what a sink tells: the bytes that it took are out, and no mishap is to come
 abbrev pub sink_told : Sink → Told
 sink_told s = record { out = sink_taken s; held = []; mishaps = Some []; turns = 0 }
 
--- what one call does: a `write` takes the whole, and a `flush` nothing
+-- what one call does: a `write` takes all its bytes, and a `flush` changes nothing
 abbrev pub SinkMay : Sink → WriteCall → Sink → Type 0
 SinkMay old (Wrote x reply) new = (reply ≡ Ok (length x)) × (sink_taken new ≡ sink_taken old ++ x)
 SinkMay old (Flushed reply) new = (reply ≡ Ok tt) × (new ≡ old)

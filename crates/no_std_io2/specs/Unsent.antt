@@ -1,4 +1,4 @@
--- What a clause reads of bytes that were not sent.
+-- The bytes that a buffered writer did not send.
 use Rattle.std.specs.Prelude.{ℕ, List}
 use Rattle.no_std_io2.specs.declared.buffered.unsent.Unsent.{Unsent}
 use Rattle.no_std_io2.specs.Buffer.{buffer_held}

@@ -1,4 +1,4 @@
--- What a clause reads of a `Cursor`.
+-- The content and the position of a `Cursor`, and what a write changes.
 use Rattle.std.specs.Prelude.{◌≡◌, ℕ, ◌+◌, ◌-◌, ◌^◌, ◌<◌, ◌≤◌, ◌⊎◌, List, ◌++◌, length, take, drop, replicate, codes, None, Some, Ok, Err}
 use Rattle.std.specs.Prelude.{Result, OnOk, OnErr, IfErr}
 use Rattle.no_std_io2_base.specs.declared.cursor.Cursor.{Cursor}
@@ -26,7 +26,7 @@ cursor_stores slice c = (length (slice c.inner) < 2 ^ 64) × (c.pos < 2 ^ 64)
 abbrev pub cursor_with_inner : {T : Type 0} → Cursor T → T → Cursor T
 cursor_with_inner c x = record c { inner = x }
 
--- the bytes before a place, with zeros where there are too few
+-- the bytes before a place, with zeros after them if there are too few
 abbrev pub bytes_before : ℕ → List ℕ → List ℕ
 bytes_before place bs = take place bs ++ replicate (place - length bs) 0
 
@@ -34,7 +34,7 @@ bytes_before place bs = take place bs ++ replicate (place - length bs) 0
 abbrev pub cursor_out : {T : Type 0} → (T → List ℕ) → Cursor T → List ℕ
 cursor_out slice c = bytes_before c.pos (slice c.inner)
 
--- the bytes after x was put at a place: what stood before and behind stays
+-- the bytes after x was put at a place: the bytes before the place and after x stay
 abbrev pub put_at : ℕ → List ℕ → List ℕ → List ℕ
 put_at place x bs = bytes_before place bs ++ x ++ drop (place + length x) bs
 
@@ -42,35 +42,36 @@ put_at place x bs = bytes_before place bs ++ x ++ drop (place + length x) bs
 abbrev pub fitting : ℕ → List ℕ → List ℕ → List ℕ
 fitting place x bs = take (length bs - place) x
 
--- the bytes with x over those from a place on
+-- the bytes, with those from a place on overwritten by x
 abbrev pub put_over : ℕ → List ℕ → List ℕ → List ℕ
 put_over place x bs = take place bs ++ x ++ drop (place + length x) bs
 
--- why x was refused at a place: it would end past the greatest `usize`, or there is no memory
+-- the error if x cannot be put at a place: it would end past `usize::MAX`, or an allocation failed
 abbrev pub IsRefusal : ℕ → List ℕ → Error → Type 0
 IsRefusal place x e =
     ((2 ^ 64 ≤ place + length x) × (error_kind e ≡ InvalidInput)
     × (error_text e ≡ Some (codes "vector position past the greatest usize")))
     ⊎ ((place + length x < 2 ^ 64) × (error_kind e ≡ OutOfMemory) × (error_text e ≡ None))
 
--- `write` of x: a vector took all of it at a place, which moved behind it; or it would have had to grow, was refused, and nothing changed
+-- `write` of x: a vector has all of x at the place, and the place moved behind x; or the vector had to grow and could not, and nothing
+-- changed
 abbrev pub PutsWhole : List ℕ → ℕ → List ℕ → Result ℕ Error → List ℕ → ℕ → Type 0
 PutsWhole bs place x (Ok n) bs' place' =
     (place + length x < 2 ^ 64) × (n ≡ length x) × (bs' ≡ put_at place x bs) × (place' ≡ place + length x)
 PutsWhole bs place x (Err e) bs' place' = (length bs < place + length x) × IsRefusal place x e × (bs' ≡ bs) × (place' ≡ place)
 
--- `write_all` of x: the same, but where x is empty nothing is done
+-- `write_all` of x: as `write`, except that nothing changes if x is empty
 abbrev pub PutsAll : List ℕ → ℕ → List ℕ → Result (Unit {0}) Error → List ℕ → ℕ → Type 0
 PutsAll bs place x (Ok u) bs' place' =
     (0 < length x → (place + length x < 2 ^ 64) × (bs' ≡ put_at place x bs)) × (length x ≡ 0 → bs' ≡ bs) × (place' ≡ place + length x)
 PutsAll bs place x (Err e) bs' place' = (length bs < place + length x) × IsRefusal place x e × (bs' ≡ bs) × (place' ≡ place)
 
--- a slice took the front of x that fits at a place, which moved behind it
+-- a slice has the front of x that fits at the place, and the place moved behind it
 abbrev pub PutsFitting : List ℕ → ℕ → List ℕ → List ℕ → ℕ → Type 0
 PutsFitting bs place x bs' place' =
     let front = fitting place x bs in (bs' ≡ put_over place front bs) × (place' ≡ place + length front)
 
--- What a private function that puts x at `place` says: it is there, or it was refused for want of room, and nothing has changed.
+-- The contract of a private function that puts x at `place`: x is there, or the capacity was too small, and nothing changed.
 pub record IsPut (bs : List ℕ) (capacity place : ℕ) (x : List ℕ) (reply : Result (Unit {0}) Error) (bs' : List ℕ) : Type 0 where
   pub fits : OnOk reply (place + length x < 2 ^ 64)
   pub puts : OnOk reply (bs' ≡ put_at place x bs)
@@ -78,6 +79,6 @@ pub record IsPut (bs : List ℕ) (capacity place : ℕ) (x : List ℕ) (reply : 
   pub same : OnErr reply (bs' ≡ bs)
   pub full : OnErr reply (capacity < place + length x)
 
--- some bytes went from the front of a slice to the end of a vector
+-- some bytes are gone from the front of a slice, and are at the end of a vector
 abbrev pub HasMoved : List ℕ → List ℕ → List ℕ → List ℕ → Type 0
 HasMoved rest rest' items items' = (part : List ℕ) × (rest ≡ part ++ rest') × (items' ≡ items ++ part)

@@ -1,4 +1,4 @@
--- What a clause reads of an error.
+-- The kind and the text of an error, and the errors that the library makes.
 use Rattle.std.specs.Prelude.{◌≡◌, ℕ, Bool, true, false, List, codes, Option, None, Some, Result, IfErr}
 use Rattle.no_std_io2_base.specs.declared.error.Error.{Error}
 use Rattle.no_std_io2_base.specs.declared.error.Repr.{Repr}
@@ -22,11 +22,11 @@ abbrev pub repr_text : Repr → Option (List ℕ)
 repr_text (Kind _) = None
 repr_text (Custom _ text) = Some text.now
 
--- `e.kind()`
+-- the result of `e.kind()`
 abbrev pub error_kind : Error → ErrorKind
 error_kind e = repr_kind e.repr
 
--- the text, if there is one
+-- the text of an error, if it has one
 abbrev pub error_text : Error → Option (List ℕ)
 error_text e = repr_text e.repr
 
@@ -82,7 +82,7 @@ kind_number Unsupported = 19
 kind_number OutOfMemory = 20
 kind_number Uncategorized = 21
 
--- the text, or else the kind's
+-- the text, or else the text of the kind
 abbrev pub text_or_kind : ErrorKind → Option (List ℕ) → List ℕ
 text_or_kind kind (Some text) = text
 text_or_kind kind None = kind_text kind
@@ -91,27 +91,27 @@ text_or_kind kind None = kind_text kind
 abbrev pub error_display : Error → List ℕ
 error_display e = text_or_kind (error_kind e) (error_text e)
 
--- a kind alone, without a text
+-- e has this kind, and no text
 abbrev pub IsPlain : ErrorKind → Error → Type 0
 IsPlain kind e = (error_kind e ≡ kind) × (error_text e ≡ None)
 
--- this kind, with this text
+-- e has this kind and this text
 abbrev pub SaysError : ErrorKind → List ℕ → Error → Type 0
 SaysError kind text e = (error_kind e ≡ kind) × (error_text e ≡ Some text)
 
--- memory was refused: the kind alone
+-- e is the error of a failed allocation: `OutOfMemory`, without a text
 abbrev pub IsOutOfMemory : Error → Type 0
 IsOutOfMemory e = IsPlain OutOfMemory e
 
--- the bytes ended too early
+-- e is the error of bytes that end too early
 abbrev pub IsUnexpectedEnd : Error → Type 0
 IsUnexpectedEnd e = SaysError UnexpectedEof (codes "failed to fill whole buffer") e
 
--- a writer took no byte of some
+-- e is the error of a writer that takes no byte
 abbrev pub IsUnwritten : Error → Type 0
 IsUnwritten e = SaysError WriteZero (codes "failed to write whole buffer") e
 
--- a seek has no target
+-- e is the error of a seek that has no target
 abbrev pub IsInvalidSeek : Error → Type 0
 IsInvalidSeek e = SaysError InvalidInput (codes "invalid seek to a negative or overflowing position") e
 
@@ -120,14 +120,14 @@ abbrev pub is_interruption : ErrorKind → Bool
 is_interruption Interrupted = true
 is_interruption _ = false
 
--- the call did nothing, and may be made again
+-- e is an interruption: the call did nothing, and may be made again
 abbrev pub IsInterruption : Error → Type 0
 IsInterruption e = is_interruption (error_kind e) ≡ true
 
--- every other error
+-- e is a fault: every error that is no interruption
 abbrev pub IsFault : Error → Type 0
 IsFault e = is_interruption (error_kind e) ≡ false
 
--- the answer is no interruption
+-- the result is no interruption
 abbrev pub IsNoInterruption : {T : Type 0} → Result T Error → Type 0
 IsNoInterruption reply = IfErr reply IsFault

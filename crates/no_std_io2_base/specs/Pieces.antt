@@ -1,4 +1,4 @@
--- Pieces of bytes, each ended by a delimiter, what a call that reads one does, and what `Split` and `Lines` yield.
+-- Pieces of bytes, each of which ends in a delimiter; which events a call that reads a piece takes; what `Split` and `Lines` yield.
 use Rattle.std.specs.Prelude.{◌≡◌, ◌≢◌, ℕ, ◌+◌, ◌-◌, ◌^◌, ◌<◌, ◌≤◌, ◌==◌, min, true, false, Bool, List, [], ◌∷◌, ◌++◌, length, take, filter}
 use Rattle.std.specs.Prelude.{if◌then◌else◌, ◌⊎◌, ⊤, Option, None, Some, Result, Ok, Err, suc, codes, IsUtf8}
 use Rattle.std.specs.List.{AllByRecursion, concat}
@@ -9,7 +9,7 @@ use Rattle.no_std_io2_base.specs.declared.error.ErrorKind.TheVariants.{InvalidDa
 use Rattle.no_std_io2_base.specs.declared.traits.split.Split.{Split}
 use Rattle.no_std_io2_base.specs.declared.traits.lines.Lines.{Lines}
 
--- d stands nowhere in these bytes
+-- d is not among these bytes
 abbrev pub Lacks : ℕ → List ℕ → Type 0
 Lacks d bs = AllByRecursion (λ b. b ≢ d) bs
 
@@ -19,13 +19,13 @@ ends_in d [] = false
 ends_in d (b ∷ []) = b == d
 ends_in d (b ∷ c ∷ bs) = ends_in d (c ∷ bs)
 
--- all but the last
+-- the list without its last element
 abbrev pub but_last : {X : Type 0} → List X → List X
 but_last [] = []
 but_last (x ∷ []) = []
 but_last (x ∷ y ∷ xs) = x ∷ but_last (y ∷ xs)
 
--- without the d that ends them, where one does
+-- the bytes without the d at their end, if there is one
 abbrev pub without : ℕ → List ℕ → List ℕ
 without d bs = if ends_in d bs then but_last bs else bs
 
@@ -38,33 +38,34 @@ abbrev pub in_front : ℕ → List (List ℕ) → List (List ℕ)
 in_front b [] = (b ∷ []) ∷ []
 in_front b (p ∷ ps) = (b ∷ p) ∷ ps
 
--- the bytes, cut right behind each d
+-- the bytes, cut right after each d
 abbrev pub pieces : ℕ → List ℕ → List (List ℕ)
 pieces d [] = []
 pieces d (b ∷ bs) = if b == d then (b ∷ []) ∷ pieces d bs else in_front b (pieces d bs)
 
--- What the pieces of the bytes are, and nothing else is.
+-- These are the pieces of the bytes: exactly one list of pieces has these four properties.
 pub record ArePieces (d : ℕ) (bs : List ℕ) (ps : List (List ℕ)) : Type 0 where
   -- joined they are the bytes
   pub joined : concat ps ≡ bs
   -- none is empty
   pub none_empty : AllByRecursion (λ p. 0 < length p) ps
-  -- each but perhaps the last ends in d
+  -- each except possibly the last ends in d
   pub ended : AllByRecursion (λ p. ends_in d p ≡ true) (but_last ps)
-  -- and d stands nowhere else
+  -- d is nowhere else in a piece
   pub nowhere_else : AllByRecursion (λ p. Lacks d (but_last p)) ps
 
 -- these bytes end in d, the only one in them
 abbrev pub EndsPiece : ℕ → List ℕ → Type 0
 EndsPiece d bs = (front : List ℕ) × (bs ≡ front ++ d ∷ []) × Lacks d front
 
--- Of these bytes the first n belong to a piece, which is whole where they end in its d, or where there are none: then nothing is to come.
+-- The first n of these bytes belong to the next piece. They complete it if they end in d, or if there are no bytes: then nothing is to
+-- come.
 pub record FindsPiece (d : ℕ) (bs : List ℕ) (n : ℕ) (is_whole : Bool) : Type 0 where
   pub within : n ≤ length bs
   pub whole : is_whole ≡ true → EndsPiece d (take n bs) ⊎ (bs ≡ [])
   pub open_ended : is_whole ≡ false → (0 < n) × Lacks d (take n bs)
 
--- `read_until(d)` answered n: a piece was taken from E and its bytes were appended
+-- `read_until(d)` returned `Ok(n)`: a piece of n bytes was taken from E, and its bytes were appended
 pub record GivesPiece (d : ℕ) (E : List Event) (n : ℕ) (old new : List ℕ) (after : List Event) : Type 0 where
   pub taken : List Event
   pub split : E ≡ taken ++ after
@@ -80,70 +81,70 @@ IsByteNext [] = ⊥
 IsByteNext (byte b ∷ E) = ⊤
 IsByteNext (fails e ∷ E) = ⊥
 
--- `read_until(d)` answered e: what was taken before has no d, and its bytes were appended
+-- `read_until(d)` returned the error e: the bytes that were taken before have no d, and were appended
 pub record StopsInPiece (d : ℕ) (E : List Event) (e : Error) (old new : List ℕ) (after : List Event) : Type 0 where
   pub taken : List Event
   pub split : E ≡ taken ++ after
   pub appended : new ≡ old ++ bytes taken
   pub no_end : Lacks d (bytes taken)
-  -- at the first fault, which is taken too, or where memory was refused for a byte that comes next
+  -- it stopped at the first fault, which is taken too; or at a failed allocation, and a byte comes next
   pub stops : EndsInFault taken e ⊎ (HasNoFault taken × IsOutOfMemory e × IsByteNext after)
 
--- `read_until(d)` turned E into after and appended the bytes that it took: up to and with the first d, or else all that
--- is left; a fault stops it, and so does refused memory
+-- `read_until(d)` took the events of E up to `after`, and appended their bytes: those up to and including the first d, or all if there is
+-- none. A fault or a failed allocation stops it.
 abbrev pub TakesPiece : ℕ → List Event → Result ℕ Error → List ℕ → List ℕ → List Event → Type 0
 TakesPiece d E (Ok n) old new after = GivesPiece d E n old new after
 TakesPiece d E (Err e) old new after = StopsInPiece d E e old new after
 
--- `skip_until(d)` turned E into after: a piece was taken, and the answer is its length, up to the greatest `usize`; a fault that
--- stops it is taken too
+-- `skip_until(d)` took the events of E up to `after`: one piece, and the result is its length, at most `usize::MAX`. A fault stops it, and
+-- is taken too.
 abbrev pub SkipsPiece : ℕ → List Event → Result ℕ Error → List Event → Type 0
 SkipsPiece d E (Ok n) after = (piece : List ℕ) × GivesPiece d E (length piece) [] piece after × (n ≡ min (length piece) (2 ^ 64 - 1))
 SkipsPiece d E (Err e) after = (taken : List Event) × (E ≡ taken ++ after) × Lacks d (bytes taken) × EndsInFault taken e
 
--- the bytes up to and with the first d, all of them where there is none
+-- the bytes up to and including the first d, or all if there is none
 abbrev pub up_to : ℕ → List ℕ → List ℕ
 up_to d [] = []
 up_to d (b ∷ bs) = if b == d then b ∷ [] else b ∷ up_to d bs
 
--- a vector of this length and capacity has room for the bytes of the piece that stands first in E
+-- a vector of this length and capacity has room for the bytes of the first piece of E
 abbrev pub HasPieceRoom : ℕ → List Event → ℕ → ℕ → Type 0
 HasPieceRoom d E len capacity = len + length (up_to d (bytes_to_fault E)) ≤ capacity
 
--- all pieces, or those that a d ended where a fault comes behind them
+-- all pieces; or, if a fault comes after them, those that end in d
 abbrev pub pieces_before : ℕ → Option Error → List ℕ → List (List ℕ)
 pieces_before d None bs = pieces d bs
 pieces_before d (Some e) bs = filter (ends_in d) (pieces d bs)
 
--- the pieces that a reader with these events gives: all of them, or those that a d ended before the first fault
+-- the pieces that a reader with these events gives: all, or those that end in d before the first fault
 abbrev pub pieces_given : ℕ → List Event → List (List ℕ)
 pieces_given d E = pieces_before d (first_fault E) (bytes_to_fault E)
 
--- the reader behind
+-- the inner reader
 abbrev pub split_reader : {R : Type 0} → Split R → R
 split_reader s = s.inner
 
--- the byte that it cuts at
+-- the delimiter
 abbrev pub split_delim : {R : Type 0} → Split R → ℕ
 split_delim s = s.delim
 
--- that it yielded an error, and yields nothing more
+-- whether it has yielded an error, and so yields nothing more
 abbrev pub split_is_ended : {R : Type 0} → Split R → Bool
 split_is_ended s = s.is_ended
 
--- the reader behind
+-- the inner reader
 abbrev pub lines_reader : {R : Type 0} → Lines R → R
 lines_reader s = s.inner
 
--- that it yielded an error, and yields nothing more
+-- whether it has yielded an error, and so yields nothing more
 abbrev pub lines_is_ended : {R : Type 0} → Lines R → Bool
 lines_is_ended s = s.is_ended
 
--- the bytes aren't UTF-8
+-- e is the error of bytes that are not UTF-8
 abbrev pub IsInvalidText : Error → Type 0
 IsInvalidText e = (error_kind e ≡ InvalidData) × (error_text e ≡ Some (codes "stream did not contain valid UTF-8"))
 
--- a line that isn't UTF-8 is that error
+-- the line is not UTF-8, and e is the error that says so
 abbrev pub RefusesLine : List ℕ → Error → Type 0
 RefusesLine piece e = (IsUtf8 (line_text piece) → ⊥) × IsInvalidText e
 
@@ -153,8 +154,8 @@ pub record TakesSome (d : ℕ) (E : List Event) (piece : List ℕ) (after : List
   pub some : 0 < count
   pub gives : GivesPiece d E count [] piece after
 
--- What one `next` yields: nothing at the end; a piece, trimmed; an error that stopped it, or with which the piece is
--- refused. `view` is what an item shows.
+-- What one `next` yields: nothing at the end; a trimmed piece; the error that stopped it, or the error that refuses the piece. `view` gives
+-- the bytes of an item.
 abbrev pub YieldsPiece : {T : Type 0} → (T → List ℕ) → (List ℕ → List ℕ) → (List ℕ → Error → Type 0) → ℕ → List Event
     → Option (Result T Error) → List Event → Type 0
 YieldsPiece view trim refuses d E None after = (piece : List ℕ) × GivesPiece d E 0 [] piece after
@@ -172,17 +173,17 @@ ends_at (Some (Err e)) = true
 abbrev pub items_left : Bool → ℕ → ℕ
 items_left is_ended turns = if is_ended then 0 else suc turns
 
--- a line's bytes are UTF-8 and stand behind the text
+-- the bytes of a line are UTF-8, and were appended to the text
 abbrev pub Follows : List ℕ → List ℕ → List ℕ → Type 0
 Follows line old new = IsUtf8 line × (new ≡ old ++ line)
 
--- a line is UTF-8, and was refused by a text of this length and capacity: it had no room for it
+-- a line is UTF-8, and a text of this length and capacity has no room for it
 abbrev pub HasNoRoom : List ℕ → ℕ → ℕ → Error → Type 0
 HasNoRoom line len capacity e = IsUtf8 line × (capacity < len + length line) × IsOutOfMemory e
 
--- `read_line` took a line with this answer, and gave its own, by a text of this length and capacity. A text stays as it is where
--- the line isn't UTF-8, where it was refused the room that it lacks, and where the reader's own error is want of memory; any other
--- fault is the answer, behind what stood before it.
+-- `read_line` read a line with the result `read`, and returned `reply`, with a text of this length and capacity. The text does not change
+-- if the line is not UTF-8, if the text could not grow for it, or if the reader's own error is `OutOfMemory`. After any other fault, the
+-- fault is the result, and the bytes before it are appended if they are UTF-8.
 abbrev pub AnswersLine : List ℕ → Result ℕ Error → ℕ → ℕ → Result ℕ Error → List ℕ → List ℕ → Type 0
 AnswersLine line (Ok n) len capacity (Ok m) old new = Follows line old new × (m ≡ n)
 AnswersLine line (Ok n) len capacity (Err e) old new =
@@ -194,8 +195,8 @@ AnswersLine line (Err f) len capacity (Err e) old new =
     × ((Follows line old new × (e ≡ f))
     ⊎ (((IsUtf8 line → ⊥) × (e ≡ f) × (new ≡ old)) ⊎ (HasNoRoom line len capacity e × (new ≡ old)))))
 
--- `read_line` turned E into after, and a text of this length and capacity from old into new: by a line that `read_until` takes at
--- a newline
+-- `read_line` took the events of E up to `after`: the line that `read_until` takes with a newline as delimiter. A text of this length and
+-- capacity changed from old to new.
 pub record TakesLine (E : List Event) (len capacity : ℕ) (result : Result ℕ Error) (old new : List ℕ) (after : List Event)
     : Type 0 where
   pub line : List ℕ

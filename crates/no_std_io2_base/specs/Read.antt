@@ -1,4 +1,4 @@
--- What a reader has left to give, what its calls do to that, and the law of each call of `Read`; what `Bytes` yields.
+-- The events that a reader is going to give, what its calls do to them, the law of each call of `Read`, and what `Bytes` yields.
 use Rattle.std.specs.Prelude.{◌≡◌, ℕ, zero, suc, ◌<◌, Bool, true, false, List, [], ◌∷◌, ◌++◌, length, take, ⊤, Ok, Err, Result, ◌⊎◌, ◌+◌, ◌≤◌}
 use Rattle.std.specs.Prelude.{min, Vec, vec_len, vec_capacity, Some, IfOk, IfErr, OnOk, IsOk, IsOkAnd, Option, None, refl, if◌then◌else◌}
 use Rattle.no_std_io2_base.specs.declared.error.Error.{Error}
@@ -30,7 +30,7 @@ HasNoFault [] = ⊤
 HasNoFault (byte b ∷ E) = HasNoFault E
 HasNoFault (fails e ∷ E) = IsInterruption e × HasNoFault E
 
--- E up to and with its byte number `limit`, all of E where it has fewer; nothing at 0
+-- E up to and including its byte number `limit`, or all of E if it has fewer bytes; nothing if `limit` is 0
 abbrev pub cut : ℕ → List Event → List Event
 cut zero E = []
 cut (suc k) [] = []
@@ -43,12 +43,12 @@ abbrev pub Reads : List Event → Result ℕ Error → List ℕ → List Event �
 Reads E (Ok n) buf after = (E ≡ events_of (take n buf) ++ after) × (n ≡ 0 → 0 < length buf → E ≡ [])
 Reads E (Err e) buf after = E ≡ fails e ∷ after
 
--- a call spent a turn, where it gave bytes or an error
+-- a call spent a turn if it gave bytes or returned an error
 abbrev pub SpendsTurn : Result ℕ Error → ℕ → ℕ → Type 0
 SpendsTurn (Ok n) old new = 0 < n → new < old
 SpendsTurn (Err e) old new = new < old
 
--- P ends in the fault e, its only one
+-- P ends in the fault e, and has no other fault
 abbrev pub EndsInFault : List Event → Error → Type 0
 EndsInFault P e = (Q : List Event) × (P ≡ Q ++ fails e ∷ []) × HasNoFault Q × IsFault e
 
@@ -57,46 +57,45 @@ abbrev pub given : Result ℕ Error → ℕ
 given (Ok n) = n
 given (Err e) = 0
 
--- The front of E that fills a buffer with these bytes is taken: it ends right behind the last of them.
+-- The front of E that fills a buffer with these bytes is taken. It ends right after the last of them.
 pub record Fills (E : List Event) (buf : List ℕ) (after : List Event) : Type 0 where
   pub split : E ≡ cut (length buf) E ++ after
   pub no_fault : HasNoFault (cut (length buf) E)
   pub filled : bytes (cut (length buf) E) ≡ buf
 
--- E has no fault and fewer bytes than `room`, and all of it is taken; or, by a reader that may take none, nothing.
+-- E has no fault and fewer bytes than `room`. All of E is taken, or none if the reader may take none.
 pub record FallsShort (may_take_none : Type 0) (E : List Event) (room : ℕ) (e : Error) (after : List Event) : Type 0 where
   pub no_fault : HasNoFault E
   pub short : length (bytes E) < room
   pub answer : IsUnexpectedEnd e
   pub left : (after ≡ []) ⊎ (may_take_none × (after ≡ E))
 
--- E up to and with its first fault, the answer, is taken, and has fewer bytes than `room`.
+-- E up to and including its first fault is taken, and has fewer bytes than `room`. This fault is the result.
 pub record StopsAtFault (E : List Event) (room : ℕ) (e : Error) (after : List Event) : Type 0 where
   pub taken : List Event
   pub split : E ≡ taken ++ after
   pub ends : EndsInFault taken e
   pub short : length (bytes taken) < room
 
--- `read_exact(buf)` turned E into after
+-- `read_exact(buf)` took the events of E up to `after`
 abbrev pub ReadsExact : {A : Type 0} → Type 0 → List Event → Result A Error → List ℕ → List Event → Type 0
 ReadsExact may_take_none E (Ok _) buf after = Fills E buf after
 ReadsExact may_take_none E (Err e) buf after = StopsAtFault E (length buf) e after ⊎ FallsShort may_take_none E (length buf) e after
 
--- reads into the room of a vector turned E into after and appended the bytes that they took: all of them where the answer is
--- that the end was met, or those up to the first fault
+-- reads into the room of a vector took the events of E up to `after`, and appended their bytes: all if the result is that the end was met,
+-- or those up to the first fault
 abbrev pub FillsRoom : List Event → Result Bool Error → List ℕ → List ℕ → List Event → Type 0
 FillsRoom E (Ok at_end) old new after =
     (P : List Event) × (E ≡ P ++ after) × HasNoFault P × (new ≡ old ++ bytes P) × (at_end ≡ true → after ≡ [])
 FillsRoom E (Err e) old new after = (P : List Event) × (E ≡ P ++ after) × (new ≡ old ++ bytes P) × EndsInFault P e
 
--- `read_to_end` turned E into after and appended the bytes that it took: all of them, or those up to the first fault or
--- to where memory was refused
+-- `read_to_end` took the events of E up to `after`, and appended their bytes: all, or those up to the first fault or a failed allocation
 abbrev pub ReadsToEnd : List Event → Result ℕ Error → List ℕ → List ℕ → List Event → Type 0
 ReadsToEnd E (Ok n) old new after = HasNoFault E × (new ≡ old ++ bytes E) × (n ≡ length (bytes E)) × (after ≡ [])
 ReadsToEnd E (Err e) old new after =
     (P : List Event) × (E ≡ P ++ after) × (new ≡ old ++ bytes P) × (EndsInFault P e ⊎ (HasNoFault P × IsOutOfMemory e))
 
--- the bytes that stand before the first fault
+-- the bytes before the first fault
 abbrev pub bytes_to_fault : List Event → List ℕ
 bytes_to_fault [] = []
 bytes_to_fault (byte b ∷ E) = b ∷ bytes_to_fault E
@@ -108,13 +107,13 @@ first_fault [] = None
 first_fault (byte b ∷ E) = first_fault E
 first_fault (fails e ∷ E) = if is_interruption (error_kind e) then first_fault E else Some e
 
--- A call of a reader, with its answer.
+-- A call of a reader, with its result.
 pub data ReadCall : Type 0 where
-  -- a `read` into so much room: the bytes that it gave, or its error
+  -- a `read` into that much room: the bytes that it gave, or its error
   Gave : ℕ → Result (List ℕ) Error → ReadCall
-  -- a `read_exact` of so many bytes that is no loop of reads
+  -- a `read_exact` of that many bytes, of a type that has a body of its own for it
   GaveExactly : ℕ → Result (List ℕ) Error → ReadCall
-  -- a `read_to_end` that is none: the bytes that it appended, and how it ended
+  -- a `read_to_end` of such a type: the bytes that it appended, and how it ended
   GaveAll : List ℕ → Result (Unit {0}) Error → ReadCall
 
 -- the bytes that `read` gave at the front of buf, or its error
@@ -127,12 +126,12 @@ abbrev pub gave_whole : Result (Unit {0}) Error → List ℕ → Result (List �
 gave_whole (Ok u) buf = Ok buf
 gave_whole (Err e) buf = Err e
 
--- the answer without its number
+-- the result without its number
 abbrev pub ended : Result ℕ Error → Result (Unit {0}) Error
 ended (Ok n) = Ok tt
 ended (Err e) = Err e
 
--- C are reads in a row that gave x: each gave some bytes, or was interrupted. `asks` says into how much room one reads behind so many
+-- C are reads in a row that gave x: each gave some bytes, or was interrupted. `asks` says into how much room a read is made after that many
 -- bytes.
 pub data Gathers (asks : ℕ → ℕ → Type 0) : List ReadCall → List ℕ → Type 0 where
   no_read : Gathers asks [] []
@@ -141,11 +140,11 @@ pub data Gathers (asks : ℕ → ℕ → Type 0) : List ReadCall → List ℕ �
   and_again : (C : List ReadCall) (x : List ℕ) (room : ℕ) (e : Error) → Gathers asks C x → asks (length x) room → IsInterruption e
       → Gathers asks (C ++ Gave room (Err e) ∷ []) x
 
--- C are such reads, and then one that ended them with this answer
+-- C are such reads, and then a read that ended them with this result
 abbrev pub GathersUntil : (ℕ → ℕ → Type 0) → List ReadCall → List ℕ → Result (List ℕ) Error → Type 0
 GathersUntil asks C x answer = (D : List ReadCall) × (room : ℕ) × Gathers asks D x × asks (length x) room × (C ≡ D ++ Gave room answer ∷ [])
 
--- the room behind so many bytes of `size` is all of the rest, and some
+-- the room after `at` bytes of a buffer of `size` is all of the rest, and not empty
 abbrev pub IsRest : ℕ → ℕ → ℕ → Type 0
 IsRest size at room = (at + room ≡ size) × (0 < room)
 
@@ -153,33 +152,35 @@ IsRest size at room = (at + room ≡ size) × (0 < room)
 abbrev pub IsSome : ℕ → ℕ → Type 0
 IsSome at room = 0 < room
 
--- C are the reads of a `read_exact(buf)`: they fill it; or the end, or a fault, comes first
+-- C are the reads of a `read_exact(buf)`: they fill buf, unless the end or a fault comes first
 abbrev pub FillCalls : List ReadCall → Result (Unit {0}) Error → List ℕ → Type 0
 FillCalls C (Ok u) buf = Gathers (IsRest (length buf)) C buf
 FillCalls C (Err e) buf = (x : List ℕ) × ((IsUnexpectedEnd e × GathersUntil (IsRest (length buf)) C x (Ok []))
     ⊎ (IsFault e × GathersUntil (IsRest (length buf)) C x (Err e)))
 
--- C are the calls of a `read_exact(buf)`: these reads, or a call of its own
+-- C are the calls of a `read_exact(buf)`: these reads, or the `read_exact` of a type that has a body of its own for it
 abbrev pub ExactCalls : List ReadCall → Result (Unit {0}) Error → List ℕ → Type 0
 ExactCalls C reply buf = (C ≡ GaveExactly (length buf) (gave_whole reply buf) ∷ []) ⊎ FillCalls C reply buf
 
--- C are the reads of a `read_to_end` that appends x: up to the end, or to a fault, or to where memory was refused
+-- C are the reads of a `read_to_end` that appends x: up to the end, a fault, or a failed allocation
 abbrev pub DrainCalls : List ReadCall → List ℕ → Result ℕ Error → Type 0
 DrainCalls C x (Ok n) = GathersUntil IsSome C x (Ok [])
 DrainCalls C x (Err e) = (IsFault e × GathersUntil IsSome C x (Err e)) ⊎ (IsOutOfMemory e × Gathers IsSome C x)
 
--- C are the calls of a `read_to_end` that appends x: these reads, or some and then a call of its own
+-- C are the calls of a `read_to_end` that appends x: these reads, or some reads and then the `read_to_end` of a type that has a body of its
+-- own for it
 abbrev pub ToEndCalls : List ReadCall → List ℕ → Result ℕ Error → Type 0
 ToEndCalls C x reply = ((D : List ReadCall) × (y : List ℕ) × (z : List ℕ) × Gathers IsSome D y × (x ≡ y ++ z)
     × (C ≡ D ++ GaveAll z (ended reply) ∷ [])) ⊎ DrainCalls C x reply
 
--- C are the reads into the room that a vector has, and x what they gave: up to the end, if the answer is that it was met, or to a fault
+-- C are the reads into the room that a vector has, and x the bytes that they gave: up to the end if the result is that it was met, up to a
+-- full vector, or up to a fault
 abbrev pub RoomCalls : List ReadCall → List ℕ → Result Bool Error → Type 0
 RoomCalls C x (Ok true) = GathersUntil IsSome C x (Ok [])
 RoomCalls C x (Ok false) = Gathers IsSome C x
 RoomCalls C x (Err e) = IsFault e × GathersUntil IsSome C x (Err e)
 
--- The calls that a `read_exact(buf)` made.
+-- The calls that a `read_exact(buf)` made, and that they are what `ExactCalls` allows.
 pub record ExactMade {S : Type 0} (may : S → ReadCall → S → Type 0) (old : S) (reply : Result (Unit {0}) Error) (buf : List ℕ) (new : S)
     : Type 0 where
   pub calls : List ReadCall
@@ -195,7 +196,7 @@ pub record ToEndMade {S : Type 0} (may : S → ReadCall → S → Type 0) (old :
   pub appended : buf' ≡ buf ++ given
   pub are : ToEndCalls calls given reply
 
--- what a reader tells, as `⟦<R as Read>⟧` names it: the members of its store, and its own
+-- the ghost members of a reader, as `⟦<R as Read>⟧` names them: those of its store, and its own
 abbrev pub Reader : Type 0 → Type 1
 Reader S = record {
   has_store : S → Type 0;
@@ -211,30 +212,30 @@ Reader S = record {
   may : S → ReadCall → S → Type 0;
 }
 
--- a told store keeps its content, and the position moves on by as many bytes as are gone from the events
+-- a told store keeps its content, and the position moves by the number of bytes that are gone from the events
 abbrev pub GoesOn : {S : Type 0} → Reader S → S → S → Type 0
 GoesOn R old new = R.has_store old → R.has_store new × (R.content new ≡ R.content old)
     × (R.position new + length (R.events new) ≡ R.position old + length (R.events old))
 
--- a vector of this length and capacity has room for the bytes before the first fault of E, and for so many more
+-- a vector of this length and capacity has room for the bytes before the first fault of E, and for `more` bytes
 abbrev pub HasRoom : ℕ → List Event → ℕ → ℕ → Type 0
 HasRoom more E len capacity = len + length (bytes_to_fault E) + more ≤ capacity
 
 -- `read(buf)`
 pub record ReadLaw {S : Type 0} (R : Reader S) (old : S) (buf : List ℕ) (reply : Result ℕ Error) (buf' : List ℕ) (new : S) : Type 0 where
-  -- it gives no more than fits
+  -- it gives at most as many bytes as fit
   pub bound : IfOk reply (λ n. n ≤ length buf')
-  -- it takes what it gives off the front of the events
+  -- the bytes or the error that it gives are gone from the front of the events
   pub told : R.tells old → R.tells new × Reads (R.events old) reply buf' (R.events new)
   -- turns never rise
   pub turns_never_rise : R.turns new ≤ R.turns old
   -- a call that gives bytes or returns an error lowers them
   pub spends_turn : SpendsTurn reply (R.turns old) (R.turns new)
-  -- a read into some room is counted
+  -- a read into a buffer that is not empty is counted
   pub counts : R.is_metered old → R.is_metered new × (R.cost new ≡ R.cost old + min 1 (length buf))
-  -- a filling reader gives as much as fits
+  -- a filling reader gives as many bytes as fit
   pub fills : R.is_filling old → R.is_filling new × IsOkAnd reply (λ n. n ≡ min (length buf) (length (R.events old)))
-  -- a told store keeps its content, and the position moves by what was given
+  -- a told store keeps its content, and the position moves by the number of given bytes
   pub store : R.has_store old → R.has_store new × (R.content new ≡ R.content old) × (R.position new ≡ R.position old + given reply)
   -- it is one call
   pub call : R.may old (Gave (length buf') (gave reply buf')) new
@@ -244,19 +245,19 @@ pub record ReadExactLaw {S : Type 0} (R : Reader S) (old : S) (buf : List ℕ) (
     (new : S) : Type 0 where
   -- it takes the first events that fill the buffer, or those up to the first fault; or there are too few bytes
   pub told : R.tells old → R.tells new × ReadsExact (R.may_take_none old) (R.events old) reply buf' (R.events new)
-  -- no interruption is answered
+  -- the result is never an interruption
   pub never_interrupted : IsNoInterruption reply
   -- an empty buffer makes no call
   pub empty : length buf ≡ 0 → IsOk reply × (new ≡ old)
   -- turns never rise
   pub turns_never_rise : R.turns new ≤ R.turns old
-  -- a buffer that was filled spent one
+  -- if a buffer that is not empty was filled, a turn was spent
   pub spends_turn : 0 < length buf → OnOk reply (R.turns new < R.turns old)
   -- a metered reader stays so
   pub metered : R.is_metered old → R.is_metered new
-  -- and so does a filling one
+  -- a filling reader stays filling
   pub filling : R.is_filling old → R.is_filling new
-  -- a told store keeps its content, and the position moves by what was taken
+  -- a told store keeps its content, and the position moves by the number of bytes that were taken
   pub store : GoesOn R old new
   -- which calls it made
   pub calls : ExactMade R.may old reply buf' new
@@ -264,33 +265,33 @@ pub record ReadExactLaw {S : Type 0} (R : Reader S) (old : S) (buf : List ℕ) (
 -- `read_to_end(&mut buf)`
 pub record ReadToEndLaw {S A : Type 0} (R : Reader S) (old : S) (buf : Vec ℕ A) (reply : Result ℕ Error) (buf' : Vec ℕ A)
     (new : S) : Type 0 where
-  -- all events are taken, or those up to the first fault or to where memory was refused, and their bytes appended
+  -- all events are taken, or those up to the first fault or a failed allocation, and their bytes are appended
   pub told : R.tells old → R.tells new × ReadsToEnd (R.events old) reply buf.items buf'.items (R.events new)
-  -- what stood in the vector stays
+  -- the old content of the vector stays
   pub appends : take (vec_len buf) buf'.items ≡ buf.items
-  -- the answer is how many bytes it grew by
+  -- the result is the number of bytes by which the vector grew
   pub count : IfOk reply (λ n. vec_len buf' ≡ vec_len buf + n)
   -- the capacity never shrinks
   pub capacity : vec_capacity buf ≤ vec_capacity buf'
-  -- if the vector has room enough, any error is the first fault of E, never a lack of memory
+  -- if the vector has room enough, an error is the first fault of E, and not a failed allocation
   pub room : R.tells old → HasRoom 32 (R.events old) (vec_len buf) (vec_capacity buf)
       → IfErr reply (λ e. first_fault (R.events old) ≡ Some e)
-  -- no interruption is answered
+  -- the result is never an interruption
   pub never_interrupted : IsNoInterruption reply
   -- turns never rise
   pub turns_never_rise : R.turns new ≤ R.turns old
-  -- appended bytes spent one
+  -- if bytes were appended, a turn was spent
   pub spends_turn : vec_len buf < vec_len buf' → R.turns new < R.turns old
   -- a metered reader stays so
   pub metered : R.is_metered old → R.is_metered new
-  -- and so does a filling one
+  -- a filling reader stays filling
   pub filling : R.is_filling old → R.is_filling new
-  -- a told store keeps its content, and the position moves by what was taken
+  -- a told store keeps its content, and the position moves by the number of bytes that were taken
   pub store : GoesOn R old new
   -- which calls it made, and the bytes that they gave
   pub calls : ToEndMade R.may old buf.items reply buf'.items new
 
--- the reader behind
+-- the inner reader
 abbrev pub bytes_reader : {R : Type 0} → Bytes R → R
 bytes_reader s = s.inner
 
@@ -298,11 +299,11 @@ bytes_reader s = s.inner
 abbrev pub IsInterruptionsAlone : List Event → Type 0
 IsInterruptionsAlone E = HasNoFault E × (bytes E ≡ [])
 
--- E up to and with this event is taken, and before it stand interruptions alone
+-- E up to and including this event is taken, and only interruptions are before it
 abbrev pub TakesFirst : List Event → Event → List Event → Type 0
 TakesFirst E event after = (P : List Event) × (E ≡ P ++ event ∷ after) × IsInterruptionsAlone P
 
--- `next` took E up to and with its first byte or fault and yields that, or it ended where E has neither
+-- `next` took E up to and including its first byte or fault, and yields that; or E has neither, and `next` yields nothing
 abbrev pub NextByte : List Event → Option (Result ℕ Error) → List Event → Type 0
 NextByte E None after = IsInterruptionsAlone E × (after ≡ [])
 NextByte E (Some (Ok b)) after = TakesFirst E (byte b) after
@@ -313,16 +314,16 @@ pub bytes-events_of : (bs : List ℕ) → bytes (events_of bs) ≡ bs
 bytes-events_of [] = refl
 bytes-events_of (b ∷ bs) = ap (λ l. b ∷ l) (bytes-events_of bs)
 
--- the events of bytes are bytes alone
+-- the events of bytes are only bytes
 pub bytes_alone : (bs : List ℕ) → events_of bs ≡ events_of (bytes (events_of bs))
 bytes_alone bs = ap events_of (sym (bytes-events_of bs))
 
--- a cut of bytes alone is bytes alone
+-- if events of bytes are cut, they are only bytes
 pub cut_alone-events_of : (k : ℕ) (bs : List ℕ) → cut k (events_of bs) ≡ events_of (bytes (cut k (events_of bs)))
 cut_alone-events_of zero bs = refl
 cut_alone-events_of (suc k) [] = refl
 cut_alone-events_of (suc k) (b ∷ bs) = ap (λ l. byte b ∷ l) (cut_alone-events_of k bs)
 
--- events that are bytes alone are so when they are cut
+-- if events are only bytes, they still are after a cut
 pub cut_alone : (k : ℕ) (E : List Event) → E ≡ events_of (bytes E) → cut k E ≡ events_of (bytes (cut k E))
 cut_alone k E h = ap (cut k) h ∙ cut_alone-events_of k (bytes E) ∙ ap (λ l. events_of (bytes (cut k l))) (sym h)

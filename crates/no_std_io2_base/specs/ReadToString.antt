@@ -6,7 +6,7 @@ use Rattle.no_std_io2_base.specs.Read.{Event, Reader, ReadsToEnd, GoesOn}
 use Rattle.no_std_io2_base.specs.Write.{IsFront}
 use Rattle.no_std_io2_base.specs.Pieces.{AnswersLine}
 
--- what is to come was taken as `read_to_end` takes it, and appended, where it is text, to a text of this length and capacity
+-- the events were taken as by `read_to_end`, and their bytes, if they are UTF-8, were appended to a text of this length and capacity
 pub record TakesText (E : List Event) (len capacity : ℕ) (reply : Result ℕ Error) (old new : List ℕ) (after : List Event) : Type 0 where
   pub taken : List ℕ
   pub read : Result ℕ Error
@@ -16,19 +16,19 @@ pub record TakesText (E : List Event) (len capacity : ℕ) (reply : Result ℕ E
 -- `read_to_string(alloc, buf)`
 pub record ReadToStringLaw {S A : Type 0} (R : Reader S) (old : S) (buf : String A) (reply : Result ℕ Error) (buf' : String A) (new : S)
     : Type 0 where
-  -- what is to come is taken, and appended where it is text
+  -- the events are taken, and their bytes are appended if they are UTF-8
   pub told : R.tells old → R.tells new × TakesText (R.events old) (string_len buf) (string_capacity buf) reply
       (string_bytes buf) (string_bytes buf') (R.events new)
-  -- what stood in the text stays
+  -- the old content of the text stays
   pub appends : IsFront (string_bytes buf) (string_bytes buf')
-  -- the answer is how many bytes it grew by
+  -- the result is the number of bytes by which the text grew
   pub count : IfOk reply (λ n. string_len buf' ≡ string_len buf + n)
-  -- no interruption is answered
+  -- the result is never an interruption
   pub never_interrupted : IsNoInterruption reply
-  -- turns are never won
+  -- turns never rise
   pub turns_never_rise : R.turns new ≤ R.turns old
-  -- what it claims of itself stays so
+  -- what the reader claims about itself still holds
   pub metered : R.is_metered old → R.is_metered new
   pub filling : R.is_filling old → R.is_filling new
-  -- a told store keeps its content, and the position moves by what was taken
+  -- a told store keeps its content, and the position moves by the number of bytes that were taken
   pub store : GoesOn R old new

@@ -11,29 +11,29 @@ abbrev pub IsAtOffset : ℕ → ℤ → ℕ → Type 0
 IsAtOffset base (pos k) n = n ≡ base + k
 IsAtOffset base (negsuc k) n = n + (k + 1) ≡ base
 
--- n is where this seek goes in a store of this length and position
+-- n is the target of this seek in a store of this length and position
 abbrev pub IsTarget : ℕ → ℕ → SeekFrom → ℕ → Type 0
 IsTarget len position (Start k) n = n ≡ k
 IsTarget len position (End offset) n = IsAtOffset len offset n × (n < 2 ^ 64)
 IsTarget len position (Current offset) n = IsAtOffset position offset n × (n < 2 ^ 64)
 
--- `seek(from)` moved the position to its target, or stayed where there is none, and said so
+-- `seek(from)` moved the position to its target and returned it; or there is no target, it returned an error, and the position stayed
 abbrev pub Seeks : ℕ → ℕ → SeekFrom → Result ℕ Error → ℕ → Type 0
 Seeks len old from (Ok n) new = IsTarget len old from n × (new ≡ n)
 Seeks len old from (Err e) new = ((n : ℕ) → IsTarget len old from n → ⊥) × IsInvalidSeek e × (new ≡ old)
 
--- where `stream_position` seeks
+-- the target of the seek that `stream_position` makes
 abbrev pub here : SeekFrom
 here = Current (pos 0)
 
--- A call of a seeker, with its answer.
+-- A call of a seeker, with its result.
 pub data SeekCall : Type 0 where
   Sought : SeekFrom → Result ℕ Error → SeekCall
-  -- a `stream_len` that is no run of seeks
+  -- a `stream_len` of a type that has a body of its own for it
   Measured : Result ℕ Error → SeekCall
 
--- C are the calls of a `stream_len()`, and its answer: a call of its own; or where it is, the end, and back where that is elsewhere,
--- of which the first error ends them.
+-- C are the calls of a `stream_len()`, with its result: its own call, of a type that has a body for it; or seeks to the current position,
+-- to the end, and back if the position was elsewhere. The first error ends them.
 pub data LenCalls : List SeekCall → Result ℕ Error → Type 0 where
   measured : {reply : Result ℕ Error} → LenCalls (Measured reply ∷ []) reply
   no_place : {e : Error} → LenCalls (Sought here (Err e) ∷ []) (Err e)
@@ -43,12 +43,12 @@ pub data LenCalls : List SeekCall → Result ℕ Error → Type 0 where
   no_way_back : {n len : ℕ} {e : Error} → n ≢ len
       → LenCalls (Sought here (Ok n) ∷ Sought (End (pos 0)) (Ok len) ∷ Sought (Start n) (Err e) ∷ []) (Err e)
 
--- a call that answers as a seek did, and leaves out the position
+-- a result like that of a seek, without the position
 abbrev pub WithoutPosition : (Result ℕ Error → Type 0) → Result (Unit {0}) Error → Type 0
 WithoutPosition answers (Ok done) = (n : ℕ) × answers (Ok n)
 WithoutPosition answers (Err e) = answers (Err e)
 
--- what a seeker tells, as `⟦<S as Seek>⟧` names it: the members of its store, and its own
+-- the ghost members of a seeker, as `⟦<S as Seek>⟧` names them: those of its store, and its own
 abbrev pub Seeker : Type 0 → Type 1
 Seeker X = record {
   has_store : X → Type 0;
@@ -59,22 +59,22 @@ Seeker X = record {
 
 -- `seek(target)`
 pub record SeekLaw {X : Type 0} (S : Seeker X) (old : X) (target : SeekFrom) (reply : Result ℕ Error) (new : X) : Type 0 where
-  -- a told store keeps its content, and its position moves to the target, or stays where there is none
+  -- a told store keeps its content, and its position moves to the target, or stays if there is none
   pub store : S.has_store old → S.has_store new × (S.content new ≡ S.content old)
       × Seeks (length (S.content old)) (S.position old) target reply (S.position new)
-  -- the answer is the position
+  -- the result is the position
   pub position : IfOk reply (λ n. S.has_store new → S.position new ≡ n)
   -- it is one call
   pub call : S.may old (Sought target reply) new
 
 -- `stream_position()`
 pub record StreamPositionLaw {X : Type 0} (S : Seeker X) (old : X) (reply : Result ℕ Error) (new : X) : Type 0 where
-  -- a told store stays as it is, and its position is the answer
+  -- a told store does not change, and the result is its position
   pub store : S.has_store old → S.has_store new × (S.content new ≡ S.content old)
       × (S.position new ≡ S.position old) × IsOkAnd reply (λ n. n ≡ S.position old)
-  -- the answer is the position
+  -- the result is the position
   pub position : IfOk reply (λ n. S.has_store new → S.position new ≡ n)
-  -- it made one seek, of no distance
+  -- it made one seek, by 0 bytes
   pub call : S.may old (Sought here reply) new
 
 -- `rewind()`
@@ -86,7 +86,7 @@ pub record RewindLaw {X : Type 0} (S : Seeker X) (old : X) (reply : Result (Unit
 
 -- `stream_len()`
 pub record StreamLenLaw {X : Type 0} (S : Seeker X) (old : X) (reply : Result ℕ Error) (new : X) : Type 0 where
-  -- a told store stays as it is, and its length is the answer
+  -- a told store does not change, and the result is its length
   pub store : S.has_store old → S.has_store new × (S.content new ≡ S.content old)
       × (S.position new ≡ S.position old) × IsOkAnd reply (λ n. n ≡ length (S.content old))
   -- which calls it made

@@ -1,4 +1,4 @@
--- What `write_fmt` does to a writer.
+-- The law of `write_fmt`.
 use Rattle.std.specs.Prelude.{◌≡◌, ◌⊎◌, ℕ, List, [], ◌++◌, Option, Some, Result, Ok, Err, IfSome, IsErrAnd, codes}
 use Rattle.no_std_io2_base.specs.declared.error.Error.{Error}
 use Rattle.no_std_io2_base.specs.declared.error.ErrorKind.{ErrorKind}
@@ -6,7 +6,7 @@ use Rattle.no_std_io2_base.specs.declared.error.ErrorKind.TheVariants.{Other}
 use Rattle.no_std_io2_base.specs.Errors.{error_kind, error_text, IsNoInterruption}
 use Rattle.no_std_io2_base.specs.Write.{Told, MovesFront, WriteCall, WriteAllLaw}
 
--- From old to new this text was printed to a writer by calls of `write_all`, one after another, of which the last one answered this.
+-- From old to new this text was printed to a writer, by one `write_all` after another; this is the result of the last.
 pub data Prints {S : Type 0} (told : S → Told) (takes_all : S → Type 0) (cost : S → ℕ) (is_metered : S → Type 0)
     (may : S → WriteCall → S → Type 0) (old : S) : List ℕ → Result (Unit {0}) Error → S → Type 0 where
   nothing : Prints told takes_all cost is_metered may old [] (Ok tt) old
@@ -17,7 +17,7 @@ pub data Prints {S : Type 0} (told : S → Told) (takes_all : S → Type 0) (cos
   silent : {text : List ℕ} (x : List ℕ) {e : Error} {new : S} → Prints told takes_all cost is_metered may old text (Err e) new
       → Prints told takes_all cost is_metered may old (text ++ x) (Err e) new
 
--- the error says that a value's own `fmt` failed
+-- the error says that the text's own `fmt` failed
 abbrev pub IsTextError : Error → Type 0
 IsTextError e = error_text e ≡ Some (codes "formatter error")
 
@@ -26,15 +26,15 @@ abbrev pub kind_met : Result (Unit {0}) Error → ErrorKind
 kind_met (Ok _) = Other
 kind_met (Err e) = error_kind e
 
--- a value's own `fmt` failed, and the writer answered this: the error has the kind of the writer's
+-- the text's own `fmt` failed, after the writer had this result: the error has the kind of the writer's error
 abbrev pub FailsText : Result (Unit {0}) Error → Result (Unit {0}) Error → Type 0
 FailsText met reply = IsErrAnd reply (λ e. (error_kind e ≡ kind_met met) × IsTextError e)
 
--- The answer is the writer's, and what was printed is the text's output where that is specified; or the text's own `fmt` failed.
+-- The result is the writer's, and the printed bytes are the text's output, if that is specified; or the text's own `fmt` failed.
 abbrev pub AnswersText : Option (List ℕ) → List ℕ → Result (Unit {0}) Error → Result (Unit {0}) Error → Type 0
 AnswersText output text met reply = (IfSome output (λ bs. text ≡ bs) × (reply ≡ met)) ⊎ FailsText met reply
 
--- From old to new some text was printed to a writer: with `met` it answered that it accepted a front, all of it at `Ok`.
+-- From old to new some text was printed to a writer, with the result `met`: the writer accepted a front of it, all of it after `Ok`.
 pub record MovesText (old : Told) (output : Option (List ℕ)) (reply : Result (Unit {0}) Error) (new : Told) : Type 0 where
   pub text : List ℕ
   pub met : Result (Unit {0}) Error
@@ -45,10 +45,10 @@ pub record MovesText (old : Told) (output : Option (List ℕ)) (reply : Result (
 pub record WriteFmtLaw {S : Type 0} (told : S → Told) (takes_all : S → Type 0) (cost : S → ℕ) (is_metered : S → Type 0)
     (may : S → WriteCall → S → Type 0)
     (old : S) (output : Option (List ℕ)) (reply : Result (Unit {0}) Error) (new : S) : Type 0 where
-  -- no interruption is answered
+  -- the result is never an interruption
   pub never_interrupted : IsNoInterruption reply
   -- some text is printed
   pub moves : MovesText (told old) output reply (told new)
-  -- by such calls; that there are some is known, since which ones is a formatter's own
+  -- by such calls; only that they exist is known, because the formatter chooses them
   pub calls : ∥ ((text : List ℕ) × (met : Result (Unit {0}) Error) × Prints told takes_all cost is_metered may old text met new
       × AnswersText output text met reply) ∥₁

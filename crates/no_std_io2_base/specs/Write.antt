@@ -9,11 +9,11 @@ use Rattle.no_std_io2_base.specs.Errors.{error_kind, is_interruption, IsNoInterr
 
 -- What a writer tells.
 pub record Told : Type 0 where
-  -- the bytes that it has handed on
+  -- the bytes that are out: the device has them
   pub out : List ℕ
-  -- the bytes that it has accepted and not yet handed on
+  -- the bytes that it has accepted and that are not out yet
   pub held : List ℕ
-  -- the mishaps to come, in any order, where it tells them
+  -- the mishaps to come, in any order, if it tells them
   pub mishaps : Option (List ErrorKind)
   -- an upper bound on the interruptions to come
   pub turns : ℕ
@@ -22,8 +22,8 @@ pub record Told : Type 0 where
 abbrev pub IsFront : List ℕ → List ℕ → Type 0
 IsFront front whole = (rest : List ℕ) × (whole ≡ front ++ rest)
 
--- Told mishaps stay told, and those that happened are gone: whichever kinds one counts,
--- at least as many are gone as happened.
+-- If mishaps were told, they still are, and those that happened are gone: whichever kinds are counted, at least as many are gone as
+-- happened.
 abbrev pub HasSpent : Option (List ErrorKind) → List ErrorKind → Option (List ErrorKind) → Type 0
 HasSpent None happened new = ⊤
 HasSpent (Some old) happened None = ⊥
@@ -36,12 +36,12 @@ pub record Moves (old : Told) (accepted : List ℕ) (happened : List ErrorKind) 
   pub front : IsFront old.out new.out
   -- no byte is lost, repeated or moved
   pub bytes : new.out ++ new.held ≡ old.out ++ old.held ++ accepted
-  -- what happened is no more to come
+  -- the mishaps that happened are no longer to come
   pub mishaps : HasSpent old.mishaps happened new.mishaps
   -- an interruption spends a turn
   pub turns : new.turns + count_by is_interruption happened ≤ old.turns
 
--- the bytes of x that an answer of `write(x)` says were accepted
+-- the bytes of x that were accepted, by the result of `write(x)`
 abbrev pub taken : Result ℕ Error → List ℕ → List ℕ
 taken (Ok n) x = take n x
 taken (Err e) x = []
@@ -50,17 +50,17 @@ taken (Err e) x = []
 abbrev pub zero_write : ℕ → List ℕ → List ErrorKind
 zero_write n x = if (n == 0) && nat_lt 0 (length x) then WriteZero ∷ [] else []
 
--- the mishap that an answer of `write(x)` is, if it is one
+-- the mishap that a result of `write(x)` counts as, if it is one
 abbrev pub write_mishap : Result ℕ Error → List ℕ → List ErrorKind
 write_mishap (Ok n) x = zero_write n x
 write_mishap (Err e) x = error_kind e ∷ []
 
--- the mishap that an answer of `write_all` or `flush` is, if it is one
+-- the mishap that a result of `write_all` or `flush` counts as, if it is one
 abbrev pub call_mishap : Result (Unit {0}) Error → List ErrorKind
 call_mishap (Ok u) = []
 call_mishap (Err e) = error_kind e ∷ []
 
--- From old to new a writer accepted some front of x, all of it at `Ok`.
+-- From old to new a writer accepted some front of x, all of it after `Ok`.
 pub record MovesFront (old : Told) (x : List ℕ) (reply : Result (Unit {0}) Error) (new : Told) : Type 0 where
   pub accepted : List ℕ
   pub front : IsFront accepted x
@@ -73,7 +73,7 @@ pub record Sends (old : Told) (rest : List ℕ) (reply : Result (Unit {0}) Error
   pub split : rest ≡ sent ++ left
   pub moves : Moves old sent (call_mishap reply) new
 
--- From old to new calls in a row accepted these lists, one each, without a mishap.
+-- From old to new a writer accepted these lists, one after another, without a mishap.
 abbrev pub MovesEach : Told → List (List ℕ) → Told → Type 0
 MovesEach old [] new = Moves old [] [] new
 MovesEach old (x ∷ xs) new = (mid : Told) × Moves old x [] mid × MovesEach mid xs new
@@ -86,27 +86,27 @@ calls_for x = if nat_lt 0 (length x) then 1 else 0
 abbrev pub told_out : List ℕ → Told
 told_out bytes = record { out = bytes; held = []; mishaps = None; turns = 0 }
 
--- A call of a writer, with its answer.
+-- A call of a writer, with its result.
 pub data WriteCall : Type 0 where
   Wrote : List ℕ → Result ℕ Error → WriteCall
-  -- a `write_all` that is no loop of writes
+  -- a `write_all` of a type that has a body of its own for it
   WroteAll : List ℕ → Result (Unit {0}) Error → WriteCall
-  -- a `write_rest` that is none, and what it left
+  -- a `write_rest` of such a type, and what it left
   WroteRest : List ℕ → Result (Unit {0}) Error → List ℕ → WriteCall
   Flushed : Result (Unit {0}) Error → WriteCall
 
--- these calls were made, one after another
+-- the calls of the list were made, one after another, and led from old to new
 abbrev pub Made : {S A : Type 0} → (S → A → S → Type 0) → S → List A → S → Type 0
 Made may old [] new = new ≡ old
 Made {S} may old (call ∷ C) new = (mid : S) × may old call mid × Made may mid C new
 
--- What a call may do to a boxed object: what it may do to the value in the box, as `may` says.
+-- A call may do to a boxed object what it may do to the value in the box, by `may`.
 abbrev pub BoxMay : {I A C : Type 0} {V : I → Type 0} → (old : DynBox I A V) → (V old.vtable → C → V old.vtable → Type 0)
     → C → DynBox I A V → Type 0
 BoxMay {I} {A} {C} {V} old may call new = (value : V old.vtable)
     × (new ≡ record { ptr = old.ptr; vtable = old.vtable; alloc = old.alloc; value = value }) × may old.value call value
 
--- `Adds old bytes new` is what a writer does as it accepts these bytes: this call did so with those that it accepted.
+-- `Adds old bytes new` says what a writer does if it accepts these bytes. A call did this with the bytes that it accepted.
 abbrev pub CallAdds : {W : Type 0} → (W → List ℕ → W → Type 0) → W → WriteCall → W → Type 0
 CallAdds Adds old (Wrote x reply) new = Adds old (taken reply x) new
 CallAdds Adds old (WroteAll x reply) new =
@@ -114,26 +114,27 @@ CallAdds Adds old (WroteAll x reply) new =
 CallAdds Adds old (WroteRest x reply left) new = (sent : List ℕ) × (x ≡ sent ++ left) × OnOk reply (left ≡ []) × Adds old sent new
 CallAdds Adds old (Flushed reply) new = Adds old [] new
 
--- C are the calls that write x, what they answer, and what they leave of x. `text` is what the answer says where no byte is taken.
+-- C are the writes of a loop that writes x, with its result and what it left of x. `text` is the message of its error if a write takes no
+-- byte.
 pub data Writes (text : List ℕ) : List WriteCall → List ℕ → Result (Unit {0}) Error → List ℕ → Type 0 where
-  -- for no bytes there is no call
+  -- if x is empty, there is no call
   none : Writes text [] [] (Ok tt) []
-  -- some were taken, and it goes on with the others
+  -- some bytes were taken, and the loop continues with the others
   took : {C : List WriteCall} {x left : List ℕ} {reply : Result (Unit {0}) Error} {n : ℕ} → 0 < length x → 0 < n
       → Writes text C (drop n x) reply left → Writes text (Wrote x (Ok n) ∷ C) x reply left
-  -- an interruption is passed over
+  -- an interruption is ignored
   again : {C : List WriteCall} {x left : List ℕ} {reply : Result (Unit {0}) Error} {e : Error} → 0 < length x → IsInterruption e
       → Writes text C x reply left → Writes text (Wrote x (Err e) ∷ C) x reply left
-  -- none of some were taken: that is an error, and ends it
+  -- no byte was taken: that ends the loop, with an error
   stuck : {x : List ℕ} {e : Error} → 0 < length x → SaysError WriteZero text e → Writes text (Wrote x (Ok 0) ∷ []) x (Err e) x
-  -- a fault ends it, and is the answer
+  -- a fault ends the loop, and is the result
   fault : {x : List ℕ} {e : Error} → 0 < length x → IsFault e → Writes text (Wrote x (Err e) ∷ []) x (Err e) x
 
--- C are the calls of a `write_rest(&mut x)`: these writes, or a call of its own
+-- C are the calls of a `write_rest(&mut x)`: the writes of a loop, or the `write_rest` of a type that has a body of its own for it
 abbrev pub RestCalls : List WriteCall → List ℕ → Result (Unit {0}) Error → List ℕ → Type 0
 RestCalls C x reply left = (C ≡ WroteRest x reply left ∷ []) ⊎ Writes (codes "failed to write whole buffer") C x reply left
 
--- C are the calls of a `write_all(x)`: those of a `write_rest`, or a call of its own
+-- C are the calls of a `write_all(x)`: those of a `write_rest`, or the `write_all` of a type that has a body of its own for it
 abbrev pub AllCalls : List WriteCall → List ℕ → Result (Unit {0}) Error → Type 0
 AllCalls C x reply = (C ≡ WroteAll x reply ∷ []) ⊎ ((left : List ℕ) × RestCalls C x reply left)
 
@@ -141,9 +142,9 @@ AllCalls C x reply = (C ≡ WroteAll x reply ∷ []) ⊎ ((left : List ℕ) × R
 pub record WriteLaw {S : Type 0} (told : S → Told) (takes_all : S → Type 0) (cost : S → ℕ) (is_metered : S → Type 0)
     (may : S → WriteCall → S → Type 0)
     (old : S) (x : List ℕ) (reply : Result ℕ Error) (new : S) : Type 0 where
-  -- it takes no more than it is given
+  -- at most the length of x is reported as accepted
   pub bound : IfOk reply (λ n. n ≤ length x)
-  -- what the answer says is accepted, and an error or a zero is a mishap
+  -- the bytes that the result reports were accepted, and an error or a zero is a mishap
   pub moves : Moves (told old) (taken reply x) (write_mishap reply x) (told new)
   -- if the writer takes all, it accepted all of x, and it still takes all
   pub all : takes_all old → takes_all new × (reply ≡ Ok (length x))
@@ -156,18 +157,18 @@ pub record WriteLaw {S : Type 0} (told : S → Told) (takes_all : S → Type 0) 
 pub record FlushLaw {S : Type 0} (told : S → Told) (takes_all : S → Type 0) (cost : S → ℕ) (is_metered : S → Type 0)
     (may : S → WriteCall → S → Type 0)
     (old : S) (reply : Result (Unit {0}) Error) (new : S) : Type 0 where
-  -- nothing is held then
+  -- after `Ok` nothing is held
   pub empty : OnOk reply ((told new).held ≡ [])
-  -- no byte is accepted, and an error is a mishap
+  -- no byte was accepted, and an error is a mishap
   pub moves : Moves (told old) [] (call_mishap reply) (told new)
-  -- who takes all goes on taking all
+  -- a writer that takes all still takes all
   pub all : takes_all old → takes_all new
   -- flushes are not counted
   pub counts : is_metered old → takes_all old → is_metered new × (cost new ≡ cost old)
   -- it is one call
   pub call : may old (Flushed reply) new
 
--- a call as its law says
+-- a call, by its law
 abbrev pub CallLaw : {S : Type 0} → (S → Told) → (S → Type 0) → (S → ℕ) → (S → Type 0) → (S → WriteCall → S → Type 0)
     → S → WriteCall → S → Type 0
 CallLaw told takes_all cost is_metered may old (Wrote x reply) new = WriteLaw told takes_all cost is_metered may old x reply new
@@ -185,11 +186,11 @@ pub record WriteAllLaw {S : Type 0} (told : S → Told) (takes_all : S → Type 
     (old : S) (x : List ℕ) (reply : Result (Unit {0}) Error) (new : S) : Type 0 where
   -- the result is never an interruption
   pub never_interrupted : IsNoInterruption reply
-  -- some front is accepted, the whole at `Ok`, and an error is a mishap
+  -- some front of x was accepted, all of it after `Ok`, and an error is a mishap
   pub moves : MovesFront (told old) x reply (told new)
-  -- who takes all goes on taking all
+  -- a writer that takes all still takes all
   pub all : takes_all old → takes_all new
-  -- one call is counted, and none for no bytes
+  -- one call is counted, or none if x is empty
   pub counts : is_metered old → takes_all old → is_metered new × (cost new ≡ cost old + calls_for x)
   -- which calls it made
   pub calls : (C : List WriteCall) × Made (CallLaw told takes_all cost is_metered may) old C new × AllCalls C x reply
@@ -200,13 +201,13 @@ pub record WriteRestLaw {S : Type 0} (told : S → Told) (takes_all : S → Type
     (old : S) (x : List ℕ) (reply : Result (Unit {0}) Error) (new : S) (left : List ℕ) : Type 0 where
   -- the result is never an interruption
   pub never_interrupted : IsNoInterruption reply
-  -- exactly what is gone from the front is accepted, and an error is a mishap
+  -- exactly the bytes that are gone from the front of x were accepted, and an error is a mishap
   pub sends : Sends (told old) x reply (told new) left
-  -- nothing is left at `Ok`
+  -- after `Ok` nothing is left
   pub done : OnOk reply (left ≡ [])
   -- if the writer takes all, it accepted all of x, and it still takes all
   pub all : takes_all old → takes_all new × IsOk reply
-  -- one call is counted, and none for no bytes
+  -- one call is counted, or none if x is empty
   pub counts : is_metered old → takes_all old → is_metered new × (cost new ≡ cost old + calls_for x)
   -- which calls it made
   pub calls : (C : List WriteCall) × Made (CallLaw told takes_all cost is_metered may) old C new × RestCalls C x reply left

@@ -1,4 +1,4 @@
--- What a copy through a buffered writer does.
+-- What a copy through buffers does to the writer.
 use Rattle.std.specs.Prelude.{◌≡◌, ℕ, ◌<◌, ◌==◌, Bool, true, false, List, [], ◌∷◌, ◌++◌, count_by, Option, None, Some, Ok, ⊤}
 use Rattle.no_std_io2.specs.declared.io.ErrorKind.{ErrorKind}
 use Rattle.no_std_io2.specs.declared.io.Error.{Error}
@@ -11,12 +11,12 @@ use Rattle.no_std_io2.specs.LineWriter.{LineCalls}
 use Rattle.no_std_io2.specs.Copy.{counted, Handed}
 use Rattle.no_std_io2.specs.Towers.{Through}
 
--- A writer accepted b without a mishap, and n counts it.
+-- A writer accepted the bytes b without a mishap, and n is their count.
 pub record MovesCounted (old : Told) (b : List ℕ) (n : ℕ) (new : Told) : Type 0 where
   pub moves : Moves old b [] new
   pub count : n ≡ counted b
 
--- A writer accepted some bytes without a mishap, and n counts them.
+-- A writer accepted some bytes without a mishap, and n is their count.
 pub record MovesSome (old : Told) (n : ℕ) (new : Told) : Type 0 where
   pub accepted : List ℕ
   pub passes : MovesCounted old accepted n new
@@ -28,7 +28,7 @@ pub record HasFirstFault (E : List Event) (e : Error) : Type 0 where
   pub split : E ≡ front ++ rest
   pub ends : EndsInFault front e
 
--- where the mishaps to come are told, one is of this kind
+-- if the mishaps to come are told, one of them is of this kind
 abbrev pub TellsMishap : Option (List ErrorKind) → ErrorKind → Type 0
 TellsMishap None kind = ⊤
 TellsMishap (Some kinds) kind = 0 < count_by (λ other. kind_number other == kind_number kind) kinds
@@ -39,19 +39,19 @@ pub record MayFail (told : Told) (e : Error) : Type 0 where
   pub mishap : TellsMishap told.mishaps (error_kind e)
   pub turn : IsInterruption e → 0 < told.turns
 
--- Pieces of at most 64 bytes were handed on to a writer, one `write_all` each, and then it was flushed, once.
+-- Pieces of at most 64 bytes were passed on to a writer, by one `write_all` each, and then the writer was flushed once.
 pub record HandsAndFlushes {W : Type 0} (I : Writer W) (old new : W) : Type 0 where
   pub pieces : List (List ℕ)
   pub calls : List WriteCall
   pub handed : Handed 64 pieces calls (Ok tt)
   pub made : Made (CallOf I) old (calls ++ Flushed (Ok tt) ∷ []) new
 
--- the inner calls of one call of a writer with a buffer of 64 bytes, at true one of lines
+-- the inner calls of one call of a writer with a buffer of 64 bytes, a `LineWriter` if `line` is true
 abbrev pub BufferCalls : Bool → List ℕ → WriteCall → List WriteCall → List ℕ → Type 0
 BufferCalls true held call inner left = LineCalls 64 held call inner left
 BufferCalls false held call inner left = InnerCalls 64 held call inner left
 
--- They were handed on to such a buffer, and the writer below got the calls that this makes.
+-- The pieces were passed on to such a buffer, and the writer below got the calls that this buffer makes.
 pub record HandsThrough {W : Type 0} (I : Writer W) (line : Bool) (old new : W) : Type 0 where
   pub pieces : List (List ℕ)
   pub calls : List WriteCall

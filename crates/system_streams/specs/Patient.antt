@@ -1,4 +1,4 @@
--- What a clause reads of a `Patient`.
+-- What a `Patient` tells.
 use Rattle.std.specs.Prelude.{◌≡◌, ℕ, List, [], ◌++◌, None, Result}
 use Rattle.std.specs.declared.io.Error as Std
 use Rattle.no_std_io2.specs.Write.{Told, WriteCall, Wrote, WroteAll, WroteRest, Flushed, taken}
@@ -14,7 +14,7 @@ patient_device p = p.device
 abbrev pub patient_turns : {D : Type 0} → Patient D → ℕ
 patient_turns p = p.turns
 
--- the bytes that its device answered for
+-- the bytes that its device reported as taken
 abbrev pub patient_taken : {D : Type 0} → Patient D → List ℕ
 patient_taken p = p.taken.bytes
 
@@ -22,7 +22,7 @@ patient_taken p = p.taken.bytes
 abbrev pub patient_told : {D : Type 0} → Patient D → Told
 patient_told p = record { out = patient_taken p; held = []; mishaps = None; turns = patient_turns p }
 
--- what one call does: the device is asked once, for the same, and this is what its answer became
+-- what one call does: it makes the same call of the device, once, and the result is made from the device's result
 abbrev pub PatientMay : {D : Type 0} → Device D → Patient D → WriteCall → Patient D → Type 0
 PatientMay I old (Wrote x reply) new =
     (answer : Result ℕ Std.Error) × I.may_write (patient_device old) x answer (patient_device new)

@@ -1,4 +1,4 @@
--- What a clause reads of a `Telling`.
+-- The reader in a `Telling`.
 use Rattle.no_std_io2.specs.declared.io.Read as Reads
 use Rattle.no_std_io2.specs.declared.io.Stored as Stores
 use Rattle.system_streams.specs.declared.telling.Telling.{Telling}

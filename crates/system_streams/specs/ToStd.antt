@@ -1,4 +1,4 @@
--- What a clause reads of a `ToStd` and of a `Telling`, and what these answer.
+-- The stream in a `ToStd`, and the results of a `ToStd` and a `Telling`.
 use Rattle.std.specs.Prelude.{◌≡◌, ℕ, List, ◌++◌, Ok, Err, Result}
 use Rattle.std.specs.IoError as Io
 use Rattle.std.specs.declared.io.Error as Std
@@ -45,7 +45,7 @@ std_kind Unsupported = kind.Unsupported
 std_kind OutOfMemory = kind.OutOfMemory
 std_kind Uncategorized = kind.Uncategorized
 
--- the same answer, with an error of the same kind
+-- the same result; an error has the kind of the same name
 abbrev pub SameAnswer : {T : Type 0} → Result T Error → Result T Std.Error → Type 0
 SameAnswer (Ok x) (Ok y) = y ≡ x
 SameAnswer (Err e) (Err f) = Io.error_kind f ≡ std_kind (error_kind e)

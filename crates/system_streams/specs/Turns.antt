@@ -1,4 +1,4 @@
--- How a patient answers: its errors, the turns that an answer spends, and the bytes that loops of its calls move.
+-- The results of a `Patient`: its errors, the turns that a result spends, and the bytes that loops of its calls move.
 use Rattle.std.specs.Prelude.{◌≡◌, ℕ, ◌+◌, ◌<◌, ◌≤◌, List, length, take, Option, None, Some, Ok, Err, Result, OnOk, codes, ◌⊎◌}
 use Rattle.std.specs.Io.KnownBytes.{Consumes}
 use Rattle.std.specs.IoError as Io
@@ -9,24 +9,24 @@ use Rattle.no_std_io2.specs.declared.io.Error.{Error}
 use Rattle.no_std_io2.specs.declared.io.ErrorKind.TheVariants.{TimedOut, Interrupted, Other}
 use Rattle.no_std_io2.specs.Errors.{error_kind, error_text, IsUnexpectedEnd}
 
--- no turn was left to ask the device again
+-- e is the error that no turns are left
 abbrev pub IsOutOfTurns : Error → Type 0
 IsOutOfTurns e = (error_kind e ≡ TimedOut) × (error_text e ≡ Some (codes "no turns left"))
 
--- the device was interrupted
+-- e is an interruption of the device
 abbrev pub IsPlainInterruption : Error → Type 0
 IsPlainInterruption e = (error_kind e ≡ Interrupted) × (error_text e ≡ None)
 
--- the device failed otherwise
+-- e is any other fault of the device
 abbrev pub IsDeviceFault : Error → Type 0
 IsDeviceFault e = (error_kind e ≡ Other) × (error_text e ≡ Some (codes "device fault"))
 
--- a reader's answer that its device gave, and the turns before and after: only `Ok(0)` spends none
+-- a reader's result that came from its device, and the turns before and after: only `Ok(0)` spends none
 abbrev pub AnswersRead : Result ℕ Error → ℕ → ℕ → Type 0
 AnswersRead (Ok n) old new = (n ≡ 0 → new ≡ old) × (0 < n → new + 1 ≡ old)
 AnswersRead (Err e) old new = (new + 1 ≡ old) × (IsPlainInterruption e ⊎ IsDeviceFault e)
 
--- a reader's answer, where its device answered so: an interruption stays one, and any other fault is `device fault`
+-- a reader's result, if its device returned this: an interruption stays one, and any other fault becomes `device fault`
 abbrev pub GivesOn : Result ℕ Std.Error → Result ℕ Error → Type 0
 GivesOn (Ok n) (Ok m) = m ≡ n
 GivesOn (Err e) (Err f) = (Io.error_kind e ≡ kind.Interrupted → IsPlainInterruption f)
@@ -34,27 +34,27 @@ GivesOn (Err e) (Err f) = (Io.error_kind e ≡ kind.Interrupted → IsPlainInter
 GivesOn (Ok n) (Err f) = ⊥
 GivesOn (Err e) (Ok m) = ⊥
 
--- What a device's error of this kind becomes, and the turns before and after: an interruption spends one, and with none left the answer
--- is that; any other fault is `device fault`.
+-- The error that a writer returns for a device's error of this kind, and the turns before and after. An interruption spends a turn; if none
+-- is left, the error says so. Any other fault becomes `device fault`.
 pub record Becomes (of : StdKind.ErrorKind) (e : Error) (old new : ℕ) : Type 0 where
   pub interrupted : of ≡ kind.Interrupted → 0 < old → IsPlainInterruption e × (new + 1 ≡ old)
   pub over : of ≡ kind.Interrupted → old ≡ 0 → IsOutOfTurns e × (new ≡ 0)
   pub fault : (of ≡ kind.Interrupted → ⊥) → IsDeviceFault e × (new ≡ old)
 
--- a writer's answer, where its device answered so
+-- a writer's result, if its device returned this
 abbrev pub AnswersFor : {T : Type 0} → Result T Std.Error → Result T Error → ℕ → ℕ → Type 0
 AnswersFor (Ok x) (Ok y) old new = (y ≡ x) × (new ≡ old)
 AnswersFor (Err e) (Err f) old new = Becomes (Io.error_kind e) f old new
 AnswersFor (Ok x) (Err f) old new = ⊥
 AnswersFor (Err e) (Ok y) old new = ⊥
 
--- a loop of reads that had some room ended so: it spent a turn at least, or its turns ran out, its device failed, or its bytes ended
+-- how a loop of reads with some room may end: it spent at least one turn, or no turns were left, or the device failed, or the bytes ended
 abbrev pub EndsReads : {T : Type 0} → ℕ → Result T Error → ℕ → ℕ → Type 0
 EndsReads room (Ok x) old new = (new ≤ old) × (0 < room → new < old)
 EndsReads room (Err e) old new =
     (new ≤ old) × ((IsOutOfTurns e × (new ≡ 0) × (0 < old)) ⊎ ((IsDeviceFault e × (new < old)) ⊎ IsUnexpectedEnd e))
 
--- the front of the buffer is what the device gave of its known bytes: all of it at `Ok`
+-- if the bytes of the device are known, the front of the buffer is what it gave of them: all of the buffer after `Ok`
 pub record Got {T : Type 0} (known known' : Option (List ℕ)) (reply : Result T Error) (buf : List ℕ) : Type 0 where
   pub count : ℕ
   pub within : count ≤ length buf

@@ -1,4 +1,4 @@
--- The calls of a script: what its steps and its texts say.
+-- The calls of a script, from its steps and its texts.
 use Rattle.std.specs.Prelude.{◌≡◌, ℕ, Bool, List, [], ◌∷◌, ◌++◌, ◌+◌, ◌<◌, ◌⊎◌, length, take, drop, vec_len, vec_capacity, Some}
 use Rattle.io_bench.specs.declared.runs.Op.{Op}
 use Rattle.io_bench.specs.declared.runs.Op.TheVariants.{Write, WriteAll, Flush}
@@ -8,7 +8,7 @@ use Rattle.tower_play.specs.declared.script.Step.TheVariants.{Write as write_ste
 use Rattle.tower_play.specs.Script.{unescaped}
 use Rattle.tower_play.specs.Lines.{text_step}
 
--- the call of a step whose text stands at the front of texts, and what follows that
+-- the call of a step whose text is at the front of `texts`, and the texts after it
 abbrev pub IsNext : Step → List ℕ → Op → List ℕ → Type 0
 IsNext (write_step n) texts (Write x) rest = (x.now ≡ take n texts) × (rest ≡ drop n texts)
 IsNext (write_all_step n) texts (WriteAll x) rest = (x.now ≡ take n texts) × (rest ≡ drop n texts)
@@ -21,7 +21,7 @@ IsNext (write_all_step n) texts Flush rest = ⊥
 IsNext flush_step texts (Write x) rest = ⊥
 IsNext flush_step texts (WriteAll x) rest = ⊥
 
--- the calls of these steps, whose texts stand one after another, and what follows the texts
+-- the calls of these steps, whose texts follow one another, and the rest of the texts
 abbrev pub AreOps : List Step → List ℕ → List Op → List ℕ → Type 0
 AreOps [] texts [] rest = rest ≡ texts
 AreOps (step ∷ steps) texts (op ∷ ops) rest = (next : List ℕ) × IsNext step texts op next × AreOps steps next ops rest
@@ -33,13 +33,13 @@ pub record AreCalls (calls : Calls) (ops : List Op) : Type 0 where
   pub rest : List ℕ
   pub are : AreOps calls.steps.items calls.texts.items ops rest
 
--- one more call, with the bytes that a text stands for
+-- one call was added, with the bytes that a text stands for
 pub record AddsText (is_whole : Bool) (text : List ℕ) (old new : Calls) : Type 0 where
   pub bytes : List ℕ
   pub is : unescaped text ≡ Some bytes
   pub step : new.steps.items ≡ old.steps.items ++ text_step is_whole (length bytes) ∷ []
   pub texts : new.texts.items ≡ old.texts.items ++ bytes
 
--- there is no room for so many bytes more, or for one step more
+-- there is no room for that many more bytes, or for one more step
 abbrev pub IsFull : ℕ → Calls → Type 0
 IsFull n calls = (vec_capacity calls.texts < vec_len calls.texts + n) ⊎ (vec_capacity calls.steps < vec_len calls.steps + 1)

@@ -1,4 +1,4 @@
--- What a fault prints and says.
+-- What a fault prints, and what holds for it.
 use Rattle.std.specs.Prelude.{ℕ, ◌<◌, codes, List, ◌++◌, ⊤}
 use Rattle.std.specs.Fmt.{decimal}
 use Rattle.no_std_io2.specs.declared.io.Error.{Error}
@@ -16,12 +16,12 @@ abbrev pub IsNumbered : Fault → Type 0
 IsNumbered (Io e) = ⊤
 IsNumbered (Line n) = 0 < n
 
--- what holds of the error of a fault that is no bad line
+-- P holds for the error of a fault that is no bad line
 abbrev pub IfIo : (Error → Type 0) → Fault → Type 0
 IfIo P (Io e) = P e
 IfIo P (Line n) = ⊤
 
--- what holds of the number of a bad line
+-- P holds for the number of a bad line
 abbrev pub IfLine : (ℕ → Type 0) → Fault → Type 0
 IfLine P (Io e) = ⊤
 IfLine P (Line n) = P n

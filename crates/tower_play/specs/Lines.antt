@@ -7,7 +7,7 @@ use Rattle.tower_play.specs.declared.script.Step.{Step}
 use Rattle.tower_play.specs.declared.script.Step.TheVariants.{Write as write_step, WriteAll as write_all_step}
 use Rattle.tower_play.specs.Script.{kind_name, IsCount, IsTextArgument}
 
--- what a line says; of a bad one nothing is said
+-- what a line says; a bad line says nothing
 abbrev pub Says : List ℕ → Line → Type 0
 Says line Empty = line ≡ []
 Says line (Act (Take n)) = (digits : List ℕ) × (line ≡ codes "t " ++ digits) × IsCount digits n
@@ -33,7 +33,7 @@ pub record IsGood (line : List ℕ) : Type 0 where
   pub says : Says line said
   pub good : IsNoBad said
 
--- a call with a text of so many bytes
+-- a call with a text of that many bytes
 abbrev pub text_step : Bool → ℕ → Step
 text_step false n = write_step n
 text_step true n = write_all_step n

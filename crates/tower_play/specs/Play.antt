@@ -1,4 +1,4 @@
--- What a play does and prints.
+-- The calls of a play, and what it prints.
 use Rattle.std.specs.Prelude.{◌≡◌, ℕ, List, [], ◌++◌}
 use Rattle.no_std_io2.specs.declared.io.Write.{Ghosts as Writer}
 use Rattle.no_std_io2.specs.Write.{Told, Moves, told_out, WriteCall}
@@ -19,23 +19,24 @@ use Rattle.tower_play.specs.Calls.{AreCalls}
 use Rattle.tower_play.specs.Reading.{IsRead}
 use Rattle.tower_play.specs.Report.{report}
 
--- what a tower tells over an empty vector behind these acts
+-- what a tower with empty buffers tells over an empty vector with these acts in front
 abbrev pub fresh_told : List Act → Told
 fresh_told acts = with_acts (told_out []) acts
 
--- calls of a level above a buffer of 8 bytes were these calls of what is below both, and so much is held then, the inner level's first
+-- the calls of a level above a buffer of 8 bytes were these calls of the device below both; these bytes are held afterwards, the inner
+-- level's first
 abbrev pub TwoLevels : (List ℕ → WriteCall → List WriteCall → List ℕ → Type 0) → List WriteCall → List WriteCall → List ℕ → Type 0
 TwoLevels outer calls below held = (mid : List WriteCall) × (above : List ℕ) × (inner : List ℕ)
     × Through outer [] calls mid above × Through (InnerCalls 8) [] mid below inner × (held ≡ inner ++ above)
 
--- calls of a tower of this shape were these calls of the device
+-- the calls of a tower of this shape were these calls of the device
 abbrev pub TowerCalls : Shape → List WriteCall → List WriteCall → List ℕ → Type 0
 TowerCalls Buf calls below held = Through (InnerCalls 8) [] calls below held
 TowerCalls Line calls below held = Through (LineCalls 8) [] calls below held
 TowerCalls BufBuf calls below held = TwoLevels (InnerCalls 8) calls below held
 TowerCalls LineBuf calls below held = TwoLevels (LineCalls 8) calls below held
 
--- These calls were made of a writer, and the text shows their replies, and what was then out and held.
+-- These calls were made of a writer, and the text has their replies, and the bytes that were out and held afterwards.
 pub record ShowsRun {T : Type 0} (I : Writer T) (old : T) (ops : List Op) (text : List ℕ) : Type 0 where
   pub replies : List Reply
   pub new : T
@@ -43,7 +44,7 @@ pub record ShowsRun {T : Type 0} (I : Writer T) (old : T) (ops : List Op) (text 
   pub calls : RunCalls I old ops replies new
   pub shown : text ≡ report replies (I.told new).out (I.told new).held
 
--- These calls were made of a tower of this shape over a device that fails as these acts say, and has taken nothing; and the text shows it.
+-- These calls were made of a tower of this shape, over an empty device that fails as these acts say, and the text shows the run.
 pub record Shows {W : Type 0} (I : Writer (Faulty W)) (shape : Shape) (acts : List Act) (ops : List Op) (text : List ℕ) : Type 0 where
   pub replies : List Reply
   pub old : Faulty W
@@ -55,13 +56,13 @@ pub record Shows {W : Type 0} (I : Writer (Faulty W)) (shape : Shape) (acts : Li
   pub calls : RunBelow I (λ calls below. TowerCalls shape calls below held) old ops replies new
   pub shown : text ≡ report replies (I.told new).out held
 
--- The text shows a play on such a tower.
+-- The text shows the run of some calls on such a tower.
 pub record IsPlay {W : Type 0} (I : Writer (Faulty W)) (shape : Shape) (text : List ℕ) : Type 0 where
   pub acts : List Act
   pub ops : List Op
   pub shows : Shows I shape acts ops text
 
--- The text shows the play of the script that is read from these events.
+-- The text shows the run of the script that is read from these events.
 pub record IsPlayOf {W : Type 0} (I : Writer (Faulty W)) (shape : Shape) (E : List Event) (text : List ℕ) : Type 0 where
   pub script : Script
   pub ops : List Op
@@ -69,7 +70,7 @@ pub record IsPlayOf {W : Type 0} (I : Writer (Faulty W)) (shape : Shape) (E : Li
   pub calls : AreCalls script.calls ops
   pub shows : Shows I shape script.acts.items ops text
 
--- From old to new a writer accepted one text that is P, and nothing is held.
+-- From old to new a writer accepted a text for which P holds, and nothing is held.
 pub record WritesText (P : List ℕ → Type 0) (old new : Told) : Type 0 where
   pub text : List ℕ
   pub is : P text

@@ -1,4 +1,4 @@
--- What the lines of a script add to it.
+-- The script that lines make.
 use Rattle.std.specs.Prelude.{◌≡◌, ℕ, ◌+◌, ◌-◌, ◌^◌, ◌<◌, ◌⊎◌, min, true, false, List, [], ◌∷◌, ◌++◌, length, vec_len, vec_capacity, None}
 use Rattle.no_std_io2.specs.Read.{Event}
 use Rattle.no_std_io2.specs.Pieces.{without}
@@ -12,11 +12,11 @@ use Rattle.tower_play.specs.Script.{unescaped}
 use Rattle.tower_play.specs.Lines.{Says, IsGood}
 use Rattle.tower_play.specs.Calls.{AddsText, IsFull}
 
--- one more flush
+-- one flush was added
 abbrev pub AddsFlush : Calls → Calls → Type 0
 AddsFlush old new = (new.steps.items ≡ old.steps.items ++ flush_step ∷ []) × (new.texts ≡ old.texts)
 
--- what a line that says this adds: nothing, an act before the first call, or a call
+-- a line that says this adds nothing, an act before the first call, or a call
 abbrev pub AddsSaid : Line → Script → Script → Type 0
 AddsSaid Empty old new = new ≡ old
 AddsSaid (Act act) old new =
@@ -32,7 +32,7 @@ pub record Adds (line : List ℕ) (old new : Script) : Type 0 where
   pub says : Says line said
   pub adds : AddsSaid said old new
 
--- what makes a line bad that says something: an act behind a call, a text that stands for nothing
+-- a line that says something is bad all the same: an act after a call, or a text with a bad escape
 abbrev pub IsUnfit : Line → Script → Type 0
 IsUnfit Empty old = ⊥
 IsUnfit (Act act) old = 0 < vec_len old.calls.steps
@@ -41,7 +41,7 @@ IsUnfit (WriteAll text) old = unescaped text.now ≡ None
 IsUnfit Flush old = ⊥
 IsUnfit Bad old = ⊥
 
--- there is no room for what a line that says this may add: an act before the first call, a text and a call, or a call
+-- there is no room for what a line that says this adds: an act before the first call, a text and a call, or a call
 abbrev pub LineLacksRoom : Line → Script → Type 0
 LineLacksRoom Empty old = ⊥
 LineLacksRoom (Act act) old = (vec_len old.calls.steps ≡ 0) × (vec_capacity old.acts < vec_len old.acts + 1)
@@ -50,11 +50,11 @@ LineLacksRoom (WriteAll text) old = IsFull (length text.now) old.calls
 LineLacksRoom Flush old = vec_capacity old.calls.steps < vec_len old.calls.steps + 1
 LineLacksRoom Bad old = ⊥
 
--- a bad line behind those that made this script: it says nothing, or is refused
+-- the line is bad after those that made this script: it says nothing, or something that is bad there
 abbrev pub IsBadLine : List ℕ → Script → Type 0
 IsBadLine line old = (IsGood line → ⊥) ⊎ ((said : Line) × Says line said × IsUnfit said old)
 
--- what lines add, one after another
+-- the lines add this, one after another
 abbrev pub AddsAll : List (List ℕ) → Script → Script → Type 0
 AddsAll [] old new = new ≡ old
 AddsAll (line ∷ lines) old new = (mid : Script) × Adds line old mid × AddsAll lines mid new
@@ -65,7 +65,7 @@ pub record IsFresh (script : Script) : Type 0 where
   pub steps : script.calls.steps.items ≡ []
   pub texts : script.calls.texts.items ≡ []
 
--- a script is what all lines of these events add, each cut at d, and no event is a fault
+-- the script is what the lines of these events add, each ended by d, and no event is a fault
 pub record IsRead (d : ℕ) (E : List Event) (script : Script) : Type 0 where
   pub lines : List (List ℕ)
   pub all : AllPieces (without d) d E lines
@@ -73,7 +73,7 @@ pub record IsRead (d : ℕ) (E : List Event) (script : Script) : Type 0 where
   pub fresh : IsFresh start
   pub adds : AddsAll lines start script
 
--- of these lines the first bad one has this number, from 1: those before it make a script, and it is bad behind them
+-- the first bad line has this number, from 1: the lines before it make a script, and it is bad after them
 pub record IsFirstBad (lines : List (List ℕ)) (n : ℕ) : Type 0 where
   pub good : List (List ℕ)
   pub bad : List ℕ
@@ -86,7 +86,7 @@ pub record IsFirstBad (lines : List (List ℕ)) (n : ℕ) : Type 0 where
   pub is : IsBadLine bad made
   pub number : n ≡ min (length good + 1) (2 ^ 64 - 1)
 
--- no event is a fault, and of all lines of these events, each cut at d, this is the number of the first bad one
+-- no event is a fault, and this is the number of the first bad line of these events, each ended by d
 pub record IsBadAt (d : ℕ) (E : List Event) (n : ℕ) : Type 0 where
   pub lines : List (List ℕ)
   pub all : AllPieces (without d) d E lines

@@ -13,7 +13,7 @@ reply_line (Took n) = codes "took=" ++ decimal n ++ codes "\n"
 reply_line Done = codes "done\n"
 reply_line (Failed e) = codes "failed=" ++ error_display e ++ codes "\n"
 
--- the lines of replies, and then what is out and what is held
+-- the lines of replies, and then the bytes that are out and those that are held
 abbrev pub report : List Reply → List ℕ → List ℕ → List ℕ
 report replies out held =
     flat_map reply_line replies ++ codes "out=" ++ escaped out ++ codes "\nheld=" ++ escaped held ++ codes "\n"

@@ -12,21 +12,20 @@ use Rattle.no_std_io2.specs.declared.io.ErrorKind.TheVariants.{InvalidData, Time
 use Rattle.no_std_io2.specs.declared.io.ErrorKind.TheVariants.{Other, UnexpectedEof, Unsupported, OutOfMemory}
 use Rattle.no_std_io2.specs.declared.io.ErrorKind.TheVariants.{Uncategorized}
 
--- a byte as a text shows it: a newline is a backslash and `n`, a backslash two backslashes
+-- the escape of a byte: a newline is a backslash and `n`, a backslash is two backslashes, any other byte is itself
 abbrev pub escaped_byte : ℕ → List ℕ
 escaped_byte b = if b == 10 then codes "\\n" else (if b == 92 then codes "\\\\" else b ∷ [])
 
--- these bytes as a text shows them
+-- these bytes, each escaped
 abbrev pub escaped : List ℕ → List ℕ
 escaped bytes = flat_map escaped_byte bytes
 
--- these bytes before those, where there are any
+-- these bytes followed by those, if there are those
 abbrev pub before : List ℕ → Option (List ℕ) → Option (List ℕ)
 before bytes None = None
 before bytes (Some rest) = Some (bytes ++ rest)
 
--- the bytes that a text stands for, if it stands for any: a backslash and `n` for a newline, two backslashes for one, every
--- other byte for itself
+-- the bytes that an escaped text stands for, or none if it has a bad escape
 abbrev pub unescaped : List ℕ → Option (List ℕ)
 unescaped [] = Some []
 unescaped (b ∷ []) = if b == 92 then None else Some (b ∷ [])
@@ -35,7 +34,7 @@ unescaped (b ∷ c ∷ text) =
     then (if c == 110 then before (10 ∷ []) (unescaped text) else (if c == 92 then before (92 ∷ []) (unescaped text) else None))
     else before (b ∷ []) (unescaped (c ∷ text))
 
--- a text that stands for bytes is good, and they stand behind the old ones
+-- a text that stands for bytes is good, and these are appended
 abbrev pub IsAppended : Option (List ℕ) → Bool → List ℕ → List ℕ → Type 0
 IsAppended (Some bytes) good old new = (good ≡ true) × (new ≡ old ++ bytes)
 IsAppended None good old new = good ≡ false
@@ -64,13 +63,13 @@ kind_name Unsupported = codes "Unsupported"
 kind_name OutOfMemory = codes "OutOfMemory"
 kind_name Uncategorized = codes "Uncategorized"
 
--- one to five digits that write n, which is below 2 ^ 16
+-- these are one to five digits, their number is n, and n is below 2 ^ 16
 pub record IsCount (digits : List ℕ) (n : ℕ) : Type 0 where
   pub numeral : IsNumeral 10 digits
   pub value : digits_value 10 digits ≡ n
   pub short : length digits ≤ 5
   pub fits : n < 2 ^ 16
 
--- what follows a letter is a space and this text, or nothing, which is the empty text
+-- a letter is followed by a space and this text, or by nothing, and then this text is empty
 abbrev pub IsTextArgument : List ℕ → List ℕ → Type 0
 IsTextArgument rest text = (rest ≡ 32 ∷ text) ⊎ ((rest ≡ []) × (text ≡ []))
