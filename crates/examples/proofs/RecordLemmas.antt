@@ -1,17 +1,17 @@
--- How a record is passed over.
+-- How a record is skipped.
 use Rattle.std.proofs.Common.{◌≡◌, ℕ, ◌+◌, ◌<◌, List, [], ◌∷◌, ◌++◌, length, get_or, sym, ap, ◌∙◌, subst, arith}
 use Rattle.no_std_io2.specs.Read.{Event, byte, fails, events_of, bytes}
 use Rattle.no_std_io2.specs.Passing.{Passes, PassesOver}
 use Rattle.no_std_io2.proofs.EventLemmas.{Passes-then}
 use Rattle.examples.specs.Lengths.{AreRecords, more}
 
--- of some bytes that are gone the first stood first
+-- if some bytes are gone from the front, the first event was the first of these bytes
 first_gone : (P after rest : List Event) (b : ℕ) → P ++ after ≡ byte b ∷ rest → 0 < length (bytes P) → (bs : List ℕ) × (bytes P ≡ b ∷ bs)
 first_gone [] after rest b is some = absurd (omega arith)
 first_gone (byte a ∷ P) after rest b is some = (bytes P, let same : a ≡ b = cc in ap (λ x. x ∷ bytes P) same)
 first_gone (fails e ∷ P) after rest b is some = absurd (cc)
 
--- one record more was passed over, whose length was lent first
+-- one more record was skipped; its length was lent before
 pub record_more : {E mid after : List Event} {xs : List ℕ} (lent : List ℕ) (rest : List Event) {len left : ℕ} → AreRecords xs
     → Passes E xs mid → 0 < length lent → mid ≡ events_of lent ++ rest → len ≡ get_or lent 0 0 → PassesOver (len + 1) mid left after
     → left ≡ 0 → (ys : List ℕ) × AreRecords ys × Passes E ys after

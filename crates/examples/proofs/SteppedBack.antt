@@ -14,7 +14,7 @@ same_cut a b c d whole long = (
   sym (drop-append_seam a b) ∙ ap (drop (length a)) whole ∙ ap (λ n. drop n (c ++ d)) long ∙ drop-append_seam c d,
 )
 
--- n bytes were given of the held ones, so that as many lie behind
+-- n of the held bytes were given, so at least n bytes lie behind
 pub given_behind : (n : ℕ) (behind held header behind1 : List ℕ) → header ≡ take n held → n ≤ length held
     → behind1 ≡ behind ++ header → length behind1 ≡ length behind + n
 given_behind n behind held header behind1 is enough after =
@@ -41,7 +41,7 @@ whole_end n header behind end long enough =
     all_of [] is none = is
     all_of (x ∷ front) is none = absurd (omega (arith, none))
 
--- where n bytes lie behind after a read of n, they are the last of these
+-- if n bytes lie behind after a read of n, they are the last of these
 pub ends_in_header : (n : ℕ) (behind held header behind1 : List ℕ) → (n ≤ length held → behind1 ≡ behind ++ header)
     → (length held < n → IsSuffix header behind1) → length header ≡ n → n ≤ length behind1 → IsSuffix behind1 header
 ends_in_header n behind held header behind1 near past long enough = ⊎_elim
@@ -73,7 +73,7 @@ both_items (x ∷ []) long = absurd (omega (arith, long))
 both_items (x ∷ y ∷ []) long = refl
 both_items (x ∷ y ∷ z ∷ xs) long = absurd (omega (arith, long))
 
--- a record that is held whole, of which the header was looked at
+-- a record that is held whole, after a look at its header
 pub record_held : (payload rest held held1 : List ℕ) (wanted tag len : ℕ) → held ≡ wanted ∷ length payload ∷ payload ++ rest
     → tag ∷ len ∷ [] ≡ take 2 held → held1 ≡ held
     → (2 + len ≤ length held1) × (take len (drop 2 held1) ≡ payload) × (drop len (drop 2 held1) ≡ rest)

@@ -36,13 +36,13 @@ tried_flush {a} {b} {c} {end} shown under_way reply fault f s is none same = rec
   moves = subst (λ k. Moves a (f.sent ++ s.sent) k c) (flushed_mishap reply fault same) (Moves-then f.moves s.moves);
 }
 
--- what holds at `Ok` holds where no fault was found
+-- what holds after `Ok` holds if no fault came
 pub flushed_done : {P : Type 0} (reply : Result (Unit {0}) Error) (fault : Option Error) → fault ≡ result_err reply → fault ≡ None
     → OnOk reply P → P
 flushed_done (Ok u) fault is none done = done
 flushed_done (Err e) fault is none done = let no : ⊥ = cc in absurd no
 
--- where there was less room, the room was too small too
+-- if there was less room, the room was too small too
 pub refusal_less : {less room : ℕ} (payload : List ℕ) (e : Error) → less ≤ room → IsPayloadRefusal room payload e → IsPayloadRefusal less payload e
 refusal_less payload e h (inl long) = inl long
 refusal_less payload e h (inr memory) = inr (memory.0, omega (arith, memory.1, h))

@@ -1,4 +1,4 @@
--- How a frame is gathered: its header, and then its payload.
+-- How a frame is read: its header, and then its payload.
 use Rattle.std.proofs.Common.{◌≡◌, ◌⊎◌, ℕ, ◌+◌, ◌<◌, ◌≤◌, min, Bool, true, false, List, [], ◌++◌, length, take, codes, Ok, Err}
 use Rattle.std.proofs.Common.{refl, sym, ap, ◌∙◌, subst, inl, inr, arith, append-nil}
 use Rattle.std.specs.Int.{w32, to_le_bytes, from_le_bytes}
@@ -13,12 +13,12 @@ use Rattle.framing.specs.Taking.{GathersPart, TakesNone}
 use Rattle.no_std_io2.proofs.EventLemmas.{bytes-behind, Passes-all}
 use Rattle.no_std_io2.proofs.EventLemmas.{Gathered-then, Gathered-passes}
 
--- the length that a header tells, with a payload behind it
+-- a payload after the header does not change the length that the header says
 pub told_behind : (header payload : List ℕ) → length header ≡ 4 → told_length (header ++ payload) ≡ from_le_bytes w32 header
 told_behind header payload four =
     ap (from_le_bytes w32) (ap (λ n. take n (header ++ payload)) (sym four) ∙ take-append_seam header payload)
 
--- an error came, of the reader's or for want of memory
+-- an error came: a fault of the reader, or a failed allocation
 pub stopped : (less lacks : Type 0) (limit want : ℕ) (why : less → lacks) {I mid after : List Event} {was part new : List ℕ} (e : Error)
     → Gathered I was part mid
     → GathersPart want less mid (Err e) part new after → (length new < want → IsPart new)
@@ -67,7 +67,7 @@ pub no_frame : (less : Type 0) (want : ℕ) (I : List Event) {after : List Event
 no_frame less want I was true is h none = let no : ⊥ = cc in absurd no
 no_frame less want I {after} was false is h none = (subst (λ l. Passes (events_of was ++ I) l after) none (Gathered-passes h.0), h.2, none)
 
--- the part that was asked for is there
+-- the wanted part is there
 pub whole_part : (less : Type 0) (want : ℕ) {I after : List Event} {was new : List ℕ} (b : Bool) → b ≡ true
     → GathersPart want less I (Ok b) was new after → Gathered I was new after × (want ≤ length new)
 whole_part less want {I = I} true is h = h
@@ -89,12 +89,12 @@ frame_whole len header payload is long = ap (λ l. l ++ payload) (sym is ∙ ap 
 pub passes_as : {E after : List Event} {x y : List ℕ} → Passes E x after → x ≡ y → Passes E y after
 passes_as {E} {after} p is = subst (λ l. Passes E l after) is p
 
--- the end, with nothing gathered
+-- the end came, and nothing of a frame was read
 pub end_taken : (E I : List Event) (part : List ℕ) → Passes E [] I × (I ≡ []) × (part ≡ [])
     → Passes E [] (events_of part ++ I) × (events_of part ++ I ≡ [])
 end_taken E I part h = subst (λ p. Passes E [] (events_of p ++ I) × (events_of p ++ I ≡ [])) (sym h.2) (h.0, h.1)
 
--- a frame was taken, with nothing gathered behind it
+-- a frame was taken, and nothing after it was read
 pub frame_taken : (limit : ℕ) (E I : List Event) (payload items part : List ℕ)
     → Passes E (frame payload) I × (length payload ≤ limit) → items ≡ payload → part ≡ []
     → Passes E (frame items) (events_of part ++ I) × (length items ≤ limit)
@@ -107,7 +107,7 @@ pub part_short : (header payload : List ℕ) (len : ℕ) → length header ≡ 4
     → length (header ++ payload) < 4 + len → IsPart (header ++ payload)
 part_short header payload len four is short = inr (omega (arith, told_behind header payload four))
 
--- some of a frame was gathered, now or before
+-- some of a frame was read, now or before
 pub turn_spent : (was new : ℕ) {old mid after : ℕ} → (was < new) ⊎ (0 < was) → (was < new → mid < old) → mid ≤ old
     → after ≤ mid → after < old + min 1 was
 turn_spent was new {old = old} {mid = mid} (inl grew) turn turns later = let less : mid < old = turn grew in omega arith

@@ -20,11 +20,11 @@ front_of_frame : (p rest : List ℕ) → take 4 (frame p ++ rest) ≡ to_le_byte
 front_of_frame p rest =
     ap (take 4) (append_assoc (to_le_bytes w32 (length p)) p rest) ∙ take-append_seam (to_le_bytes w32 (length p)) (p ++ rest)
 
--- the first bytes of a frame tell its payload's length, where that is below 2 ^ 32
+-- the first bytes of a frame say the length of its payload, if that is below 2 ^ 32
 told_frame : (p rest : List ℕ) → length p < 2 ^ 32 → told_length (frame p ++ rest) ≡ length p
 told_frame p rest small = ap (from_le_bytes w32) (front_of_frame p rest) ∙ from_le_bytes-to_le_bytes_4 (length p) small
 
--- a frame is four bytes longer than its payload, and what stands behind it adds its own length
+-- a frame followed by other bytes is four bytes longer than its payload and these bytes
 long_frame : (p rest : List ℕ) → length (frame p ++ rest) ≡ 4 + length p + length rest
 long_frame p rest =
     let a = length-append (frame p) rest in
@@ -49,7 +49,7 @@ same_frame p q rest more small small' e =
         ap (drop 4) (append_assoc (to_le_bytes w32 (length p)) p rest)
         ∙ drop-append_seam (to_le_bytes w32 (length p)) (p ++ rest)
 
--- Where bytes begin with frames, the lists of payloads begin alike.
+-- If the bytes of two lists of frames begin alike, so do the lists of payloads.
 pub front_frames : (ps sent : List (List ℕ)) (left : List ℕ) → frames sent ≡ frames ps ++ left
     → All (λ p. length p < 2 ^ 32) sent → All (λ p. length p < 2 ^ 32) ps
     → (more : List (List ℕ)) × (sent ≡ ps ++ more) × (left ≡ frames more)

@@ -47,7 +47,7 @@ pub run_ends : (short : Type 0) (limit : ℕ) {E mid after : List Event} {ps : L
 run_ends short limit {E = E} {ps = ps} run h =
     (record { passes = passes_as (Passes-then run.passes h.0) (append-nil (frames ps)); each = run.each }, h.1)
 
--- want of memory after the frames
+-- an allocation failed after these frames
 pub run_refused : (short : Type 0) (limit : ℕ) {E after : List Event} {ps : List (List ℕ)} (e : Error) → PassesFrames limit E ps after
     → IsOutOfMemory e → short → TakesFrames limit short E (Err e) ps after
 run_refused short limit {E = E} {after = after} e run memory full = (

@@ -17,7 +17,7 @@ use Rattle.no_std_io2.specs.Appended.{appended}
 use Rattle.framing.specs.Taking.{ComesBack, IsFirstFault}
 use Rattle.framing.proofs.RoundTrip.{All-right}
 
--- where no byte is, none is left behind the first n
+-- if there is no byte, none is left after the first n
 pub drop_none : (n : ℕ) (bs : List ℕ) → bs ≡ [] → drop n bs ≡ []
 drop_none n bs e = ap (drop n) e ∙ none n
   where
@@ -42,7 +42,7 @@ all_short most old new t none is = λ k d lt.
     let at : length (get_or old k d) < 2 ^ 32 = short k d lt in
     omega arith
 
--- payloads that are short enough are refused for want of memory alone, for a frame that is longer than the room
+-- payloads that are short enough are refused only if an allocation failed, for a frame that is longer than the room
 pub only_memory : (room : ℕ) (old new : List (List ℕ)) (e : Error) → TakesPayloads old new → All (λ p. length p < 2 ^ 32) old
     → RefusesFirst (IsPayloadRefusal room) new e → IsOutOfMemory e × HasLongFrame room old
 only_memory room old [] e t short h = absurd h
@@ -59,7 +59,7 @@ only_memory room old (p ∷ ps) e t short (inr memory) = (
       omega (arith, here, memory.1),
 )
 
--- a first payload was refused for want of memory or for its length
+-- the first payload was refused because an allocation failed, or because of its length
 pub refused_as : (room : ℕ) (left : List (List ℕ)) (e : Error) (rest : Type 0) → RefusesFirst (IsPayloadRefusal room) left e ⊎ rest
     → IsOutOfMemory e ⊎ ((payload : List ℕ) × IsTooLongToSend payload e) ⊎ rest
 refused_as room [] e rest (inl h) = absurd h
@@ -67,7 +67,7 @@ refused_as room (p ∷ ps) e rest (inl (inl long)) = inr (inl (p, long))
 refused_as room (p ∷ ps) e rest (inl (inr memory)) = inl memory.0
 refused_as room left e rest (inr stops) = inr (inr stops)
 
--- bytes alone have no fault
+-- events that are only bytes have no fault
 no_fault : (bs : List ℕ) (E front rest : List Event) (e : Error) → E ≡ events_of bs → E ≡ front ++ fails e ∷ rest → ⊥
 no_fault bs E front rest e is split = at bs front (sym is ∙ split)
   where
@@ -77,7 +77,7 @@ no_fault bs E front rest e is split = at bs front (sym is ∙ split)
     at [] (q ∷ Q) h = cc
     at (c ∷ cs) (q ∷ Q) h = at cs Q (let t : events_of cs ≡ Q ++ fails e ∷ rest = cc in t)
 
--- over bytes alone an error is want of memory
+-- if the events are only bytes, an error is a failed allocation
 pub memory_alone : (short : Type 0) (sent : List (List ℕ)) (bs : List ℕ) {E : List Event} (e : Error)
     {given : List (List ℕ)} {left : List ℕ} → E ≡ events_of bs → ComesBack short sent E (Err e) given left → IsOutOfMemory e
 memory_alone short sent bs {E = E} e is back = why back.err
@@ -94,7 +94,7 @@ all_given short f sent E left old new back e none =
     ap (map f) (e ∙ ap (λ l. l ++ appended old new) none) ∙ sym (append-nil (map f (appended old new)))
     ∙ ap (λ l. map f (appended old new) ++ l) (sym back.ok) ∙ sym back.split
 
--- the bytes behind those that were shown before are the frames of the payloads
+-- the bytes after those that were shown before are the frames of the payloads
 pub shown_frames : (a b : Told) (to_go to_go' : List ℕ) (payloads left : List (List ℕ)) (before after : List ℕ)
     → Delivers a (to_go ++ frames payloads) b (to_go' ++ frames left)
     → to_go ≡ [] → to_go' ≡ [] → left ≡ [] → a.held ≡ [] → b.held ≡ [] → before ≡ a.out → after ≡ b.out
@@ -105,7 +105,7 @@ shown_frames a b to_go to_go' payloads left before after d none none' all held h
     (went_out a b to_go (to_go' ++ frames left) (frames payloads) d none (ap (λ l. l ++ frames left) none' ∙ ap frames all) held held')
     ∙ drop-append_seam a.out (frames payloads)
 
--- and so are the bytes to come of a reader over them
+-- the bytes to come of a reader over them are these frames
 pub come_frames : (E : List Event) (bs : List ℕ) (payloads : List (List ℕ)) → E ≡ events_of bs → bs ≡ frames payloads
     → bytes E ≡ frames payloads
 come_frames E bs payloads e is = ap bytes e ∙ bytes-events_of bs ∙ is

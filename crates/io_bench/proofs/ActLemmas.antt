@@ -1,4 +1,4 @@
--- What is behind the acts that a call spends.
+-- What a call does with its act, and the acts that are left.
 use Rattle.std.proofs.Common.{◌≡◌, ℕ, ◌<◌, List, [], ◌∷◌, ◌++◌, drop, Option, None, Some}
 use Rattle.std.proofs.Common.{refl, sym, ap, ◌∙◌, subst, arith, append-nil, ◌≤◌, min, length, take, Result}
 use Rattle.std.proofs.Common.{Ok, Err, IfOk, length-take, take-take, take_all, ⊎_elim}
@@ -52,7 +52,7 @@ moves_behind a b x k acts m = record {
   turns = omega (arith, m.turns);
 }
 
--- the acts behind the first
+-- the acts after the first
 acts_are : (acts : List Act) (act : Act) → first_act acts ≡ Some act → acts ≡ act ∷ drop 1 acts
 acts_are [] act is = absurd cc
 acts_are (x ∷ acts) act is = ap (λ y. y ∷ acts) cc
@@ -95,7 +95,7 @@ moves_through {a} {b} {x} {k} {act} acts {acts'} same m none is left =
     (subst (λ l. Moves (with_acts a (act ∷ drop 1 acts)) x l (with_acts b (drop 1 acts))) plain
     (moves_act a b x k act (drop 1 acts) (moves_from same m))))
 
--- no act is left, and the call was handed on
+-- no act was left, and the call was passed on
 pub moves_past : {a a' b : Told} {x : List ℕ} {k : List ErrorKind} (acts : List Act) {acts' : List Act} → a' ≡ a → Moves a' x k b
     → first_act acts ≡ None
     → acts' ≡ drop 1 acts → Moves (with_acts a acts) x k (with_acts b acts')
@@ -116,14 +116,14 @@ taken_of_front {a} {b} (Ok m) n {most} buf some is bound moves =
     let mishap : zero_write m (take most buf) ≡ zero_write m buf = grind (arith, nat_tests) in
     subst (λ l. Moves a (take m buf) l b) mishap (subst (λ l. Moves a l (zero_write m (take most buf)) b) same moves)
 
--- what was done behind the act that was spent
+-- what the call did after it used up its act
 pub behind : {W : Type 0} (I : Writer W) {act act' : Option Act} {a a' : W} (b : W) (x : List ℕ) (reply : Result ℕ Error) → act' ≡ act
     → a' ≡ a
     → WritesBehind I act' a' x reply b → WritesBehind I act a x reply b
 behind I {act} {a' = a'} b x reply same kept done =
     subst (λ w. WritesBehind I act w x reply b) kept (subst (λ y. WritesBehind I y a' x reply b) same done)
 
--- the act lets so many bytes through, and there may be fewer
+-- the act lets that many bytes through, and there may be fewer
 pub behind_take : {W : Type 0} (I : Writer W) {a b : W} (n : ℕ) {most : ℕ} (buf : List ℕ) (reply : Result ℕ Error) → 0 < n
     → most ≡ min n (length buf) → CallOf I a (Wrote (take most buf) reply) b → WritesBehind I (Some (Take n)) a buf reply b
 behind_take I {a} {b} n {most} buf reply some is wrote =

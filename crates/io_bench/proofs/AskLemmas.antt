@@ -28,23 +28,23 @@ use Rattle.io_bench.specs.Asks.{Drops, AskStep, Steps, TakesFront, Fits, AllFit,
 use Rattle.io_bench.specs.Asks.{AskTakes, Answered, CameTo, met_end, asked_reader, asked_events}
 use Rattle.std.proofs.Common.{◌/◌, ◌≢◌, true, ◌&&◌, is_err}
 
--- where a buffer has room for each ask of a list, it has room for the one at i
+-- if a buffer has room for each ask of a list, it has room for the one at i
 pub fits_at : (room : ℕ) (asks : List Ask) (i : ℕ) (d : Ask) → i < length asks → AllFit room asks → Fits room (get_or asks i d)
 fits_at room [] i d h f = absurd (omega arith)
 fits_at room (ask ∷ asks) zero d h f = f.0
 fits_at room (ask ∷ asks) (suc i) d h f = fits_at room asks i d (omega arith) f.1
 
--- where a front is gone, and then a front of what was left, both together are a front that is gone
+-- if a front is gone, and then a front of the rest, then both together are a front that is gone
 front_more : {E mid after : List Event} → TakesFront E mid → TakesFront mid after → TakesFront E after
 front_more {E = E} {after = after} s t = (s.0 ++ t.0, s.1 ∙ ap (λ l. s.0 ++ l) t.1 ∙ sym (append_assoc s.0 t.0 after))
 
--- what is left behind a front, by its length
+-- the rest after a front, by its length
 pub front_gone : (E after : List Event) (k : ℕ) → TakesFront E after → length E ≡ k + length after → after ≡ drop k E
 front_gone E after k t long =
     let short : k ≡ length t.0 = omega (arith, ap length t.1, length-append t.0 after) in
     sym (ap (λ l. drop k l) t.1 ∙ ap (λ n. drop n (t.0 ++ after)) short ∙ drop-append_seam t.0 after)
 
--- as many are dropped as are asked for, of some that are there
+-- if `ready` events can be taken, at most `most` of them are, and at least one if there are any
 drops : (S most h : ℕ) (E E' : List Event) (ready : ℕ) → (0 < length E → 0 < ready) → E' ≡ drop (min most ready) E → Drops most E E'
 drops S most h E E' ready some is = ⊎_elim
     (λ none. (most, omega arith, omega arith, is ∙ drop_of_length-le E (omega arith) ∙ sym (drop_of_length-le E (omega arith))))
@@ -125,12 +125,12 @@ pub exact_short : (S len : ℕ) {h r h' r' : ℕ} {E E' : List Event} → length
 exact_short S len {h} {r} {h'} {r'} {E} {E'} short front left reads held =
     asked_by S (Exact len) h r h' r' E E' true (min len (length E)) front (omega arith) refl (grind (arith, nat_tests, short)) reads held
 
--- where a read fell short that may not take nothing then, a front is gone: all there was
+-- if a read fell short, and may not leave the bytes, all of them are taken
 taken_whole : (E E' : List Event) → (E' ≡ [] ⊎ (⊥ × (E' ≡ E))) → TakesFront E E'
 taken_whole E E' (inl none) = (E, sym (append-nil E) ∙ ap (λ l. E ++ l) (sym none))
 taken_whole E E' (inr n) = absurd n.0
 
--- an exact read of bytes alone fails at their end, where all are taken
+-- over events that are only bytes, a `read_exact` fails at their end, with all taken
 pub falls_short : (bs : List ℕ) {E : List Event} (e : Error) (buf : List ℕ) {E' : List Event} → E ≡ events_of bs
     → ReadsExact {A = Unit {0}} ⊥ E (Err e) buf E'
     → (error_kind e ≡ UnexpectedEof) × (length E < length buf) × TakesFront E E'
@@ -142,12 +142,12 @@ falls_short bs {E} e buf {E'} is (inr short) =
     let long : length E ≡ length (bytes E) = ap length is ∙ length-events_of bs ∙ sym (ap length (ap bytes is ∙ bytes-events_of bs)) in
     (short.answer.0, omega (arith, short.short, long), taken_whole E E' short.left)
 
--- where an exact read into so many bytes failed
+-- a `read_exact` of that many bytes failed
 pub fell : {E : List Event} {e : Error} (buf : List ℕ) {len : ℕ} {E' : List Event} → length buf ≡ len
     → ReadsExact {A = Unit {0}} ⊥ E (Err e) buf E' → StopsAtFault E len e E' ⊎ FallsShort ⊥ E len e E'
 fell {E} {e} buf {E' = E'} same t = subst (λ len. StopsAtFault E len e E' ⊎ FallsShort ⊥ E len e E') same t
 
--- what is held and then bytes alone are bytes alone
+-- held bytes followed by events that are only bytes are only bytes
 pub bytes_behind : (held bs : List ℕ) (E : List Event) → E ≡ events_of bs → events_of held ++ E ≡ events_of (held ++ bs)
 bytes_behind held bs E is = ap (λ l. events_of held ++ l) is ∙ sym (events_of-append held bs)
 
@@ -164,7 +164,7 @@ stopped {E} {e} buf {len} {E'} same other t = by_case (fell buf same t)
     by_case (inl stops) = stops
     by_case (inr short) = absurd (other short.answer.0)
 
--- an error that `fill_buf` answered stood first, and is gone
+-- an error that `fill_buf` returned was the first event, and is gone
 pub lent_error : {reply : Result (Bor (List ℕ)) Error} (e : Error) {E after : List Event} → reply ≡ Err e → LendsFrom E reply after
     → E ≡ fails e ∷ after
 lent_error e {E} {after} is lends = subst (λ r. LendsFrom E r after) is lends
@@ -206,7 +206,7 @@ module _ {R : Type 0} {S : ℕ} (inner : Reader R) where
   abbrev to_come : BufReader (Tally R) S → List Event
   to_come r = asked_events inner.events r
 
-  -- asks, and then one more
+  -- the asks so far, and then one more
   came_then : (asks : List Ask) (ask : Ask) (answer : Result Bool Error) (old mid new : BufReader (Tally R) S) (at_end failed : ℕ)
       {ends failures : ℕ} → CameTo inner asks old at_end failed mid → Answered inner ask mid answer new
       → ends ≡ at_end + (if met_end answer then 1 else 0) → failures ≡ failed + (if is_err answer then 1 else 0)
@@ -228,7 +228,7 @@ module _ {R : Type 0} {S : ℕ} (inner : Reader R) where
       subst (λ made. CameTo inner made old ends failures new) (sym (take_more asks i d within))
       (came_then (take i asks) (get_or asks i d) answer old mid new at_end failed t one e f)
 
-  -- where there are no more than i asks, the first i are all
+  -- if there are no more than i asks, the first i are all
   pub came_all : (asks : List Ask) (i : ℕ) (old new : BufReader (Tally R) S) (at_end failed : ℕ) → length asks ≤ i
       → CameTo inner (take i asks) old at_end failed new → CameTo inner asks old at_end failed new
   came_all asks i old new at_end failed all t = subst (λ made. CameTo inner made old at_end failed new) (take_all i asks all) t
@@ -246,7 +246,7 @@ module _ {R : Type 0} {S : ℕ} (inner : Reader R) where
   held_to_come : (r : BufReader (Tally R) S) → length (reader_held r) ≤ length (to_come r)
   held_to_come r = omega (arith, length-events (reader_held r) (inner.events (asked_reader r)))
 
-  -- over a reader that gives bytes alone no ask fails, and each takes its step
+  -- over a filling reader no ask fails, and each takes its step
   pub came_steps : (asks : List Ask) (old new : BufReader (Tally R) S) (at_end failed : ℕ) → CameTo inner asks old at_end failed new
       → inner.is_filling (asked_reader old)
       → inner.is_filling (asked_reader new) × (failed ≡ 0) × Steps asks (to_come old) (to_come new) at_end
@@ -260,7 +260,7 @@ module _ {R : Type 0} {S : ℕ} (inner : Reader R) where
       (some_room old) (held_to_come old) first.1 in
       (rest.0, omega (arith, none, rest.1), (to_come next, ends, step, rest.2, counted ∙ ap (λ b. (if b then 1 else 0) + ends) first.1.end))
 
-  -- and what they cost is paid for, where c reads, n bytes and z asks at the end went before
+  -- the count holds after them, if c reads, n bytes and z asks at the end came before
   came_paid : (asks : List Ask) (old new : BufReader (Tally R) S) (at_end failed c n z : ℕ) → CameTo inner asks old at_end failed new
       → inner.is_filling (asked_reader old) → ReadsPaid S c n z (length (reader_held old)) (length (to_come old))
       → (reads : ℕ) × (tally_reads (reader_inner new) ≡ tally_reads (reader_inner old) + reads)

@@ -13,7 +13,7 @@ use Rattle.io_bench.specs.Runs.{Accepts, Run, IsWhole, AreWhole}
 use Rattle.io_bench.specs.Closed.{op_bytes, given_bytes, op_flushes, flushes, op_calls, op_buffer}
 use Rattle.io_bench.proofs.PaidLemmas.{Paid, Paid-write, Paid-flush, Paid-bound}
 
--- where each call is whole, the bytes that were given are the bytes accepted
+-- if each call is whole, the accepted bytes are the bytes of the calls
 whole_accepts : (op : Op) (reply : Reply) (xs : List ℕ) → Accepts op reply xs → IsWhole op reply → xs ≡ op_bytes op
 whole_accepts (Write x) (Took n) xs a w = a.1 ∙ take_all n x.now (le_of_eq (sym w))
 whole_accepts (WriteAll x) Done xs a w = a
@@ -25,7 +25,7 @@ whole_accepts (Write x) (Failed e) xs a w = absurd w
 whole_accepts (WriteAll x) (Failed e) xs a w = absurd w
 whole_accepts Flush (Failed e) xs a w = absurd w
 
--- where each call of a run is whole, the run accepted all bytes that its calls were given
+-- if each call of a run is whole, the run accepted all bytes of its calls
 pub whole_run : (ops : List Op) (replies : List Reply) (xs : List ℕ) → Run ops replies xs → AreWhole ops replies → xs ≡ given_bytes ops
 whole_run [] [] xs r w = r
 whole_run (op ∷ ops) (reply ∷ replies) xs r w =
@@ -33,14 +33,14 @@ whole_run (op ∷ ops) (reply ∷ replies) xs r w =
 whole_run [] (reply ∷ replies) xs r w = absurd r
 whole_run (op ∷ ops) [] xs r w = absurd r
 
--- with one call more, the bytes that were given are those of the calls before it, and then its own
+-- the bytes of a list of calls and one more are those of the list, and then those of the call
 given_bytes-more : (ops : List Op) (op : Op) → given_bytes (ops ++ op ∷ []) ≡ given_bytes ops ++ op_bytes op
 given_bytes-more [] op = append-nil (op_bytes op)
 given_bytes-more (o ∷ ops) op =
     ap (λ l. op_bytes o ++ l) (given_bytes-more ops op)
     ∙ sym (append_assoc (op_bytes o) (given_bytes ops) (op_bytes op))
 
--- with one call more, there is one flush more where that call is a `Flush`, and else as many as before
+-- one more call adds one flush if it is a `Flush`, and else none
 flushes-more : (ops : List Op) (op : Op) → flushes (ops ++ op ∷ []) ≡ flushes ops + op_flushes op
 flushes-more [] op = omega arith
 flushes-more (o ∷ ops) op = omega (arith, flushes-more ops op)
@@ -57,8 +57,8 @@ Paid-call S c f n buffer (WriteAll x) some fits p =
 Paid-call S c f n buffer Flush some fits p =
     subst (λ m. Paid S (c + calls_for buffer) (f + 1) m 0) (sym (add-zero n)) (Paid-flush S c f n buffer p)
 
--- where the count holds after the first i calls, it holds after the next one too, with the inner writes that
--- this one takes and the buffer that it leaves
+-- if the count holds after the first i calls, it holds after the next one too, with the inner writes that this one takes and the buffer
+-- that it leaves
 pub Paid-next : (S c d : ℕ) (ops : List Op) (i : ℕ) (o : Op) (buffer next : List ℕ) → 0 < S → length buffer ≤ S → i < length ops
     → Paid S c (flushes (take i ops)) (length (given_bytes (take i ops))) (length buffer)
     → d ≡ c + op_calls S buffer (get_or ops i o) → next ≡ op_buffer S buffer (get_or ops i o)
@@ -96,8 +96,8 @@ pub given_all : (ops : List Op) (i : ℕ) (replies : List Reply) (xs : List ℕ)
     → Run (take i ops) replies xs → AreWhole (take i ops) replies → xs ≡ given_bytes ops
 given_all ops i replies xs h r w = whole_run (take i ops) replies xs r w ∙ ap given_bytes (take_all i ops h)
 
--- once all calls are made, the inner writes, and 1 more where bytes are still held, are at most 2 for each
--- full S + 1 bytes that the calls were given, 1 for each flush, and 1
+-- once all calls are made, the inner writes, and 1 more if bytes are still held, are at most 2 for each full S + 1 bytes that the calls
+-- were given, 1 for each flush, and 1
 pub Paid-all : (S c : ℕ) (ops : List Op) (i h : ℕ) → length ops ≤ i → Paid S c (flushes (take i ops)) (length (given_bytes (take i ops))) h
     → c + min h 1 ≤ 2 * (length (given_bytes ops) / (S + 1)) + flushes ops + 1
 Paid-all S c ops i h e p = let bound = Paid-bound S c _ _ h p in

@@ -57,7 +57,7 @@ pub counted_fault : {A : Type 0} {budget was budget' now budget'' now' : ℕ} {e
 counted_fault so_far one fewer =
     record { least = tt; asked = inr (omega (arith, so_far.least, one)); most = omega (arith, so_far.most, one, fewer) }
 
--- memory was refused
+-- an allocation failed
 pub counted_refused : {A : Type 0} {budget was budget' now : ℕ} {e : Error} → CountedSoFar 0 budget was 0 budget' now → IsOutOfMemory e
     → CountsToEnd {A = A} was budget (Err e) budget' now
 counted_refused so_far refused =

@@ -11,12 +11,12 @@ use Rattle.io_bench.specs.declared.runs.Reply.{Reply}
 use Rattle.io_bench.specs.declared.runs.Reply.TheVariants.{Took, Done, Failed}
 use Rattle.io_bench.specs.Runs.{mishap_of, mishaps_of, is_failure, failures, failures_of, IsShorterBy, HasFewer}
 
--- where every element is counted, the count is the length
+-- if every element is counted, the count is the length
 count_by-all : {X : Type 0} (xs : List X) → count_by (λ _. true) xs ≡ length xs
 count_by-all [] = refl
 count_by-all (x ∷ xs) = omega (arith, sum_by-cons (λ _. 1) x xs, count_by-all xs)
 
--- a call has a mishap exactly where it failed
+-- a call has one mishap if it failed, and else none
 length-mishap_of : (op : Op) (reply : Reply) → length (mishap_of op reply) ≡ (if is_failure op reply then 1 else 0)
 length-mishap_of (Write x) (Took n) = grind (arith, nat_tests)
 length-mishap_of (WriteAll x) (Took n) = refl

@@ -8,7 +8,7 @@ use Rattle.io_bench.specs.declared.feed.Event.{Event}
 use Rattle.io_bench.specs.declared.feed.Event.TheVariants.{Byte, Fail}
 use Rattle.io_bench.specs.Feed.{all_to_come, leading_bytes, first_failure}
 
--- the first n bytes are given, and what stands behind them is left
+-- the first n bytes are given, and the events after them are left
 pub given_first : (n : ℕ) (left : List Event) → n ≤ length (leading_bytes left)
     → all_to_come left ≡ events_of (take n (leading_bytes left)) ++ all_to_come (drop n left)
 given_first zero left h = refl
@@ -16,7 +16,7 @@ given_first (suc n) [] h = absurd (omega arith)
 given_first (suc n) (Byte b ∷ left) h = ap (λ E. byte b ∷ E) (given_first n left (omega arith))
 given_first (suc n) (Fail kind ∷ left) h = absurd (omega arith)
 
--- where the first n leading bytes are gone, the others of them are the leading bytes now
+-- if the first n leading bytes are gone, the others are the leading bytes now
 leading-drop : (n : ℕ) (left : List Event) → n ≤ length (leading_bytes left) → leading_bytes (drop n left) ≡ drop n (leading_bytes left)
 leading-drop zero left h = refl
 leading-drop (suc n) [] h = absurd (omega arith)
@@ -29,13 +29,13 @@ leading-le [] = omega arith
 leading-le (Byte b ∷ left) = let rest = leading-le left in omega (arith, rest)
 leading-le (Fail kind ∷ left) = omega arith
 
--- where no byte and no failure stands first, nothing is left
+-- if no byte and no failure comes first, nothing is left
 pub nothing_left : (left : List Event) → length (leading_bytes left) ≡ 0 → first_failure left ≡ None → left ≡ []
 nothing_left [] h f = refl
 nothing_left (Byte b ∷ left) h f = absurd (omega arith)
 nothing_left (Fail kind ∷ left) h f = absurd (cc)
 
--- where x stands first behind n elements, what follows x stands behind n + 1
+-- if x follows the first n elements, the rest after x follows the first n + 1
 drop_next : {A : Type 0} (n : ℕ) (xs : List A) (x : A) (rest : List A) → drop n xs ≡ x ∷ rest → drop (suc n) xs ≡ rest
 drop_next zero xs x rest e = ap (drop 1) e
 drop_next (suc n) [] x rest e = absurd (cc)
@@ -53,7 +53,7 @@ given_next n b left rest buf room enough same e =
       sym (ap (λ m. drop m left) (add-one n) ∙ drop_next n left (Byte b) rest e),
     )
 
--- no byte stands first any more
+-- the first event is no byte
 pub given_all : (n : ℕ) (left rest : List Event) → n ≤ length (leading_bytes left) → rest ≡ drop n left
     → leading_bytes rest ≡ [] → n ≡ length (leading_bytes left)
 given_all n left rest enough e none =

@@ -62,7 +62,7 @@ joined_next ops replies {i} p q {xs} ys h e j c a =
     (joined_more (take i ops) (take i replies) xs (get_or ops i p) (get_or replies i q) ys
     (length-take i ops ∙ ap (min i) e ∙ sym (length-take i replies)) j c a))
 
--- where each says it, each of them does
+-- if all replies are clear, each reply is
 pub clear_at : (ops : List Op) (replies : List Reply) (i : ℕ) (p : Op) (q : Reply)
     → i < length ops → AreClear ops replies → IsClear (get_or ops i p) (get_or replies i q)
 clear_at (op ∷ ops) (reply ∷ replies) zero p q h c = c.0
@@ -109,11 +109,11 @@ rest_joined op reply ops replies b j = (
   λ other r. append_cancel_left j.0.0 other j.0.1 (j.1 (j.0.0 ++ other) (j.0.0, other, j.0.2, r, refl) ∙ j.0.4),
 )
 
--- a `write_all` that failed accepted one list alone only where it had no byte
+-- the bytes that a failed `write_all` accepted are determined only if it had no byte
 idle_alone : (xs rest b : List ℕ) → (xs ++ rest ≡ b) → (rest ≡ b) → xs ≡ []
 idle_alone xs rest b whole none = nil_from_length xs (omega (arith, ap length (whole ∙ sym none), length-append xs rest))
 
--- where some reply does not say what was accepted, runs accepted different lists or there is none, but for a `write_all` of nothing
+-- if some reply does not say what was accepted, different lists fit the replies or none does, except for a failed `write_all` of no bytes
 pub unclear : (ops : List Op) (replies : List Reply) (b : List ℕ)
     → IsJoined ops replies b → (AreClear ops replies → ⊥) → HasIdleFailure ops replies
 unclear [] [] b j n = absurd (n tt)
@@ -155,7 +155,7 @@ pub some_accepted : (ops : List Op) (replies : List Reply) (i : ℕ) (p : Op) (q
 some_accepted ops replies i p q xs h clear accepts some run =
     omega (arith, some, ap length (accepted_once _ _ [] xs clear (nothing_at ops replies i p q h run) accepts))
 
--- what is known of an error is known of an answer that is one
+-- what holds for an error holds for the result that is this error
 pub refused_so : {T : Type 0} (reply : Result T Error) (P Q : Error → Type 0) → IsErrAnd reply P → ((e : Error) → P e → Q e)
     → IfErr reply Q
 refused_so (Ok x) P Q said then = absurd said

@@ -7,8 +7,8 @@ use Rattle.no_std_io2.specs.Write.{calls_for}
 use Rattle.std.proofs.lemmas.Bool.Decides.{nat_tests}
 use Rattle.std.proofs.lemmas.Bool.{cases_lt}
 
--- c writes so far, f flushes, n bytes given, h of them in the buffer: p pairs of writes that carried more than S bytes
--- each are complete, and either no write stands alone, or the last one does, which carried all but at most one of S + 1 bytes
+-- c writes so far, f flushes, n bytes given, h of them in the buffer: there are p complete pairs of writes that carried more than S bytes
+-- each, and either no write is without a partner, or only the last is, which carried at least S bytes
 pub data Paid (S c f n h : ℕ) : Type 0 where
   pairs : (p : ℕ) → c ≤ 2 * p + f → p * (S + 1) + h ≤ n → Paid S c f n h
   open_one : (p : ℕ) → c ≤ 2 * p + 1 + f → p * (S + 1) + S + min h 1 ≤ n → Paid S c f n h
@@ -93,6 +93,6 @@ Paid-flush S c f n buffer paid = ⊎_elim
 pub Paid-empty : (S : ℕ) (buffer : List ℕ) → buffer ≡ [] → Paid S 0 0 0 (length buffer)
 Paid-empty S buffer e = subst (λ l. Paid S 0 0 0 (length l)) (sym e) (Paid-start S)
 
--- to send what is held takes one call, or none where nothing is held
+-- the held bytes are sent by one call, or by none if nothing is held
 pub calls_for-min : (buffer : List ℕ) → calls_for buffer ≡ min (length buffer) 1
 calls_for-min buffer = grind (arith, nat_tests)

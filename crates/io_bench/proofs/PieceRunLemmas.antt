@@ -13,7 +13,7 @@ use Rattle.no_std_io2.specs.Appended.{appended}
 use Rattle.no_std_io2.proofs.AppendedLemmas.{appended-one}
 use Rattle.io_bench.specs.PieceRuns.{AllPieces, GathersPieces}
 
--- the pieces in front are gathered, trimmed, and the others are to come
+-- the first pieces were gathered, trimmed, and the others are to come
 pub record GatheredSoFar (trim : List ℕ → List ℕ) (d : ℕ) (E : List Event) (items : List (List ℕ)) (after : List Event) : Type 0 where
   pub before : List (List ℕ)
   pub given : pieces_given d E ≡ before ++ pieces_given d after
@@ -21,7 +21,7 @@ pub record GatheredSoFar (trim : List ℕ → List ℕ) (d : ℕ) (E : List Even
   pub bytes : bytes_to_fault E ≡ concat before ++ bytes_to_fault after
   pub are : items ≡ map trim before
 
--- at the start no piece is gathered, and all are to come
+-- at the start no piece was gathered, and all are to come
 pub none_gathered : (trim : List ℕ → List ℕ) (d : ℕ) (E : List Event) → GatheredSoFar trim d E [] E
 none_gathered trim d E = record { before = []; given = refl; fault = refl; bytes = refl; are = refl }
 
@@ -35,7 +35,7 @@ pub shown-one : {T : Type 0} (view : T → List ℕ) (old : List T) {mid new : L
     → new ≡ mid ++ x ∷ [] → map view (appended old new) ≡ map view (appended old mid) ++ view x ∷ []
 shown-one view old {mid} {new} x h is = ap (map view) (appended-one old mid new x h is) ∙ map-end view (appended old mid) x
 
--- at the same delimiter, and of the same answer
+-- the same holds for an equal delimiter and an equal result
 pub yields_at : {T : Type 0} (view : T → List ℕ) (trim : ℕ → List ℕ → List ℕ) (refuses : List ℕ → Error → Type 0)
     (d' d : ℕ) (E : List Event) (r' r : Option (Result T Error)) (after : List Event)
     → d' ≡ d → r' ≡ r → YieldsPiece view (trim d') refuses d' E r' after → YieldsPiece view (trim d) refuses d E r after
@@ -68,7 +68,7 @@ one_gathered view trim refuses d E items shown mid item after same t (piece, tak
       are = same ∙ ap (λ l. l ++ view item ∷ []) t.are ∙ ap (λ x. map trim t.before ++ x ∷ []) trimmed ∙ sym (map-end trim t.before piece);
     }
 
--- where no fault is the first, there is none
+-- if there is no first fault, there is no fault
 fault_free : (E : List Event) → first_fault E ≡ None → HasNoFault E × (bytes_to_fault E ≡ bytes E)
 fault_free [] h = (tt, refl)
 fault_free (byte b ∷ E) h = let rest = fault_free E h in (rest.0, ap (λ l. b ∷ l) rest.1)
@@ -80,7 +80,7 @@ fault_free (fails e ∷ E) h = by_kind (is_interruption (error_kind e)) refl h (
     by_kind true is h rest = let r = rest h in ((is, r.0), ap (λ t. if t then bytes_to_fault E else []) is ∙ r.1)
     by_kind false is h rest = cc
 
--- what stands before the first fault
+-- The bytes before the first fault.
 pub record BeforeFault (E : List Event) (e : Error) : Type 0 where
   pub before : List Event
   pub behind : List Event
@@ -89,8 +89,8 @@ pub record BeforeFault (E : List Event) (e : Error) : Type 0 where
   pub fault : IsFault e
   pub shown : bytes_to_fault E ≡ bytes before
 
--- where e is the first fault, E is a front without a fault, then e, then the rest;
--- and the bytes before the first fault are those of that front
+-- if e is the first fault, E is a front without a fault, then e, then the rest; and the bytes before the first fault are those of that
+-- front
 fault_first : (E : List Event) (e : Error) → first_fault E ≡ Some e → BeforeFault E e
 fault_first [] e h = cc
 fault_first (byte b ∷ E) e h =
@@ -128,7 +128,7 @@ fault_first (fails f ∷ E) e h = by_kind (is_interruption (error_kind f)) refl 
           shown = ap (λ t. if t then bytes_to_fault E else []) is;
         }
 
--- at the end all is gathered
+-- at the end all pieces were gathered
 pub all_gathered : {T : Type 0} (view : T → List ℕ) (trim : List ℕ → List ℕ) (refuses : List ℕ → Error → Type 0) (d : ℕ)
     (E : List Event) (items shown : List (List ℕ)) (mid after : List Event)
     → shown ≡ items → GatheredSoFar trim d E items mid → YieldsPiece view trim refuses d mid None after → AllPieces trim d E shown
@@ -141,7 +141,7 @@ all_gathered view trim refuses d E items shown mid after same t (piece, gives) =
     ∙ ap (λ l. t.before ++ l) end.0 ∙ append-nil t.before in
     record { no_fault = free.0; are = same ∙ t.are ∙ ap (map trim) (sym given) }
 
--- where a byte comes next behind events without a fault, some byte stands before the first fault
+-- if a byte follows events without a fault, there is a byte before the first fault
 some_byte : (E taken after : List Event) → E ≡ taken ++ after → HasNoFault taken → IsByteNext after → 0 < length (bytes_to_fault E)
 some_byte E taken [] is free next = absurd next
 some_byte E taken (fails e ∷ rest) is free next = absurd next

@@ -8,8 +8,8 @@ use Rattle.io_bench.specs.declared.asks.Ask.{Ask}
 use Rattle.io_bench.specs.declared.asks.Ask.TheVariants.{Read, Exact, Fill}
 use Rattle.io_bench.specs.Asks.{meets_end, asked_bytes, asked_reads, asked_left}
 
--- c reads so far, n bytes given, z asks at the end, h bytes held, all to come with them: f reads gave S bytes and more
--- each, and either no other read gave a byte, or one did, which left nothing behind what is held
+-- c reads so far, n bytes given, z asks at the end, h bytes held, all to come with them: f reads gave at least S bytes each, and either no
+-- other read gave a byte, or one did, and no event is left after the held bytes
 pub data ReadsPaid (S c n z h all : ℕ) : Type 0 where
   full : (f : ℕ) → c ≤ f + z → f * S ≤ n + h → ReadsPaid S c n z h all
   last : (f : ℕ) → c ≤ f + 1 + z → f * S ≤ n → all ≡ h → ReadsPaid S c n z h all
@@ -64,7 +64,7 @@ paid_bound S c some fits (full zero a b) = omega arith
 paid_bound S c {n = n} some fits (full (suc f) a b) = let q = quotient S n f some (omega arith) in omega arith
 paid_bound S c {n = n} some fits (last f a b e) = let q = quotient S n f some b in omega arith
 
--- an ask goes on
+-- the count after one more ask
 abbrev After : (S c n z : ℕ) (ask : Ask) (h all : ℕ) → Type 0
 After S c n z ask h all = ReadsPaid S (c + asked_reads ask h all) (n + asked_bytes S ask h all) (z + (if meets_end ask all then 1 else 0))
     (asked_left S ask h all) (all - asked_bytes S ask h all)
@@ -91,7 +91,7 @@ paid_none_left : (S c n z : ℕ) (ask : Ask) → asked_reads ask 0 0 ≡ 1 → a
 paid_none_left S c n z ask reads is ends left paid =
     paid_same (omega (arith, reads)) (omega (arith, is)) (grind (arith, ends)) (sym left) (omega (arith, is)) (paid_end S c n z 0 0 paid)
 
--- where the count holds, over a buffer with some room, it holds after one more `Read`
+-- if the count holds, over a buffer with some room, it holds after one more `Read`
 paid_read : (S c n z len h all : ℕ) → 0 < S → h ≤ all → ReadsPaid S c n z h all → After S c n z (Read len) h all
 paid_read S c n z len zero zero room fits paid =
     paid_none_left S c n z (Read len) (omega arith) (grind (arith, nat_tests)) (grind (arith, nat_tests)) (grind (arith, nat_tests)) paid
@@ -103,7 +103,7 @@ paid_read S c n z len (suc h) all room fits paid =
     paid_held S c n z (Read len) (suc h) all (min len (suc h)) (omega arith) (grind (arith, nat_tests))
     (grind (arith, nat_tests)) (grind (arith, nat_tests)) fits paid
 
--- where the count holds, over a buffer with some room, it holds after one more `Fill`
+-- if the count holds, over a buffer with some room, it holds after one more `Fill`
 paid_fill : (S c n z most h all : ℕ) → 0 < S → h ≤ all → ReadsPaid S c n z h all → After S c n z (Fill most) h all
 paid_fill S c n z most zero zero room fits paid =
     paid_none_left S c n z (Fill most) (omega arith) (grind (arith, nat_tests)) (grind (arith, nat_tests)) (grind (arith, nat_tests)) paid
@@ -144,7 +144,7 @@ paid_exact S c n z len h all room fits paid = ⊎_elim
         (omega arith) first)))
         (cases_lt (all - h) 1)
 
--- where the count holds, over a buffer with some room, it holds after one more ask of any kind
+-- if the count holds, over a buffer with some room, it holds after one more ask of any kind
 pub paid_ask : (S c n z : ℕ) (ask : Ask) (h all : ℕ) → 0 < S → h ≤ all → ReadsPaid S c n z h all → After S c n z ask h all
 paid_ask S c n z (Read len) h all room fits paid = paid_read S c n z len h all room fits paid
 paid_ask S c n z (Fill most) h all room fits paid = paid_fill S c n z most h all room fits paid

@@ -1,4 +1,4 @@
--- A run goes on by one call.
+-- A run and one more call.
 use Rattle.std.proofs.Common.{◌≡◌, ℕ, Bor, Ok, ◌+◌, ◌<◌, ◌≤◌, take_all, length, take, drop, get_or, List, [], ◌∷◌, ◌++◌}
 use Rattle.std.proofs.Common.{refl, sym, ap, ◌∙◌, subst, append_assoc, append-nil}
 use Rattle.std.proofs.Math.Seq.{drop-append_seam}
@@ -33,7 +33,7 @@ JoinsEach-more gives (o ∷ ops) (q ∷ replies) xs op reply ys r a = (
 JoinsEach-more gives [] (q ∷ replies) xs op reply ys r a = absurd r
 JoinsEach-more gives (o ∷ ops) [] xs op reply ys r a = absurd r
 
--- the mishap of one call more, if it has one, stands behind those of the run
+-- the mishap of one more call, if it has one, follows those of the run
 mishaps_of-more : (ops : List Op) (replies : List Reply) (xs : List ℕ) (op : Op) (reply : Reply) → Run ops replies xs
     → mishaps_of (ops ++ op ∷ []) (replies ++ reply ∷ []) ≡ mishaps_of ops replies ++ mishap_of op reply
 mishaps_of-more [] [] xs op reply r = append-nil (mishap_of op reply)
@@ -43,7 +43,7 @@ mishaps_of-more (o ∷ ops) (q ∷ replies) xs op reply r =
 mishaps_of-more [] (q ∷ replies) xs op reply r = absurd r
 mishaps_of-more (o ∷ ops) [] xs op reply r = absurd r
 
--- where a run with one call more ends in a flush that succeeded, that call is this flush
+-- if a run with one more call ends in a flush that succeeded, that call is this flush
 EndsFlushed-more : (ops : List Op) (replies : List Reply) (xs : List ℕ) (op : Op) (reply : Reply) → Run ops replies xs
     → EndsFlushed (ops ++ op ∷ []) (replies ++ reply ∷ []) → IsFlushed op reply
 EndsFlushed-more [] [] xs op reply r e = e
@@ -54,7 +54,7 @@ EndsFlushed-more (o ∷ p ∷ ops) (q ∷ []) xs op reply r e = absurd r.3
 EndsFlushed-more [] (q ∷ replies) xs op reply r e = absurd r
 EndsFlushed-more (o ∷ ops) [] xs op reply r e = absurd r
 
--- where each call of a run is whole, and one call more is, each is whole with it
+-- if each call of a run is whole, and one more call is, all of them are
 pub AreWhole-more : (ops : List Op) (replies : List Reply) (op : Op) (reply : Reply) → AreWhole ops replies
     → IsWhole op reply → AreWhole (ops ++ op ∷ []) (replies ++ reply ∷ [])
 AreWhole-more [] [] op reply r a = (a, tt)
@@ -66,7 +66,7 @@ AreWhole-more (o ∷ ops) [] op reply r a = absurd r
 pub Ran-none : (a : Told) → Ran a [] [] a
 Ran-none a = record { accepted = []; run = refl; moves = Moves-refl a }
 
--- a run, and one call more from where it left the writer, are a run together
+-- a run, and one more call from the state that it left, are a run together
 pub Ran-more : {a b c : Told} {op : Op} {reply : Reply} (ops : List Op) (replies : List Reply) → Ran a ops replies b
     → CallReplies b op reply c → Ran a (ops ++ op ∷ []) (replies ++ reply ∷ []) c
 Ran-more {a} {b} {c} {op} {reply} ops replies r s = record {
@@ -84,7 +84,7 @@ pub Ran-next : {a b c : Told} {reply : Reply} (ops : List Op) (i : ℕ) (d : Op)
 Ran-next {a} {b} {c} {reply} ops i d replies h r s =
     subst (λ made. Ran a made (replies ++ reply ∷ []) c) (sym (take_more ops i d h)) (Ran-more (take i ops) replies r s)
 
--- where the first i calls of a list are whole, and the next one is, the first i + 1 are
+-- if the first i calls of a list are whole, and the next one is, the first i + 1 are
 pub AreWhole-next : (reply : Reply) (ops : List Op) (i : ℕ) (d : Op) (replies : List Reply) → i < length ops
     → AreWhole (take i ops) replies → IsWhole (get_or ops i d) reply
     → AreWhole (take (i + 1) ops) (replies ++ reply ∷ [])
@@ -109,7 +109,7 @@ all_made P {ops = ops} i old {new = new} more h e p =
     subst (λ made. P made (appended old new)) (take_all i ops h)
     (subst (P (take i ops)) (sym (ap (drop (length old)) e ∙ drop-append_seam old more)) p)
 
--- a `write_all` that answered `Ok`
+-- a `write_all` that returned `Ok`
 pub Answers-write_all : {a b : Told} (x : Bor (List ℕ)) (u : Unit {0}) → MovesFront a x.now (Ok u) b → CallReplies a (WriteAll x) Done b
 Answers-write_all {a} {b} x u moves = record {
   accepted = x.now;

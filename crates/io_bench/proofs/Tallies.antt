@@ -4,7 +4,7 @@ use Rattle.no_std_io2.specs.Read.{Reader}
 use Rattle.io_bench.specs.declared.tally.Tally.{Tally}
 use Rattle.io_bench.specs.Tally.{tally_inner, tally_reads}
 
--- as its inner reader, but for the count
+-- a `Tally` tells what its inner reader tells, except for the count
 abbrev pub tally_reader : {T : Type 0} → Reader T → Reader (Tally T)
 tally_reader inner = record {
   has_store = λ t. inner.has_store (tally_inner t);

@@ -37,7 +37,7 @@ pub lines_send : {W : Type 0} (I : Writer W) {old new : W} {first to_go : List �
     → SendsRecords (I.told old) (first ++ lines_out texts) reply log_under_way (I.told new) (to_go ++ lines_out left)
 lines_send I reply log_under_way all = all_sends I (LineLaw I) (λ a b x left r calls. line_sends I r calls) line_of reply log_under_way all
 
--- where there was less room, the room was too small too
+-- if there was less room, the room was too small too
 pub refusal_less : {less room : ℕ} (text : List ℕ) (e : Error) → less ≤ room → IsLineRefusal room text e → IsLineRefusal less text e
 refusal_less text e h (inl newline) = inl newline
 refusal_less text e h (inr (plain, memory, short)) = inr (plain, memory, omega (arith, short, h))
@@ -54,7 +54,7 @@ ends_plain whole front (x ∷ xs) e plain =
     (sym (get_or-append-add front (x ∷ xs) n 0) ∙ ap (λ l. get_or l (length front + n) 0) (sym e)
     ∙ ap (λ m. get_or (whole ++ 10 ∷ []) m 0) (sym last) ∙ get_or-append-add whole (10 ∷ []) 0 0))
 
--- where all that was accepted ends in a newline, a buffer without one is empty
+-- if the accepted bytes end in a newline, a buffer without a newline is empty
 pub none_waits : (old below : Told) (buffer to_go left lines : List ℕ)
     → Sends old to_go (Ok tt) (with_buffer below buffer) left → left ≡ []
     → old.out ++ old.held ++ to_go ≡ lines ++ 10 ∷ [] → HasNoNewline buffer → buffer ≡ []

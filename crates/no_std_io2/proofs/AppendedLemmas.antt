@@ -1,9 +1,9 @@
--- One item more behind what was appended.
+-- One more item is appended.
 use Rattle.std.proofs.Common.{◌≡◌, List, [], ◌∷◌, ◌++◌, length, drop, sym, ap, ◌∙◌, append_assoc}
 use Rattle.std.proofs.Math.Seq.{drop-append_seam}
 use Rattle.no_std_io2.specs.Appended.{appended}
 
--- an item that is pushed stands behind those that were appended before
+-- an item that is pushed follows those that were appended before
 pub appended-one : {X : Type 0} (old mid new : List X) (x : X) → mid ≡ old ++ appended old mid → new ≡ mid ++ x ∷ []
     → appended old new ≡ appended old mid ++ x ∷ []
 appended-one old mid new x h is =

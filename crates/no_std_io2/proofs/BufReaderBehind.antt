@@ -1,4 +1,4 @@
--- What lies behind the held bytes.
+-- The bytes that lie behind the held bytes.
 use Rattle.std.proofs.Common.{◌≡◌, ℕ, ◌+◌, ◌-◌, ◌≤◌, ◌<◌, ◌^◌, ℤ, pos, negsuc, ◌+ℤ◌, List, [], ◌++◌, length, take, drop}
 use Rattle.std.proofs.Common.{refl, sym, ap, ◌∙◌, subst, arith, length-take-le, append_assoc, take-append-drop}
 use Rattle.std.proofs.Common.{unsigned_abs, Ok}
@@ -17,7 +17,7 @@ use Rattle.no_std_io2.specs.Buffer.{IsSound, IsInBuffer, IsCutOn, MovesEvents}
 use Rattle.no_std_io2.specs.BufReader.{sound_drop}
 use Rattle.no_std_io2.proofs.BufReaderSeeks.{at_offset_sum}
 
--- up to the end: what lies behind, and then what is held
+-- the bytes of the array up to the end are the bytes behind, and then the held bytes
 pub whole : (l : List ℕ) (start end : ℕ) → start ≤ end → take start l ++ take (end - start) (drop start l) ≡ take end l
 whole l start end ordered =
     let split : end ≡ start + (end - start) = omega arith in
@@ -49,7 +49,7 @@ cut_on l o start end at ordered within room is =
       at_offset_sum (length (take start l)) o (length (take at l)) (ap pos long' ∙ is ∙ ap (λ n. pos n +ℤ o) (sym long)),
     )
 
--- with n bytes more behind it is the same list
+-- if n held bytes move behind, both joined are the same list
 pub moved_whole : (behind held behind' held' got : List ℕ) (n : ℕ) → behind' ≡ behind ++ got → got ≡ take n held
     → held' ≡ drop n held → behind' ++ held' ≡ behind ++ held
 moved_whole behind held behind' held' got n after front rest =
@@ -71,12 +71,12 @@ sound_stayed whole whole' position position' content content' same here kept s =
     subst (λ l. IsSound l position' content') (sym same)
     (subst (λ c. IsSound whole position' c) (sym kept) (subst (λ p. IsSound whole p content) (sym here) s))
 
--- with nothing behind
+-- a reader with nothing behind is sound if its held bytes are
 pub sound_alone : (behind held : List ℕ) (position : ℕ) (content : List ℕ) → behind ≡ [] → IsSound held position content
     → IsSound (behind ++ held) position content
 sound_alone behind held position content none s = subst (λ l. IsSound (l ++ held) position content) (sym none) s
 
--- with nothing behind and nothing held
+-- a reader with nothing behind and nothing held is sound
 pub sound_empty : (behind held : List ℕ) (position : ℕ) (content : List ℕ) → behind ≡ [] → held ≡ []
     → IsSound (behind ++ held) position content
 sound_empty behind held position content none empty =
@@ -89,11 +89,11 @@ sound_held behind held position content s =
     subst (λ l. IsSound l position content) (drop-append_seam behind held)
     (sound_drop (behind ++ held) position content (length behind) s (omega (arith, length-append behind held)))
 
--- what is held behind the new border
+-- the held bytes after the new border
 held_on : (behind held behind' held' : List ℕ) → behind' ++ held' ≡ behind ++ held → held' ≡ drop (length behind') (behind ++ held)
 held_on behind held behind' held' same = sym (drop-append_seam behind' held') ∙ ap (drop (length behind')) same
 
--- where the border between what lies behind and what is held moves by an offset, what comes next moves by it
+-- if the border between the bytes behind and the held bytes moves by an offset, the events to come move by it
 pub cut_moves : (o : ℤ) (behind held behind' held' : List ℕ) (E : List Event) → IsCutOn o behind held behind' held'
     → MovesEvents o behind held (events_of held ++ E) (events_of held' ++ E)
 cut_moves (pos k) behind held behind' held' E cut =
@@ -116,7 +116,7 @@ pub cut_place : (o : ℤ) (at behind held behind' held' : ℕ) → behind + held
 cut_place (pos k) at behind held behind' held' fits same on = omega arith
 cut_place (negsuc k) at behind held behind' held' fits same on = omega arith
 
--- over sound bytes that is a seek by this offset from where the reader stands, and moves nothing below
+-- over sound bytes this is a seek by the offset from the user's position, and does not move the inner reader
 pub cut_seeks : (o : ℤ) (len at : ℕ) (behind held behind' held' content : List ℕ) → IsSound (behind ++ held) at content
     → at < 2 ^ 64 → IsCutOn o behind held behind' held'
     → Seeks len (at - length held) (Current o) (Ok (at - length held')) (at - length held')

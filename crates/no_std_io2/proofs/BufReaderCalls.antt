@@ -21,14 +21,14 @@ use Rattle.no_std_io2.proofs.BufReaderExact.{no_bytes}
 pub nothing_held : (held : List ℕ) (E : List Event) → length held ≡ 0 → events_of held ++ E ≡ E
 nothing_held held E none = ap (λ l. events_of l ++ E) (no_bytes held none)
 
--- with nothing held before, nor after an error, a fill leaves all that is to come but the error it answers
+-- if nothing is held before, nor after an error, a fill takes no event except the error that it returns
 pub fill_told : {A : Type 0} (r : Result A Error) (held held' : List ℕ) (E E' : List Event) → length held ≡ 0
     → OnErr r (held' ≡ []) → ReadsAhead E r held' E'
     → FillsFrom (events_of held ++ E) r (events_of held' ++ E')
 fill_told (Ok _) held held' E E' none no_more read = sym (nothing_held held E none ∙ read.0)
 fill_told (Err e) held held' E E' none no_more read = nothing_held held E none ∙ read ∙ ap (λ l. fails e ∷ events_of l ++ E') (sym no_more)
 
--- with nothing held, nothing was to come where a fill answers `Ok` and holds nothing then
+-- if nothing was held, and nothing is held after a fill that returns `Ok`, nothing was to come
 pub fill_end : {A : Type 0} (r : Result A Error) (held held' : List ℕ) (E E' : List Event) → length held ≡ 0 → ReadsAhead E r held' E'
     → OnOk r (held' ≡ [] → events_of held ++ E ≡ [])
 fill_end (Ok _) held held' E E' none read = λ h. nothing_held held E none ∙ read.1 h
@@ -51,21 +51,21 @@ through_told r buf held held' E E' none empty read =
     let after : Reads E r buf (events_of held' ++ E') = subst (Reads E r buf) (sym (ap (λ l. events_of l ++ E') empty)) read in
     subst (λ l. Reads l r buf (events_of held' ++ E')) (sym (nothing_held held E none)) after
 
--- a read that spends an inner turn spends one of the whole reader, where at most a full buffer is held then
+-- a read that spends an inner turn spends a turn of the whole reader, if at most a full buffer is held afterwards
 pub through_turn : (r : Result ℕ Error) (room held held' t t' : ℕ) → held' ≤ room → SpendsTurn r t t'
     → SpendsTurn r (held + (room + 1) * t) (held' + (room + 1) * t')
 through_turn (Ok n) room held held' t t' fits spent = λ some. more_turns room held held' t t' fits (spent some)
 through_turn (Err e) room held held' t t' fits spent = more_turns room held held' t t' fits spent
 
--- an empty list is sound wherever it stands
+-- no held bytes are sound at any position
 pub sound_none : (held : List ℕ) (position : ℕ) (content : List ℕ) → held ≡ [] → IsSound held position content
 sound_none held position content empty = subst (λ l. IsSound l position content) (sym empty) (omega arith, refl)
 
--- what lies behind after a read past the buffer, and after one out of it
+-- the bytes behind after a read that went past the buffer, and after one from it
 pub behind_past : (room len : ℕ) (got behind : List ℕ) → room ≤ len → behind ≡ [] → behind ≡ behind_anew room len got
 behind_past room len got behind past empty = empty ∙ sym (ap (λ b. if b then [] else got) (is_past room len past))
 
--- after a read that asks for less than a full buffer, what it gave lies behind
+-- after a read of less than a full buffer, the bytes that it gave lie behind
 pub behind_own : (room len : ℕ) (got behind : List ℕ) → len < room → behind ≡ got → behind ≡ behind_anew room len got
 behind_own room len got behind own is = is ∙ sym (ap (λ b. if b then [] else got) (is_own room len own))
 

@@ -36,14 +36,14 @@ moved_from {rest} {held} {n} old same moved count cut =
     let left_is = cut ∙ ap (λ k. drop k held) is ∙ ap (drop (length x)) split ∙ drop-append_seam x rest in
     (x, split ∙ ap (λ l. x ++ l) (sym left_is), moved.2)
 
--- bytes that are dropped from the front of the held ones stand behind them
+-- held bytes that are dropped from the front lie behind
 pub kept_in_all : (n : ℕ) (behind held : List ℕ) {behind' left : List ℕ} → behind' ≡ behind ++ take n held → left ≡ drop n held
     → behind' ++ left ≡ behind ++ held
 kept_in_all n behind held {left} b cut =
     ap (λ l. l ++ left) b ∙ append_assoc behind (take n held) left ∙ ap (λ l. behind ++ (take n held ++ l)) cut
     ∙ ap (λ l. behind ++ l) (take-append-drop n held)
 
--- once what was held is appended, it is gone from the events, and those behind it are left
+-- once the held bytes are appended, they are gone from the events, and the events after them are left
 emptied : (held old mid : List ℕ) (E : List Event) → mid ≡ old ++ held → Gathered (events_of held ++ E) old mid E
 emptied held old mid E is = record {
   front = events_of held;
@@ -74,14 +74,14 @@ none_told held held' E E' reply old new none left read =
     subst (λ l. ReadsToEnd (events_of l ++ E) reply old new (events_of held' ++ E')) (sym none)
     (subst (λ l. ReadsToEnd E reply old new (events_of l ++ E')) (sym left) read)
 
--- and fails for want of room where the inner reader does
+-- it fails for lack of room if the inner reader does
 pub none_room : (held : List ℕ) (E : List Event) (reply : Result ℕ Error) (len capacity : ℕ) → held ≡ []
     → (HasRoom 32 E len capacity → IfErr reply (λ e. first_fault E ≡ Some e))
     → HasRoom 32 (events_of held ++ E) len capacity → IfErr reply (λ e. first_fault (events_of held ++ E) ≡ Some e)
 none_room held E reply len capacity none =
     subst (λ l. HasRoom 32 (events_of l ++ E) len capacity → IfErr reply (λ e. first_fault (events_of l ++ E) ≡ Some e)) (sym none)
 
--- whatever it answers
+-- the same holds for every result
 pub none_empties : {R : Type 0} {S : ℕ} (old new : BufReader R S) (before after : List ℕ) (reply : Result ℕ Error)
     → IsFront (before ++ reader_held old) after × HasNoBuffer new → EmptiesInto old before reply after new
 none_empties old new before after (Ok n) did = did
@@ -96,7 +96,7 @@ emptied_front held {old} {mid} new {len} long more is read =
     ap (take len) is ∙ take-append-le len old held (omega (arith, long)) ∙ take_all len old (omega (arith, long)) in
     front_then mid new (omega (arith, long, more, ap length is, length-append old held)) first read
 
--- and what was held stands behind what the vector had
+-- the held bytes follow the old content of the vector
 pub emptied_shown : (n : ℕ) {mid new whole : List ℕ} → mid ≡ whole → take n new ≡ mid → IsFront whole new
 emptied_shown n {new} is read = (drop n new, sym (take-append-drop n new) ∙ ap (λ l. l ++ drop n new) (read ∙ is))
 
@@ -120,11 +120,11 @@ room_held held E len enough full =
     ∙ length-append (bytes (events_of held)) (bytes_to_fault E) in
     omega (arith, enough, full, all, ap length (bytes-events_of held))
 
--- the first fault stands behind what is held
+-- the first fault comes after the held bytes
 pub held_fault : (held : List ℕ) (E : List Event) {e : Error} → first_fault E ≡ Some e → first_fault (events_of held ++ E) ≡ Some e
 held_fault held E is = first_fault-append (events_of held) E (HasNoFault-events_of held) ∙ is
 
--- and once what was held is appended, with no less capacity, there is room for all that comes behind it
+-- once the held bytes are appended, with no less capacity, there is room for all bytes after them
 pub emptied_on : (held old : List ℕ) {mid : List ℕ} (E : List Event) {len capacity n capacity' : ℕ}
     → HasRoom 32 (events_of held ++ E) len capacity
     → len ≡ length old → n ≡ length mid → mid ≡ old ++ held → capacity ≤ capacity' → HasRoom 32 E n capacity'
@@ -132,25 +132,25 @@ emptied_on held old E {len} {capacity} {n} {capacity'} enough long more is grows
     room_of_second (events_of held) E len capacity (length held) n capacity' enough (HasNoFault-events_of held)
     (ap length (sym (bytes-events_of held))) (emptied_again held old long more is) grows
 
--- where room for all that is held was refused, a front of it was appended
+-- if there was no room for all held bytes, a front of them was appended
 pub part_refused : (held held' old : List ℕ) {new : List ℕ} (E : List Event) {e : Error} → HasMoved held held' old new → IsOutOfMemory e
     → ReadsToEnd (events_of held ++ E) (Err e) old new (events_of held' ++ E)
 part_refused held held' old {new} E {e} moved refused =
     stopped_first (events_of held) E old new (events_of held') e
     (moved_part old moved refused)
 
--- what the vector had stays at its front, where a front of what is held was appended
+-- if a front of the held bytes was appended, the old content of the vector stays at its front
 pub part_front : (held held' : List ℕ) {old new : List ℕ} {len : ℕ}
     → len ≡ length old → HasMoved held held' old new → take len new ≡ old
 part_front held held' {old = old} {len = len} long moved =
     ap (take len) moved.2 ∙ take-append-le len old moved.0 (omega (arith, long)) ∙ take_all len old (omega (arith, long))
 
--- where held bytes go to a vector and the inner reader's turns stay, the reader has no more turns than before
+-- if held bytes go to a vector and the inner reader's turns stay, the reader has no more turns than before
 pub part_turns : (held held' old : List ℕ) {new : List ℕ} (room turns : ℕ) → HasMoved held held' old new
     → length held' + (room + 1) * turns ≤ length held + (room + 1) * turns
 part_turns held held' old room turns moved = omega (arith, ap length moved.1, length-append moved.0 held')
 
--- where the held bytes are the content's that end at the position, so are those that are left of them
+-- if the held bytes are those of the content right before the position, so are the last of them
 pub part_sound : (held held' old : List ℕ) {new : List ℕ} {position : ℕ} (content : List ℕ) → HasMoved held held' old new
     → IsSound held position content
     → IsSound held' position content

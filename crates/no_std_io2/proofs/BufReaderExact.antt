@@ -11,7 +11,7 @@ use Rattle.no_std_io2_base.proofs.ReadToEndTaken.{Taken}
 use Rattle.no_std_io2.specs.Buffer.{IsSuffix}
 use Rattle.no_std_io2.specs.BufReader.{held_or_to_come, exact_reads, exact_left, behind_anew}
 
--- Over a filling reader: `all` bytes were to come, `held` of them held, and `len` are asked for; `at` of them were given.
+-- Over a filling reader: `all` bytes were to come, `held` of them held, and `len` are wanted; `at` of them were given.
 pub record Exact (room len held all at now_held now_inner : ℕ) : Type 0 where
   pub begun : held ≤ at
   pub total : now_held + now_inner + at ≡ all
@@ -19,7 +19,7 @@ pub record Exact (room len held all at now_held now_inner : ℕ) : Type 0 where
   pub read : held < at → at ≡ min len all
   pub left : held < at → now_held ≡ exact_left room len held all
 
--- how many bytes lie behind while an exact read of `len` bytes, of which `held` were, has given `at` and read once or more
+-- how many bytes lie behind while a `read_exact` of `len` bytes, with `held` held at its start, has given `at` and read at least once
 abbrev pub behind_so_far : ℕ → ℕ → ℕ → ℕ → ℕ
 behind_so_far room len held at = if nat_le room (len - held) then 0 else at - held
 
@@ -43,7 +43,7 @@ exact_none room len held all at now_held now_inner t more =
     let read = t.read in
     grind arith
 
--- where bytes still come, none were read yet
+-- if bytes still come, none were read yet
 pub exact_first : (room len held all at now_held now_inner n : ℕ) → Exact room len held all at now_held now_inner
     → at < len → n ≡ min (len - at) now_inner → 0 < n → held < len → at ≡ held
 exact_first room len held all at now_held now_inner n t more is some short =
@@ -69,7 +69,7 @@ exact_read {room} {len} {held} {all} {at} {now_held} {now_inner} n next_held nex
       left = λ _. grind (arith, nat_tests);
     }
 
--- a read that found nothing held left an end of what it gave behind, less than a full buffer
+-- after a read with nothing held, the bytes behind are a suffix of the bytes that it gave, shorter than a full buffer
 pub read_ends : (room at rest n : ℕ) (buf buf' got behind : List ℕ) → behind ≡ behind_anew room rest (take n got) → 0 < room
     → n ≤ length got → n ≤ rest → take (at + n) buf' ≡ take at buf ++ take n got
     → IsSuffix (take (at + n) buf') behind × (length behind < room)
@@ -86,7 +86,7 @@ read_ends room at rest n buf buf' got behind is some fits within shown = ⊎_eli
     ))
     (cases_lt rest room)
 
--- and it is as long as that, where it was the first read
+-- if it was the first read, this suffix has that length
 pub read_behind : (room len held at n : ℕ) (rest : ℕ) (got behind : List ℕ) → behind ≡ behind_anew room rest (take n got)
     → n ≤ length got → at ≡ held → rest ≡ len - at → length behind ≡ behind_so_far room len held (at + n)
 read_behind room len held at n rest got behind is fits first left =
@@ -102,7 +102,7 @@ read_behind room len held at n rest got behind is fits first left =
     ap length none ∙ sym (ap (λ b. if b then 0 else at + n - held) (is_past room (len - held) (omega (arith, past, left, first)))))
     (cases_lt rest room)
 
--- a read that gave nothing left nothing behind
+-- after a read that gave nothing, nothing lies behind
 pub none_behind : (room rest n : ℕ) (got behind : List ℕ) → behind ≡ behind_anew room rest (take n got) → n ≡ 0 → behind ≡ []
 none_behind room rest n got behind is zero = ⊎_elim
     (λ own. is ∙ ap (λ b. if b then [] else take n got) (is_own room rest own) ∙ ap (λ k. take k got) zero)
@@ -116,7 +116,7 @@ exact_end {len} {all} {at} t done short =
     let whole : at ≡ min len all = t.read (omega arith) in
     grind (arith, nat_tests)
 
--- where the end came before the buffer was full, it took one inner read more, which met the end
+-- if the end came before the buffer was full, there was one more inner read, which met the end
 pub exact_short : {room len held all at now_held now_inner : ℕ} → Exact room len held all at now_held now_inner
     → at < len → now_inner ≡ 0 → held < len → exact_reads len held all ≡ min 1 (at - held) + 1
 exact_short {room = room} {len = len} {held = held} {all = all} {at = at} {now_held = now_held} {now_inner = now_inner} t more end short =
@@ -140,7 +140,7 @@ taken_first {E = E} more is short = record {
   full = λ h. absurd (omega arith);
 }
 
--- held bytes, and the events behind them, are together as many events as both have
+-- the number of events is that of the held bytes and that of the inner events together
 pub length-events : (held : List ℕ) (E : List Event) → length (events_of held ++ E) ≡ length held + length E
 length-events held E = length-append (events_of held) E ∙ ap (λ n. n + length E) (length-events_of held)
 
@@ -204,7 +204,7 @@ fills_front E rest got is =
       filled = ap bytes front ∙ bytes-events_of got;
     }
 
--- where enough is held, that many bytes less are held
+-- if enough bytes are held, that many fewer are held afterwards
 pub exact_left-held : (room len held all next : ℕ) → len ≤ held → next ≡ held - len → next ≡ exact_left room len held all
 exact_left-held room len held all next fits is = grind (arith, nat_tests)
 

@@ -19,7 +19,7 @@ header_read {E} {after} bs buf n is filled long =
       omega (arith, ap length filled.split, length-append part after, count, long),
     )
 
--- where it fails, there are fewer, and these are taken
+-- if it fails, there are fewer bytes, and these are taken
 pub header_short : {E after : List Event} (bs : List ℕ) (n : ℕ) {e : Error} → E ≡ events_of bs
     → StopsAtFault E n e after ⊎ FallsShort ⊥ E n e after → (length bs < n) × IsUnexpectedEnd e × (length after ≡ 0)
     × (length E ≡ length bs)

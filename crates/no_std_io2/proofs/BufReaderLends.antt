@@ -35,7 +35,7 @@ buf_lender stored read = lends_as (buf_reader stored read) (record {
   lent_length = reader_lent_length read.events;
 })
 
--- where the inner reader tells what is to come of its store, it tells that of its own
+-- if the inner reader tells the events of its store, the buffered reader tells those of its own
 pub buf_tells : {R : Type 0} {S : ℕ} (stored : Stores R) (read : Reads R)
     → ((x : R) → stored.has_store x → read.tells x × (read.events x ≡ events_of (drop (stored.position x) (stored.content x))))
     → (x : BufReader R S) → reader_has_store stored.has_store stored.position stored.content x

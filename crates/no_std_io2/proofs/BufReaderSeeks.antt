@@ -11,7 +11,7 @@ use Rattle.no_std_io2_base.specs.Seek.{IsAtOffset, IsTarget, Seeks, SeekCall, So
 use Rattle.no_std_io2.specs.BufReader.{SeeksInner, IsTooFarBack}
 use Rattle.no_std_io2.specs.Buffer.{IsSound}
 
--- where the buffer is dropped, the position is the inner's
+-- if the buffer is dropped, the position is that of the inner reader
 pub arrives_at : (reply : Result ℕ Error) (held : List ℕ) (at : ℕ) (has sound : Type 0) → IfOk reply (λ n. has → at ≡ n)
     → OnOk reply (held ≡ []) → IfOk reply (λ n. has × sound → at - length held ≡ n)
 arrives_at (Ok n) held at has sound arrived empty = λ s. omega (arith, arrived s.0, ap length empty)
@@ -39,7 +39,7 @@ at_offset_behind at held n o rest fits is h =
     let sum = sum_at_offset (at - held) o n h in
     at_offset_sum at rest n (omega (arith, ints))
 
--- an offset that one seek can't say is too far back
+-- an offset that does not fit one inner seek is too far back
 pub far_unless_fits : (o : ℤ) (held : ℕ) → FitsSigned w64 o → held < 2 ^ 63 → (FitsSigned w64 (o -ℤ pos held) → ⊥)
     → IsTooFarBack (Current o) held
 far_unless_fits (pos k) held fits small not_fits = absurd (not_fits (search rules))
@@ -153,7 +153,7 @@ pub not_far : (target : SeekFrom) (held : ℕ) → ((k : ℕ) × (target ≡ Sta
 not_far target held (inl is) far = subst (λ t. IsTooFarBack t held) is.1 far
 not_far target held (inr is) far = subst (λ t. IsTooFarBack t held) is.1 far
 
--- a seek by nothing stays, and answers where
+-- a seek by 0 stays, and returns the position
 pub stays : (r : Result ℕ Error) (len at at' : ℕ) → at < 2 ^ 64 → Seeks len at (Current (pos 0)) r at'
     → (at' ≡ at) × IsOkAnd r (λ n. n ≡ at)
 stays (Ok n) len at at' small seeks = (omega (arith, seeks.0.0, seeks.1), omega (arith, seeks.0.0))

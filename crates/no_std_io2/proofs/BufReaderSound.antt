@@ -46,7 +46,7 @@ held_first all start end some within =
     let count : end - start ≡ suc k = omega arith in
     ap (λ n. take 1 (take n (drop start all))) count ∙ ap (λ l. take 1 (take (suc k) l)) (drop-cons all start 0 (omega arith))
 
--- what is left held behind the first n
+-- the held bytes after the first n
 pub held_rest : (buf : List ℕ) (pos cap n : ℕ) → n ≤ cap - pos
     → take (cap - (pos + n)) (drop (pos + n) buf) ≡ drop n (take (cap - pos) (drop pos buf))
 held_rest buf pos cap n fits =
@@ -55,7 +55,7 @@ held_rest buf pos cap n fits =
     (ap (λ k. drop n (take k (drop pos buf))) split ∙ drop-take n (cap - (pos + n)) (drop pos buf)
     ∙ ap (take (cap - (pos + n))) (drop-drop n pos buf))
 
--- what was given stands first, and then what is still held
+-- the events begin with the given bytes, followed by those that are still held
 pub give_events : (held rest got : List ℕ) (E : List Event) (n : ℕ) → rest ≡ drop n held → got ≡ take n held
     → events_of held ++ E ≡ events_of got ++ (events_of rest ++ E)
 give_events held rest got E n is front =
@@ -64,7 +64,7 @@ give_events held rest got E n is front =
     ∙ append_assoc (events_of (take n held)) (events_of (drop n held)) E
     ∙ ap (λ l. events_of l ++ (events_of (drop n held) ++ E)) (sym front) ∙ ap (λ l. events_of got ++ (events_of l ++ E)) (sym is)
 
--- where held bytes are the store's own, those left behind the first n are too, and begin n bytes further on
+-- if the held bytes are sound, so are those after the first n, which begin n bytes further on
 pub give_sound : (held rest : List ℕ) (position : ℕ) (content : List ℕ) (n : ℕ) → rest ≡ drop n held → n ≤ length held
     → IsSound held position content
     → IsSound rest position content × (position - length rest ≡ (position - length held) + n)

@@ -1,4 +1,4 @@
--- What lies behind while pieces are lent and taken.
+-- The bytes behind while pieces are lent and taken.
 use Rattle.std.proofs.Common.{◌≡◌, ℕ, ◌≤◌, List, [], ◌++◌, length, take, drop, Result, Ok, Err, OnOk, sym, ap, subst, ◌∙◌}
 use Rattle.std.proofs.Common.{arith, ⊎_elim, append_assoc}
 use Rattle.std.proofs.lemmas.Bool.{cases_lt}
@@ -12,7 +12,7 @@ use Rattle.no_std_io2.specs.Buffer.{IsSuffix}
 use Rattle.no_std_io2.proofs.BufReaderExact.{no_bytes}
 use Rattle.no_std_io2.proofs.BufWriterLemmas.{IsSuffix-none, IsSuffix-held}
 
--- a fill leaves what lies behind, or empties it
+-- a fill leaves the bytes behind as they are, or drops them
 pub trail_filled : {whole behind behind' held : List ℕ} → IsSuffix whole behind → (IsNotEmpty held → behind' ≡ behind)
     → (held ≡ [] → behind' ≡ []) → IsSuffix whole behind'
 trail_filled {whole} {behind} {behind'} {held} end kept read = ⊎_elim
@@ -20,7 +20,7 @@ trail_filled {whole} {behind} {behind'} {held} end kept read = ⊎_elim
     (λ none. IsSuffix-none whole behind' (read (no_bytes held (omega (arith, none)))))
     (cases_lt 0 (length held))
 
--- what is taken of the lent bytes is appended there, and lies behind
+-- the lent bytes that are taken are appended to the bytes behind
 pub trail_taken : (front items items' : List ℕ) (len n : ℕ) {behind behind' held lent : List ℕ} → IsSuffix (front ++ drop len items) behind
     → len ≤ length items → held ≡ lent → items' ≡ items ++ take n lent → behind' ≡ behind ++ take n held
     → IsSuffix (front ++ drop len items') behind'
@@ -35,12 +35,12 @@ trail_taken front items items' len n {behind} {behind'} {held} {lent} end fits s
 pub lent_held : {reply : Result (Bor (List ℕ)) Error} (s : Bor (List ℕ)) (held : List ℕ) → reply ≡ Ok s → Lends reply held → held ≡ s.now
 lent_held s held is lends = subst (λ r. Lends r held) is lends
 
--- where nothing was appended it stays
+-- if nothing was appended, the bytes behind stay
 pub trail_same : (front : List ℕ) {items items' : List ℕ} (len : ℕ) {behind : List ℕ} → items' ≡ items
     → IsSuffix (front ++ drop len items) behind → IsSuffix (front ++ drop len items') behind
 trail_same front len {behind} same end = subst (λ l. IsSuffix (front ++ drop len l) behind) (sym same) end
 
--- a line that was taken stands behind the text, so that what lies behind is an end of it too
+-- a line that was taken was appended to the text, so the bytes behind are a suffix of that too
 pub trail_line : (front line lent : List ℕ) (read reply : Result ℕ Error) (len capacity : ℕ) (text text' : List ℕ) {none : ℕ}
     {behind : List ℕ} → none ≡ 0 → len ≡ length text → lent ≡ line → AnswersLine lent read len capacity reply text text'
     → IsSuffix (front ++ drop none line) behind → OnOk reply (IsSuffix (front ++ drop len text') behind)
@@ -51,7 +51,7 @@ trail_line front line lent (Ok n) (Ok m) len capacity text text' {behind = behin
 trail_line front line lent (Err f) (Ok m) len capacity text text' zero whole same follows end = absurd follows
 trail_line front line lent read (Err e) len capacity text text' zero whole same follows end = tt
 
--- a line that went straight to the text, of which what lies behind is an end then
+-- the same for a line that went straight to the text
 pub trail_given : (text part behind : List ℕ) {len : ℕ} {text' behind' : List ℕ} → len ≡ length text → text' ≡ text ++ part
     → behind' ≡ behind ++ part → IsSuffix (behind ++ drop len text') behind'
 trail_given text part behind {len} whole given taken = (

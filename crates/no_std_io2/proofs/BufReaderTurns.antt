@@ -16,7 +16,7 @@ read_call may {a} {b} n buf long call =
     subst (λ k. may a (Gave k (Ok (take (n - 0) buf))) b) long
     (subst (λ x. may a (Gave (length buf) (Ok x)) b) (sym (held_read n buf)) call)
 
--- n bytes read into the start of a buffer are n bytes held, where it is that long
+-- n bytes that are read into the start of a buffer are n held bytes, if the buffer is that long
 pub read_length : (n : ℕ) (buf : List ℕ) → n ≤ length buf → length (take (n - 0) buf) ≡ n
 read_length n buf fits = ap length (held_read n buf) ∙ length-take-le n buf fits
 
@@ -38,7 +38,7 @@ turns_read room held held' fits less spent = grind (arith, mul-le-mul_left)
 less_turns : (room held none t t' : ℕ) → none ≡ 0 → t' < t → none + (room + 1) * t' < held + (room + 1) * t
 less_turns room held none t t' empty spent = grind (arith, mul-le-mul_left)
 
--- where a vector grew by what was held, and then by what the inner reader gave, a turn is spent
+-- if a vector grew by the held bytes, and then by bytes of the inner reader, a turn was spent
 pub appended_turn : (room held none : ℕ) {len mid new t t' : ℕ} → none ≡ 0 → mid ≡ len + held → (mid < new → t' < t) → t' ≤ t → len < new
     → none + (room + 1) * t' < held + (room + 1) * t
 appended_turn room held none {len} {mid} {new} {t} {t'} empty first spent less more = elim (cases_lt mid new) [

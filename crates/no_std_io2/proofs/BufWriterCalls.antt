@@ -23,11 +23,11 @@ use Rattle.no_std_io2.proofs.AnswerLemmas.{onok, onok_map}
 use Rattle.no_std_io2.proofs.StepLemmas.{no_ok, Stepped, Leaves, Tells, Sending, Counts, Counted, then_goes_on, then_leaves, then_tells}
 use Rattle.no_std_io2.proofs.StepLemmas.{then_counts}
 
--- to make way takes no inner call where n more bytes fit beside what is held,
+-- making room takes no inner call if n more bytes fit beside the held bytes,
 way_calls-none : (S n : ℕ) (held : List ℕ) → length held + n ≤ S → way_calls S held n ≡ 0
 way_calls-none S n held h = grind (arith, nat_tests)
 
--- and as many as a sending where they don't
+-- and the calls of a sending if they do not
 way_calls-over : (S n : ℕ) (held : List ℕ) → S < length held + n → way_calls S held n ≡ calls_for held
 way_calls-over S n held h = grind (arith, nat_tests)
 
@@ -35,7 +35,7 @@ way_calls-over S n held h = grind (arith, nat_tests)
 abbrev pub way_left : ℕ → ℕ → List ℕ → List ℕ
 way_left S n held = if nat_le (length held + n) S then held else []
 
--- and once x was put behind that
+-- and after x was put there
 abbrev pub put_left : ℕ → List ℕ → List ℕ → List ℕ
 put_left S x held = if nat_lt (length x) S then held ++ x else []
 
@@ -64,7 +64,7 @@ buffer_after-is S held x = ⊎_elim
     (λ room. ap (put_left S x) (way_left-fits S (length x) held room) ∙ buffer_after-fits S held x room)
     (cases_lt S (length held + length x))
 
--- what is put behind what is held asks for no call, and what goes past it for n
+-- bytes that are held need no call, and bytes that go past the buffer need n
 abbrev pub past_calls : ℕ → ℕ → ℕ → ℕ
 past_calls S len n = if nat_le S len then n else 0
 
@@ -95,7 +95,7 @@ way_none S n {held = held} long way = elim way [
   | inr sent ↦ writes_whole sent.1
 ]
 
--- where n bytes fit, no way is made, so it does not fail
+-- if n bytes fit, nothing is sent, so it does not fail
 way_fits : (S n : ℕ) {held left : List ℕ} {C : List WriteCall} {reply : Result (Unit {0}) Error} → WayCalls S n held C reply left
     → length held + n ≤ S → (C ≡ []) × (reply ≡ Ok tt) × (left ≡ held)
 way_fits S n way room = elim way [
@@ -119,7 +119,7 @@ module _ {W : Type 0} {I : Writer W} (S : ℕ) where
   way_sent n over sent = (sent.0, sent.1, inr (over, sent.2))
 
   module _ {A : Type 0} (x : List ℕ) (v : A) (past : List WriteCall → Result A Error → Type 0) where
-    -- x is put behind what is held,
+    -- x is held after the held bytes,
     pub puts : {held left : List ℕ} {a b : W} → length x < S → b ≡ a → left ≡ held ++ x
         → Stepped I (PutCalls S x v past) a held (Ok v) left b
     puts short same put = ([], same, inl (short, refl, refl, put))
@@ -166,7 +166,7 @@ module _ {A : Type 0} (S : ℕ) (x : List ℕ) (v : A) (past : List WriteCall �
       (then_leaves (WayCalls S (length x)) (PutCalls S x v past) (way_left S (length x)) (put_left S x) (way_leaves S (length x)) put_leaves
       write)
 
-  -- where both fit, x is held and there is no inner call
+  -- if both fit, x is held and there is no inner call
   pub buffered_fits : {held left : List ℕ} {C : List WriteCall} {reply : Result A Error} → Buffered S x v past held C reply left
       → length x < S → length held + length x ≤ S → (C ≡ []) × (reply ≡ Ok v) × (left ≡ held ++ x)
   buffered_fits (stops way) short room = absurd (let never = (way_fits S (length x) way room).1 in cc)
@@ -177,7 +177,7 @@ module _ {A : Type 0} (S : ℕ) (x : List ℕ) (v : A) (past : List WriteCall �
         | inr gone ↦ absurd (omega (arith, short, gone.0))
       ]
 
--- what is shorter than the buffer is taken whole, or an error is answered
+-- an x that is shorter than the buffer is taken whole, or an error is returned
 pub write_whole : (S : ℕ) {x held left : List ℕ} {C : List WriteCall} {reply : Result ℕ Error} → WriteCalls S x held C reply left
     → length x < S → IfOk reply (λ n. n ≡ length x)
 write_whole S (stops way) short = tt
@@ -192,7 +192,7 @@ module _ {W : Type 0} (I : Writer W) where
   one_call {call} a b is made =
       let one = subst (λ K. Made (CallOf I) a K b) is made in subst (λ w. CallOf I a call w) (sym one.2) one.1
 
-  -- no call was made, and x is held behind what was
+  -- no call was made, and x follows the held bytes
   pub idle_tells : (held left x : List ℕ) {C : List WriteCall} (a b : W) → C ≡ [] → left ≡ held ++ x → Made (CallOf I) a C b
       → Moves (with_buffer (I.told a) held) x [] (with_buffer (I.told b) left)
   idle_tells held left x a b is put made = Moves-kept I.told a b held left x (subst (λ K. Made (CallOf I) a K b) is made) put
@@ -277,7 +277,7 @@ module _ {W : Type 0} (I : Writer W) where
               (one.0, one.1, λ m. let spent = one.2 m in (spent.0, omega (arith, spent.1, past_calls-all S (length x) n gone.0)))
         ]
 
-  -- a `write` accepts what its answer says
+  -- a `write` accepts the bytes that its result reports
   abbrev pub Writing : List ℕ → Told → Result ℕ Error → Told → Type 0
   Writing x old reply new = Moves old (taken reply x) (write_mishap reply x) new
 
@@ -327,7 +327,7 @@ module _ {W : Type 0} (I : Writer W) where
       onok_map reply _ _ (λ e. ap (λ l. (I.told b).held ++ l) gone.1 ∙ append-nil _ ∙ e) (one_call parts.0 b gone.2 parts.2).empty
 
 module _ {W : Type 0} (I : Writer W) (steady : (w : W) → I.takes_all w → (I.told w).mishaps ≡ Some []) where
-  -- a `write_all` accepts some front, all of it at `Ok`, and answers no interruption
+  -- a `write_all` accepts some front of x, all of it after `Ok`, and never returns an interruption
   abbrev pub WritingAll : List ℕ → Told → Result (Unit {0}) Error → Told → Type 0
   WritingAll x old reply new = MovesFront old x reply new
 

@@ -21,7 +21,7 @@ Moves-buffered {a} {b} {x} old new y f e = record {
   turns = f.turns;
 }
 
--- two equal answers `Ok` have equal values
+-- two equal results `Ok` have equal values
 pub ok_same : {A E : Type 0} {x y : A} → ◌≡◌ {A = Result A E} (Ok x) (Ok y) → x ≡ y
 ok_same e = cc
 
@@ -55,7 +55,7 @@ none_of_length (x ∷ xs) h = absurd (omega arith)
 pub buffer-le : {W : Type 0} {S : ℕ} (w : BufWriter W S) → length (writer_buffer w) ≤ S
 buffer-le w = let c = w.core.buffer in omega (arith, length-take (c.end - c.start) (drop c.start c.bytes), c.in_range)
 
--- behind an empty buffer
+-- an empty buffer in front changes nothing
 pub Moves-bare : {a b : Told} {x : List ℕ} {k : List ErrorKind} (buffer : List ℕ) → buffer ≡ []
     → Moves (with_buffer a buffer) x k b → Moves a x k b
 Moves-bare {a} {b} {x} buffer e f = record {
@@ -69,11 +69,11 @@ Moves-bare {a} {b} {x} buffer e f = record {
 pub IsSuffix-none : (whole end : List ℕ) → end ≡ [] → IsSuffix whole end
 IsSuffix-none whole end e = (whole, sym (append-nil whole) ∙ ap (λ l. whole ++ l) (sym e))
 
--- where mid is an end of old, mid ++ x is one of old ++ x
+-- if mid is a suffix of old, mid ++ x is a suffix of old ++ x
 pub IsSuffix-held : (old mid new x : List ℕ) → IsSuffix old mid → new ≡ mid ++ x → IsSuffix (old ++ x) new
 IsSuffix-held old mid new x f e = (f.0, ap (λ l. l ++ x) f.1 ∙ append_assoc f.0 mid x ∙ ap (λ l. f.0 ++ l) (sym e))
 
--- an end of an end, and with more behind both
+-- a suffix of a suffix is a suffix, also with more bytes after both
 pub IsSuffix-trans : (old mid new : List ℕ) → IsSuffix old mid → IsSuffix mid new → IsSuffix old new
 IsSuffix-trans old mid new f g = (f.0 ++ g.0, f.1 ∙ ap (λ l. f.0 ++ l) g.1 ∙ sym (append_assoc f.0 g.0 new))
 

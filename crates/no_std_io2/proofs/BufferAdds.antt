@@ -9,7 +9,7 @@ use Rattle.no_std_io2.proofs.AnswerLemmas.{onok}
 
 module _ {W : Type 0} {may : W → WriteCall → W → Type 0} {Adds : W → List ℕ → W → Type 0} (joins : Joins Adds)
     (each : (a b : W) (call : WriteCall) → may a call b → CallAdds Adds a call b) where
-  -- those of a `flush`: what is held no more was added, at `Ok` all that was held
+  -- those of a `flush`: the bytes that are no longer held were added, after `Ok` all held bytes
   flushed_adds : {C : List WriteCall} {held left : List ℕ} {reply : Result (Unit {0}) Error} → FlushCalls held C reply left
       → (a b : W) → Made may a C b → CallAdds Adds a (WroteRest held reply left) b
   flushed_adds (stops sent) a b made = writes_add joins each sent a b made

@@ -1,4 +1,4 @@
--- What a copy has handed on so far, and what it has with one step more.
+-- The bytes that a copy has passed on so far, and after one more step.
 use Rattle.std.proofs.Common.{◌≡◌, ℕ, ◌+◌, ◌<◌, ◌≤◌, List, [], ◌∷◌, ◌++◌, length, take, Result, Ok, Err, refl, sym, ap, subst, ◌∙◌}
 use Rattle.std.proofs.Common.{arith, append_assoc, append-nil, length-append, length-take-le}
 use Rattle.std.specs.List.{concat}

@@ -26,7 +26,7 @@ pub record Copied (E : List Event) (old new : Told) (copied : ℕ) (after : List
   pub moves : Moves old (bytes front) [] new
   pub count : copied ≡ counted (bytes front)
 
--- the count of b, and n more for the n bytes of got, up to the greatest `u64`, is the count of b ++ got
+-- the count of b, and n more for the n bytes of got, up to `u64::MAX`, is the count of b ++ got
 count_more : (n m k : ℕ) (b got : List ℕ) → m ≡ counted b → length got ≡ n → k ≡ min (m + n) (2 ^ 64 - 1) → k ≡ counted (b ++ got)
 count_more n m k b got count long is = omega (arith, length-append b got)
 
@@ -34,7 +34,7 @@ count_more n m k b got count long is = omega (arith, length-append b got)
 whole_piece : (mid new : Told) (piece : List ℕ) → MovesFront mid piece (Ok tt) new → Moves mid piece [] new
 whole_piece mid new piece w = subst (λ l. Moves mid l [] new) w.whole w.moves
 
--- where n bytes more were written whole, the count grows by n, up to the greatest `u64`
+-- if n more bytes were written whole, the count grows by n, up to `u64::MAX`
 pub written_more : {old mid new : Told} (n m k : ℕ) (buf : List ℕ) → Written old mid m
     → MovesFront mid (take n buf) (Ok tt) new → n ≤ length buf → k ≡ min (m + n) (2 ^ 64 - 1) → Written old new k
 written_more {mid} {new} n m k buf t w fits is = record {
@@ -43,7 +43,7 @@ written_more {mid} {new} n m k buf t w fits is = record {
   count = count_more n m k t.accepted (take n buf) t.count (length-take-le n buf fits) is;
 }
 
--- where a read gave n bytes more, and all were written, the count grows by n, up to the greatest `u64`
+-- if a read gave n more bytes, and all were written, the count grows by n, up to `u64::MAX`
 pub copied_more : {E : List Event} {old mid new : Told} (n : ℕ) {m k : ℕ} (buf : List ℕ) {after rest : List Event}
     → Copied E old mid m after → Reads after (Ok n) buf rest
     → MovesFront mid (take n buf) (Ok tt) new → n ≤ length buf → k ≡ min (m + n) (2 ^ 64 - 1) → Copied E old new k rest
@@ -63,7 +63,7 @@ copied_more {old} {mid} {new} n {m} {k} buf {rest} t read w fits is =
 bytes-fails : (P : List Event) (e : Error) → bytes (P ++ fails e ∷ []) ≡ bytes P
 bytes-fails P e = bytes-append P (fails e ∷ []) ∙ append-nil (bytes P)
 
--- an interruption of the reader is passed over: it is gone, and the count stays
+-- an interruption of the reader is ignored: it is taken, and the count stays
 pub copied_interruption : {E : List Event} {old mid : Told} {m : ℕ} {after : List Event} {e : Error} {rest : List Event}
     → Copied E old mid m after → after ≡ fails e ∷ rest → IsInterruption e → Copied E old mid m rest
 copied_interruption {old} {mid} {e} {rest} t read again = record {
@@ -138,8 +138,7 @@ copied_refused room n buf {rest} e t read some fits long w =
       ),
     )
 
--- where some pieces were written whole, and then a `write_all` failed with e, a copy that answers e had no
--- mishap but that one
+-- if some pieces were written whole, and then a `write_all` failed with e, a copy that returns e had no other mishap
 pub written_refused : {old mid new : Told} {m : ℕ} {x : List ℕ} (e : Error) → Written old mid m
     → MovesFront mid x (Err e) new → CopyMoves (Err e) old new
 written_refused e t w = (t.accepted ++ w.accepted, inr (Moves-then t.moves w.moves))

@@ -12,7 +12,7 @@ use Rattle.no_std_io2_base.proofs.EventLemmas.{length-events_of}
 next_multiple : (a b room : ℕ) → a < b → a * room + room ≤ b * room
 next_multiple a b room h = let more = add-mul a 1 room in omega (arith, more, mul-le-mul_right room (let k : a + 1 ≤ b = omega arith in k))
 
--- one multiple alone lies in a stretch of its factor's length
+-- only one multiple of a number lies in a range of that length
 only_multiple : (a b room x : ℕ) → x ≤ a * room → a * room < x + room → x ≤ b * room → b * room < x + room → a ≡ b
 only_multiple a b room x p q r s = ⊎_elim
     (λ less. absurd (omega (arith, p, q, r, s, next_multiple a b room less)))

@@ -1,5 +1,5 @@
--- How what was taken of events follows one another, and what a loan leaves. Those of the base are stated again, since `rt lemma`
--- finds none behind a `pub use`.
+-- How taken events follow one another, and what is known after a borrow. Those of the base are stated again, since `rt lemma` finds none
+-- after a `pub use`.
 use Rattle.std.proofs.Common.{◌≡◌, ℕ, ◌+◌, ◌<◌, ◌==◌, Bool, true, false, Bor, List, [], ◌∷◌, ◌++◌, length, take, Result, Ok, Err}
 use Rattle.std.proofs.Common.{refl, sym, ap, ◌∙◌, subst, inl, inr, ◌⊎◌, arith, append_assoc, append-nil, length-append}
 use Rattle.no_std_io2_base.specs.declared.error.Error.{Error}
@@ -26,11 +26,11 @@ bytes-events_of bs = below.bytes-events_of bs
 pub events_of-append : (bs cs : List ℕ) → events_of (bs ++ cs) ≡ events_of bs ++ events_of cs
 events_of-append bs cs = below.events_of-append bs cs
 
--- two lists with no fault, one behind the other, have none
+-- two lists with no fault, joined, have none
 pub HasNoFault-append : (P Q : List Event) → HasNoFault P → HasNoFault Q → HasNoFault (P ++ Q)
 HasNoFault-append P Q p q = below.HasNoFault-append P Q p q
 
--- events that are bytes alone have no fault
+-- events that are only bytes have no fault
 pub HasNoFault-events_of : (bs : List ℕ) → HasNoFault (events_of bs)
 HasNoFault-events_of bs = below.HasNoFault-events_of bs
 
@@ -38,16 +38,16 @@ HasNoFault-events_of bs = below.HasNoFault-events_of bs
 pub bytes-behind : (bs : List ℕ) (E : List Event) → bytes (events_of bs ++ E) ≡ bs ++ bytes E
 bytes-behind bs E = bytes-append (events_of bs) E ∙ ap (λ l. l ++ bytes E) (bytes-events_of bs)
 
--- where nothing is gone, no byte was taken
+-- if nothing is gone, no byte was taken
 pub Passes-none : (E : List Event) → Passes E [] E
 Passes-none E = record { front = []; split = refl; no_fault = tt; gave = refl }
 
--- these bytes stood first
+-- if E begins with these bytes, they are taken
 pub Passes-bytes : {E : List Event} (more : List ℕ) (after : List Event) → E ≡ events_of more ++ after → Passes E more after
 Passes-bytes more after is =
     record { front = events_of more; split = is; no_fault = HasNoFault-events_of more; gave = bytes-events_of more }
 
--- an interruption stood first
+-- if E begins with an interruption, it is taken
 pub Passes-interruption : {E : List Event} {e : Error} {after : List Event} → E ≡ fails e ∷ after → IsInterruption e → Passes E [] after
 Passes-interruption {e} is again = record { front = fails e ∷ []; split = is; no_fault = (again, tt); gave = refl }
 
@@ -55,7 +55,7 @@ Passes-interruption {e} is again = record { front = fails e ∷ []; split = is; 
 pub Passes-fills : {E : List Event} {buf : List ℕ} {after : List Event} → Fills E buf after → Passes E buf after
 Passes-fills {E} {buf} f = record { front = cut (length buf) E; split = f.split; no_fault = f.no_fault; gave = f.filled }
 
--- a `read_exact` that failed left this: bytes are gone and an error came behind them, or the reader took none
+-- a `read_exact` that failed left this: bytes are gone and an error came after them, or the reader took none
 abbrev Failed : Type 0 → List Event → Error → List Event → Type 0
 Failed may_take_none E e after = ((taken : List ℕ) × (mid : List Event) × Passes E taken mid × StopsThere mid e after)
     ⊎ (may_take_none × (after ≡ E) × IsUnexpectedEnd e)
@@ -101,7 +101,7 @@ Passes-then {E} {mid} {after} {x} {y} p q = record {
   gave = bytes-append p.front q.front ∙ ap (λ l. l ++ bytes q.front) p.gave ∙ ap (λ l. x ++ l) q.gave;
 }
 
--- nothing behind it
+-- if nothing more is taken, the same bytes are taken
 pub Passes-still : {E mid after : List Event} {x : List ℕ} → Passes E x mid → Passes mid [] after → Passes E x after
 Passes-still {E} {after = after} {x = x} p q = subst (λ l. Passes E l after) (append-nil x) (Passes-then p q)
 
@@ -109,7 +109,7 @@ Passes-still {E} {after = after} {x = x} p q = subst (λ l. Passes E l after) (a
 pub Passes-all : {E after : List Event} {x : List ℕ} → Passes E x after → bytes E ≡ x ++ bytes after
 Passes-all {E} {after} p = ap bytes p.split ∙ bytes-append p.front after ∙ ap (λ l. l ++ bytes after) p.gave
 
--- these bytes more were passed over
+-- these more bytes were skipped
 pub PassesOver-more : {n k left : ℕ} {E mid : List Event} (more : List ℕ) (after : List Event)
     → PassesOver n E k mid → mid ≡ events_of more ++ after → length more + left ≡ k → PassesOver n E left after
 PassesOver-more more after p is count = record {
@@ -122,7 +122,7 @@ PassesOver-more more after p is count = record {
 pub PassesOver-still : {n left : ℕ} {E mid after : List Event} → PassesOver n E left mid → Passes mid [] after → PassesOver n E left after
 PassesOver-still p q = record { over = p.over; count = p.count; passes = Passes-still p.passes q }
 
--- where nothing is gone and the part is what it was, nothing more of it was gathered
+-- if nothing is gone and the part is unchanged, nothing more was gathered
 pub Gathered-none : (E : List Event) (part : List ℕ) → Gathered E part part E
 Gathered-none E part = record { more = []; is = sym (append-nil part); passes = Passes-none E }
 
@@ -148,7 +148,7 @@ Gathered-still {part = part} g p = Gathered-then g (record { more = []; is = sym
 pub Gathered-at : {E mid after : List Event} {old new : List ℕ} → Gathered E old new mid → mid ≡ after → Gathered E old new after
 Gathered-at {E} {old = old} {new = new} g same = subst (λ l. Gathered E old new l) same g
 
--- what was gathered before is taken with it
+-- what was gathered before is taken too
 pub Gathered-passes : {E after : List Event} {old new : List ℕ} → Gathered E old new after → Passes (events_of old ++ E) new after
 Gathered-passes {E} {after} {old} {new} g =
     subst (λ l. Passes (events_of old ++ E) l after) (sym g.is) (Passes-then (Passes-bytes old E refl) g.passes)
@@ -163,17 +163,17 @@ pub none_taken : {reply : Result (Bor (List ℕ)) Error} (s : Bor (List ℕ)) {E
     → reply ≡ Ok s → LendsFrom E reply E' → E' ≡ E
 none_taken s is same = pieces.none_taken s is same
 
--- an error stood first
+-- if E begins with an error, it is taken
 pub error_taken : {reply : Result (Bor (List ℕ)) Error} {e : Error} {E E' : List Event} → reply ≡ Err e
     → LendsFrom E reply E' → E ≡ fails e ∷ E'
 error_taken is gone = pieces.error_taken is gone
 
--- an error that `fill_buf` answered has spent a turn
+-- an error that `fill_buf` returned has spent a turn
 pub error_turn : {reply : Result (Bor (List ℕ)) Error} {e : Error} {old new : ℕ}
     → reply ≡ Err e → LendingTurn reply old new → new < old
 error_turn is turn = pieces.error_turn is turn
 
--- want of memory is a fault
+-- a failed allocation is a fault
 pub memory_fault : (e : Error) → IsOutOfMemory e → IsFault e
 memory_fault e refused = pieces.memory_fault e refused
 

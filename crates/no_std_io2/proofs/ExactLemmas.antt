@@ -1,21 +1,21 @@
--- What a `read_exact` does where bytes stand first.
+-- What a `read_exact` does if the events begin with some bytes.
 use Rattle.std.proofs.Common.{◌≡◌, ◌⊎◌, inl, inr, ℕ, ◌≤◌, List, [], ◌∷◌, ◌++◌, length, Result, Ok, Err, IsOk, refl, sym, ap, ◌∙◌}
 use Rattle.std.proofs.Common.{arith, append_assoc, append-nil, length-append}
 use Rattle.no_std_io2_base.specs.declared.error.Error.{Error}
 use Rattle.no_std_io2_base.specs.Read.{Event, byte, fails, events_of, bytes, cut, Fills, StopsAtFault, FallsShort, ReadsExact}
 use Rattle.no_std_io2_base.proofs.EventLemmas.{bytes-append, bytes-events_of}
 
--- a cut right behind the bytes
+-- a cut right after the bytes
 cut_behind : (bs : List ℕ) (rest : List Event) → cut (length bs) (events_of bs ++ rest) ≡ events_of bs
 cut_behind [] rest = refl
 cut_behind (b ∷ bs) rest = ap (λ l. byte b ∷ l) (cut_behind bs rest)
 
--- behind the same bytes stand the same events
+-- two equal lists of events that begin with the same bytes have equal rests
 pub events_of-cancel : (bs : List ℕ) (x y : List Event) → events_of bs ++ x ≡ events_of bs ++ y → x ≡ y
 events_of-cancel [] x y e = e
 events_of-cancel (b ∷ bs) x y e = events_of-cancel bs x y (cc)
 
--- a buffer as long as the bytes that stood first holds these, and they are gone
+-- a filled buffer of the length of the first bytes is these bytes, and they are taken
 pub Fills-bytes : {E after : List Event} (bs buf : List ℕ) (rest : List Event) → E ≡ events_of bs ++ rest → Fills E buf after
     → length buf ≡ length bs → (buf ≡ bs) × (after ≡ rest)
 Fills-bytes {E} {after} bs buf rest is f long =
@@ -24,7 +24,7 @@ Fills-bytes {E} {after} bs buf rest is f long =
       sym (events_of-cancel bs rest after (sym is ∙ f.split ∙ ap (λ l. l ++ after) stop)),
     )
 
--- an error stands behind all bytes that stand first
+-- an error comes after all of the first bytes
 stands_behind : (bs : List ℕ) (Q R rest : List Event) (e : Error) → events_of bs ++ rest ≡ Q ++ fails e ∷ R
     → length bs ≤ length (bytes Q)
 stands_behind [] Q R rest e is = omega arith
@@ -36,7 +36,7 @@ stands_behind (b ∷ bs) (fails d ∷ Q) R rest e is = absurd (cc)
 bytes_end : (Q : List Event) (e : Error) → bytes (Q ++ fails e ∷ []) ≡ bytes Q
 bytes_end Q e = bytes-append Q (fails e ∷ []) ∙ append-nil (bytes Q)
 
--- it does not fail where bytes enough stand first
+-- it does not fail if the events begin with enough bytes
 pub ReadsExact-enough : (t : Type 0) {E : List Event} (after : List Event) (r : Result (Unit {0}) Error) (buf bs : List ℕ)
     (rest : List Event) → E ≡ events_of bs ++ rest → length buf ≤ length bs → ReadsExact t E r buf after → IsOk r
 ReadsExact-enough t after (Ok u) buf bs rest is fits f = refl

@@ -1,4 +1,4 @@
--- A piece that stands first in what is held.
+-- A piece at the front of the held bytes.
 use Rattle.std.proofs.Common.{◌≡◌, ℕ, Bool, true, List, [], ◌∷◌, ◌++◌, length, take, drop, refl, sym, ap, ap₂, subst, ◌∙◌, arith}
 use Rattle.std.proofs.Common.{◌≤◌, ◌<◌, true≢false, Result, Ok, Err, inl, inr, ⊎_elim, append_assoc, length-append, length-take-le, take-append-drop, take_all}
 use Rattle.no_std_io2_base.specs.declared.error.Error.{Error}
@@ -8,7 +8,7 @@ use Rattle.no_std_io2_base.specs.Pieces.{AnswersLine, Lacks, EndsPiece, FindsPie
 use Rattle.no_std_io2.specs.declared.buffered.buf_reader.BufReader.{BufReader}
 use Rattle.no_std_io2.specs.BufReader.{reader_held, reader_behind, reader_inner, TakesHeld, TakesHeldLine}
 
--- where d stands, it is not lacking
+-- if d is among the bytes, they do not lack it
 has_end : (d : ℕ) (front rest : List ℕ) → Lacks d (front ++ d ∷ rest) → ⊥
 has_end d [] rest h = h.0 refl
 has_end d (x ∷ front) rest h = has_end d front rest h.1
@@ -76,7 +76,7 @@ line_held line rest none items lent old new (Err f) (Err e) len capacity text te
     (λ other. absurd (other.0 taken.0.0))
     refused
 
--- what was found of the bytes held, where it is whole and some, is a line
+-- the part of the held bytes that was found is a line, if it is whole and not empty
 pub line_first : {n : ℕ} {is_whole : Bool} {lent : List ℕ} (held : List ℕ) → lent ≡ held → FindsPiece 10 lent n is_whole
     → is_whole ≡ true → 0 < n → (n ≤ length held) × EndsPiece 10 (take n held)
 line_first {n} {is_whole} held same finds ended some =

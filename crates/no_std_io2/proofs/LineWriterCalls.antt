@@ -69,7 +69,7 @@ writing_then_sending S x held = ⊎_elim
     (λ long. omega (arith, writing_all-le S x held, long_sent S held x long))
     (cases_lt (length x) S)
 
--- what holds at `Ok` holds of an answer that is `Ok`
+-- what holds after `Ok` holds for a result that is `Ok`
 at_ok : {A : Type 0} {P : Type 0} (r : Result A Error) → IsOk r → OnOk r P → P
 at_ok (Ok v) is p = p
 at_ok (Err e) is p = no_ok is
@@ -97,7 +97,7 @@ module _ {W : Type 0} (I : Writer W) where
   ]
 
   module _ (S : ℕ) (x : List ℕ) where
-    -- one write of lines, of which n bytes were taken, and then a tail is held
+    -- one write of lines took n bytes, and then a tail is held
     tail_tells : 0 < lines_len x → (answer reply : Result ℕ Error) (held left : List ℕ) → held ≡ [] → HoldsTail S x answer reply left
         → (a b : W) → CallOf I a (Wrote (lines_of x) answer) b
         → Writing I x (with_buffer (I.told a) held) reply (with_buffer (I.told b) left)
@@ -123,7 +123,7 @@ module _ {W : Type 0} (I : Writer W) where
         let all = law.all takes in
         (all.0, (tail_whole S x lines.1 reply left all.1 some lines.3).0, λ m. law.counts m takes)
 
-    -- `write` accepts what its answer says,
+    -- `write` accepts the bytes that its result reports,
     pub line_write_tells : Tells I (LineWriteCalls S x) (Writing I x)
     line_write_tells = λ held C reply left write a b made. elim write [
       | inl plain ↦
@@ -218,7 +218,7 @@ module _ {W : Type 0} (I : Writer W) where
       ]
 
 module _ {W : Type 0} (I : Writer W) (steady : (w : W) → I.takes_all w → (I.told w).mishaps ≡ Some []) where
-  -- lines that are handed on: some front of them is accepted, all at `Ok`,
+  -- some front of lines that are passed on is accepted, all after `Ok`,
   behind_tells : (S : ℕ) {y held left : List ℕ} {C : List WriteCall} {reply : Result (Unit {0}) Error}
       → Then (WriteAllCalls S y) SendCalls held C reply left → (a b : W) → Made (CallOf I) a C b
       → MovesFront (with_buffer (I.told a) held) y reply (with_buffer (I.told b) left) × IsNoInterruption reply
@@ -298,7 +298,7 @@ module _ {W : Type 0} (I : Writer W) (steady : (w : W) → I.takes_all w → (I.
         write_all_fault I steady S q parts.0 b parts.2,
       )
 
-  -- some front is accepted, all of it at `Ok`, and no interruption is answered
+  -- some front of x is accepted, all of it after `Ok`, and no interruption is returned
   pub line_write_all_tells : (S : ℕ) {x held left : List ℕ} {C : List WriteCall} {reply : Result (Unit {0}) Error}
       → LineWriteAllCalls S x held C reply left → (a b : W) → Made (CallOf I) a C b
       → MovesFront (with_buffer (I.told a) held) x reply (with_buffer (I.told b) left) × IsNoInterruption reply

@@ -13,7 +13,7 @@ use Rattle.no_std_io2.proofs.AnswerLemmas.{onok, onok_map}
 use Rattle.no_std_io2.specs.Lines.{IsLineState, HasNoNewline}
 use Rattle.no_std_io2.specs.Buffer.{IsSuffix}
 
--- what is left of a line state, where a front of it is cut off, is a line state
+-- a suffix of a line state is a line state
 pub IsLineState-append : (front end : List ℕ) → IsLineState (front ++ end) → IsLineState end
 IsLineState-append front end line k h e =
     let n = length front in
@@ -34,20 +34,20 @@ IsLineState-plain xs plain k h e = absurd (plain k h e)
 pub HasNoNewline-unended : (xs : List ℕ) → IsLineState xs → (0 < length xs → slice_index xs (length xs - 1) ≢ 10) → HasNoNewline xs
 HasNoNewline-unended xs line last k h e = last (omega arith) (line k h e)
 
--- where two lists have no newline, both joined have none
+-- if two lists have no newline, both joined have none
 pub HasNoNewline-append : (xs ys : List ℕ) → HasNoNewline xs → HasNoNewline ys → HasNoNewline (xs ++ ys)
 HasNoNewline-append xs ys p q k h e = ⊎_elim
     (λ left. p k left (sym (get_or_append_left xs ys 0 k left) ∙ e))
     (λ right. q (k - length xs) (omega (arith, length-append xs ys)) (sym (get_or-append_right xs ys k 0 right) ∙ e))
     (cases_lt k (length xs))
 
--- where some bytes have no newline, their first n have none
+-- if some bytes have no newline, their first n have none
 pub HasNoNewline-take : (n : ℕ) (xs : List ℕ) → HasNoNewline xs → HasNoNewline (take n xs)
 HasNoNewline-take n xs p k h e =
     let len = length-take n xs in
     p k (omega arith) (sym (get_or-take n xs k 0 (omega arith)) ∙ e)
 
--- where some bytes have no newline, an end of them has none
+-- if some bytes have no newline, a suffix of them has none
 pub HasNoNewline-end : (whole end : List ℕ) → IsSuffix whole end → HasNoNewline whole → HasNoNewline end
 HasNoNewline-end whole end f plain k h e =
     let sum = length-append f.0 end in
@@ -68,13 +68,12 @@ IsLineState-ended xs ys some ends k h e =
     let last : length (xs ++ ys) - 1 ≡ length xs + (length ys - 1) = omega arith in
     ap (λ m. get_or (xs ++ ys) m 0) last ∙ get_or-append-add xs ys (length ys - 1) 0 ∙ ends
 
--- where x was accepted whole, and then a call accepted nothing:
--- together they do what a `write_all` of x does, with that call's answer
+-- if x was accepted whole, and then a call accepted nothing: together they do what a `write_all` of x does, with that call's result
 pub MovesFront-ends : {a b c : Told} (x : List ℕ) (r : Result (Unit {0}) Error) → Moves a x [] b
     → Moves b [] (call_mishap r) c → MovesFront a x r c
 MovesFront-ends x r m n = record { accepted = x; front = IsFront-refl x; whole = onok r _ refl; moves = Moves-ends m n }
 
--- a `write_all` of x that answered `Ok` accepted x, without a mishap
+-- a `write_all` of x that returned `Ok` accepted x, without a mishap
 pub MovesFront-whole : {a b : Told} (x : List ℕ) (u : Unit {0}) → MovesFront a x (Ok u) b → Moves a x [] b
 MovesFront-whole {a} {b} x u f = subst (λ l. Moves a l [] b) f.whole f.moves
 
@@ -97,6 +96,6 @@ MovesFront-rest {a} {b} {c} n x rest r d m f =
       moves = Moves-then m f.moves;
     }
 
--- where there is no byte, there is no newline
+-- if there is no byte, there is no newline
 pub HasNoNewline-none : (xs : List ℕ) → xs ≡ [] → HasNoNewline xs
 HasNoNewline-none xs e k h is = absurd (omega (arith, ap length e))

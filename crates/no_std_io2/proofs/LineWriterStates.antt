@@ -93,7 +93,7 @@ no_line_sent {held} sends plain = elim sends [
 ]
 
 module _ {A : Type 0} (S : ℕ) (x : List ℕ) (v : A) (past : List WriteCall → Result A Error → Type 0) where
-  -- where neither what is held nor x has a newline, what goes through a buffer leaves none
+  -- if neither the held bytes nor x have a newline, the buffer has none after x went through it
   buffered_plain : {held left : List ℕ} {C : List WriteCall} {reply : Result A Error} → Buffered S x v past held C reply left
       → HasNoNewline held → HasNoNewline x → HasNoNewline left
   buffered_plain (stops way) p q = HasNoNewline-end _ _ (way_end S (length x) way) p
@@ -102,7 +102,7 @@ module _ {A : Type 0} (S : ℕ) (x : List ℕ) (v : A) (past : List WriteCall �
     | inr gone ↦ HasNoNewline-none left gone.1.1
   ]
 
-  -- and where x ends in one, a line state
+  -- and if x ends in one, the buffer is a line state
   buffered_line : {held left : List ℕ} {C : List WriteCall} {reply : Result A Error} → Buffered S x v past held C reply left
       → IsLineState held → ((front : List ℕ) → IsLineState (front ++ x)) → IsLineState left
   buffered_line (stops way) p q = IsLineState-end _ _ (way_end S (length x) way) p
@@ -119,7 +119,7 @@ module _ {A : Type 0} (S : ℕ) (x : List ℕ) (v : A) (past : List WriteCall �
   plain_state (goes_on {reply = reply} p q) line plain =
       let none = buffered_plain q (send_line_plain p) plain in (IsLineState-plain _ none, onok reply _ none)
 
-  -- where no line is held and it fits, it is held without a call
+  -- if no line is held and it fits, it is held without a call
   plain_fits : {held left : List ℕ} {C : List WriteCall} {reply : Result A Error}
       → Then SendLineCalls (Buffered S x v past) held C reply left → HasNoNewline held → length x < S → length held + length x ≤ S
       → (C ≡ []) × IsOk reply × (left ≡ held ++ x)
@@ -129,7 +129,7 @@ module _ {A : Type 0} (S : ℕ) (x : List ℕ) (v : A) (past : List WriteCall �
       let fits = buffered_fits S x v past q short (omega (arith, room, ap length kept.2)) in
       (ap (λ C. C ++ D) kept.0 ∙ fits.0, subst IsOk (sym fits.1) refl, fits.2 ∙ ap (λ l. l ++ x) kept.2)
 
--- one write of lines, of which some were taken, leaves a line state
+-- one write of lines, which may take a part of them, leaves a line state
 tail_state : (S : ℕ) (x : List ℕ) (answer reply : Result ℕ Error) (left : List ℕ) → HoldsTail S x answer reply left → IsLineState left
 tail_state S x (Err e) reply left tail = IsLineState-plain left (HasNoNewline-none left tail.0)
 tail_state S x (Ok n) reply left tail = subst IsLineState (sym tail.0) (tail_line S x n)
@@ -138,7 +138,7 @@ tail_state S x (Ok n) reply left tail = subst IsLineState (sym tail.0) (tail_lin
 pub lines_length : (x : List ℕ) → length (lines_of x) ≡ lines_len x
 lines_length x = omega (arith, length-take (lines_len x) x, (lines_are x).within)
 
--- `Ok` of the whole is what the inner writer answers that takes all; behind that the unfinished line is held
+-- an inner writer that takes all returns `Ok` of the whole; then the unfinished line is held
 pub tail_whole : (S : ℕ) (x : List ℕ) (answer reply : Result ℕ Error) (left : List ℕ) → answer ≡ Ok (length (lines_of x)) → 0 < lines_len x
     → HoldsTail S x answer reply left → IsOk reply × (left ≡ take S (unfinished_line x))
 tail_whole S x (Err e) reply left is some tail = absurd (let no : ⊥ = cc in no)
@@ -162,7 +162,7 @@ line_write_state S {x} write line = elim write [
   | inr lines ↦ lines_state S x lines.1 line
 ]
 
--- and takes a short text whole, or fails; where it fits, it is held without a call
+-- a short text is taken whole, or the call fails; if the text fits, it is held without a call
 plain_whole : (S : ℕ) {x held left : List ℕ} {C : List WriteCall} {reply : Result ℕ Error}
     → Then SendLineCalls (WriteCalls S x) held C reply left → length x < S → IfOk reply (λ n. n ≡ length x)
 plain_whole S (stops p) short = tt
@@ -188,7 +188,7 @@ pub flush_state : {held left : List ℕ} {C : List WriteCall} {reply : Result (U
 flush_state (stops sent) line = IsLineState-end _ _ (writes_end sent) line
 flush_state (goes_on {left = left} sent past) line = IsLineState-plain left (HasNoNewline-none left past.1)
 
--- lines that are handed on leave nothing at `Ok`
+-- after `Ok` of lines that are passed on, nothing is held
 pub send_lines_leaves : (S : ℕ) (y : List ℕ) → Leaves (SendLinesCalls S y) (λ _. [])
 send_lines_leaves S y = λ held C reply left sends. elim sends [
   | inl past ↦ onok reply _ past.1

@@ -12,7 +12,7 @@ use Rattle.std.specs.List.{slice_range}
 use Rattle.no_std_io2_base.specs.Write.{zero_write}
 use Rattle.no_std_io2.proofs.LineWriterLemmas.{IsLineState-plain, HasNoNewline-take, HasNoNewline-none, zero_write-lines, zero_write-some}
 
--- how a search from the end tests a byte: it passes over each that is no newline,
+-- how a search from the end tests a byte: it skips each byte that is no newline,
 is_not_ten : (b : ℕ) → b ≢ 10 → not (b == 10) ≡ true
 is_not_ten b h = grind (arith, nat_tests)
 
@@ -74,7 +74,7 @@ lines_are xs =
     let found = lines_down xs (length xs) (omega arith) (λ k lt. absurd (omega (arith, lt, length-drop (length xs) xs))) in
     subst (IsLinesLen xs) (sym (lines_len-is xs found.0 found.1)) found.1
 
--- where there is no newline, the lines have no byte
+-- if there is no newline, the lines have no bytes
 pub IsLinesLen-none : (xs : List ℕ) → HasNoNewline xs → IsLinesLen xs 0
 IsLinesLen-none xs h = record { within = omega arith; ends = λ some. absurd (omega arith); none_after = h }
 
@@ -86,40 +86,40 @@ none_or_some xs h has = h has.0 has.1 (get_or_default xs has.0 0 10 has.1 ∙ ha
 pub IsLinesLen-whole : (xs : List ℕ) → (0 < length xs → slice_index xs (length xs - 1) ≡ 10) → IsLinesLen xs (length xs)
 IsLinesLen-whole xs h = record { within = omega arith; ends = h; none_after = λ k lt. absurd (omega (arith, length-drop (length xs) xs)) }
 
--- what follows the lines is all, where there is no newline,
+-- the bytes after the lines are all bytes if there is no newline,
 pub unfinished_line-none : (xs : List ℕ) → HasNoNewline xs → unfinished_line xs ≡ xs
 unfinished_line-none xs h = unfinished_line-is xs 0 (IsLinesLen-none xs h)
 
--- and nothing, where the last byte is one
+-- and none if the last byte is a newline
 pub unfinished_line-ended : (xs : List ℕ) → slice_index xs (length xs - 1) ≡ 10 → unfinished_line xs ≡ []
 unfinished_line-ended xs h =
     unfinished_line-is xs (length xs) (IsLinesLen-whole xs (λ _. h)) ∙ drop_all (length xs) xs (omega arith)
 
--- the first n bytes, which end in a newline where there are some
+-- the first n bytes, which end in a newline if there are some
 pub IsLineState-lines : (xs : List ℕ) (n : ℕ) → n ≤ length xs → (0 < n → slice_index xs (n - 1) ≡ 10) → IsLineState (take n xs)
 IsLineState-lines xs n within ends k lt e =
     let len = length-take n xs in
     let last : length (take n xs) - 1 ≡ n - 1 = omega arith in
     ap (λ m. get_or (take n xs) m 0) last ∙ get_or-take n xs (n - 1) 0 (omega arith) ∙ ends (omega arith)
 
--- the lines, or all where there are none
+-- the lines, or all if there are none
 pub lines_or_all-none : (xs : List ℕ) → lines_len xs ≡ 0 → lines_or_all xs ≡ xs
 lines_or_all-none xs h = grind (arith, nat_tests)
 
--- and where there are lines, of n bytes in all, the first n bytes
+-- and if there are lines of n bytes, the first n bytes
 pub lines_or_all-some : (xs : List ℕ) (n : ℕ) → 0 < n → lines_len xs ≡ n → lines_or_all xs ≡ take n xs
 lines_or_all-some xs n some h = grind (arith, nat_tests)
 
--- the tail that is held once some n bytes went out: where all lines did, what follows them, up to a buffer;
+-- the tail that is held once some n bytes went out: if all lines did, what follows them, up to a buffer;
 pub held_tail-all : (S : ℕ) (x : List ℕ) (len n : ℕ) → lines_len x ≡ len → 0 < n → len ≤ n → held_tail S x n ≡ take S (drop n x)
 held_tail-all S x len n e some h = grind (arith, nat_tests)
 
--- where some of the lines are left and fit, those;
+-- if some of the lines are left and fit, those;
 pub held_tail-rest : (S : ℕ) (x : List ℕ) (len n : ℕ) → lines_len x ≡ len → 0 < n → n < len → len - n ≤ S
     → held_tail S x n ≡ take (len - n) (drop n x)
 held_tail-rest S x len n e some h g = grind (arith, nat_tests)
 
--- and where they don't fit, as many whole lines as do, or a buffer of one
+-- and if they do not fit, as many whole lines as do, or a buffer of one
 pub held_tail-part : (S : ℕ) (x : List ℕ) (len n : ℕ) → lines_len x ≡ len → 0 < n → n < len → S < len - n
     → held_tail S x n ≡ lines_or_all (take S (drop n x))
 held_tail-part S x len n e some h g = grind (arith, nat_tests)
@@ -174,17 +174,17 @@ tail_mishap S x n lines = ⊎_elim
     ∙ sym (ap (λ k. zero_write k x) sum))
     (cases_lt 0 n)
 
--- windows of x behind its first n bytes
+-- windows of x after its first n bytes
 pub window_all : (x : List ℕ) (n S m : ℕ) → m ≡ min (length x - n) S → slice_range x n (n + m) ≡ take S (drop n x)
 window_all x n S m e =
     let len = length-drop n x in
     ap (λ i. take i (drop n x)) (let same : (n + m) - n ≡ min S (length (drop n x)) = omega arith in same) ∙ take_min S (drop n x)
 
--- the window of m bytes from n on is the first m bytes behind the first n
+-- the window of m bytes from n on is the first m bytes after the first n
 pub window_some : (x : List ℕ) (n m : ℕ) → slice_range x n (n + m) ≡ take m (drop n x)
 window_some x n m = ap (λ i. take i (drop n x)) (let same : (n + m) - n ≡ m = omega arith in same)
 
--- the part of the tail that ends in a newline, or all of it where it has none
+-- the part of the tail that ends in a newline, or all of it if it has none
 pub tail_part : (S : ℕ) (x : List ℕ) (len n part : ℕ) → IsLinesLen x len → 0 < n → n < len → S < len - n
     → IsLinesLen (slice_range x n (n + S)) part
     → (part ≡ 0 → slice_range x n (n + S) ≡ held_tail S x n) × (0 < part → slice_range x n (n + part) ≡ held_tail S x n)
@@ -204,7 +204,7 @@ unfinished_line-drop xs = unfinished_line-is xs (lines_len xs) (lines_are xs)
 pub unfinished_line-plain : (xs : List ℕ) → HasNoNewline (unfinished_line xs)
 unfinished_line-plain xs = subst HasNoNewline (sym (unfinished_line-drop xs)) (lines_are xs).none_after
 
--- the lines are not empty where there is a newline,
+-- the lines are not empty if there is a newline,
 pub lines_len-some : (xs : List ℕ) → HasNewline xs → 0 < lines_len xs
 lines_len-some xs has = ⊎_elim
     (λ some. some)
@@ -213,7 +213,7 @@ lines_len-some xs has = ⊎_elim
     absurd (none_or_some xs (subst (λ n. HasNoNewline (drop n xs)) no_line (lines_are xs).none_after) has))
     (cases_lt 0 (lines_len xs))
 
--- and are, where there is none
+-- and are, if there is none
 pub lines_len-none : (xs : List ℕ) → HasNoNewline xs → lines_len xs ≡ 0
 lines_len-none xs h = lines_len-is xs 0 (IsLinesLen-none xs h)
 

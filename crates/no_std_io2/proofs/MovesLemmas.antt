@@ -1,5 +1,5 @@
 -- How calls of a writer follow one another, for a crate that lists this one alone. Those of the base are stated again: `rt lemma` finds
--- none behind a `pub use`.
+-- none after a `pub use`.
 use Rattle.std.proofs.Common.{◌≡◌, ◌⊎◌, Some, IsErrAnd, Result, Ok, Err, subst, refl, ap, ◌∙◌, append-nil, List, [], ◌++◌, ℕ}
 use Rattle.std.proofs.Common.{length, length-append, arith}
 use Rattle.std.proofs.lemmas.List.{nil_from_length}
@@ -33,7 +33,7 @@ Moves-ends f g = calls.Moves-ends f g
 pub Moves-each : (a c : Told) (xs : List (List ℕ)) → MovesEach a xs c → Moves a (concat xs) [] c
 Moves-each a c xs f = calls.Moves-each a c xs f
 
--- a buffer that was empty over a device, and whatever stands over that device then: what it did is what the device did
+-- an empty buffer in front of a device, and afterwards a buffer with any bytes: its `Moves` is the `Moves` of the device
 pub Moves-device : {W : Type 0} {S : ℕ} {a : Told} {b : Told} {x : List ℕ} {k : List ErrorKind} (told : W → Told) (w : BufWriter W S)
     (device : W)
     → writer_inner w ≡ device → writer_buffer w ≡ [] → a ≡ writer_told told w → Moves a x k b → Moves (told device) x k b
@@ -44,7 +44,7 @@ Moves-device {b = b} {x = x} {k = k} told w device inner none is m =
 bare : (t : Told) → with_buffer t [] ≡ t
 bare t = ap (λ held. record t { held = held }) (append-nil t.held)
 
--- what a buffer accepted at `Ok` that was empty, and holds nothing then, its device did
+-- the bytes that an empty buffer accepted after `Ok`, if it holds nothing afterwards, are what its device accepted
 pub MovesFront-device : {W : Type 0} {S : ℕ} (told : W → Told) (w v : BufWriter W S) (x : List ℕ) (r : Result (Unit {0}) Error)
     → MovesFront (writer_told told w) x r (writer_told told v) → writer_buffer w ≡ []
     → OnOk r ((writer_told told v).held ≡ [])
@@ -58,30 +58,30 @@ MovesFront-device told w v x (Ok u) f none flushed =
     (Moves-device told w (writer_inner w) refl none refl (lines.MovesFront-whole x u f))
 MovesFront-device told w v x (Err e) f none flushed = tt
 
--- `write_all(x)?; write_all(y)`, where the first answered `Ok`
+-- `write_all(x)?; write_all(y)`, if the first returned `Ok`
 pub MovesFront-join : {a b c : Told} (x y : List ℕ) (r : Result (Unit {0}) Error) → MovesFront a x (Ok tt) b
     → MovesFront b y r c → MovesFront a (x ++ y) r c
 MovesFront-join x y r f g = calls.MovesFront-join x y r f g
 
--- the same, where the first failed: the second made no call
+-- the same, if the first failed: the second made no call
 pub MovesFront-first : {a b : Told} (x y : List ℕ) (e : Error) → MovesFront a x (Err e) b → MovesFront a (x ++ y) (Err e) b
 MovesFront-first x y e f = calls.MovesFront-first x y e f
 
--- `write_all(x)?; write_all(y)?; write_all(z)`, where the first two answered `Ok`
+-- `write_all(x)?; write_all(y)?; write_all(z)`, if the first two returned `Ok`
 pub MovesFront-three : {a b c d : Told} (x y z : List ℕ) (r : Result (Unit {0}) Error) → MovesFront a x (Ok tt) b
     → MovesFront b y (Ok tt) c → MovesFront c z r d → MovesFront a (x ++ y ++ z) r d
 MovesFront-three x y z r f g h = calls.MovesFront-join (x ++ y) z r (calls.MovesFront-join x y (Ok tt) f g) h
 
--- and where the second of three failed: the third made no call
+-- the same, if the second of three failed: the third made no call
 pub MovesFront-second : {a b c : Told} (x y z : List ℕ) (e : Error) → MovesFront a x (Ok tt) b → MovesFront b y (Err e) c
     → MovesFront a (x ++ (y ++ z)) (Err e) c
 MovesFront-second x y z e f g = calls.MovesFront-join x (y ++ z) (Err e) f (calls.MovesFront-first y z e g)
 
--- a `write_all` that answered `Ok` accepted the whole, without a mishap
+-- a `write_all` that returned `Ok` accepted all its bytes, without a mishap
 pub MovesFront-whole : {a b : Told} (x : List ℕ) (u : Unit {0}) → MovesFront a x (Ok u) b → Moves a x [] b
 MovesFront-whole x u f = lines.MovesFront-whole x u f
 
--- `write_all(x)?; flush()`, where the first answered `Ok`
+-- `write_all(x)?; flush()`, if the first returned `Ok`
 pub MovesFront-flush : {a b c : Told} (x : List ℕ) (u : Unit {0}) (r : Result (Unit {0}) Error) → MovesFront a x (Ok u) b
     → Moves b [] (call_mishap r) c → MovesFront a x r c
 MovesFront-flush x u r f g = lines.MovesFront-ends x r (lines.MovesFront-whole x u f) g

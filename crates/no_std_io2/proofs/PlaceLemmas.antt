@@ -1,4 +1,4 @@
--- A read behind a seek.
+-- A read after a seek.
 use Rattle.std.proofs.Common.{◌≡◌, ℕ, ◌+◌, ◌≤◌, ◌<◌, ℤ, pos, negsuc, List, [], length, drop, Result, Ok, Err, refl, ap, ◌∙◌, sym, subst}
 use Rattle.std.proofs.Common.{arith, append-nil, length-drop}
 use Rattle.std.specs.Result.{IfOk, IsOk}
@@ -22,14 +22,14 @@ IsTarget-unique len position (Start k) p q f g = f ∙ sym g
 IsTarget-unique len position (End k) p q f g = IsAtOffset-unique len k p q f.0 g.0
 IsTarget-unique len position (Current k) p q f g = IsAtOffset-unique position k p q f.0 g.0
 
--- behind a seek that succeeded come the bytes from its target on
+-- after a seek that succeeded, the bytes from its target on are to come
 pub comes_there : {E : List Event} (content content' : List ℕ) (old position n : ℕ) (at : SeekFrom)
     → Seeks (length content) old at (Ok n) position → content' ≡ content → E ≡ events_of (drop position content')
     → E ≡ events_of (drop n content)
 comes_there content content' old position n at sought same is =
     is ∙ ap (λ p. events_of (drop p content')) sought.1 ∙ ap (λ l. events_of (drop n l)) same
 
--- a read there fills the buffer with them, and is behind them then
+-- a read there fills the buffer with these bytes, and the position is then after them
 pub stands_there : (t : Type 0) {E : List Event} (after : List Event) (r : Result (Unit {0}) Error) (content content' buf : List ℕ)
     (old position n room new : ℕ) (at : SeekFrom) → Seeks (length content) old at (Ok n) position → content' ≡ content
     → E ≡ events_of (drop position content') → ReadsExact t E r buf after → length buf ≡ room
@@ -39,7 +39,7 @@ stands_there t after (Ok u) content content' buf old position n room new at soug
     record { place = n; target = sought.0; there = read.0; behind = omega (arith, read.1, on, sought.1) }
 stands_there t after (Err e) content content' buf old position n room new at sought same is f long on = tt
 
--- and it does not fail where there are enough
+-- it does not fail if there are enough bytes
 pub enough_there : (t : Type 0) {E : List Event} (after : List Event) (r : Result (Unit {0}) Error) (content content' buf : List ℕ)
     (old position n p : ℕ) (at : SeekFrom) → Seeks (length content) old at (Ok n) position → content' ≡ content
     → E ≡ events_of (drop position content') → ReadsExact t E r buf after

@@ -41,7 +41,7 @@ module _ {R : Type 0} {may : R → ReadCall → R → Type 0} {Adds : R → List
       (and_last until.0 (Gave until.1 answer) a b (λ mid m. gathers_add until.2 a mid m) (λ c d call. adds c d until.1 call)
       (subst (λ K. Made may a K b) until.4 made))
 
-  -- those of a `read_exact`, at `Ok`
+  -- those of a `read_exact`, after `Ok`
   pub exact_adds : {buf : List ℕ} (reply : Result (Unit {0}) Error) (a b : R) → ExactMade may a reply buf b → OnOk reply (Adds a buf b)
   exact_adds {buf} (Ok u) a b m = elim (m.are) [
     | inl own ↦

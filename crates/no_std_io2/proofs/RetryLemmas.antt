@@ -13,7 +13,7 @@ use Rattle.no_std_io2.specs.Retries.{HasAtMost, HasSpentTries, Law, Tries, again
 pub sends_none : (a : Told) (to_go : List ℕ) → Sends a to_go (Ok tt) a to_go
 sends_none a to_go = record { sent = []; split = refl; moves = Moves-refl a }
 
--- a call that accepts nothing, as a `flush`, behind what went
+-- a call that accepts nothing, such as a `flush`, after a `Sends`
 pub sends_ends : {a b c : Told} {to_go left : List ℕ} (reply : Result (Unit {0}) Error)
     → Sends a to_go (Ok tt) b left → Moves b [] (call_mishap reply) c → Sends a to_go reply c left
 sends_ends reply s m = record { sent = s.sent; split = s.split; moves = Moves-ends s.moves m }
@@ -50,7 +50,7 @@ spent_all n (Some old) None new k f g most = f
 spent_all n (Some old) (Some mid) None k f g most = g
 spent_all n (Some old) (Some mid) (Some new) k f g most = omega (arith, f, g (λ _. true), count_all mid, count_all new, most)
 
--- a try that failed, and then the others, of which there is one less
+-- a try that failed, and then the others, one fewer
 pub tries_again : {W : Type 0} (law : Law W) (retries less : ℕ) {old mid new : W} {x rest left : List ℕ} {e : Error}
     {reply : Result (Unit {0}) Error} → retries ≡ less + 1 → law old x (Err e) mid rest → Tries law less mid rest reply new left
     → Tries law retries old x reply new left

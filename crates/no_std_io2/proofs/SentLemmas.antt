@@ -1,4 +1,4 @@
--- What follows where a call of a buffered writer sends first: its seeks and `into_inner`.
+-- The calls of a buffered writer that first send the held bytes: its seeks and `into_inner`.
 use Rattle.std.proofs.Common.{◌≡◌, ℕ, ◌<◌, List, [], length, Result, Ok, Err, OnOk, IsOk, Some, refl, sym, ap, subst, arith, ◌∙◌}
 use Rattle.no_std_io2_base.specs.declared.error.Error.{Error}
 use Rattle.no_std_io2_base.specs.Errors.{error_kind}

@@ -16,7 +16,7 @@ abbrev pub Stepped : {W A : Type 0} → Writer W → Step A → W → List ℕ �
 Stepped I step a held reply left b = (C : List WriteCall) × Made (CallOf I) a C b × step held C reply left
 
 module _ {W A : Type 0} {I : Writer W} (first : Step (Unit {0})) (next : Step A) where
-  -- the first step failed, and that is the answer
+  -- the first step failed, and its error is the result
   pub then_stops : {held left : List ℕ} {e : Error} {a b : W} → Stepped I first a held (Err e) left b
       → Stepped I (Then first next) a held (Err e) left b
   then_stops p = (p.0, p.1, stops p.2)
@@ -38,7 +38,7 @@ then_leaves first next f g of_first of_next (goes_on {left = left} {reply = repl
     subst (λ m. OnOk reply (left ≡ g m)) (of_first _ _ _ _ p) (of_next _ _ _ _ q)
 
 module _ {W : Type 0} (I : Writer W) where
-  -- what this step does to what is told, whatever the answer
+  -- this step changes what is told like this, for every result
   abbrev pub Tells : {A : Type 0} → Step A → (Told → Result A Error → Told → Type 0) → Type 0
   Tells {A} step R = (held : List ℕ) (C : List WriteCall) (reply : Result A Error) (left : List ℕ) → step held C reply left
       → (a b : W) → Made (CallOf I) a C b → R (with_buffer (I.told a) held) reply (with_buffer (I.told b) left)

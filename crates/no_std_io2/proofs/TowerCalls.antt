@@ -6,7 +6,7 @@ use Rattle.no_std_io2_base.proofs.CallsLemmas.{made_then, law_may}
 use Rattle.no_std_io2.specs.BufWriter.{CallOf}
 use Rattle.no_std_io2.specs.Towers.{Through}
 
--- where each call is such inner calls, calls one after another are
+-- if each call makes such inner calls, calls one after another do
 pub through : {W B : Type 0} (I : Writer W) (K : Writer B) (inner : B → W) (buffer : B → List ℕ)
     (level : List ℕ → WriteCall → List WriteCall → List ℕ → Type 0)
     → ((a b : B) (call : WriteCall) → K.may a call b

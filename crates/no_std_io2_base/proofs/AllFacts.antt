@@ -1,4 +1,4 @@
--- The law of `write_rest` and of `write_all` follows from the calls that were made, where each kept its own.
+-- The laws of `write_rest` and `write_all` follow from the calls that were made, if each call kept its law.
 use Rattle.std.proofs.Common.{◌≡◌, ℕ, ◌+◌, List, [], Result, Ok, Err, Some, OnOk, IsOk, refl, sym, subst, inl, inr}
 use Rattle.no_std_io2_base.specs.declared.error.Error.{Error}
 use Rattle.no_std_io2_base.specs.Errors.{IsNoInterruption}
@@ -8,18 +8,18 @@ use Rattle.no_std_io2_base.proofs.CallsLemmas.{writes_whole}
 use Rattle.no_std_io2_base.proofs.MovesLemmas.{Moves-steady, MovesFront-sends}
 use Rattle.no_std_io2_base.proofs.WritesFacts.{writes_fault, writes_sends, writes_all}
 
--- a call of a writer with no mishap to come answers `Ok`
+-- a call of a writer with no mishap to come returns `Ok`
 pub call_steady : {a c : Told} {x : List ℕ} (reply : Result (Unit {0}) Error) → a.mishaps ≡ Some [] → Moves a x (call_mishap reply) c → IsOk reply
 call_steady (Ok u) e f = refl
 call_steady (Err err) e f = absurd (Moves-steady e f)
 
 module _ {S : Type 0} (told : S → Told) (takes_all : S → Type 0) (cost : S → ℕ) (is_metered : S → Type 0)
     (may : S → WriteCall → S → Type 0) (steady : (w : S) → takes_all w → (told w).mishaps ≡ Some []) where
-  -- what a writer that takes all does: it still does, answers `Ok`, and counts one call, or none for no bytes
+  -- what a writer that takes all does: it still takes all, returns `Ok`, and counts one call, or none for no bytes
   abbrev pub TookAll : List ℕ → Result (Unit {0}) Error → S → S → Type 0
   TookAll x reply a b = takes_all a → takes_all b × IsOk reply × (is_metered a → is_metered b × (cost b ≡ cost a + calls_for x))
 
-  -- a call of its own
+  -- the `write_rest` of a type that has a body of its own for it
   rest_own : {x left : List ℕ} {reply : Result (Unit {0}) Error} (a b : S)
       → CallLaw told takes_all cost is_metered may a (WroteRest x reply left) b
       → IsNoInterruption reply × Sends (told a) x reply (told b) left × OnOk reply (left ≡ []) × TookAll x reply a b

@@ -42,7 +42,7 @@ module _ {W : Type 0} {may : W → WriteCall → W → Type 0} {Adds : W → Lis
         | inr writes ↦ writes_add writes a b made
       ]
 
-  -- those of a `write_all`: all of x was added at `Ok`, and some front of it at an error
+  -- those of a `write_all`: all of x was added after `Ok`, and some front of x after an error
   pub all_adds : (C : List WriteCall) (x : List ℕ) (reply : Result (Unit {0}) Error) (a b : W)
       → Made may a C b → AllCalls C x reply → CallAdds Adds a (WroteAll x reply) b
   all_adds C x reply a b made calls =

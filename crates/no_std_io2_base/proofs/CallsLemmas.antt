@@ -61,12 +61,12 @@ law_may told takes_all cost is_metered may old new (Flushed reply) law = law.cal
 law_may told takes_all cost is_metered may old new (WroteAll x reply) law = law.0
 law_may told takes_all cost is_metered may old new (WroteRest x reply left) law = law.0
 
--- `write_all` is one call of its own
+-- the `write_all` of a type that has a body of its own for it is one call
 pub all_own : {W : Type 0} {may : W → WriteCall → W → Type 0} {a : W} (b : W) (x : List ℕ) (reply : Result (Unit {0}) Error)
     → may a (WroteAll x reply) b → (C : List WriteCall) × Made may a C b × AllCalls C x reply
 all_own b x reply own = (WroteAll x reply ∷ [], (b, own, refl), inl refl)
 
--- and so is `write_rest`
+-- the `write_rest` of such a type is one call
 pub rest_own : {W : Type 0} {may : W → WriteCall → W → Type 0} {a : W} (b : W) (x : List ℕ) (reply : Result (Unit {0}) Error)
     (left : List ℕ) → may a (WroteRest x reply left) b → (C : List WriteCall) × Made may a C b × RestCalls C x reply left
 rest_own b x reply left own = (WroteRest x reply left ∷ [], (b, own, refl), inl refl)

@@ -25,7 +25,7 @@ bytes_before-within place bs within =
     let none : place - length bs ≡ 0 = omega arith in
     ap (λ n. take place bs ++ replicate n 0) none ∙ append-nil (take place bs)
 
--- before the place n stand n bytes, the added zeros among them
+-- before the place n there are n bytes, including the added zeros
 pub length-bytes_before : (place : ℕ) (bs : List ℕ) → length (bytes_before place bs) ≡ place
 length-bytes_before place bs =
     omega (
@@ -40,7 +40,7 @@ pub put_within : (place : ℕ) (x bs : List ℕ) → place ≤ length bs → tak
 put_within place x bs within =
     ap (λ l. l ++ x ++ drop (place + length x) bs) (sym (bytes_before-within place bs within))
 
--- before a place zeros that stand behind the bytes are those that would be added
+-- zeros that follow the bytes, up to a place, are the zeros that would be added before that place
 before-opened : (more place : ℕ) (bs : List ℕ) → place ≤ length bs + more → take place (bs ++ replicate more 0) ≡ bytes_before place bs
 before-opened more place bs near = elim (cases_lt (length bs) place) [ inl past ↦ behind past | inr within ↦ inside within ]
   where
@@ -55,14 +55,14 @@ before-opened more place bs near = elim (cases_lt (length bs) place) [ inl past 
         ap (λ n. take n (bs ++ replicate more 0)) at ∙ take-append-add bs (replicate more 0) gap
         ∙ ap (λ l. bs ++ l) (take-replicate gap more 0 (omega arith)) ∙ ap (λ l. l ++ replicate gap 0) (sym all)
 
--- x was put over zeros that stood behind the bytes, and those behind it are gone
+-- x was put over zeros that followed the bytes, and the zeros after x were cut off
 pub put_opened : (more place : ℕ) (x bs : List ℕ) → length bs ≤ place + length x → place + length x ≤ length bs + more
     → take place (bs ++ replicate more 0) ++ x ≡ put_at place x bs
 put_opened more place x bs past near =
     ap (λ l. l ++ x) (before-opened more place bs (omega arith))
     ∙ sym (append-nil _) ∙ ap (λ l. bytes_before place bs ++ x ++ l) (sym (drop_all (place + length x) bs past))
 
--- the bytes reach `end`, by zeros where they did not
+-- the bytes reach `end`, with zeros added if they were shorter
 abbrev pub IsLengthened : ℕ → List ℕ → List ℕ → Type 0
 IsLengthened end bs grown =
     (end ≤ length bs) × (grown ≡ bs) ⊎ (length bs ≤ end) × (grown ≡ bs ++ replicate (end - length bs) 0)
@@ -88,7 +88,7 @@ put_lengthened place end x bs grown at (inr h) =
     ap (λ l. take place grown ++ x ++ l) none ∙ append-nil _ ∙ ap (λ l. take place l ++ x) h.1
     ∙ put_opened more place x bs (omega (arith, at, h.0)) (omega (arith, at, h.0))
 
--- what was put stands right before the place behind it
+-- the bytes that were put are right before the place after them
 pub before_put : (place : ℕ) (x bs : List ℕ) → bytes_before (place + length x) (put_at place x bs) ≡ bytes_before place bs ++ x
 before_put place x bs =
     let front = bytes_before place bs ++ x in
@@ -98,7 +98,7 @@ before_put place x bs =
     bytes_before-within (place + length x) (front ++ rest) (omega (arith, long, length-append front rest))
     ∙ take_at front rest (place + length x) long
 
--- bytes went out as soon as they were accepted
+-- bytes are out as soon as they are accepted
 pub appends_moves : {old new x : List ℕ} {k : List ErrorKind} → new ≡ old ++ x → count_by is_interruption k ≡ 0
     → Moves (told_out old) x k (told_out new)
 appends_moves {old} {new} {x} is none = record {
@@ -119,7 +119,7 @@ put_goes_out : (bs : List ℕ) (place : ℕ) (x bs' : List ℕ) (place' : ℕ) �
 put_goes_out bs place x bs' place' is at =
     ap (λ l. bytes_before place' l) is ∙ ap (λ m. bytes_before m (put_at place x bs)) at ∙ before_put place x bs
 
--- the mishap of a write that answered `Ok`, where it is one, is no interruption
+-- the mishap of a write that returned `Ok`, if it is one, is no interruption
 quiet_count : (n : ℕ) (x : List ℕ) → count_by is_interruption (zero_write n x) ≡ 0
 quiet_count n x = grind (arith, nat_tests)
 
@@ -168,7 +168,7 @@ fits_moves bs place x {n} {bs'} {place'} count h =
     ∙ take_min (length bs - place) x in
     appends_moves (fitting_goes_out bs place x bs' place' h ∙ ap (λ l. bytes_before place bs ++ l) (sym part)) (quiet_count n x)
 
--- and so does `write_all`, where not all fits
+-- the same holds for a `write_all` of which not all fits
 pub fits_moves_part : (bs : List ℕ) (place : ℕ) {x : List ℕ} (e : Error) {bs' : List ℕ} {place' : ℕ}
     → error_kind e ≡ WriteZero → PutsFitting bs place x bs' place'
     → MovesFront (told_out (bytes_before place bs)) x (Err e) (told_out (bytes_before place' bs'))
@@ -181,7 +181,7 @@ fits_moves_part bs place {x} e {bs'} {place'} kind h =
       moves = appends_moves (fitting_goes_out bs place x bs' place' h) (ap (λ k. count_by is_interruption (k ∷ [])) kind);
     }
 
--- and where it does
+-- and for one of which all fits
 pub fits_moves_all : (bs : List ℕ) (place : ℕ) {x bs' : List ℕ} {place' : ℕ} → length x ≤ length bs - place
     → PutsFitting bs place x bs' place'
     → MovesFront (told_out (bytes_before place bs)) x (Ok tt) (told_out (bytes_before place' bs'))
@@ -194,7 +194,7 @@ fits_moves_all bs place {x} {bs'} {place'} room h =
       moves = appends_moves (fitting_goes_out bs place x bs' place' h ∙ ap (λ l. bytes_before place bs ++ l) whole) refl;
     }
 
--- `write_all` of a vector keeps it: memory was refused and none accepted, or all
+-- `write_all` of a vector keeps the law: an allocation failed and no byte was accepted, or all were
 pub append_moves : {old new x : List ℕ} (reply : Result (Unit {0}) Error) → OnOk reply (new ≡ old ++ x) → OnErr reply (new ≡ old)
     → IfErr reply IsOutOfMemory
     → MovesFront (told_out old) x reply (told_out new)
@@ -210,7 +210,7 @@ pub refused_fault : (place : ℕ) (x : List ℕ) (e : Error) → IsRefusal place
 refused_fault place x e (inl h) = ap is_interruption h.1
 refused_fault place x e (inr h) = ap is_interruption h.1
 
--- `write_all` of x lets it out, where it is empty too
+-- after a `write_all` of x all of x is out, also if x is empty
 all_goes_out : (bs : List ℕ) (place : ℕ) (x bs' : List ℕ) (place' : ℕ) → PutsAll bs place x (Ok tt) bs' place'
     → bytes_before place' bs' ≡ bytes_before place bs ++ x
 all_goes_out bs place [] bs' place' h =

@@ -20,7 +20,7 @@ cut_reads_whole E' k {n} buf fits within read =
       λ zero some. ap (cut k) (read.1 zero some) ∙ cut-none k,
     )
 
--- and where what was read is a part of the buffer
+-- and if what was read is a part of the buffer
 pub cut_reads : {E : List Event} (E' : List Event) (k : ℕ) {n : ℕ} (part kept : List ℕ) → n ≤ length part → length part ≤ k
     → (0 < length (part ++ kept)
     → 0 < length part)
@@ -29,13 +29,13 @@ cut_reads E' k {n} part kept fits within room read =
     let put = cut_reads_whole E' k part fits within read in
     (put.0 ∙ ap (λ l. events_of l ++ cut (k - n) E') (sym (take-append-le n part kept fits)), λ zero some. put.1 zero (room some))
 
--- bytes as events, cut at k, are k of them, or all where there are fewer
+-- bytes as events, cut at k, are k of them, or all if there are fewer
 cut-length_bytes : (k : ℕ) (bs : List ℕ) → length (cut k (events_of bs)) ≡ min k (length bs)
 cut-length_bytes zero bs = omega arith
 cut-length_bytes (suc k) [] = omega arith
 cut-length_bytes (suc k) (b ∷ bs) = omega (arith, cut-length_bytes k bs)
 
--- events that are bytes alone, cut at k, are k of them, or all where there are fewer
+-- events that are only bytes, cut at k, are k of them, or all if there are fewer
 pub cut-length : (k : ℕ) (E : List Event) → E ≡ events_of (bytes E) → length (cut k E) ≡ min k (length E)
 cut-length k E h = ap (λ l. length (cut k l)) h ∙ cut-length_bytes k (bytes E)
     ∙ ap (min k) (sym (length-events_of (bytes E)) ∙ ap length (sym h))
@@ -47,7 +47,7 @@ cut_consumes E E' held n k within fits is =
     let long = length-take-le n held fits in
     ap (cut k) is ∙ cut-bytes (take n held) E' k (omega (arith, long)) ∙ ap (λ m. events_of (take n held) ++ cut (k - m) E') long
 
--- an error that stood first, where the limit isn't 0
+-- an error that came first, if the limit is not 0
 pub cut_error : {k : ℕ} {E E' : List Event} {e : Error} → E ≡ fails e ∷ E' → 0 < k → cut k E ≡ fails e ∷ cut k E'
 cut_error {k = zero} is some = absurd (omega arith)
 cut_error {k = suc k} is some = ap (cut (suc k)) is
@@ -56,7 +56,7 @@ cut_error {k = suc k} is some = ap (cut (suc k)) is
 pub part_within : (most k : ℕ) (buf part : List ℕ) → most ≡ min (length buf) k → length part ≡ length (take most buf) → length part ≤ k
 part_within most k buf part is same = omega (arith, is, same, length-take most buf)
 
--- and some, where the buffer has some
+-- and some, if the buffer has some
 pub part_room : (most k : ℕ) (buf part : List ℕ) → most ≡ min (length buf) k → length part ≡ length (take most buf) → 0 < k
     → 0 < length (part ++ drop most buf) → 0 < length part
 part_room most k buf part is same some room =

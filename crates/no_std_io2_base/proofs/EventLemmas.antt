@@ -23,7 +23,7 @@ pub events_of-append : (bs cs : List ℕ) → events_of (bs ++ cs) ≡ events_of
 events_of-append [] cs = refl
 events_of-append (b ∷ bs) cs = ap (λ l. byte b ∷ l) (events_of-append bs cs)
 
--- two lists with no fault, one behind the other, have none
+-- two lists with no fault, joined, have none
 pub HasNoFault-append : (P Q : List Event) → HasNoFault P → HasNoFault Q → HasNoFault (P ++ Q)
 HasNoFault-append [] Q p q = q
 HasNoFault-append (byte b ∷ P) Q p q = HasNoFault-append P Q p q
@@ -35,13 +35,13 @@ HasNoFault-front [] Q h = tt
 HasNoFault-front (byte b ∷ P) Q h = HasNoFault-front P Q h
 HasNoFault-front (fails e ∷ P) Q h = (h.0, HasNoFault-front P Q h.1)
 
--- what is behind the front of a list with no fault has none
+-- the rest of a list with no fault after a front has none
 pub HasNoFault-behind : (P Q : List Event) → HasNoFault (P ++ Q) → HasNoFault Q
 HasNoFault-behind [] Q h = h
 HasNoFault-behind (byte b ∷ P) Q h = HasNoFault-behind P Q h
 HasNoFault-behind (fails e ∷ P) Q h = HasNoFault-behind P Q h.1
 
--- events that are bytes alone have no fault
+-- events that are only bytes have no fault
 pub HasNoFault-events_of : (bs : List ℕ) → HasNoFault (events_of bs)
 HasNoFault-events_of [] = tt
 HasNoFault-events_of (b ∷ bs) = HasNoFault-events_of bs

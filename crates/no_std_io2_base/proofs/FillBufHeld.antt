@@ -1,4 +1,4 @@
--- What is held stands at the front of the events.
+-- The events begin with the held bytes.
 use Rattle.std.proofs.Common.{◌≡◌, ℕ, zero, suc, ◌≤◌, ◌==◌, true, List, [], ◌∷◌, ◌++◌, length, take, refl, sym, ap, ◌∙◌, arith}
 use Rattle.std.proofs.Common.{append_assoc, append-nil}
 use Rattle.no_std_io2_base.specs.Read.{Event, byte, events_of, cut}
@@ -8,11 +8,11 @@ use Rattle.no_std_io2_base.specs.BufRead.{BeginsWith}
 pub begins_whole : (bs : List ℕ) → BeginsWith (events_of bs) bs
 begins_whole bs = record { rest = []; is = sym (append-nil (events_of bs)) }
 
--- events that begin with these bytes still do with more events behind them
+-- events that begin with these bytes still do if more events follow
 pub begins_append : {E : List Event} {bs : List ℕ} (F : List Event) → BeginsWith E bs → BeginsWith (E ++ F) bs
 begins_append {E} {bs} F b = record { rest = b.rest ++ F; is = ap (λ l. l ++ F) b.is ∙ append_assoc (events_of bs) b.rest F }
 
--- where nothing is to come, nothing stands first
+-- if no event is to come, the bytes at the front are none
 pub begins_none : {E : List Event} (bs : List ℕ) → BeginsWith E bs → E ≡ [] → (length bs == 0) ≡ true
 begins_none [] b none = refl
 begins_none (x ∷ bs) b none = absurd (byte_stands (sym b.is ∙ none))
@@ -20,7 +20,7 @@ begins_none (x ∷ bs) b none = absurd (byte_stands (sym b.is ∙ none))
     byte_stands : {R : List Event} → byte x ∷ R ≡ [] → ⊥
     byte_stands is = cc
 
--- bs and then R, cut at k, begin with the first n of bs, where n is at most k
+-- bs and then R, cut at k, begin with the first n of bs, if n is at most k
 begins_cut-bytes : (n k : ℕ) (bs : List ℕ) (R : List Event) → n ≤ k → BeginsWith (cut k (events_of bs ++ R)) (take n bs)
 begins_cut-bytes zero k bs R h = record { rest = cut k (events_of bs ++ R); is = refl }
 begins_cut-bytes (suc n) k [] R h = record { rest = cut k R; is = refl }
@@ -28,7 +28,7 @@ begins_cut-bytes (suc n) zero (b ∷ bs) R h = absurd (omega arith)
 begins_cut-bytes (suc n) (suc k) (b ∷ bs) R h =
     let t = begins_cut-bytes n k bs R (omega arith) in record { rest = t.rest; is = ap (λ l. byte b ∷ l) t.is }
 
--- events that begin with bs, cut at k, begin with the first n of bs, where n is at most k
+-- events that begin with bs, cut at k, begin with the first n of bs, if n is at most k
 pub begins_cut : {E : List Event} {bs : List ℕ} (n k : ℕ) → n ≤ k → BeginsWith E bs → BeginsWith (cut k E) (take n bs)
 begins_cut {E} {bs} n k h b =
     let t = begins_cut-bytes n k bs b.rest h in record { rest = t.rest; is = ap (cut k) b.is ∙ t.is }

@@ -8,7 +8,7 @@ use Rattle.no_std_io2_base.specs.Pieces.{Lacks, ends_in, in_front, pieces, Gives
 use Rattle.no_std_io2_base.proofs.EventLemmas.{bytes-append}
 use Rattle.no_std_io2_base.proofs.PieceLaws.{pieces-at, pieces-other}
 
--- before a fault stand what has none, and then the rest
+-- the first fault of events without a fault, followed by others, is that of the others
 pub first_fault-append : (P Q : List Event) → HasNoFault P → first_fault (P ++ Q) ≡ first_fault Q
 first_fault-append [] Q h = refl
 first_fault-append (byte b ∷ P) Q h = first_fault-append P Q h
@@ -30,19 +30,19 @@ pub pieces-last : (d b : ℕ) (bs : List ℕ) → Lacks d (b ∷ bs) → pieces 
 pieces-last d b [] h = pieces-other d b [] h.0
 pieces-last d b (c ∷ bs) h = pieces-other d b (c ∷ bs) h.0 ∙ ap (in_front b) (pieces-last d c bs h.1)
 
--- bytes with d behind them end in d
+-- bytes followed by d end in d
 pub ends_in-end : (d : ℕ) (bs : List ℕ) → ends_in d (bs ++ d ∷ []) ≡ true
 ends_in-end d [] = eq-eqb d d refl
 ends_in-end d (b ∷ []) = eq-eqb d d refl
 ends_in-end d (b ∷ c ∷ bs) = ends_in-end d (c ∷ bs)
 
--- bytes without a d don't end in d
+-- bytes without a d do not end in d
 pub ends_in-lacks : (d : ℕ) (bs : List ℕ) → Lacks d bs → ends_in d bs ≡ false
 ends_in-lacks d [] h = refl
 ends_in-lacks d (b ∷ []) h = ne_eqb b d h.0
 ends_in-lacks d (b ∷ c ∷ bs) h = ends_in-lacks d (c ∷ bs) h.1
 
--- a piece that d ended comes first, whatever comes behind it
+-- a piece that ends in d is the first piece, whatever follows
 before-first : (d : ℕ) (f : Option Error) (bs cs : List ℕ) → Lacks d bs
     → pieces_before d f (bs ++ d ∷ cs) ≡ (bs ++ d ∷ []) ∷ pieces_before d f cs
 before-first d None bs cs h = pieces-first d bs cs h
@@ -54,7 +54,7 @@ given-front : (d : ℕ) (P Q : List Event) → HasNoFault P
     → pieces_given d (P ++ Q) ≡ pieces_before d (first_fault Q) (bytes P ++ bytes_to_fault Q)
 given-front d P Q h = ap₂ (pieces_before d) (first_fault-append P Q h) (bytes_to_fault-append P Q h)
 
--- some bytes without a d, and nothing behind them
+-- some bytes without a d, followed by nothing
 given-last : (d : ℕ) (bs : List ℕ) → Lacks d bs → 0 < length bs → pieces d (bs ++ []) ≡ bs ∷ []
 given-last d [] none some = absurd (omega (arith, some))
 given-last d (b ∷ bs) none some = ap (pieces d) (append-nil (b ∷ bs)) ∙ pieces-last d b bs none

@@ -22,7 +22,7 @@ IsFront-trans xs ys zs f g = (f.0 ++ g.0, g.1 ∙ ap (λ l. l ++ g.0) f.1 ∙ ap
 pub count_by-append : {X : Type 0} (p : X → Bool) (xs ys : List X) → count_by p (xs ++ ys) ≡ count_by p xs + count_by p ys
 count_by-append p xs ys = sum_by-append _ xs ys
 
--- where no mishap happened, those to come may be as they were
+-- if no mishap happened, the mishaps to come may be unchanged
 pub HasSpent-refl : (old : Option (List ErrorKind)) → HasSpent old [] old
 HasSpent-refl None = tt
 HasSpent-refl (Some old) = λ p. omega arith
@@ -90,7 +90,7 @@ Moves-quiet {a} {c} {x} {k} f = record {
   turns = omega (arith, f.turns);
 }
 
--- steps of a loop that passes over mishaps
+-- two moves in a row, without their mishaps
 pub Moves-more : {a b c : Told} {x y : List ℕ} {k l : List ErrorKind} → Moves a x k b → Moves b y l c → Moves a (x ++ y) [] c
 Moves-more f g = Moves-quiet (Moves-trans f g)
 
@@ -110,7 +110,7 @@ Moves-steady {a} {c} {x} {k} {l} e f = spent c.mishaps (subst (λ m. HasSpent m 
 pub zero_write-whole : (xs : List ℕ) → zero_write (length xs) xs ≡ []
 zero_write-whole xs = grind (arith, nat_tests)
 
--- `write_all(x)?; write_all(y)`, where the first answered `Ok`: some front of both was accepted, all of it at `Ok`
+-- `write_all(x)?; write_all(y)`, if the first returned `Ok`: some front of both was accepted, all of it after `Ok`
 pub MovesFront-join : {a b c : Told} (x y : List ℕ) (r : Result (Unit {0}) Error) → MovesFront a x (Ok tt) b
     → MovesFront b y r c → MovesFront a (x ++ y) r c
 MovesFront-join {a} {b} {c} x y r f g =
@@ -126,7 +126,7 @@ MovesFront-join {a} {b} {c} x y r f g =
     joined (Ok u) e = ap (λ l. x ++ l) e
     joined (Err e) h = tt
 
--- the same, where the first failed: the second made no call
+-- the same, if the first failed: the second made no call
 pub MovesFront-first : {a b : Told} (x y : List ℕ) (e : Error) → MovesFront a x (Err e) b → MovesFront a (x ++ y) (Err e) b
 MovesFront-first x y e f = record {
   accepted = f.accepted;

@@ -5,13 +5,13 @@ use Rattle.no_std_io2_base.specs.Errors.{IsInterruption}
 use Rattle.no_std_io2_base.specs.Read.{Event, fails, bytes, IsInterruptionsAlone}
 use Rattle.no_std_io2_base.proofs.EventLemmas.{bytes-append, HasNoFault-append}
 
--- interruptions alone are gone from E
+-- Only interruptions are gone from E.
 pub record Passed (E after : List Event) : Type 0 where
   pub front : List Event
   pub split : E ≡ front ++ after
   pub alone : IsInterruptionsAlone front
 
--- where interruptions alone are gone, and one more stands first, that one is passed over too
+-- if only interruptions are gone, and one more comes next, it is ignored too
 pub passed_interruption : {E after rest : List Event} {e : Error} → Passed E after → after ≡ fails e ∷ rest
     → IsInterruption e → Passed E rest
 passed_interruption {rest} {e} p read again = record {

@@ -5,11 +5,11 @@ use Rattle.std.proofs.Common.{drop}
 use Rattle.std.specs.List.{concat}
 use Rattle.no_std_io2_base.specs.Pieces.{in_front, pieces, ArePieces}
 
--- the pieces where d stands first, and where it doesn't
+-- the pieces if the first byte is d, and if it is not
 pub pieces-at : (d b : ℕ) (bs : List ℕ) → b ≡ d → pieces d (b ∷ bs) ≡ (b ∷ []) ∷ pieces d bs
 pieces-at d b bs is = ap (λ t. if t then (b ∷ []) ∷ pieces d bs else in_front b (pieces d bs)) (eq-eqb b d is)
 
--- a first byte that isn't d joins the first piece of the rest, and is a piece alone where there is no rest
+-- a first byte that is not d joins the first piece of the rest, or is a piece by itself if there is no rest
 pub pieces-other : (d b : ℕ) (bs : List ℕ) → b ≢ d → pieces d (b ∷ bs) ≡ in_front b (pieces d bs)
 pieces-other d b bs differ = ap (λ t. if t then (b ∷ []) ∷ pieces d bs else in_front b (pieces d bs)) (ne_eqb b d differ)
 
@@ -33,7 +33,7 @@ front_are d b bs ((c ∷ p) ∷ q ∷ ps) differ h =
       nowhere_else = ((differ, h.nowhere_else.0), h.nowhere_else.1);
     }
 
--- d alone as the first piece
+-- if the first byte is d, it is a piece by itself, followed by the pieces of the rest
 end_are : (d b : ℕ) (bs : List ℕ) (ps : List (List ℕ)) → b ≡ d → ArePieces d bs ps → ArePieces d (b ∷ bs) ((b ∷ []) ∷ ps)
 end_are d b bs [] is h = record { joined = ap (λ l. b ∷ l) h.joined; none_empty = (omega arith, tt); ended = tt; nowhere_else = (tt, tt) }
 end_are d b bs (p ∷ ps) is h =
@@ -62,7 +62,7 @@ none_only d [] h = refl
 none_only d ([] ∷ ps) h = absurd (omega (arith, h.none_empty.0))
 none_only d ((c ∷ p) ∷ ps) h = absurd (suc-ne-zero _ (ap length h.joined))
 
--- the rest is what is behind the first byte
+-- the rest is the list after the first byte
 joined_rest : (b c : ℕ) (bs cs : List ℕ) → c ∷ cs ≡ b ∷ bs → (c ≡ b) × (cs ≡ bs)
 joined_rest b c bs cs h = (ap (λ l. get_or l 0 0) h, ap (drop 1) h)
 

@@ -23,7 +23,7 @@ pub record PieceSoFar (d : ℕ) (E : List Event) (old new : List ℕ) (after : L
   pub gave : new ≡ old ++ bytes front
   pub no_end : Lacks d (bytes front)
 
--- where two lists of bytes have no d, both joined have none
+-- if two lists of bytes have no d, both joined have none
 pub Lacks-append : (d : ℕ) (bs cs : List ℕ) → Lacks d bs → Lacks d cs → Lacks d (bs ++ cs)
 Lacks-append d [] cs h k = k
 Lacks-append d (b ∷ bs) cs h k = (h.0, Lacks-append d bs cs h.1 k)
@@ -51,7 +51,7 @@ piece_more {d} {old} {mid} {new} {rest} part t read none is = record {
       (Lacks-append d (bytes t.front) part t.no_end none);
 }
 
--- an interruption that stands first is passed over: it is gone too, and nothing more was appended
+-- an interruption that comes next is ignored: it is taken too, and nothing more is appended
 pub piece_interruption : {d : ℕ} {E : List Event} {old new : List ℕ} {after : List Event} {e : Error} {rest : List Event}
     → PieceSoFar d E old new after → after ≡ fails e ∷ rest → IsInterruption e → PieceSoFar d E old new rest
 piece_interruption {d} {old} {e} {rest} t read again =
@@ -102,7 +102,7 @@ piece_ended {old} {mid} {new} {after} {rest} {k} t read (inr end) is count =
       ends = inr (t.no_end, sym left ∙ end.1);
     }
 
--- a fault that stands first is gone too, behind what is gone
+-- a fault that comes next is taken too
 pub piece_faulted : {d : ℕ} {E : List Event} {old new : List ℕ} {after : List Event} {e : Error} {rest : List Event}
     → PieceSoFar d E old new after → after ≡ fails e ∷ rest → IsFault e
     → (taken : List Event) × (E ≡ taken ++ rest) × Lacks d (bytes taken) × EndsInFault taken e
@@ -113,7 +113,7 @@ piece_faulted {d} {e} {rest} t read fault = (
   (t.front, refl, t.no_fault, fault),
 )
 
--- it stops the call, and is the answer
+-- it stops the call, and is the result
 pub piece_fault : {d : ℕ} {E : List Event} {old new : List ℕ} {after : List Event} {e : Error} {rest : List Event}
     → PieceSoFar d E old new after → after ≡ fails e ∷ rest → IsFault e → StopsInPiece d E e old new rest
 unfolding piece_faulted
@@ -127,7 +127,7 @@ piece_fault {old} {e} t read fault =
       stops = inl ends;
     }
 
--- refused memory stops the call: nothing more is gone, and nothing more was appended
+-- a failed allocation stops the call: nothing more is taken, and nothing more is appended
 pub piece_memory : {d : ℕ} {E : List Event} {old mid new : List ℕ} {after rest : List Event} {e : Error}
     → PieceSoFar d E old mid after → rest ≡ after → new ≡ mid → IsOutOfMemory e → IsByteNext after → StopsInPiece d E e old new rest
 piece_memory t same is refused next = record {
@@ -145,7 +145,7 @@ all_before P bs at within each k e short =
     let below : k < at = omega (arith, short, long) in
     subst P (sym (get_or-take at bs k e below)) (each k e (omega arith) below)
 
--- where d stands first, the piece ends
+-- if d is found, the piece ends there
 pub found_at : (d : ℕ) (bs : List ℕ) (at : ℕ) → at < length bs → slice_index bs at ≡ d → All (λ b. b ≢ d) (take at bs)
     → FindsPiece d bs (at + 1) true
 found_at d bs at within is none = record {
@@ -158,7 +158,7 @@ found_at d bs at within is none = record {
   open_ended = λ e. absurd (true≢false e);
 }
 
--- and where it doesn't stand, all belongs to it
+-- if d is not among the bytes, all belong to the piece
 pub found_none : {d : ℕ} {bs : List ℕ} {is_whole : Bool} → is_whole ≡ (length bs == 0) → All (λ b. b ≢ d) bs
     → FindsPiece d bs (length bs) is_whole
 found_none {d} {bs} is none = record {
@@ -182,22 +182,22 @@ pub none_taken : {reply : Result (Bor (List ℕ)) Error} (s : Bor (List ℕ)) {E
     → reply ≡ Ok s → LendsFrom E reply E' → E' ≡ E
 none_taken s {E = E} {E' = E'} is same = subst (λ r. LendsFrom E r E') is same
 
--- an error stood first
+-- the first event was an error, which is taken
 pub error_taken : {reply : Result (Bor (List ℕ)) Error} {e : Error} {E E' : List Event} → reply ≡ Err e
     → LendsFrom E reply E' → E ≡ fails e ∷ E'
 error_taken {E = E} {E' = E'} is gone = subst (λ r. LendsFrom E r E') is gone
 
--- an error that `fill_buf` answered has spent a turn
+-- an error that `fill_buf` returned has spent a turn
 pub error_turn : {reply : Result (Bor (List ℕ)) Error} {e : Error} {old new : ℕ}
     → reply ≡ Err e → LendingTurn reply old new → new < old
 error_turn {old = old} {new = new} is turn = subst (λ r. LendingTurn r old new) is turn
 
--- nothing is a part of what is lent where that is nothing
+-- if nothing is lent, a part of it is nothing
 take-none : (n : ℕ) → take {A = ℕ} n [] ≡ []
 take-none zero = refl
 take-none (suc n) = refl
 
--- where a part of what is lent found no room, one of its bytes comes next
+-- if there was no room for a part of the lent bytes, one of these comes next
 pub byte_next : {d : ℕ} {E : List Event} {lent : List ℕ} {n : ℕ} {is_whole : Bool} {len capacity : ℕ}
     → BeginsWith E lent → FindsPiece d lent n is_whole → len ≤ capacity → capacity < len + length (take n lent) → IsByteNext E
 byte_next {lent = []} {n} begins found fits full = absurd (omega (arith, fits, full, ap length (take-none n)))
@@ -214,20 +214,20 @@ pub front_more : (old : List ℕ) {mid new : List ℕ} (more : List ℕ)
     → IsFront old mid → new ≡ mid ++ more → IsFront old new
 front_more old more front is = (front.0 ++ more, is ∙ ap (λ l. l ++ more) front.1 ∙ append_assoc old front.0 more)
 
--- where nothing more is appended, the old bytes still stand in front
+-- if nothing more is appended, the old bytes are still in front
 pub front_same : (old : List ℕ) {mid new : List ℕ} → IsFront old mid → new ≡ mid → IsFront old new
 front_same old front is = (front.0, is ∙ front.1)
 
--- a turn was spent where anything was appended
+-- a turn was spent if anything was appended
 pub spent_more : {old mid new n t r s u : ℕ} → (old < mid → r < t) → r ≤ t → s ≤ r → u ≤ s → (0 < n → u < s)
     → new ≤ mid + n → old < new → u < t
 spent_more {n = zero} {t = t} {r = r} before a b c now within grown = let early : r < t = before (omega arith) in omega arith
 spent_more {n = suc n} {s = s} {u = u} before a b c now within grown = let late : u < s = now (omega arith) in omega arith
 
--- no more bytes than asked for
+-- at most as many bytes as fit
 pub part_fits : {n : ℕ} (mid : ℕ) {new : ℕ} (lent : List ℕ) → new ≡ mid + length (take n lent) → n ≤ length lent → new ≤ mid + n
 part_fits {n} mid lent is fits = omega (arith, is, length-take-le n lent fits)
 
--- want of memory is a fault
+-- a failed allocation is a fault
 pub memory_fault : (e : Error) → IsOutOfMemory e → IsFault e
 memory_fault e refused = ap is_interruption refused.0

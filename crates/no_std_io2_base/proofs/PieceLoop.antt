@@ -15,7 +15,7 @@ use Rattle.no_std_io2_base.proofs.PieceLemmas.{whole_part, front_more, front_sam
 use Rattle.no_std_io2_base.proofs.PieceRoom.{part_has_room, fault_is_first}
 use Rattle.no_std_io2_base.proofs.ReadToEndTaken.{moved_read, no_error}
 
--- where such a loop stands in a told store
+-- the position of such a loop in a told store
 abbrev pub StoreSoFar : {X : Type 0} → Lender X → X → X → Type 0
 StoreSoFar R old now = R.has_store old → R.has_store now × (R.content now ≡ R.content old)
     × (R.position now + length (R.events now) ≡ R.position old + length (R.events old))
@@ -49,7 +49,7 @@ until_none = record {
 module _ {X : Type 0} (R : Lender X) (old : X) {now after : X} {reply : Result (Bor (List ℕ)) Error} (so_far : StoreSoFar R old now)
     (law : (x : X) → R.has_store x → R.tells x × (R.events x ≡ events_of (drop (R.position x) (R.content x))))
     (filled : AfterLoan R now reply after) where
-  -- no store is told of a reader that answers an error
+  -- a reader that returns an error tells no store
   pub no_store : {e : Error} → reply ≡ Err e → R.has_store old → ⊥
   no_store is s =
       let tells = law now (so_far s).0 in
@@ -81,7 +81,7 @@ module _ {X A : Type 0} {R : Lender X} {d : ℕ} {old now after : X} {buf xs : V
     (law : (x : X) → R.has_store x → R.tells x × (R.events x ≡ events_of (drop (R.position x) (R.content x))))
     (filled : AfterLoan R now reply after) where
   module _ {e : Error} (is : reply ≡ Err e) where
-    -- an interruption is passed over
+    -- an interruption is ignored
     pub until_interruption : IsInterruption e → UntilSoFar R d old buf xs after
     until_interruption again = record {
       grows = before.grows;
@@ -120,7 +120,7 @@ module _ {X A : Type 0} {R : Lender X} {d : ℕ} {old now after : X} {buf xs : V
 
   module _ {lent : Bor (List ℕ)} {n : ℕ} {is_whole : Bool} (is : reply ≡ Ok lent) (shows : FillBufLaw R now (Ok lent))
       (found : FindsPiece d lent.now n is_whole) where
-    -- so does refused memory
+    -- a failed allocation ends it
     pub until_refused : {v : Vec ℕ A} {e : Error} → vec_capacity xs ≤ vec_capacity v → IsOutOfMemory e → v.items ≡ xs.items
         → vec_capacity xs < vec_len xs + length (take n lent.now) → ReadUntilLaw R old d buf (Err e) v after
     until_refused grown refused same full = record {
@@ -148,7 +148,7 @@ module _ {X A : Type 0} {R : Lender X} {d : ℕ} {old now after : X} {buf xs : V
     }
 
     module _ {new : X} (dropped : ConsumeLaw R after n new) where
-      -- what is gone, and where the store stands
+      -- the events that are gone, and the position in the store
       taken : R.tells now → R.tells new × (R.events now ≡ events_of (take n lent.now) ++ R.events new)
       taken = lent_gone R old before.store law filled is found.within dropped
 
@@ -157,7 +157,7 @@ module _ {X A : Type 0} {R : Lender X} {d : ℕ} {old now after : X} {buf xs : V
 
       module _ {v : Vec ℕ A} (grown : vec_capacity xs ≤ vec_capacity v) (appended : v.items ≡ xs.items ++ take n lent.now)
           (len : vec_len v ≡ vec_len xs + length (take n lent.now)) where
-        -- a part without the end, and the loop goes on
+        -- after a part without the end the loop continues
         pub until_more : is_whole ≡ false → UntilSoFar R d old buf v new
         until_more going = record {
           grows = omega (arith, before.grows, len);

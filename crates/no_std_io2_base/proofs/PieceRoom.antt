@@ -1,4 +1,4 @@
--- Memory is refused a piece only where the vector lacks the room for it.
+-- A piece is refused for lack of memory only if the vector has too little room for it.
 use Rattle.std.proofs.Common.{◌≡◌, ℕ, ◌+◌, ◌<◌, ◌≤◌, ◌⊎◌, true, false, Bool, if◌then◌else◌, Some, List, [], ◌∷◌, ◌++◌}
 use Rattle.std.proofs.Common.{length, take, drop, refl, sym, ap, ◌∙◌, arith, append_assoc, take-append-drop}
 use Rattle.std.proofs.Common.{length-append, length-take-le, eq-eqb, ne_eqb, inl, inr}
@@ -17,7 +17,7 @@ up_to-lacks d [] cs h = refl
 up_to-lacks d (b ∷ bs) cs h =
     ap (λ t. if t then b ∷ [] else b ∷ up_to d (bs ++ cs)) (ne_eqb b d h.0) ∙ ap (λ l. b ∷ l) (up_to-lacks d bs cs h.1)
 
--- and so does the d that ends them
+-- and so do the bytes with the d that ends them
 up_to-ends : (d : ℕ) (bs cs : List ℕ) → Lacks d bs → up_to d (bs ++ d ∷ cs) ≡ bs ++ d ∷ []
 up_to-ends d bs cs h = up_to-lacks d bs (d ∷ cs) h ∙ ap (λ t. bs ++ (if t then d ∷ [] else d ∷ up_to d cs)) (eq-eqb d d refl)
 
@@ -39,7 +39,7 @@ found_part d bs cs n false found =
     let part = ap (up_to d) (parted n bs cs) ∙ up_to-lacks d (take n bs) (drop n bs ++ cs) (found.open_ended refl).1 in
     omega (arith, ap length part, length-append (take n bs) (up_to d (drop n bs ++ cs)), length-take-le n bs found.within)
 
--- what is lent of a piece fits where the piece does
+-- a lent part of a piece fits if the piece does
 pub part_has_room : {d : ℕ} {E : List Event} {old mid : List ℕ} {after : List Event} {lent : List ℕ} {n : ℕ}
     {is_whole : Bool} {len len' capacity capacity' : ℕ}
     → PieceSoFar d E old mid after → BeginsWith after lent → FindsPiece d lent n is_whole

@@ -13,7 +13,7 @@ pub gave_nothing : {S : Type 0} (may : S → ReadCall → S → Type 0) {old new
 gave_nothing may {old} {new} buf call is zero =
     subst (λ answer. may old (Gave (length buf) answer) new) (ap (λ r. gave r buf) is ∙ ap (λ k. Ok (take k buf)) zero) call
 
--- `read_exact` is one call of its own
+-- the `read_exact` of a type that has a body of its own for it is one call
 pub exact_own : {S : Type 0} {may : S → ReadCall → S → Type 0} {old new : S} {reply : Result (Unit {0}) Error} {buf : List ℕ}
     → may old (GaveExactly (length buf) (gave_whole reply buf)) new → ExactMade may old reply buf new
 exact_own {new = new} own = record { calls = _; made = (new, own, refl); are = inl refl }
@@ -75,7 +75,7 @@ until_then {C} {answer = answer} first then = (
   ap (λ d. C ++ d) then.4 ∙ sym (append_assoc C then.0 (Gave then.1 answer ∷ [])),
 )
 
--- reads and then a `read_to_end`, whose answer counts its own bytes alone
+-- reads, and then a `read_to_end` whose result counts only the bytes that it appended itself
 pub to_end_then : {C D : List ReadCall} {x y : List ℕ} (reply reply' : Result ℕ Error) → ended reply ≡ ended reply' → Gathers IsSome C x
     → ToEndCalls D y reply → ToEndCalls (C ++ D) (x ++ y) reply'
 to_end_then {C} {x = x} reply reply' same first (inl own) = inl (

@@ -8,7 +8,7 @@ use Rattle.no_std_io2_base.specs.Read.{Event, Reads, Fills, FallsShort}
 use Rattle.no_std_io2_base.proofs.ReadToEndTaken.{Taken, taken_fills, taken_short}
 use Rattle.no_std_io2_base.proofs.TakeToEnd.{nothing_read}
 
--- a buffer keeps its length where a part of it is written
+-- a buffer keeps its length if a part of it is written
 pub length_stays : (at : ℕ) (xs ys : List ℕ) → length ys ≡ length (take (length xs - at) (drop at xs))
     → length (put_mid at (length xs - at) xs ys) ≡ length xs
 length_stays at xs ys same = same_len_mid at (length xs - at) xs ys same
@@ -21,7 +21,7 @@ short_before at whole xs below same = omega (arith, below, same, length-take at 
 pub some_part : (at : ℕ) (xs ys : List ℕ) → at < length xs → length ys ≡ length (take (length xs - at) (drop at xs)) → 0 < length ys
 some_part at xs ys below same = omega (arith, below, same, length-take (length xs - at) (drop at xs), length-drop at xs)
 
--- what a read gave stands within the buffer
+-- the bytes that a read gave are within the buffer
 pub within_part : (at n : ℕ) (xs ys now : List ℕ) → at ≤ length xs → n ≤ length ys
     → length ys ≡ length (take (length xs - at) (drop at xs)) → length now ≡ length xs → at + n ≤ length now
 within_part at n xs ys now within fits same stays =

@@ -11,18 +11,18 @@ use Rattle.no_std_io2_base.proofs.ReadToEndTaken.{moved_read}
 pub front_whole : {n : ℕ} {old new : List ℕ} → n ≡ length old → new ≡ old → take n new ≡ old
 front_whole {n} {old} long is = ap (take n) is ∙ take_all n old (omega (arith, long))
 
--- the bytes behind the filled ones were cut off
+-- the zeros after the filled bytes were cut off
 pub front_cut : (start filled : ℕ) {new : List ℕ} (mid : List ℕ) {old : List ℕ}
     → start ≤ filled → new ≡ take filled mid → take start mid ≡ old
     → take start new ≡ old
 front_cut start filled mid below is front = ap (take start) is ∙ take-take start filled mid below ∙ front
 
--- no room was opened behind the filled bytes
+-- no zeros were added after the filled bytes
 pub none_opened : (filled len : ℕ) (new mid : List ℕ) → len ≡ filled → len ≡ length new → take filled new ≡ take filled mid
     → new ≡ take filled mid
 none_opened filled len new mid full long front = sym (take_all filled new (omega (arith, full, long))) ∙ front
 
--- how many bytes were filled, where all others were cut off
+-- how many bytes were filled, if all others were cut off
 pub count_cut : (start filled : ℕ) (new mid old : List ℕ) → start ≡ length old → new ≡ take filled mid → filled ≤ length mid
     → filled - start ≡ length new - length old
 count_cut start filled new mid old long is within = omega (arith, long, ap length is, length-take-le filled mid within)
@@ -33,7 +33,7 @@ pub len_cut : (start filled len was : ℕ) (new mid : List ℕ) → start ≡ wa
 len_cut start filled len was new mid from grows long is within =
     omega (arith, from, grows, long, ap length is, length-take-le filled mid within)
 
--- the vector of the filled bytes alone is as long as they are
+-- a vector of only the filled bytes is as long as they are
 pub filled_length : (filled len : ℕ) (new mid : List ℕ) → len ≡ length new → new ≡ take filled mid → filled ≤ length mid → len ≡ filled
 filled_length filled len new mid long is within = long ∙ ap length is ∙ length-take-le filled mid within
 
@@ -41,7 +41,7 @@ filled_length filled len new mid long is within = long ∙ ap length is ∙ leng
 pub whole_room : (filled len : ℕ) (mid : List ℕ) → filled ≤ len → len ≡ length mid → len ≤ filled → take filled mid ≡ mid
 whole_room filled len mid within long full = take_all filled mid (omega (arith, within, long, full))
 
--- so many bytes were gathered
+-- the number of bytes that were read
 pub filled_bytes : (filled len : ℕ) (mid : List ℕ) → filled ≤ len → len ≡ length mid → length (take filled mid) ≡ filled
 filled_bytes filled len mid within long = length-take-le filled mid (omega (arith, within, long))
 
@@ -52,7 +52,7 @@ pub gathered_stops : {E : List Event} {old new : List ℕ} {after rest : List Ev
 gathered_stops {E} {old} {new} {after} {rest} {n} {k} buf t read is none some count =
     gathered_end E old new after rest n k buf t (subst (λ r. Reads after r buf rest) is read) none some count
 
--- and the position stays where it was
+-- the position stays
 pub stays_at_end : (E E' : List Event) {reply : Result ℕ Error} {n : ℕ} (buf : List ℕ) (p : ℕ) {p' all : ℕ}
     → Reads E reply buf E' → reply ≡ Ok n → n ≡ 0 → p' ≡ p + given reply → p + length E ≡ all → p' + length E' ≡ all
 stays_at_end E E' {n} buf p read is none move whole =

@@ -20,7 +20,7 @@ pub record Gathered (E : List Event) (old new : List ℕ) (after : List Event) :
 pub gathered_none : {E : List Event} {old new : List ℕ} → new ≡ old → Gathered E old new E
 gathered_none {E = E} {old = old} is = record { front = []; split = refl; no_fault = tt; gave = is ∙ sym (append-nil old) }
 
--- the same is gathered in a list that is equal to the new one
+-- the same was gathered if the new list is replaced by an equal one
 pub gathered_same : {E : List Event} {old new shown : List ℕ} {after : List Event} → Gathered E old new after
     → shown ≡ new → Gathered E old shown after
 gathered_same {E} {old} {after} t is = subst (λ l. Gathered E old l after) (sym is) t
@@ -49,7 +49,7 @@ gathered_interruption {E = E} {old = old} {e = e} {rest = rest} t read again = r
   gave = t.gave ∙ ap (λ l. old ++ l) (sym (bytes-append t.front (fails e ∷ []) ∙ append-nil (bytes t.front)));
 }
 
--- where a read met the end, all was appended, and the count is what came to the old list
+-- if a read met the end, all bytes were appended, and the count is their number
 pub gathered_end : (E : List Event) (old new : List ℕ) (after rest : List Event) (n k : ℕ) (buf : List ℕ)
     → Gathered E old new after → Reads after (Ok n) buf rest → n ≡ 0 → 0 < length buf → k ≡ length new - length old
     → ReadsToEnd E (Ok k) old new rest
@@ -64,7 +64,7 @@ gathered_end E old new after rest n k buf t read zero some is =
       sym same ∙ none,
     )
 
--- where a read met a fault, what stood before it was appended, and the fault is gone
+-- if a read met a fault, the bytes before it were appended, and the fault is taken
 pub gathered_fault : {E : List Event} {old new : List ℕ} {after : List Event} {e : Error} {rest : List Event}
     → Gathered E old new after → after ≡ fails e ∷ rest → IsFault e → ReadsToEnd E (Err e) old new rest
 gathered_fault {old} {e} {rest} t read fault = (
@@ -74,7 +74,7 @@ gathered_fault {old} {e} {rest} t read fault = (
   inl (t.front, refl, t.no_fault, fault),
 )
 
--- where memory was refused, what was gathered so far was appended
+-- if an allocation failed, the bytes that were read so far were appended
 pub gathered_memory : {E : List Event} {old new : List ℕ} {after : List Event} {e : Error}
     → Gathered E old new after → IsOutOfMemory e → ReadsToEnd E (Err e) old new after
 gathered_memory t kind = (t.front, t.split, t.gave, inr (t.no_fault, kind))
@@ -84,12 +84,12 @@ pub gathered_over : {E : List Event} {old new : List ℕ} {after rest : List Eve
     → Gathered E old new rest
 gathered_over {E} {old} {new} t same = subst (Gathered E old new) same t
 
--- what was gathered when the room was full, or the end was met
+-- what was read when the room was full, or the end was met
 pub gathered_room : {E : List Event} {old new : List ℕ} {after : List Event} (at_end : Bool)
     → Gathered E old new after → (at_end ≡ true → after ≡ []) → FillsRoom E (Ok at_end) old new after
 gathered_room at_end t end = (t.front, t.split, t.no_fault, t.gave, end)
 
--- or where a fault came
+-- or when a fault came
 pub gathered_failed : {E : List Event} {old new : List ℕ} {after : List Event} {e : Error} {rest : List Event}
     → Gathered E old new after → after ≡ fails e ∷ rest → IsFault e → FillsRoom E (Err e) old new rest
 gathered_failed {old} {e} {rest} t read fault = (
@@ -99,12 +99,12 @@ gathered_failed {old} {e} {rest} t read fault = (
   (t.front, refl, t.no_fault, fault),
 )
 
--- what stands in the room was gathered
+-- the bytes in the room were read
 pub gathered_room_filled : {E : List Event} {old new : List ℕ} {after : List Event} {at_end : Bool}
     → FillsRoom E (Ok at_end) old new after → Gathered E old new after
 gathered_room_filled read = record { front = read.0; split = read.1; no_fault = read.2; gave = read.3 }
 
--- where there is room for all before the first fault, and for more, a loop has not filled it
+-- if there is room for all bytes before the first fault and for more, the loop has not filled it
 pub gathered_fits : {E : List Event} {old new : List ℕ} {after : List Event} {more len room now : ℕ}
     → Gathered E old new after → HasRoom more E len room → 0 < more → len ≡ length old → room ≤ now → length new < now
 gathered_fits {old} {after} t enough some long grows =

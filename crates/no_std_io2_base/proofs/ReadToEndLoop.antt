@@ -32,7 +32,7 @@ pub record ToEndSoFar {S A : Type 0} (R : Reader S) (old : S) (buf : Vec ℕ A) 
   pub store : GoesOn R old now
   pub calls : (C : List ReadCall) × (x : List ℕ) × Made R.may old C now × (take filled buf'.items ≡ buf.items ++ x) × Gathers IsSome C x
 
--- room was opened behind the filled bytes, and a read wrote `part` there
+-- Zeros were added after the filled bytes, and a read wrote `part` over them.
 pub record Wrote (filled len : ℕ) (was now part : List ℕ) : Type 0 where
   pub fits : filled + length part ≡ len
   pub some : 0 < length part
@@ -71,7 +71,7 @@ to_end_none {buf = buf} is same len grown = record {
   calls = ([], [], refl, front_whole (is ∙ buf.ok.0) same ∙ sym (append-nil buf.items), no_read);
 }
 
--- there was no room for the first read, and memory was refused
+-- there was no room for the first read, and an allocation failed
 pub to_end_no_room : {S A : Type 0} {R : Reader S} {old : S} {buf mid : Vec ℕ A} {e : Error} → IsOutOfMemory e → mid.items ≡ buf.items
     → vec_len mid ≡ vec_len buf → vec_capacity buf ≤ vec_capacity mid → vec_capacity buf < vec_len buf + 32
     → ReadToEndLaw R old buf (Err e) mid old
@@ -91,7 +91,7 @@ to_end_no_room {buf = buf} refused same len grown full = record {
 }
 
 module _ {S A : Type 0} {R : Reader S} {old now : S} {buf xs : Vec ℕ A} {filled : ℕ} (before : ToEndSoFar R old buf filled xs now) where
-  -- the room was full, and memory was refused
+  -- the room was full, and an allocation failed
   pub to_end_refused : {v : Vec ℕ A} {e : Error} → IsOutOfMemory e → vec_len v ≡ filled → take filled v.items ≡ take filled xs.items
       → vec_capacity xs ≤ vec_capacity v → vec_capacity xs ≡ filled → ReadToEndLaw R old buf (Err e) v now
   to_end_refused {v} refused len front grown full =

@@ -60,7 +60,7 @@ take_reader inner = record {
   may = λ _ _ _. Unit {0};
 }
 
--- a boxed trait object, by what is told of the value with its table
+-- the ghost members of a boxed trait object, from those of the value in the box
 abbrev pub box_reader : {I A : Type 0} {V : I → Type 0} → ((p : (x : I) × V x) → Type 0) → ((p : (x : I) × V x) → List Event)
     → ((p : (x : I) × V x) → ℕ) → ((p : (x : I) × V x) → Type 0) → ((i : I) → V i → ReadCall → V i → Type 0) → Reader (DynBox I A V)
 box_reader tells events turns may_take_none may = record {
@@ -81,7 +81,7 @@ box_reader tells events turns may_take_none may = record {
 abbrev pub StoreTells : {S : Type 0} → Reader S → Type 0
 StoreTells {S} R = (x : S) → R.has_store x → R.tells x × (R.events x ≡ events_of (drop (R.position x) (R.content x)))
 
--- what is told beside by one that counts nothing, by what it holds
+-- the ghost members of a `BufRead` that counts nothing, from what it holds
 abbrev pub holds_alone : {S : Type 0} → (S → List ℕ) → BufReads S
 holds_alone held = record {
   held = held;

@@ -9,12 +9,12 @@ use Rattle.no_std_io2_base.specs.Seek.{Seeker, SeekLaw, StreamLenLaw}
 use Rattle.no_std_io2_base.specs.Write.{Made, BoxMay}
 use Rattle.no_std_io2_base.proofs.CallsLemmas.{made_map}
 
--- the calls that were made, and the answer
+-- some calls were made, with this result
 abbrev pub Lens : {X : Type 0} → (X → SeekCall → X → Type 0) → X → X → Result ℕ Error → Type 0
 Lens may old new reply = (C : List SeekCall) × Made may old C new × LenCalls C reply
 
 module _ {X : Type 0} (may : X → SeekCall → X → Type 0) {old new : X} where
-  -- a call of its own
+  -- the `stream_len` of a type that has a body of its own for it
   pub len_measured : (reply : Result ℕ Error) → may old (Measured reply) new → Lens may old new reply
   len_measured reply call = (Measured reply ∷ [], (new, call, refl), measured)
 
@@ -28,7 +28,7 @@ module _ {X : Type 0} (may : X → SeekCall → X → Type 0) {old new : X} wher
   len_no_end {mid} {n} {e} first call =
       (Sought here (Ok n) ∷ Sought (End (pos 0)) (Err e) ∷ [], (mid, first, (new, call, refl)), no_end)
 
-  -- it stood at the end
+  -- the position was at the end
   pub len_at_end : {mid : X} {n len : ℕ} → may old (Sought here (Ok n)) mid → may mid (Sought (End (pos 0)) (Ok len)) new → n ≡ len
       → Lens may old new (Ok len)
   len_at_end {mid} {n} {len} first call there = (
@@ -73,7 +73,7 @@ module _ {I A : Type 0} {V : I → Type 0} (may : (i : I) → V i → SeekCall �
   StreamLenOf reply lent = (new : V lent.0) → Lens (may lent.0) lent.1 new reply
       → StreamLenLaw box_seeker box reply (other_box lent.0 new)
 
-  -- no store is told
+  -- nothing is claimed if no store is told
   untold : (reply : Result ℕ Error) → IfOk reply (λ n. ⊥ → 0 ≡ n)
   untold (Ok n) = λ no. absurd no
   untold (Err e) = tt

@@ -1,4 +1,4 @@
--- A loop that passes over one piece, by what each of its turns does, for any reader that lends.
+-- The steps of a loop that skips one piece, for any reader that lends.
 use Rattle.std.proofs.Common.{◌≡◌, ℕ, ◌+◌, ◌-◌, ◌^◌, ◌<◌, ◌≤◌, Bool, true, false, List, [], ◌++◌, Result, Ok, Err, min, length, take, drop}
 use Rattle.std.proofs.Common.{refl, sym, arith, le_refl, le_trans, lt_of_le_of_lt, length-append, length-take-le}
 use Rattle.std.specs.Borrow.{Bor}
@@ -11,7 +11,7 @@ use Rattle.no_std_io2_base.proofs.PieceLemmas.{PieceSoFar, piece_none, piece_mor
 use Rattle.no_std_io2_base.proofs.PieceLemmas.{piece_faulted, error_taken, whole_part, spent_more}
 use Rattle.no_std_io2_base.proofs.PieceLoop.{StoreSoFar, no_store, lent_gone, lent_passed}
 
--- so many bytes, as far as a `usize` counts, were passed over, without an end so far
+-- Bytes without the delimiter were skipped so far. The count is their number, at most `usize::MAX`.
 pub record SkipSoFar {X : Type 0} (R : Lender X) (d : ℕ) (old : X) (skipped : ℕ) (now : X) : Type 0 where
   pub turns : R.turns now ≤ R.turns old
   pub spent : 0 < skipped → R.turns now < R.turns old
@@ -21,7 +21,7 @@ pub record SkipSoFar {X : Type 0} (R : Lender X) (d : ℕ) (old : X) (skipped : 
   pub filling : R.is_filling old → R.is_filling now
   pub store : StoreSoFar R old now
 
--- at the start nothing is passed over
+-- at the start nothing was skipped
 pub skip_none : {X : Type 0} {R : Lender X} {d : ℕ} {old : X} → SkipSoFar R d old 0 old
 skip_none = record {
   turns = le_refl _;
@@ -41,7 +41,7 @@ module _ {X : Type 0} {R : Lender X} {d : ℕ} {old now after : X} {skipped : �
     (before : SkipSoFar R d old skipped now)
     (law : (x : X) → R.has_store x → R.tells x × (R.events x ≡ events_of (drop (R.position x) (R.content x))))
     (filled : AfterLoan R now reply after) where
-  -- an interruption is passed over
+  -- an interruption is ignored
   pub skip_interruption : {e : Error} → reply ≡ Err e → IsInterruption e → SkipSoFar R d old skipped after
   skip_interruption is again = record {
     turns = le_trans filled.turns_never_rise before.turns;
@@ -77,11 +77,11 @@ module _ {X : Type 0} {R : Lender X} {d : ℕ} {old now after : X} {skipped : �
     part : n ≡ length (take n lent.now)
     part = sym (length-take-le n lent.now found.within)
 
-    -- a turn was spent where any was passed over
+    -- a turn was spent if any was skipped
     spent : 0 < total → R.turns new < R.turns old
     spent some = spent_more before.spent before.turns filled.turns_never_rise dropped.turns_never_rise dropped.spends_turn (omega (arith, count)) some
 
-    -- a part without the end, and the loop goes on
+    -- after a part without the end the loop continues
     pub skip_more : is_whole ≡ false → SkipSoFar R d old total new
     skip_more going = record {
       turns = omega (arith, dropped.turns_never_rise, filled.turns_never_rise, before.turns);

@@ -1,4 +1,4 @@
--- Bytes in memory, as events.
+-- The events of bytes in memory.
 use Rattle.std.proofs.Common.{◌≡◌, ℕ, ◌-◌, ◌<◌, List, ◌++◌, length, take, drop, sym, ap, ◌∙◌, subst, arith, Ok}
 use Rattle.std.proofs.Common.{append-nil, take-append-drop, drop_of_length-le}
 use Rattle.no_std_io2_base.specs.Read.{bytes-events_of, events_of, bytes, HasNoFault, cut, Reads, Fills}

@@ -22,7 +22,7 @@ moved_whole {all = all} old moved none =
       ap events_of none,
     )
 
--- a front of it was appended, and memory was refused for the rest
+-- a front of the bytes was appended, and an allocation for the rest failed
 pub moved_part : {all rest : List ℕ} (old : List ℕ) {new : List ℕ} {e : Error} → HasMoved all rest old new → IsOutOfMemory e
     → ReadsToEnd (events_of all) (Err e) old new (events_of rest)
 moved_part {rest} old moved refused = (
@@ -57,7 +57,7 @@ moved_second {all} {rest} old moved same is none = (
   is ∙ ap (λ l. l ++ rest) (same ∙ moved.2) ∙ append_assoc old moved.0 rest ∙ ap (λ l. old ++ l) (sym moved.1),
 )
 
--- and there was no room for all of it and 32 bytes more, where there was none for what was wanted next
+-- there was no room for all of them and 32 more bytes, if there was none for the next part
 pub no_room : {all rest : List ℕ} (old : List ℕ) {first : List ℕ} {was is capacity capacity' wanted : ℕ}
     → HasMoved all rest old first → was ≡ length old
     → is ≡ length first → capacity ≤ capacity'
@@ -82,7 +82,7 @@ wants_rest n = omega arith
 pub wants_bounded : {wanted n : ℕ} (bound : ℕ) → wanted ≡ min n bound → wanted ≤ n
 wants_bounded bound is = omega (arith, is)
 
--- the lesser of two, where it is below the second
+-- the lesser of two, if it is below the second
 pub least_first : {n a b : ℕ} → n ≡ min a b → n < b → a ≤ n
 least_first is below = omega (arith, is, below)
 
@@ -96,21 +96,21 @@ pub longer_by : {was is : ℕ} {all rest : List ℕ} (old : List ℕ) {new : Lis
 longer_by {rest} old moved none before now =
     omega (arith, before, now, ap length moved.2, length-append old moved.0, ap length moved.1, length-append moved.0 rest, ap length none)
 
--- behind a place that moves on stand no more bytes
+-- if a place moves forward, there are at most as many bytes after it as before
 pub fewer_behind : (place n : ℕ) (content : List ℕ) → length (drop (place + n) content) ≤ length (drop place content)
 fewer_behind place n content = omega (arith, length-drop (place + n) content, length-drop place content)
 
--- and fewer where it moves over some
+-- and fewer if it moves over some bytes
 pub spent_behind : (place n : ℕ) (content : List ℕ) → 0 < n → n ≤ length (drop place content)
     → length (drop (place + n) content) < length (drop place content)
 spent_behind place n content some within = omega (arith, some, within, length-drop (place + n) content, length-drop place content)
 
--- bytes alone stand before any fault
+-- events of bytes have no fault, so all bytes are before the first fault
 to_fault-events_of : (bs : List ℕ) → bytes_to_fault (events_of bs) ≡ bs
 to_fault-events_of [] = refl
 to_fault-events_of (b ∷ bs) = ap (λ l. b ∷ l) (to_fault-events_of bs)
 
--- where there is room for all of it, and for 32 bytes more, memory is never refused
+-- if there is room for all bytes and for 32 more, no allocation fails
 pub never_refused : (all : List ℕ) (len : ℕ) {capacity : ℕ}
     → HasRoom 32 (events_of all) len capacity → capacity < len + length all + 32 → ⊥
 never_refused all len enough full = omega (arith, enough, full, ap length (to_fault-events_of all))
@@ -119,7 +119,7 @@ never_refused all len enough full = omega (arith, enough, full, ap length (to_fa
 pub left_of : {all rest : List ℕ} (old : List ℕ) {new : List ℕ} → HasMoved all rest old new → length rest ≤ length all
 left_of {rest} old moved = omega (arith, ap length moved.1, length-append moved.0 rest)
 
--- and shorter where the vector grew
+-- and shorter if the vector grew
 pub fewer_left : {all rest : List ℕ} (old : List ℕ) {new : List ℕ} {was is : ℕ} → HasMoved all rest old new → was ≡ length old
     → is ≡ length new → was < is → length rest < length all
 fewer_left {rest} old moved before now more =
@@ -129,7 +129,7 @@ fewer_left {rest} old moved before now more =
 pub rest_within : (all rest old new : List ℕ) → HasMoved all rest old new → length all ≡ length rest + (length all - length rest)
 rest_within all rest old new moved = omega (arith, ap length moved.1, length-append moved.0 rest)
 
--- what a cursor has left, once it stands behind what was taken
+-- the bytes that a cursor has left after some were taken
 pub left_behind : (content : List ℕ) (place : ℕ) {left rest : List ℕ} (old : List ℕ) {new : List ℕ} → left ≡ drop place content
     → HasMoved left rest old new
     → drop (place + (length left - length rest)) content ≡ rest
@@ -138,7 +138,7 @@ left_behind content place {left} {rest} old is moved =
     let taken : n ≡ length moved.0 = omega (arith, ap length moved.1, length-append moved.0 rest) in
     left_after content place n ∙ ap (drop n) (sym is ∙ moved.1) ∙ ap (λ k. drop k (moved.0 ++ rest)) taken ∙ drop-append_seam moved.0 rest
 
--- and where it stands then
+-- and its position then
 pub place_behind : (content : List ℕ) (place : ℕ) {left rest : List ℕ} (old : List ℕ) {new : List ℕ} → length content < 2 ^ 64
     → place < 2 ^ 64
     → left ≡ drop place content → HasMoved left rest old new

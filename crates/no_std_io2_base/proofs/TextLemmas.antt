@@ -1,4 +1,4 @@
--- How the calls that print a text follow one another, and what is known behind any formatter.
+-- How the calls that print a text follow one another, and what is known after any formatter.
 use Rattle.std.proofs.Common.{◌≡◌, ℕ, List, [], ◌++◌, Option, None, Some, Result, Ok, Err, OnOk, OnErr, IsOk, is_ok, IfSome}
 use Rattle.std.proofs.Common.{◌∷◌, ◌⊎◌, Bool, true, false, true≢false, IsErrAnd}
 use Rattle.std.proofs.Common.{refl, sym, ap, subst, ◌∙◌, append-nil, length, drop, inl, inr}
@@ -22,7 +22,7 @@ use Rattle.no_std_io2_base.proofs.MovesLemmas.{IsFront-refl, Moves-refl, MovesFr
 
 module _ {S : Type 0} {told : S → Told} {takes_all : S → Type 0} {cost : S → ℕ} {is_metered : S → Type 0}
     {may : S → WriteCall → S → Type 0} {old : S} where
-  -- a piece more, where the test says that no error was met
+  -- a piece more, if the test says that no error was met
   pub prints_next : (b : Bool) {met : Result (Unit {0}) Error} → b ≡ is_ok met → b ≡ true
       → {text bytes x : List ℕ} {reply : Result (Unit {0}) Error} {mid new : S} → WriteAllLaw told takes_all cost is_metered may mid bytes reply new → bytes ≡ x
       → Prints told takes_all cost is_metered may old text met mid → Prints told takes_all cost is_metered may old (text ++ x) reply new
@@ -30,7 +30,7 @@ module _ {S : Type 0} {told : S → Told} {takes_all : S → Type 0} {cost : S �
       subst (λ l. Prints told takes_all cost is_metered may old (text ++ l) reply new) same (piece bytes so_far wrote)
   prints_next b {met = Err e} is had wrote same so_far = absurd (true≢false (sym had ∙ is))
 
-  -- no call, where it says that one was
+  -- no call, if it says that one was
   pub prints_after : (b : Bool) {met : Result (Unit {0}) Error} → b ≡ is_ok met → b ≡ false → {text : List ℕ} (x : List ℕ) {now : S}
       → Prints told takes_all cost is_metered may old text met now → Prints told takes_all cost is_metered may old (text ++ x) met now
   prints_after b {met = Ok u} is had x so_far = absurd (true≢false (sym is ∙ had))
@@ -43,7 +43,7 @@ module _ {S : Type 0} {told : S → Told} {takes_all : S → Type 0} {cost : S �
   prints_moves (piece {text = text} x {reply = reply} so_far wrote) = MovesFront-join text x reply (prints_moves so_far) wrote.moves
   prints_moves (silent {text = text} x {e = e} so_far) = MovesFront-first text x e (prints_moves so_far)
 
-  -- and no interruption is answered
+  -- and no interruption is returned
   pub prints_fault : {text : List ℕ} {reply : Result (Unit {0}) Error} {new : S}
       → Prints told takes_all cost is_metered may old text reply new → IsNoInterruption reply
   prints_fault nothing = tt
@@ -62,7 +62,7 @@ module _ {W S : Type 0} (prints : S → List ℕ → W → Type 0) where
       (sym (concat-append xs (x ∷ []) ∙ ap (λ l. concat xs ++ l) (append-nil x))) (next old (concat xs) so_far))
       w.parts s t start w.calls)
 
-  -- a specified output was printed through a formatter, at `Ok`
+  -- a specified output was printed through a formatter, after `Ok`
   pub prints_output : (f g : Formatter W) {s t : W} (old : S) (output : Option (List ℕ)) (formatted : Result (Unit {0}) FormatError)
       → formatter_writer f ≡ s → IsPlainFormatter f → t ≡ formatter_writer g → DisplaysOnOk Then f formatted output g → IsOk formatted
       → prints old [] s → IfSome output (λ bs. prints old bs t)
@@ -71,7 +71,7 @@ module _ {W S : Type 0} (prints : S → List ℕ → W → Type 0) where
       subst (prints old bs) (sym back) (prints_calls (formatter_writer f) (formatter_writer g) old
       (shows plain ok).wrote (subst (prints old []) (sym over) start))
 
-  -- a text was printed through a formatter: whatever its `fmt` did, and its output where that is specified
+  -- a text was printed through a formatter: whatever its `fmt` did, and its output if that is specified
   pub prints_shown : (f g : Formatter W) {s t : W} {old : S} (output : Option (List ℕ)) (formatted : Result (Unit {0}) FormatError)
       → formatter_writer f ≡ s → IsPlainFormatter f → t ≡ formatter_writer g → DisplaysOnOk Then f formatted output g → prints old [] s
       → ∥ ((old : S) × (text : List ℕ) × prints old text t) ∥₁
@@ -92,7 +92,7 @@ module _ {W S : Type 0} (prints : S → List ℕ → W → Type 0) where
 list_prop : (xs ys : List ℕ) → IsProp (xs ≡ ys)
 list_prop xs ys = Prim.hlevel props
 
--- what stands behind a front
+-- what stands after a front
 behind : (xs ys zs : List ℕ) → ys ≡ xs ++ zs → ys ≡ xs ++ drop (length xs) ys
 behind xs ys zs e = e ∙ ap (λ l. xs ++ l) (sym (ap (drop (length xs)) e ∙ drop-append_seam xs zs))
 
@@ -152,7 +152,7 @@ MovesFront-some {a} {b} {r} had = record {
     is_whole (Ok u) = refl
     is_whole (Err e) = tt
 
--- what was printed of a text whose `fmt` answered `Ok`
+-- what was printed of a text whose `fmt` returned `Ok`
 moves_text : {a b : Told} (output : Option (List ℕ)) {met : Result (Unit {0}) Error}
     → ∥ ((text : List ℕ) × MovesFront a text met b × IfSome output (λ bs. text ≡ bs)) ∥₁ → MovesText a output met b
 moves_text {a} {b} None {met} had = record {
@@ -185,7 +185,7 @@ name_kept had = ∥∥₁_elim had (Prim.hlevel props) (λ p. p.2.0.1)
 
 module _ {S : Type 0} {told : S → Told} {takes_all : S → Type 0} {cost : S → ℕ} {is_metered : S → Type 0}
     {may : S → WriteCall → S → Type 0} {old new : S} {name was : ℕ} {output : Option (List ℕ)} {met : Result (Unit {0}) Error} where
-  -- what is known of a text that was printed, from the answer
+  -- what is known of a text that was printed, from the result
   pub law_shown : (formatted : Result (Unit {0}) FormatError) (reply : Result (Unit {0}) Error)
       → ∥ ((x : S) × (text : List ℕ) × (((x ≡ old) × (name ≡ was)) × Prints told takes_all cost is_metered may x text met new)
       × (IsOk formatted → IfSome output (λ bs. text ≡ bs))) ∥₁
@@ -213,7 +213,7 @@ module _ {S : Type 0} {told : S → Told} {takes_all : S → Type 0} {cost : S �
         calls = ∥∥₁_map prints (λ p. (p.0, met, p.1, inr why));
       }
 
--- where the output is specified
+-- if the output is specified
 pub MovesFront-text : {a b : Told} {bs : List ℕ} {r : Result (Unit {0}) Error} → MovesText a (Some bs) r b
     → MovesFront a bs r b ⊎ IsErrAnd r IsTextError
 MovesFront-text {a} {b} {bs} {r} f = of_answer f.answers

@@ -64,7 +64,7 @@ module _ {S : Type 0} {told : S → Told} {takes_all : S → Type 0} {cost : S �
           (subst (λ l. Writes (codes "failed to write whole buffer") D l r e) (rest_is n left) w));
     }
 
-    -- an interruption is passed over
+    -- an interruption is ignored
     pub writes_interruption : {e : Error} → WriteLaw told takes_all cost is_metered may now left (Err e) new
         → 0 < length left → IsInterruption e → WritesSoFar told takes_all cost is_metered may old start new left
     writes_interruption wrote some interrupted =

@@ -25,7 +25,7 @@ took_all is = cc
 no_error : {T : Type 0} {e : Error} {n : ℕ} → ◌≡◌ {A = Result ℕ Error} (Err e) (Ok n) → T
 no_error is = absurd (let no : ⊥ = cc in no)
 
--- the answer is no interruption
+-- the result is no interruption
 pub writes_fault : {text : List ℕ} {C : List WriteCall} {x left : List ℕ} {reply : Result (Unit {0}) Error}
     → Writes text C x reply left → IsNoInterruption reply
 writes_fault none = tt

@@ -22,7 +22,7 @@ use Rattle.pending.specs.Pending.{record_mishap, SendsRecords, TakesOff, Refuses
 pub slice_rest : (k : ℕ) (bs : List ℕ) → take (length bs - k) (drop k bs) ≡ drop k bs
 slice_rest k bs = take_all (length bs - k) (drop k bs) (omega (arith, length-drop k bs))
 
--- what is left behind a front of what was left
+-- the rest of a rest is a rest of the whole
 pub rest_left : (n k : ℕ) (bytes sent left : List ℕ) → n ≡ length bytes → drop k bytes ≡ sent ++ left → drop (n - length left) bytes ≡ left
 rest_left n k bytes sent left long e =
     let front = take k bytes ++ sent in
@@ -58,19 +58,19 @@ all_none I w = record {
   calls = ([], refl, inr ([], inr no_writes));
 }
 
--- what such calls send, where there is a flush behind them
+-- the bytes that these calls and then a flush send
 pub flush_sends : {W : Type 0} (I : Writer W) (law : Law W) {a b : W} {x left : List ℕ} (reply : Result (Unit {0}) Error)
     → ((w : W) (r : Result (Unit {0}) Error) → law a x r w left → Sends (I.told a) x r (I.told w) left)
     → AndThen law (FlushedLaw I) a x reply b left → Sends (I.told a) x reply (I.told b) left
 flush_sends I law {b = b} reply sends (inl (err, calls)) = sends b reply calls
 flush_sends I law reply sends (inr (mid, calls, flush)) = sends_ends reply (sends mid (Ok tt) calls) flush.moves
 
--- what stopped these calls stopped those with one more behind them
+-- an error that stopped these calls also stopped them with one more call after them
 pub then_stops : {W : Type 0} (law : Law W) (last : W → Result (Unit {0}) Error → W → Type 0) {e : Error} {new : W} {left : List ℕ}
     → StopsWith law e new left → StopsWith (AndThen law last) e new left
 then_stops law last s = (s.0, s.1, inl (refl, s.2))
 
--- a fault that these calls answered stopped them
+-- an error that these calls returned stopped them
 pub stops_at : {W : Type 0} (law : Law W) {old new : W} (x left : List ℕ) (reply : Result (Unit {0}) Error) (fault : Option Error)
     → fault ≡ result_err reply → law old x reply new left → IfSome fault (λ e. StopsWith law e new left)
 stops_at law {old} {new} x left (Ok u) fault is calls = subst (λ f. IfSome f (λ e. StopsWith law e new left)) (sym is) tt
@@ -179,7 +179,7 @@ comes_next law record_of {mid = mid} {new} {first} {next} text then to_go others
   each = each_push law _ c.earlier next c.each (subst (λ l. law mid next (Ok tt) new l) all calls);
 }
 
--- where a record is under way, the error is that of the last calls
+-- if a record is under way, the error is that of the last calls
 pub all_stops : {W : Type 0} (law : Law W) (record_of : List ℕ → List ℕ) {old new : W} {first to_go : List ℕ} {texts left : List (List ℕ)}
     (under_way : List ℕ) (e : Error) → SendsAll law record_of old first texts (Err e) under_way to_go new left → 0 < length under_way
     → StopsWith law e new to_go
@@ -196,15 +196,15 @@ record_sent law refusal {a = a} {b = b} {left = left} under_way (Ok u) calls is 
 record_sent law refusal {a = a} {b = b} {left = left} under_way (Err e) calls is same done all err =
     inr (record { is = err ∙ same; calls = subst (λ l. law a l (Err e) b left) is calls })
 
--- where the test says that some bytes are there, they are
+-- if the test says that there are bytes, there are
 pub some_of : (b : Bool) (bs : List ℕ) → b ≡ nat_lt 0 (length bs) → b ≡ true → 0 < length bs
 some_of b bs e t = grind (arith, nat_tests)
 
--- where it says that none is, none is, behind any n too
+-- if it says that there are none, there are none, also after any n
 pub none_of : (n : ℕ) (b : Bool) (bs : List ℕ) → b ≡ nat_lt 0 (length bs) → b ≡ false → drop n bs ≡ []
 none_of n b bs e t = ap (drop n) (nil_from_length bs (grind (arith, nat_tests))) ∙ drop-nil n
 
--- a refusal of another kind is one too, where each is
+-- if each `refusal` is also a `shown`, a first text that is refused by `refusal` is refused by `shown`
 pub refuses_as : (refusal shown : List ℕ → Error → Type 0) (xs : List (List ℕ)) {e : Error} → ((x : List ℕ) → refusal x e → shown x e)
     → RefusesFirst refusal xs e → RefusesFirst shown xs e
 refuses_as refusal shown [] shows r = r

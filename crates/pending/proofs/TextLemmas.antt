@@ -11,7 +11,7 @@ appends_none old new is = (
   subst (λ v. vec_capacity old ≤ vec_capacity v) (sym is) (le_refl _),
 )
 
--- a piece more, where the test says that none was refused
+-- one more piece, if the test says that no allocation failed
 pub appends_next : {A F : Type 0} (b : Bool) (met : Result (Unit {0}) F) → b ≡ is_ok met → b ≡ true → (old mid new : Vec ℕ A)
     (text x : List ℕ) (reply : Result (Unit {0}) F) → new.items ≡ (if is_ok reply then mid.items ++ x else mid.items)
     → OnErr reply (vec_capacity mid < vec_len mid + length x) → vec_capacity mid ≤ vec_capacity new
@@ -22,7 +22,7 @@ appends_next b (Ok u) is had old mid new text x (Err e) items short grows so_far
     omega (arith, short, so_far.1, mid.ok.0, old.ok.0, ap length so_far.0, length-append old.items text, length-append text x)
 appends_next b (Err e) is had old mid new text x reply items short grows so_far = absurd (true≢false (sym had ∙ is))
 
--- no call, where it says that one was
+-- no call, if it says that one failed
 pub appends_after : {A F : Type 0} (b : Bool) (met : Result (Unit {0}) F) → b ≡ is_ok met → b ≡ false → (old now : Vec ℕ A)
     (text x : List ℕ) → Appends old text met now → Appends old (text ++ x) met now
 appends_after b (Ok u) is had old now text x so_far = absurd (true≢false (sym is ∙ had))

@@ -22,7 +22,7 @@ use Rattle.no_std_io2.proofs.CallsLemmas.{made_more}
 use Rattle.no_std_io2.proofs.TowerCalls.{through}
 use Rattle.system_streams.specs.Copies.{MovesCounted, HasFirstFault, MayFail, TellsMishap, HandsAndFlushes, HandsThrough, BufferCalls}
 
--- where the mishaps to come were told, one that happened was among them
+-- if the mishaps to come were told, one that happened was among them
 told_mishap : (old : Option (List ErrorKind)) (kind : ErrorKind) (new : Option (List ErrorKind)) → HasSpent old (kind ∷ []) new
     → TellsMishap old kind
 told_mishap None kind new h = tt
@@ -50,7 +50,7 @@ copies_err {E} {after} {old} {new} {e} c = ends c.3
     ends (inl f) = inl (record { front = c.0; rest = after; split = c.1; ends = f.0 })
     ends (inr f) = inr (may_fail f.1.1.2)
 
--- behind an empty buffer, which is taken off again
+-- an empty buffer that is put in front and taken off again changes nothing
 pub passes_off : {a inner mid c : Told} {x : List ℕ} {n : ℕ} (buffer : List ℕ) → inner ≡ a → buffer ≡ []
     → MovesCounted (with_buffer inner buffer) x n mid → Moves mid [] [] c → MovesCounted a x n c
 passes_off {c = c} {x} {n} buffer same empty p left =
@@ -89,7 +89,7 @@ pub comes_apart : {A E : Type 0} {x : A} {e : E} (held buffer : List ℕ) → he
 comes_apart held buffer none back =
     let same = back (nil_from_length buffer (omega (arith, ap length none, length-append held buffer))) in cc
 
--- a flush behind a copy
+-- a flush after a copy
 pub flushed_behind : {R W : Type 0} {K : Reader R} {I : Writer W} {from from' : R} {old mid new : W}
     → HandsOn K I 64 from old (Ok tt) from' mid → FlushLaw I.told I.takes_all I.cost I.is_metered I.may mid (Ok tt) new
     → HandsAndFlushes I old new

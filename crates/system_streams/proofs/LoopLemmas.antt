@@ -30,12 +30,12 @@ patient_reader = record {
   may = λ _ _ _. Unit {0};
 }
 
--- known bytes stay as they were where nothing happens to them
+-- known bytes stay as they are if nothing is read
 keeps_refl : (a : Option (List ℕ)) → Keeps a a
 keeps_refl None = tt
 keeps_refl (Some x) = refl
 
--- the answer is that nothing was given
+-- the result is that nothing was given
 abbrev pub GaveNone : Result ℕ Error → Type 0
 GaveNone reply = reply ≡ Ok 0
 
@@ -58,7 +58,7 @@ consumes_kept (Some x) None c bs p q = absurd p
 consumes_kept (Some x) (Some y) None bs p q = absurd q
 consumes_kept (Some x) (Some y) (Some z) bs p q = p ∙ ap (λ l. bs ++ l) (sym q)
 
--- what a read that gave bytes consumed: the device was asked then
+-- the bytes that a read that gave some consumed: it called the device
 pub consumed_some : {A C : Type 0} {old : ℕ} (n : ℕ) (known known' : Option (List ℕ)) (buf : List ℕ) → (n ≡ 0 → ⊥)
     → (old ≡ 0 → GaveNone (Ok n) × A) → (old ≡ 1 → ⊥) → (1 < old → Consumes known known' (take n buf) × C)
     → Consumes known known' (take n buf)
@@ -98,21 +98,21 @@ ends_reads room e {first = first} {old = suc (suc old)} {new = new} fault fewer 
     device (inl plain) = let no = ap is_interruption plain.0 in absurd cc
     device (inr f) = (omega (arith, fewer, spent), inr (inl (f, omega (arith, fewer, spent))))
 
--- what stood before the part still stands there, and the device kept its bytes, or gave none
+-- the bytes before the part are still there, and the device kept its bytes, or gave none
 pub got_same : (a k : ℕ) (xs ys : List ℕ) (known known' known'' : Option (List ℕ)) → a ≤ length xs → Consumes known known' (take a xs)
     → Keeps known' known'' → Consumes known known'' (take a (put_mid a k xs ys))
 got_same a k xs ys known known' known'' within got kept =
     subst (λ l. Consumes known known'' l) (sym (take-put_mid_below a k xs ys a (omega arith) within))
     (consumes_kept known known' known'' (take a xs) got kept)
 
--- where nothing more was consumed, the first a bytes are still all that was consumed
+-- if nothing more was consumed, the first a bytes are still all that was consumed
 pub got_none : (a k : ℕ) (xs ys : List ℕ) (known known' known'' : Option (List ℕ)) → a ≤ length xs → Consumes known known' (take a xs)
     → Consumes known' known'' [] → Consumes known known'' (take a (put_mid a k xs ys))
 got_none a k xs ys known known' known'' within got none =
     subst (λ l. Consumes known known'' l) (append-nil (take a xs) ∙ sym (take-put_mid_below a k xs ys a (omega arith) within))
     (consumes_then known known' known'' (take a xs) [] got none)
 
--- where n bytes more were consumed into the part, the first a + n bytes are all that was consumed
+-- if n bytes more were consumed into the part, the first a + n bytes are all that was consumed
 pub got_more : (a k n : ℕ) (xs ys : List ℕ) (known known' known'' : Option (List ℕ)) → a ≤ length xs → n ≤ length ys
     → Consumes known known' (take a xs)
     → Consumes known' known'' (take n ys) → Consumes known known'' (take (a + n) (put_mid a k xs ys))

@@ -1,4 +1,4 @@
--- What stands behind the letter of a line that makes a call.
+-- The text after the letter of a line that makes a call.
 use Rattle.std.proofs.Common.{◌≡◌, ℕ, List, ◌∷◌, get_or, subst, ap, arith}
 use Rattle.io_bench.specs.declared.faulty.Act.TheVariants.{Take, Zero, Fail}
 use Rattle.tower_play.specs.declared.script.Line.{Line}
@@ -34,7 +34,7 @@ said_write_all rest (WriteAll text) says good =
 said_write_all rest Flush says good = let e : 97 ≡ 102 = ap (λ l. get_or l 0 0) says in absurd (omega (arith, e))
 said_write_all rest Bad says good = absurd good
 
--- a `w` with no text behind it says nothing
+-- a `w` with no text after it says nothing
 pub no_write : {line rest : List ℕ} → line ≡ 119 ∷ rest
     → ((x : List ℕ) → IsTextArgument rest x → ⊥) → IsGood line → ⊥
 no_write {line} {rest} is none it =

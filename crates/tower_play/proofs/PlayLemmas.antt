@@ -137,6 +137,6 @@ writes_text {a = a} {b} {x = x} is same wrote flushed empty = record {
 pub write_failed : {a b : Told} {x : List ℕ} {e : Error} → MovesFront a x (Err e) b → MayFail a e
 write_failed wrote = may_fail wrote.moves
 
--- it failed in the flush behind the text
+-- it failed in the flush after the text
 pub flush_failed : {a b c : Told} {x : List ℕ} {e : Error} → MovesFront a x (Ok tt) b → Moves b [] (error_kind e ∷ []) c → MayFail a e
 flush_failed wrote flushed = may_fail (Moves-ends wrote.moves flushed)

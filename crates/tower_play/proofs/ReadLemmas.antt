@@ -35,7 +35,7 @@ pub count_more : (lines : List (List ℕ)) (line : List ℕ) (n next : ℕ) → 
     → next ≡ min (n + 1) (2 ^ 64 - 1) → next ≡ min (length (lines ++ line ∷ [])) (2 ^ 64 - 1)
 count_more lines line n next count is = omega (arith, length-append lines (line ∷ []))
 
--- the number of a line behind others
+-- the number of a line that follows others
 pub number_here : (lines : List (List ℕ)) (n next : ℕ) → n ≡ min (length lines) (2 ^ 64 - 1)
     → next ≡ min (n + 1) (2 ^ 64 - 1) → next ≡ min (length lines + 1) (2 ^ 64 - 1)
 number_here lines n next count is = omega arith
@@ -57,7 +57,7 @@ first_more (Some n) lines line first = record {
   number = first.number;
 }
 
--- a bad line behind lines that made a script is the first
+-- a bad line after lines that made a script is the first
 pub first_here : (lines : List (List ℕ)) (line : List ℕ) (n next : ℕ) (start script : Script) → IsFresh start
     → AddsAll lines start script → IsBadLine line script → n ≡ min (length lines) (2 ^ 64 - 1)
     → next ≡ min (n + 1) (2 ^ 64 - 1) → IsFirstBad (lines ++ line ∷ []) next
@@ -74,7 +74,7 @@ first_here lines line n next start script fresh adds is count more = record {
   number = number_here lines n next count more;
 }
 
--- a line that could not be read: the reader had its first fault, or memory was refused
+-- a line that could not be read: the reader had its first fault, or an allocation failed
 pub stopped : {d : ℕ} {E mid after : List Event} {lines : List (List ℕ)} {e : Error} → GatheredSoFar (without d) d E lines mid
     → YieldsPiece (vec_items {X = ℕ} {Z = Global}) (without d) (λ _ _. ⊥) d mid (Some (Err e)) after
     → HasFirstFault E e ⊎ IsOutOfMemory e

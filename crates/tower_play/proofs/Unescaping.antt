@@ -1,4 +1,4 @@
--- What a text stands for, byte by byte.
+-- The bytes that an escaped text stands for, byte by byte.
 use Rattle.std.proofs.Common.{◌≡◌, ◌≢◌, ℕ, ◌+◌, ◌-◌, ◌<◌, Bool, true, false, List, [], ◌∷◌, ◌++◌, length, get_or, drop}
 use Rattle.std.proofs.Common.{Option, Some, None, refl, sym, ap, subst, ◌∙◌, arith, append_assoc, append-nil, add-one, drop-cons}
 use Rattle.std.proofs.Common.{length-append}
@@ -6,12 +6,12 @@ use Rattle.std.proofs.lemmas.Grind.{common_steps}
 use Rattle.std.proofs.lemmas.Bool.Decides.{nat_tests}
 use Rattle.tower_play.specs.Script.{before, unescaped, IsAppended}
 
--- the text that is left, behind a backslash that was read
+-- the text that is left, after a backslash that was read
 abbrev pub waiting : Bool → List ℕ → List ℕ
 waiting true rest = 92 ∷ rest
 waiting false rest = rest
 
--- what was appended so far stands before what the rest stands for
+-- The bytes that were appended so far come before those that the rest stands for.
 pub record Halfway (old new text left : List ℕ) : Type 0 where
   pub so_far : List ℕ
   pub appends : new ≡ old ++ so_far
@@ -35,7 +35,7 @@ none_yet old text = record {
   meant = sym (before-nothing (unescaped text));
 }
 
--- bytes that stand at the front of what is left are appended
+-- the bytes at the front of the rest are appended
 pub goes_on : {old new new2 text left left2 : List ℕ} (x : List ℕ) → unescaped left ≡ before x (unescaped left2)
     → new2 ≡ new ++ x → Halfway old new text left → Halfway old new2 text left2
 goes_on {old = old} {left2 = left2} x is more so = record {
@@ -53,7 +53,7 @@ by_itself b (c ∷ rest) plain = grind (arith, common_steps, nat_tests)
 at_front : (text : List ℕ) (i : ℕ) → i < length text → drop i text ≡ get_or text i 0 ∷ drop (i + 1) text
 at_front text i in' = rw (add-one, drop-cons text i 0) refl
 
--- a byte behind a backslash ends an escape
+-- a byte after a backslash ends an escape
 pub ends_escape : {old new new2 text : List ℕ} (i b : ℕ) (x : List ℕ) {was is : Bool} → i < length text → get_or text i 0 ≡ b
     → was ≡ true → is ≡ false → unescaped (92 ∷ b ∷ drop (i + 1) text) ≡ before x (unescaped (drop (i + 1) text))
     → new2 ≡ new ++ x → Halfway old new text (waiting was (drop i text)) → Halfway old new2 text (waiting is (drop (i + 1) text))
@@ -84,7 +84,7 @@ goes_by_itself {old} {new} {new2} {text} i in' plain was is more so =
     let here = subst (λ l. Halfway old new text l) (at_front text i in') left in
     subst (λ e. Halfway old new2 text (waiting e rest)) (sym is) (goes_on (b ∷ []) (by_itself b rest plain) more here)
 
--- what a good text stands for stands behind the old bytes
+-- the bytes that a good text stands for follow the old bytes
 pub is_meant : (o : Option (List ℕ)) (old new : List ℕ) → IsAppended o true old new
     → (bytes : List ℕ) × (o ≡ Some bytes) × (new ≡ old ++ bytes)
 is_meant (Some bytes) old new so = (bytes, refl, so.1)

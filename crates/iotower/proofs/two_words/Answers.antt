@@ -5,7 +5,7 @@ use Rattle.std.specs.Option.{option_to_list}
 use Rattle.std.specs.Vec.Iter.{into_iter_items, into_iter_len}
 use Rattle.iotower.proofs.two_words.Goals as goal
 
--- nothing is left where there is no more word
+-- if there is no more word, nothing is left
 no_more : (n : ℕ) (b : Bool) → (0 < n → b ≡ true) → b ≡ false → n ≡ 0
 no_more zero b more not_some = refl
 no_more (suc n) b more not_some = absurd (cc (more (omega arith), not_some))

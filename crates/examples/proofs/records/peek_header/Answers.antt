@@ -81,7 +81,7 @@ returns-in_err-seek_relative g c =
           absurd (back.2.0 (at - length (reader_held r)) (omega (arith, gone.2, header.1), omega (arith, fits)));
     })
 
--- a read fails only where too few bytes are left
+-- a read fails only if too few bytes are left
 pub returns-in_err-read_exact : goal.returns-in_err-read_exact
 returns-in_err-read_exact g c =
     let r = c.args.r.now in

@@ -1,4 +1,4 @@
--- What the asks so far came to.
+-- The totals of the asks so far.
 use Rattle.std.proofs.Common.{◌≡◌, ◌≤◌, length, take}
 use Rattle.no_std_io2.proofs.Readers.{reader}
 use Rattle.io_bench.specs.Asks.{CameTo}

@@ -1,4 +1,4 @@
--- The base takes all, so no call fails, and each answers whole.
+-- The base takes all, so no call fails, and each is whole.
 use Rattle.no_std_io2.proofs.MovesLemmas.{Moves-steady}
 use Rattle.no_std_io2.proofs.BufWriterLemmas.{ok_same}
 use Rattle.io_bench.proofs.RunLemmas.{Answers-write_all}

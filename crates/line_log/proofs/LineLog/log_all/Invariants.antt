@@ -1,4 +1,4 @@
--- Records were sent, one after another, and no newline stands in the texts that were taken off.
+-- Records were sent, one after another, and the texts that are gone from the front have no newline.
 use Rattle.std.proofs.Common.{◌≤◌, map, length, string_bytes}
 use denote.Param.{number}
 use Rattle.no_std_io2.specs.contracts.buffered.line_writer.LineWriterWrite.TheImpl as Lined

@@ -1,4 +1,4 @@
--- What is gone so far are the bytes that were passed over, with no fault.
+-- The events that are gone so far are the skipped bytes, with no fault among them.
 use Rattle.std.proofs.Common.{◌≡◌, ◌+◌, ◌≤◌, ◌<◌}
 use Rattle.no_std_io2.specs.Passing.{PassesOver}
 use Rattle.no_std_io2.proofs.util.skip.Given as goal

@@ -1,4 +1,4 @@
--- What was gathered so far is what is gone from what was to come, and has no fault.
+-- The bytes that were read so far are gone from the events, which had no fault among them.
 use Rattle.std.proofs.Common.{◌≤◌, ◌<◌, vec_len, vec_capacity}
 use Rattle.no_std_io2.specs.Passing.{Gathered}
 use Rattle.framing.proofs.reader.part.gather.Given as goal

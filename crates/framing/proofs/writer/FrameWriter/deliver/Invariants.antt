@@ -1,4 +1,4 @@
--- What is no longer to go was accepted, and each try but the first has spent a mishap, where they are told.
+-- The bytes that are gone from the front were accepted, and each try except the first has used up a mishap, if mishaps are told.
 use Rattle.std.proofs.Common.{◌++◌, ◌≤◌, map}
 use Rattle.framing.specs.Frames.{frames}
 use Rattle.framing.specs.Sending.{writer_tells, frame_room, still_to_go, TakesPayloads}

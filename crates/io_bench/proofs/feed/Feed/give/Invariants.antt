@@ -1,4 +1,4 @@
--- The first n leading bytes were given, and what stands behind them is left.
+-- The first n leading bytes were given, and the events after them are left.
 use Rattle.std.proofs.Common.{◌≡◌, ◌-◌, ◌≤◌, length, take, drop}
 use Rattle.io_bench.specs.Feed.{feed_left, feed_piece, leading_bytes}
 use Rattle.io_bench.proofs.feed.Feed.give.Given as goal

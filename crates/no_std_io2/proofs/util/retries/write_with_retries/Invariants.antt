@@ -1,4 +1,4 @@
--- What is gone was accepted, and each try but the first has spent a mishap, where they are told.
+-- The bytes that are gone were accepted, and each try except the first has used up a mishap, if mishaps are told.
 use Rattle.std.proofs.Common.{Ok, Result, List, ℕ}
 use Rattle.no_std_io2_base.specs.declared.error.Error.{Error}
 use Rattle.no_std_io2_base.specs.Write.{Sends}

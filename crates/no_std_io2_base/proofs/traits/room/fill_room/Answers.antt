@@ -1,4 +1,4 @@
--- As the trait's `read_to_end`, but for the room, which is what there is.
+-- As the trait's `read_to_end`, but only into the room that there is.
 use Rattle.std.proofs.Common.{◌<◌, ◌≤◌, [], ◌∷◌, ◌++◌, Ok, Err, false, true, true≢false, length, arith, refl, sym, ◌∙◌, le_refl, le_trans}
 use Rattle.no_std_io2_base.specs.Read.{Gave}
 use Rattle.no_std_io2_base.proofs.CallsLemmas.{made_more}

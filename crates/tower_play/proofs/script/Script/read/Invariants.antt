@@ -1,4 +1,4 @@
--- The number of a bad line is one of a line, and where none is bad, the lines so far made the script.
+-- A bad line has a number of a line so far; if no line is bad, the lines so far made the script.
 use Rattle.std.proofs.Common.{◌≡◌, ◌<◌, false}
 use Rattle.std.specs.Option.{IfSome}
 use Rattle.no_std_io2.specs.Pieces.{split_reader, split_delim, split_is_ended}

@@ -1,4 +1,4 @@
--- Nothing was held, so what is held and lies behind is what the read left in the buffer.
+-- Nothing was held, so the bytes behind and the held bytes are those that the read left in the buffer.
 use Rattle.std.proofs.Common.{length, sym, ◌∙◌}
 use Rattle.no_std_io2.specs.Buffer.{buffer_held, buffer_behind}
 use Rattle.no_std_io2.specs.BufReader.{reader_held}

@@ -1,4 +1,4 @@
--- A `write` past the hot path: way is made, and then the bytes go past what is held or behind it.
+-- A `write` off the hot path: room is made, and then the bytes go past the buffer or into it.
 use Rattle.std.proofs.Common.{refl, arith, rules}
 use Rattle.std.proofs.lemmas.Result.{err_from_is_err_and}
 use Rattle.no_std_io2_base.specs.Write.{Wrote}

@@ -1,4 +1,4 @@
--- What was appended is a front of what the cursor had left, and it stands right behind that.
+-- The appended bytes are a front of those that the cursor had left, and its position is right after them.
 use Rattle.std.proofs.Common.{◌+◌, ◌<◌, length, vec_len, vec_capacity, refl, sym, ap, subst, arith}
 use Rattle.std.proofs.lemmas.Result.{err_from_is_err_and}
 use Rattle.no_std_io2_base.proofs.ReadCalls.{to_end_own}

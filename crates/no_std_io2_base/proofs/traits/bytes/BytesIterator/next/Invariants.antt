@@ -1,4 +1,4 @@
--- `next` ends with its reader's turns, and has passed interruptions alone.
+-- The reader's turns bound the loop, and only interruptions were taken so far.
 use Rattle.std.proofs.Common.{◌≡◌, ◌≤◌, length}
 use Rattle.no_std_io2_base.specs.Read.{bytes_reader}
 use Rattle.no_std_io2_base.proofs.NextByteLemmas.{Passed}

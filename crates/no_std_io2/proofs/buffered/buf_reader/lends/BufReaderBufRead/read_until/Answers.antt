@@ -1,4 +1,4 @@
--- As the trait's; a piece that is held is taken at once, and what lies behind grows by what is taken.
+-- As the trait's; a piece that is held whole is taken at once, and the bytes behind grow by what is taken.
 use Rattle.std.proofs.Common.{◌∙◌, length, take, drop, refl, sym, arith, append-nil, [], lt_of_lt_of_le}
 use Rattle.std.proofs.Common.{ap, ap₂, ◌++◌, vec_len, drop_of_length-le}
 use Rattle.std.proofs.lemmas.Result.{err_from_is_err_and}

@@ -1,4 +1,4 @@
--- As the trait's: it ends with its reader's turns; and what lies behind is an end of what lay there and was appended.
+-- As the trait's: the reader's turns bound it. The bytes behind are a suffix of those behind before, followed by the appended ones.
 use Rattle.std.proofs.Common.{◌≡◌, ℕ, List, ◌++◌, drop, vec_len}
 use Rattle.no_std_io2_base.specs.Pieces.{EndsPiece}
 use Rattle.no_std_io2_base.proofs.PieceLoop.{UntilSoFar}
