@@ -6,7 +6,6 @@ pub mod cursor;
 pub mod error;
 mod impls;
 pub mod internal;
-mod memory_laws;
 mod piece_pins;
 mod pins;
 pub mod traits;

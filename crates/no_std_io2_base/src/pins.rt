@@ -2,10 +2,11 @@
 //! an implementation could tell less and still be proved, and every promise about it would be
 //! empty.
 ghost use Rattle.std.specs.Hash as fed;
-ghost use Rattle.std.specs.Prelude.{◌≡◌, ◌+◌, ◌-◌, ◌≤◌, ◌<◌, ◌++◌, ◌↔◌, length, take, drop, replicate, true, false, [], Ok, Some, None};
+ghost use Rattle.std.specs.Prelude.{◌≡◌, ◌+◌, ◌-◌, ◌≤◌, ◌<◌, ◌++◌, ◌↔◌, length, take, drop, true, false, Ok, Some};
 ghost use Rattle.std.specs.Prelude.{IsTrue, IsOk, IsOkAnd, IfOk, IfErr, IfSome, OnSome};
+ghost use Rattle.std.specs.Box.{boxed_slice_items};
 ghost use Rattle.no_std_io2_base.specs.Chain.{chain_first, chain_second, chain_is_done};
-ghost use Rattle.no_std_io2_base.specs.Cursor.{cursor_inner, cursor_position};
+ghost use Rattle.no_std_io2_base.specs.Cursor.{cursor_inner, cursor_position, bytes_before};
 ghost use Rattle.no_std_io2_base.specs.Errors.{IsFault, error_display, kind_number};
 ghost use Rattle.no_std_io2_base.specs.Read.{events_of, cut, bytes_reader, NextByte, ReadCall};
 ghost use Rattle.no_std_io2_base.specs.Seek.{SeekCall};
@@ -16,6 +17,8 @@ use crate::cursor::{AsSlice, Cursor};
 use crate::error::{Error, ErrorKind, Result};
 use crate::traits::{BufRead, Bytes, Chain, Read, Seek, SeekFrom, Stored, Take, Write};
 use std::alloc::{AllocError, Allocator};
+use std::boxed::BoxedSlice;
+use std::collections::VecDeque;
 use std::fmt;
 use std::hash::Hash;
 
@@ -86,8 +89,17 @@ fn place_clone(place: &SeekFrom) -> std::result::Result<SeekFrom, AllocError>
     place.clone()
 }
 
-fn vector_tells(v: &Vec<u8>)
-    ensures { ⟦<Vec<u8> as Write>⟧.told v.now ≡ told_out v.now.items }
+fn vector_tells<A: Allocator>(v: &Vec<u8, A>)
+    ensures told { ⟦<Vec<u8, A> as Write>⟧.told v.now ≡ told_out v.now.items }
+    ensures cost { ⟦<Vec<u8, A> as Write>⟧.cost v.now ≡ 0 }
+{}
+
+// A queue has accepted the bytes that it contains, and will give these.
+fn queue_tells<A: Allocator>(queue: &VecDeque<u8, A>)
+    ensures told { ⟦<VecDeque<u8, A> as Write>⟧.told queue.now ≡ told_out queue.now.items }
+    ensures tells { ⟦<VecDeque<u8, A> as Read>⟧.tells queue.now }
+    ensures events { ⟦<VecDeque<u8, A> as Read>⟧.events queue.now ≡ events_of queue.now.items }
+    ensures turns { ⟦<VecDeque<u8, A> as Read>⟧.turns queue.now ≡ length queue.now.items }
 {}
 
 fn lent_writer_tells<'a, W: Write>(w: &&'a mut W)
@@ -289,12 +301,14 @@ fn contents_tell<'a, A: Allocator, const N: usize>(
     array: &[u8; N],
     vector: &Vec<u8, A>,
     lent_vector: &&'a mut Vec<u8, A>,
+    boxed: &BoxedSlice<u8, A>,
 )
     ensures shared { ⟦<&'a [u8] as AsSlice<u8>>⟧.slice shared.now ≡ shared.now.now }
     ensures lent { ⟦<&'a mut [u8] as AsSlice<u8>>⟧.slice lent.now ≡ lent.now.now }
     ensures array { ⟦<[u8; N] as AsSlice<u8>>⟧.slice array.now ≡ array.now }
     ensures vector { ⟦<Vec<u8, A> as AsSlice<u8>>⟧.slice vector.now ≡ vector.now.items }
     ensures lent_vector { ⟦<&'a mut Vec<u8, A> as AsSlice<u8>>⟧.slice lent_vector.now ≡ lent_vector.now.now.items }
+    ensures boxed { ⟦<BoxedSlice<u8, A> as AsSlice<u8>>⟧.slice boxed.now ≡ boxed_slice_items boxed.now }
 {}
 
 // A cursor tells a store, whose length and position fit the numbers that the calls return.
@@ -331,50 +345,32 @@ fn cursor_lends_all<T: AsSlice<u8>>(c: &mut Cursor<T>) -> Result<usize>
     Ok(c.fill_buf()?.len())
 }
 
+// The bytes before the position of a cursor are out, with zeros if they are too few. A write makes no inner write, and is not counted.
 fn vector_cursor_writes<A: Allocator>(c: &Cursor<Vec<u8, A>>)
-    ensures { let content = (cursor_inner c.now).items in
-        let place = cursor_position c.now in
-        ⟦<Cursor<Vec<u8, A>> as Write>⟧.told c.now ≡ record {
-          out = take place content ++ replicate (place - length content) 0;
-          held = [];
-          mishaps = None;
-          turns = 0;
-        } }
+    ensures told { ⟦<Cursor<Vec<u8, A>> as Write>⟧.told c.now
+        ≡ told_out (bytes_before (cursor_position c.now) (cursor_inner c.now).items) }
+    ensures cost { ⟦<Cursor<Vec<u8, A>> as Write>⟧.cost c.now ≡ 0 }
 {}
 
 fn lent_vector_cursor_writes<'a, A: Allocator>(c: &Cursor<&'a mut Vec<u8, A>>)
-    ensures { let content = (cursor_inner c.now).now.items in
-        let place = cursor_position c.now in
-        ⟦<Cursor<&'a mut Vec<u8, A>> as Write>⟧.told c.now ≡ record {
-          out = take place content ++ replicate (place - length content) 0;
-          held = [];
-          mishaps = None;
-          turns = 0;
-        } }
+    ensures told { ⟦<Cursor<&'a mut Vec<u8, A>> as Write>⟧.told c.now
+        ≡ told_out (bytes_before (cursor_position c.now) (cursor_inner c.now).now.items) }
+    ensures cost { ⟦<Cursor<&'a mut Vec<u8, A>> as Write>⟧.cost c.now ≡ 0 }
 {}
 
 fn slice_cursor_writes<'a>(c: &Cursor<&'a mut [u8]>)
-    ensures { let content = (cursor_inner c.now).now in
-        let place = cursor_position c.now in
-        ⟦<Cursor<&'a mut [u8]> as Write>⟧.told c.now ≡ record {
-          out = take place content ++ replicate (place - length content) 0;
-          held = [];
-          mishaps = None;
-          turns = 0;
-        } }
+    ensures told { ⟦<Cursor<&'a mut [u8]> as Write>⟧.told c.now
+        ≡ told_out (bytes_before (cursor_position c.now) (cursor_inner c.now).now) }
+    ensures cost { ⟦<Cursor<&'a mut [u8]> as Write>⟧.cost c.now ≡ 0 }
 {}
 
-// A write to a vector or a cursor makes no inner write, and is not counted.
-fn memory_costs_nothing<'a, A: Allocator>(
-    vector: &Vec<u8, A>,
-    owned: &Cursor<Vec<u8, A>>,
-    lent: &Cursor<&'a mut Vec<u8, A>>,
-    slice: &Cursor<&'a mut [u8]>,
-)
-    ensures vector { ⟦<Vec<u8, A> as Write>⟧.cost vector.now ≡ 0 }
-    ensures owned { ⟦<Cursor<Vec<u8, A>> as Write>⟧.cost owned.now ≡ 0 }
-    ensures lent { ⟦<Cursor<&'a mut Vec<u8, A>> as Write>⟧.cost lent.now ≡ 0 }
-    ensures slice { ⟦<Cursor<&'a mut [u8]> as Write>⟧.cost slice.now ≡ 0 }
+fn array_cursor_writes<const N: usize>(c: &Cursor<[u8; N]>)
+    ensures { ⟦<Cursor<[u8; N]> as Write>⟧.told c.now ≡ told_out (bytes_before (cursor_position c.now) (cursor_inner c.now)) }
+{}
+
+fn boxed_slice_cursor_writes<A: Allocator>(c: &Cursor<BoxedSlice<u8, A>>)
+    ensures { ⟦<Cursor<BoxedSlice<u8, A>> as Write>⟧.told c.now
+        ≡ told_out (bytes_before (cursor_position c.now) (boxed_slice_items (cursor_inner c.now))) }
 {}
 
 // A clone of a cursor over a vector has the same bytes and the same position.
