@@ -43,7 +43,8 @@ flushed_done (Ok u) fault is none done = done
 flushed_done (Err e) fault is none done = let no : ⊥ = cc in absurd no
 
 -- if there was less room, the room was too small too
-pub refusal_less : {less room : ℕ} (payload : List ℕ) (e : Error) → less ≤ room → IsPayloadRefusal room payload e → IsPayloadRefusal less payload e
+pub refusal_less : {less room : ℕ} (payload : List ℕ) (e : Error) → less ≤ room → IsPayloadRefusal room payload e
+    → IsPayloadRefusal less payload e
 refusal_less payload e h (inl long) = inl long
 refusal_less payload e h (inr memory) = inr (memory.0, omega (arith, memory.1, h))
 

@@ -1,6 +1,6 @@
 -- How lines go, piece by piece.
-use Rattle.std.proofs.Common.{◌≡◌, ℕ, ◌+◌, ◌<◌, ◌≤◌, List, [], ◌∷◌, ◌++◌, length, get_or, Result, Ok, Err, OnOk, OnErr, Option, None, Some, take, take_at, ◌-◌, refl, sym, ap, ◌∙◌, subst}
-use Rattle.std.proofs.Common.{inl, inr, arith, append_assoc, append-nil, length-append}
+use Rattle.std.proofs.Common.{◌≡◌, ℕ, ◌+◌, ◌<◌, ◌≤◌, List, [], ◌∷◌, ◌++◌, length, get_or, Result, Ok, Err, OnOk, OnErr, Option, None, Some}
+use Rattle.std.proofs.Common.{take, take_at, ◌-◌, refl, sym, ap, ◌∙◌, subst, inl, inr, arith, append_assoc, append-nil, length-append}
 use Rattle.std.proofs.lemmas.List.{get_or-append-add}
 use Rattle.no_std_io2.specs.declared.io.Error.{Error}
 use Rattle.no_std_io2.specs.Write.{Told, Moves, MovesFront, Sends, call_mishap}
@@ -33,7 +33,8 @@ line_sends I reply (inr (mid, law, last)) = sends_ends reply law.sends (wrote_no
 
 -- what was sent of lines was accepted
 pub lines_send : {W : Type 0} (I : Writer W) {old new : W} {first to_go : List ℕ} {texts left : List (List ℕ)}
-    (reply : Result (Unit {0}) Error) (log_under_way : List ℕ) → SendsAll (LineLaw I) line_of old first texts reply log_under_way to_go new left
+    (reply : Result (Unit {0}) Error) (log_under_way : List ℕ)
+    → SendsAll (LineLaw I) line_of old first texts reply log_under_way to_go new left
     → SendsRecords (I.told old) (first ++ lines_out texts) reply log_under_way (I.told new) (to_go ++ lines_out left)
 lines_send I reply log_under_way all = all_sends I (LineLaw I) (λ a b x left r calls. line_sends I r calls) line_of reply log_under_way all
 

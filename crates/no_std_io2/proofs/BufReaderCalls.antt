@@ -110,7 +110,8 @@ gives_first may old new (suc k) size buf within long some is same none =
     )
 
 -- what was held was appended, and then what the inner reader's `read_to_end` gave
-pub drained : {R : Type 0} {may : R → ReadCall → R → Type 0} {a b : R} {mid new : List ℕ} {reply : Result ℕ Error} (old held : List ℕ) (len : ℕ)
+pub drained : {R : Type 0} {may : R → ReadCall → R → Type 0} {a b : R} {mid new : List ℕ} {reply : Result ℕ Error} (old held : List ℕ)
+    (len : ℕ)
     → ToEndMade may a mid reply new b → mid ≡ old ++ held → len ≡ length old → ToEndMade may a held reply (drop len new) b
 drained old held len m is long = record {
   calls = m.calls;

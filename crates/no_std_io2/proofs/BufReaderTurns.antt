@@ -1,6 +1,6 @@
 -- What one read into the whole of a buffer holds afterwards.
-use Rattle.std.proofs.Common.{◌≡◌, ℕ, ◌+◌, ◌-◌, ◌*◌, ◌<◌, ◌≤◌, List, [], ◌++◌, length, take, Ok, sym, ap, subst, ◌∙◌, arith, length-take-le, inl}
-use Rattle.std.proofs.Common.{inr}
+use Rattle.std.proofs.Common.{◌≡◌, ℕ, ◌+◌, ◌-◌, ◌*◌, ◌<◌, ◌≤◌, List, [], ◌++◌, length, take, Ok, sym, ap, subst, ◌∙◌, arith, length-take-le}
+use Rattle.std.proofs.Common.{inl, inr}
 use Rattle.std.proofs.Math.Nat.{mul-le-mul_left}
 use Rattle.std.proofs.lemmas.Bool.{cases_lt}
 use Rattle.no_std_io2_base.specs.Read.{Event, events_of, Reads, ReadCall, Gave}

@@ -6,18 +6,16 @@ use Rattle.std.proofs.lemmas.Bool.Decides.{nat_tests}
 use Rattle.no_std_io2_base.specs.declared.error.Error.{Error}
 use Rattle.no_std_io2_base.specs.Errors.{IsNoInterruption}
 use Rattle.no_std_io2_base.specs.declared.traits.write.Write.{Ghosts as Writer}
-use Rattle.no_std_io2_base.specs.Write.{Told, Moves, MovesFront, WriteCall, Wrote, Flushed, Made}
-use Rattle.no_std_io2_base.specs.Write.{taken, write_mishap, call_mishap, calls_for}
-use Rattle.no_std_io2_base.specs.Write.{none as no_write}
+use Rattle.no_std_io2_base.specs.Write.{Told, Moves, MovesFront, WriteCall, Wrote, Flushed, Made, taken, write_mishap, call_mishap}
+use Rattle.no_std_io2_base.specs.Write.{calls_for, none as no_write}
 use Rattle.no_std_io2_base.proofs.MovesLemmas.{IsFront-refl, Moves-then, zero_write-whole}
 use Rattle.no_std_io2_base.proofs.CallsLemmas.{made_split, writes_whole}
 use Rattle.no_std_io2_base.proofs.WritesFacts.{writes_fault, writes_sends, writes_all}
 use Rattle.no_std_io2_base.proofs.AllFacts.{all_calls, call_steady}
 use Rattle.no_std_io2.specs.declared.buffered.sender.Sender.{Sender}
 use Rattle.no_std_io2.specs.BufWriter.{CallOf, stops, goes_on, with_buffer, Takes, sender_inner, sender_buffer, sender_with_inner}
-use Rattle.no_std_io2.specs.BufWriter.{SendCalls, WayCalls, PutCalls, Buffered, WriteCalls, WriteAllCalls, FlushCalls}
-use Rattle.no_std_io2.specs.BufWriter.{PastEmpty, OneWrite, OneWriteAll, OneFlush}
-use Rattle.no_std_io2.specs.BufWriter.{way_calls, writing_calls, buffer_after, Buffers, BuffersAll, Flushes}
+use Rattle.no_std_io2.specs.BufWriter.{SendCalls, WayCalls, PutCalls, Buffered, WriteCalls, WriteAllCalls, FlushCalls, PastEmpty, OneWrite}
+use Rattle.no_std_io2.specs.BufWriter.{OneWriteAll, OneFlush, way_calls, writing_calls, buffer_after, Buffers, BuffersAll, Flushes}
 use Rattle.no_std_io2.proofs.BufWriterLemmas.{Moves-kept, Moves-sent_part, Moves-emptied, MovesFront-emptied, none_of_length}
 use Rattle.no_std_io2.proofs.AnswerLemmas.{onok, onok_map}
 use Rattle.no_std_io2.proofs.StepLemmas.{no_ok, Stepped, Leaves, Tells, Sending, Counts, Counted, then_goes_on, then_leaves, then_tells}

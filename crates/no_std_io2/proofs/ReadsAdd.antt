@@ -55,7 +55,8 @@ module _ {R : Type 0} {may : R → ReadCall → R → Type 0} {Adds : R → List
   calls_add : {C : List ReadCall} {x : List ℕ} (reply : Result ℕ Error) → ToEndCalls C x reply → (a b : R) → Made may a C b → Adds a x b
   calls_add reply (inl own) a b made =
       subst (λ l. Adds a l b) (sym own.4)
-      (and_last own.0 (GaveAll own.2 (ended reply)) a b (λ mid m. gathers_add own.3 a mid m) (λ c d call. each.all c d own.2 (ended reply) call)
+      (and_last own.0 (GaveAll own.2 (ended reply)) a b (λ mid m. gathers_add own.3 a mid m)
+      (λ c d call. each.all c d own.2 (ended reply) call)
       (subst (λ K. Made may a K b) own.5 made))
   calls_add (Ok n) (inr until) a b made = until_add until (λ c d room call. each.gave c d room [] call) a b made
   calls_add (Err e) (inr (inl fault)) a b made = until_add fault.1 (λ c d room call. each.failed c d room e call) a b made

@@ -1,7 +1,7 @@
 -- How the pieces of a text that is printed to a vector follow one another.
-use Rattle.std.proofs.Common.{◌≡◌, ℕ, ◌+◌, ◌<◌, ◌≤◌, List, [], ◌++◌, Bool, true, false, true≢false, Result, Ok, Err, Option, None, Some, IfSome}
-use Rattle.std.proofs.Common.{Vec, vec_len, vec_capacity, length, is_ok, OnErr, if◌then◌else◌, sym, ap, ◌∙◌, arith, append_assoc, append-nil, subst, le_refl}
-use Rattle.std.proofs.Common.{length-append}
+use Rattle.std.proofs.Common.{◌≡◌, ℕ, ◌+◌, ◌<◌, ◌≤◌, List, [], ◌++◌, Bool, true, false, true≢false, Result, Ok, Err, Option, None, Some}
+use Rattle.std.proofs.Common.{IfSome, Vec, vec_len, vec_capacity, length, is_ok, OnErr, if◌then◌else◌, sym, ap, ◌∙◌, arith, append_assoc}
+use Rattle.std.proofs.Common.{append-nil, subst, le_refl, length-append}
 use Rattle.pending.specs.Text.{Appends}
 
 -- before the first piece nothing was

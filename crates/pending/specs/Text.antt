@@ -1,5 +1,6 @@
 -- The printing of a text into a record.
-use Rattle.std.specs.Prelude.{◌≡◌, ◌⊎◌, ℕ, ◌+◌, ◌<◌, ◌≤◌, List, [], ◌++◌, Option, IfSome, Result, Ok, Err, Vec, length, vec_len, vec_capacity}
+use Rattle.std.specs.Prelude.{◌≡◌, ◌⊎◌, ℕ, ◌+◌, ◌<◌, ◌≤◌, List, [], ◌++◌, Option, IfSome, Result, Ok, Err, Vec, length, vec_len}
+use Rattle.std.specs.Prelude.{vec_capacity}
 use Rattle.no_std_io2.specs.declared.io.Error.{Error}
 use Rattle.no_std_io2.specs.Errors.{IsOutOfMemory}
 use Rattle.no_std_io2.specs.Text.{IsTextError}

@@ -4,7 +4,8 @@ use Rattle.no_std_io2.specs.Read.{events_of}
 use Rattle.framing.specs.Frames.{frames}
 use Rattle.framing.specs.Part.{most}
 use Rattle.framing.specs.Sending.{writer_tells, still_to_go}
-use Rattle.framing.proofs.WentOut.{drop_none, went_out, refused_as, shown_frames, come_frames, all_short, only_memory, memory_alone, all_given}
+use Rattle.framing.proofs.WentOut.{drop_none, went_out, refused_as, shown_frames, come_frames, all_short, only_memory, memory_alone}
+use Rattle.framing.proofs.WentOut.{all_given}
 use Rattle.pending.proofs.RecordLemmas.{slice_rest}
 use Rattle.framing.proofs.round.round_trip.Goals as goal
 

@@ -14,7 +14,8 @@ returns-in-Ok-eq0 g c =
     record {
       law = exact_end before.law (λ t told. g.met.T.Read.store_tells _ told) c.reads-test.true c.read.auto.buf read.law
           c.in-Ok-eq0.is c.in-Ok-eq0.field-0-test (search rules);
-      counts = counted_stop before.counts (one_read _ (some_part _ c.reads.buf _ c.reads-test.true refl) read.reads) read.law.turns_never_rise;
+      counts = counted_stop before.counts (one_read _ (some_part _ c.reads.buf _ c.reads-test.true refl) read.reads)
+          read.law.turns_never_rise;
       handed = λ m. handed_once _ _ _ _ _ (before.handed m) (read.handed.counts (before.handed m).0) read.reads;
       writes = read.writes ∙ before.writes;
     }
@@ -49,7 +50,8 @@ returns-in-Err-2 g c =
     record {
       law = exact_fault before.law (λ t told. g.met.T.Read.store_tells _ told) c.reads-test.true c.read.auto.buf read.law
           (sym c.is_interrupted.ensures ∙ c.if-is_interrupted.false);
-      counts = counted_stop before.counts (one_read _ (some_part _ c.reads.buf _ c.reads-test.true refl) read.reads) read.law.turns_never_rise;
+      counts = counted_stop before.counts (one_read _ (some_part _ c.reads.buf _ c.reads-test.true refl) read.reads)
+          read.law.turns_never_rise;
       handed = λ m. handed_once _ _ _ _ _ (before.handed m) (read.handed.counts (before.handed m).0) read.reads;
       writes = read.writes ∙ before.writes;
     }

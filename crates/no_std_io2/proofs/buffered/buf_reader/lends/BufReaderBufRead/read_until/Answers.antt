@@ -87,7 +87,8 @@ pieces-preserved-else-is_whole g c =
 pub pieces-smaller-else-is_whole : goal.pieces-smaller-else-is_whole
 pieces-smaller-else-is_whole g c =
     let filled = c.fill_buf.follows.holds-at-none in
-    lt_of_lt_of_le (c.consume.ensures.law.spends_turn (c.find_piece-len.ensures.finds.open_ended c.if-is_whole.false).0) filled.law.turns_never_rise
+    lt_of_lt_of_le (c.consume.ensures.law.spends_turn (c.find_piece-len.ensures.finds.open_ended c.if-is_whole.false).0)
+    filled.law.turns_never_rise
 
 pub pieces-preserved : goal.pieces-preserved
 pieces-preserved g c =

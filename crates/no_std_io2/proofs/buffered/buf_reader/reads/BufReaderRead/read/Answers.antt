@@ -25,7 +25,8 @@ returns-then-buf g c =
       law = record {
         bound = read.bound;
         told = λ t. let now = read.told t in (now.0, through_told c.read.result c.read.new.buf held new _ _ none empty now.1);
-        turns_never_rise = turns_read g.row.S (length held) (length new) few read.turns_never_rise (λ some. absurd (omega (arith, some, ap length empty)));
+        turns_never_rise = turns_read g.row.S (length held) (length new) few read.turns_never_rise
+            (λ some. absurd (omega (arith, some, ap length empty)));
         spends_turn = through_turn c.read.result g.row.S (length held) (length new) _ _ few read.spends_turn;
         store = λ s.
             let now = read.store s.0 in

@@ -35,7 +35,8 @@ returns-then-is_empty g c =
         turns_never_rise =
             turns_read g.row.S (length held) (length left) few read.turns_never_rise
             (λ some. absurd (omega (arith, some, ap length clear.held)));
-        spends_turn = appended_turn g.row.S (length held) (length left) (ap length clear.held) (omega (arith, ap length none)) read.spends_turn read.turns_never_rise;
+        spends_turn = appended_turn g.row.S (length held) (length left) (ap length clear.held) (omega (arith, ap length none))
+            read.spends_turn read.turns_never_rise;
         metered = λ h. h;
         filling = λ h. h;
         store = λ s.
