@@ -246,7 +246,8 @@ fn slice_lends<'a>(s: &&'a [u8])
     ensures length { ⟦<&'a [u8] as BufRead>⟧.lent_length s.now ≡ length s.now.now }
 {}
 
-// The first's events and then the second's; once the first is done, the second's alone.
+// The events of a `Chain` are the first reader's and then the second's; once the first is done,
+// only the second's.
 fn chain_tells<T: Read, U: Read>(c: &Chain<T, U>)
     ensures tells { T.tells (chain_first c.now) → U.tells (chain_second c.now) → ⟦<Chain<T, U> as Read>⟧.tells c.now }
     ensures events { chain_is_done c.now ≡ false
@@ -261,13 +262,13 @@ fn chain_tells<T: Read, U: Read>(c: &Chain<T, U>)
     ensures store { ⟦<Chain<T, U> as Stored>⟧.has_store c.now → ⊥ }
 {}
 
-// What the one holds that is read now.
+// A `Chain` holds the bytes that the current reader holds.
 fn chain_lends<T: BufRead, U: BufRead>(c: &Chain<T, U>)
     ensures held { chain_is_done c.now ≡ false → ⟦<Chain<T, U> as BufRead>⟧.held c.now ≡ T.held (chain_first c.now) }
     ensures held_done { chain_is_done c.now ≡ true → ⟦<Chain<T, U> as BufRead>⟧.held c.now ≡ U.held (chain_second c.now) }
 {}
 
-// The inner's events, cut right after the byte at the limit.
+// The events of a `Take` are the inner reader's, up to and including the byte at the limit.
 fn take_tells<T: Read>(t: &Take<T>)
     ensures tells { T.tells (take_inner t.now) → ⟦<Take<T> as Read>⟧.tells t.now }
     ensures events { ⟦<Take<T> as Read>⟧.events t.now ≡ cut (take_limit t.now) (T.events (take_inner t.now)) }
@@ -279,7 +280,7 @@ fn take_tells<T: Read>(t: &Take<T>)
     ensures store { ⟦<Take<T> as Stored>⟧.has_store t.now → ⊥ }
 {}
 
-// At most as many of the inner's held bytes as the limit allows.
+// A `Take` holds as many of the inner reader's held bytes as the limit allows.
 fn take_lends<T: BufRead>(t: &Take<T>)
     ensures { ⟦<Take<T> as BufRead>⟧.held t.now ≡ take (take_limit t.now) (T.held (take_inner t.now)) }
 {}

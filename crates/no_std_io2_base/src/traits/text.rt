@@ -1,4 +1,4 @@
-// A text to a writer, as it is printed: what `write_fmt` stands on.
+// The printing of a text to a writer, piece by piece, for `write_fmt`.
 ghost use Rattle.std.specs.Prelude.{◌≡◌, ℕ, List, ◌++◌, Ok, IfSome, IsOk, OnOk, OnErr, Result};
 ghost use Rattle.no_std_io2_base.specs.declared.error.Error.{Error};
 ghost use Rattle.no_std_io2_base.specs.Text.{Prints, FailsText};
@@ -27,7 +27,8 @@ impl Answers<Error> for ErrorKind {
     }
 }
 
-// What the proof of a call remembers of its writer, as it was, under the name of the loan. A call at `Brand` picks it.
+// The state of the writer before the call, which the proof of the call keeps under the name of the borrow. A call with
+// `Brand` chooses the name.
 pub(super) trait Began<W> {
     ghost at: { W → ℕ → Type 0 };
 }
@@ -36,13 +37,13 @@ impl<W> Began<W> for Brand {
     ghost at = { λ w name. Unit {0} };
 }
 
-// A writer that was lent. It is passed by value, so its reference keeps its name.
+// A borrowed writer. It is passed by value, so its reference keeps its name.
 #[derive(Drop)]
 pub(super) struct Lent<'a, W> {
     pub inner: &'a mut W,
 }
 
-// A writer that is given back, what it answered, and what the text's own `fmt` did.
+// A writer that is given back, with its result and the result of the text's own `fmt`.
 #[derive(Drop)]
 pub(super) struct Printed<'a, W> {
     pub inner: &'a mut W,
@@ -50,19 +51,20 @@ pub(super) struct Printed<'a, W> {
     pub formatted: fmt::Result,
 }
 
-// A writer for the formatter. It keeps the first error, since the formatter's own carries none, and after it writes nothing.
+// A writer for the formatter. It keeps the writer's first error, because the formatter's own error does not contain one, and
+// writes nothing after it.
 #[derive(Drop)]
 struct Adapter<'a, W: Write, K: Began<W>> {
     inner: &'a mut W,
     met: Result<()>,
     began: PhantomData<K>,
-    // Whatever a text's `fmt` does, some text was printed since.
+    // Some text was printed so far, whatever the `fmt` does.
     ghost prints: { ∥ ((old : W) × (text : List ℕ) × (K.at old inner.ghost_name
         × Prints W.told W.takes_all W.cost W.is_metered W.may old text met inner.now)) ∥₁ },
 }
 
 impl<W: Write, K: Began<W>> fmt::Write for Adapter<'_, W, K> {
-    // What was printed before, and then these bytes.
+    // The bytes were printed after what was printed before.
     ghost write_str_gives = { λ s bs t. (old : W) (text : List ℕ)
         → K.at old s.inner.ghost_name × Prints W.told W.takes_all W.cost W.is_metered W.may old text s.met s.inner.now
         → K.at old t.inner.ghost_name × Prints W.told W.takes_all W.cost W.is_metered W.may old (text ++ bs) t.met t.inner.now };
@@ -100,8 +102,9 @@ pub(super) fn print_to<'a, W: Write, D: Display + Drop, K: Began<W>>(
     }
 }
 
-// What the writer answered, or that the text's own `fmt` failed. The kind of the writer's error is kept; the text tells the
-// caller that more than the writer failed, so what the writer accepted may be no front of the text.
+// Returns the writer's result, or an error if the text's own `fmt` failed. That error has the kind of the writer's error,
+// if there is one. Its message tells the caller that not only the writer failed, so the accepted bytes may not be a front
+// of the text.
 pub(super) fn answer_of(formatted: fmt::Result, met: Result<()>) -> Result<()>
     ensures ok { OnOk formatted (result ≡ met) }
     ensures err { OnErr formatted (FailsText met result) }
