@@ -1,4 +1,5 @@
-// Frames that are sent and read. Where memory was refused, the same call is made once more and goes on.
+// Frames that are sent and read. If an allocation failed, the same call is made once more, and
+// continues.
 use crate::outcome::Outcome;
 use crate::texts::{behind, front};
 use crate::torn::Torn;
@@ -30,7 +31,7 @@ fn send_both(alloc: Global, room: &mut [u8], first: &[u8], second: &[u8]) -> Out
     sent.and(Outcome::of(&w.flush()))
 }
 
-// The frames of two payloads.
+// Writes the frames of two payloads.
 fn put_both(wire: &mut [u8], first: &[u8], second: &[u8]) -> Result<u64> {
     let mut to = Cursor::new(wire);
     to.write_all(&u32::try_from(first.len()).unwrap_or(0).to_le_bytes())?;
@@ -40,7 +41,7 @@ fn put_both(wire: &mut [u8], first: &[u8], second: &[u8]) -> Result<u64> {
     Ok(to.position())
 }
 
-/// Two payloads of these lengths, one after the other.
+/// Sends two payloads of these lengths, one after the other.
 pub fn by_send(alloc: Global, text: &[u8], first: usize, second: usize) -> Outcome {
     let mut room = [0u8; 150_000];
     let mut wire = [0u8; 150_000];
@@ -64,7 +65,7 @@ fn next(r: &mut Reader<'_>, payload: &[u8]) -> Outcome {
     }
 }
 
-/// Two frames with payloads of these lengths.
+/// Reads two frames with payloads of these lengths.
 pub fn by_next(alloc: Global, text: &[u8], first: usize, second: usize) -> Outcome {
     let mut wire = [0u8; 150_000];
     let Ok(len) = put_both(&mut wire, front(text, first), front(text, second)) else {
@@ -75,7 +76,7 @@ pub fn by_next(alloc: Global, text: &[u8], first: usize, second: usize) -> Outco
     next(&mut r, front(text, first)).and(next(&mut r, front(text, second)))
 }
 
-// A fault that is no want of memory.
+// Makes a call that has to fail with this kind, which is not `OutOfMemory`.
 fn faults(r: &mut Reader<'_>, kind: ErrorKind) -> Outcome {
     match r.next() {
         Err(e) if e.kind() == kind => Outcome::Whole,
@@ -91,7 +92,7 @@ fn fault(r: &mut Reader<'_>, kind: ErrorKind) -> Outcome {
     }
 }
 
-/// A payload of this length, in whose midst the reader fails once.
+/// Reads a payload of this length from a reader that fails once in its middle.
 pub fn by_torn(alloc: Global, text: &[u8], len: usize) -> Outcome {
     let mut wire = [0u8; 150_000];
     let Ok(end) = put_both(&mut wire, front(text, len), b"") else {
@@ -103,7 +104,7 @@ pub fn by_torn(alloc: Global, text: &[u8], len: usize) -> Outcome {
     fault(&mut r, ErrorKind::WouldBlock).and(next(&mut r, front(text, len)))
 }
 
-/// A header that tells 2^32 - 1 bytes, above the limit.
+/// Reads a header that says 2^32 - 1 bytes, which is above the limit.
 pub fn by_above(alloc: Global) -> Outcome {
     let wire = b"\xff\xff\xff\xffabc".as_slice();
     let mut r = Reader::new(alloc, Torn::new(b"", wire), 5);
@@ -120,13 +121,13 @@ fn make_round(alloc: Global, first: &[u8], second: &[u8]) -> Result<bool> {
     Ok(given.len() == 2 && given[0].as_slice() == first && given[1].as_slice() == second)
 }
 
-/// Two payloads of these lengths, sent and read.
+/// Sends and reads two payloads of these lengths.
 pub fn by_round(alloc: Global, text: &[u8], first: usize, second: usize) -> Outcome {
     let came = make_round(alloc, front(text, first), front(text, second));
     Outcome::of(&came).if_right(!matches!(came, Ok(false)))
 }
 
-/// Whether bytes are the line of a text.
+/// Returns whether the bytes are the line of a text.
 pub fn is_line(bytes: &[u8], text: &[u8]) -> bool {
     behind(bytes, text).is_some_and(|rest| rest.starts_with(b"\n"))
 }

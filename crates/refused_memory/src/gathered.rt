@@ -1,6 +1,7 @@
-// Whole runs of `split` and of `lines` over a reader that is lent.
+// Whole runs of `split` and `lines` over a borrowed reader.
 //
-// After a refusal the items and what is left of the reader are the whole text, but for a front of the item that was under way.
+// After a failed allocation, the items and the rest of the reader are the whole text, except for the first bytes of the item
+// that was being read.
 use crate::outcome::Outcome;
 use crate::texts::{behind, front};
 use io_bench::{run_lines, run_split};
@@ -15,13 +16,13 @@ fn reader() -> BufReader<Cursor<&'static [u8]>, 4> {
     BufReader::new(Cursor::new(TEXT))
 }
 
-// What stands behind an item, and behind its newline.
+// Returns what follows an item and its newline.
 fn behind_item<'a>(text: &'a [u8], item: &[u8]) -> Option<&'a [u8]> {
     let rest = behind(text, item)?;
     Some(behind(rest, b"\n").unwrap_or(rest))
 }
 
-// Judges a run behind whose items this text stands.
+// Judges a run after whose items this text is left.
 fn judge<R: Read>(alloc: Global, ended: &Result<()>, text: &[u8], r: &mut R) -> Outcome {
     let mut left = Vec::new(alloc);
     if let Err(e) = r.read_to_end(&mut left) {
@@ -58,12 +59,12 @@ fn lines<R: BufRead>(alloc: Global, r: &mut R) -> Outcome {
     judge(alloc, &ended, text, r)
 }
 
-/// All pieces.
+/// Takes all pieces.
 pub fn by_run_split(alloc: Global) -> Outcome {
     split(alloc, &mut reader())
 }
 
-/// All lines.
+/// Takes all lines.
 pub fn by_run_lines(alloc: Global) -> Outcome {
     lines(alloc, &mut reader())
 }

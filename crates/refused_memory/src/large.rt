@@ -5,41 +5,42 @@ use crate::torn::Torn;
 use no_std_io2::io::{BufRead, BufReader, Cursor, Read, Write};
 use std::alloc::Global;
 
-/// `read_to_end` of so many bytes of a slice, which knows how many are to come.
+/// Makes a `read_to_end` of `len` bytes of a slice, which knows how many are to come.
 pub fn by_known(alloc: Global, text: &[u8], len: usize) -> Outcome {
     let mut all = Vec::new(alloc);
     let mut r = front(text, len);
     Outcome::of(&r.read_to_end(&mut all)).if_full(all.len(), len)
 }
 
-/// The same of a reader that knows nothing, which has the trait's own body.
+/// Makes a `read_to_end` of `len` bytes of a reader with the trait's body, which does not know how
+/// many are to come.
 pub fn by_unknown(alloc: Global, text: &[u8], len: usize) -> Outcome {
     let mut all = Vec::new(alloc);
     Outcome::of(&Torn::new(b"", front(text, len)).read_to_end(&mut all)).if_full(all.len(), len)
 }
 
-/// The same as a text.
+/// Makes a `read_to_string` of `len` bytes.
 pub fn by_read_to_string(alloc: Global, text: &[u8], len: usize) -> Outcome {
     let mut all = String::new(alloc);
     let mut r = Torn::new(b"", front(text, len));
     Outcome::of(&r.read_to_string(alloc, &mut all)).if_full(all.len(), len)
 }
 
-/// `read_until` of so many bytes through a buffer.
+/// Makes a `read_until` of `len` bytes through a buffer.
 pub fn by_read_until(alloc: Global, text: &[u8], len: usize) -> Outcome {
     let mut piece = Vec::new(alloc);
     let mut r = BufReader::<&[u8], 4096>::new(front(text, len));
     Outcome::of(&r.read_until(b'\n', &mut piece)).if_full(piece.len(), len)
 }
 
-/// `read_line` of so many bytes through a buffer.
+/// Makes a `read_line` of `len` bytes through a buffer.
 pub fn by_read_line(alloc: Global, text: &[u8], len: usize) -> Outcome {
     let mut line = String::new(alloc);
     let mut r = BufReader::<&[u8], 4096>::new(front(text, len));
     Outcome::of(&r.read_line(alloc, &mut line)).if_full(line.len(), len)
 }
 
-/// A piece of `split` of so many bytes.
+/// Takes a piece of `len` bytes from a `split`.
 pub fn by_split(alloc: Global, text: &[u8], len: usize) -> Outcome {
     let mut pieces = BufReader::<&[u8], 4096>::new(front(text, len)).split(alloc, b'\n');
     match pieces.next() {
@@ -49,7 +50,7 @@ pub fn by_split(alloc: Global, text: &[u8], len: usize) -> Outcome {
     }
 }
 
-/// A line of `lines` of so many bytes.
+/// Takes a line of `len` bytes from a `lines`.
 pub fn by_lines(alloc: Global, text: &[u8], len: usize) -> Outcome {
     let mut lines = BufReader::<&[u8], 4096>::new(front(text, len)).lines(alloc);
     match lines.next() {
@@ -59,7 +60,7 @@ pub fn by_lines(alloc: Global, text: &[u8], len: usize) -> Outcome {
     }
 }
 
-/// A byte behind a gap of so many.
+/// Writes a byte after a gap of `len` bytes.
 pub fn by_gap(alloc: Global, len: usize) -> Outcome {
     let mut to = Cursor::new(Vec::new(alloc));
     to.set_position(len as u64);

@@ -1,4 +1,4 @@
-// Lines of a log.
+// Lines that are logged.
 use crate::frames::is_line;
 use crate::outcome::Outcome;
 use crate::texts::front;
@@ -8,7 +8,7 @@ use std::alloc::Global;
 
 type Log<'a> = LineLog<Cursor<&'a mut [u8]>, 64>;
 
-// Logs a line as it stands, or as it is printed.
+// Logs a line as a string, or as a printed text.
 fn try_log(to: &mut Log<'_>, line: &str, is_printed: bool) -> Outcome {
     if to.is_under_way() {
         return Outcome::Wrong("a line is under way");
@@ -31,7 +31,7 @@ fn log_both(alloc: Global, room: &mut [u8], lines: [&str; 2], is_printed: bool) 
     log(&mut to, lines[0], is_printed).and(log(&mut to, lines[1], is_printed))
 }
 
-/// Two lines of these lengths, one after the other, as they stand or as they are printed.
+/// Logs two lines of these lengths, one after the other, as strings or as printed texts.
 pub fn by_log(alloc: Global, text: &[u8], lens: [usize; 2], is_printed: bool) -> Outcome {
     let mut room = [0u8; 150_000];
     let Ok(line) = std::str::from_utf8(front(text, lens[0])) else {

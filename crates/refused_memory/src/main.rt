@@ -1,9 +1,10 @@
-//! Plays rows of calls that ask for memory, for runs in each of which one asking is refused, and one that notes how much each asks
-//! for (`scripts/check_memory`).
+//! Plays rows of calls that allocate. `scripts/check_memory` runs it so that in each run one allocation fails, and once to measure
+//! how much each call allocates.
 //!
-//! A row of standard input is a call with one or two numbers, and behind a bar the sizes that it asks for, which the script compares.
-//! Printed is the call and how it ended: `whole`; `refused`, where memory was and nothing else went wrong (then the call was
-//! made once more, where it goes on); or what was answered in place of that. A line is one write, so that it is known which row asked.
+//! A row of standard input is a call with one or two numbers, followed by a bar and the sizes of its allocations, which the script
+//! compares. The program prints the call and how it ended: `whole`; `refused`, if an allocation failed and nothing else went wrong
+//! (then the call was made once more, if it can continue); or what it returned instead. Each line is one write, so that the script
+//! knows which row allocated.
 #![tactic(auto)]
 
 mod frames;

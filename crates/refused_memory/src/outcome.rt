@@ -1,17 +1,17 @@
-// How a row ended.
+// The outcome of a row.
 use no_std_io2::io::{Error, ErrorKind, Result};
 
 #[derive(Clone, Copy, PartialEq, Eq)]
 pub enum Outcome {
     Whole,
-    // Memory was refused, and nothing else went wrong.
+    // An allocation failed, and nothing else went wrong.
     Refused,
-    // What was answered in place of that.
+    // Something else was returned.
     Wrong(&'static str),
 }
 
 impl Outcome {
-    /// What an error says.
+    /// Returns the outcome of an error.
     pub fn of_error(error: &Error) -> Outcome {
         if error.kind() == ErrorKind::OutOfMemory && error.get_ref().is_none() {
             Outcome::Refused
@@ -20,7 +20,7 @@ impl Outcome {
         }
     }
 
-    /// What an answer says.
+    /// Returns the outcome of a result.
     pub fn of<T>(answer: &Result<T>) -> Outcome {
         match answer {
             Ok(_) => Outcome::Whole,
@@ -28,7 +28,7 @@ impl Outcome {
         }
     }
 
-    /// What two in a row come to.
+    /// Returns the outcome of two calls, one after the other.
     pub fn and(self, next: Outcome) -> Outcome {
         match (self, next) {
             (Outcome::Wrong(what), _) | (_, Outcome::Wrong(what)) => Outcome::Wrong(what),
@@ -37,7 +37,7 @@ impl Outcome {
         }
     }
 
-    /// The same, where what was made is as it has to be.
+    /// Returns this outcome if the data is right, and else an error.
     pub fn if_right(self, is_right: bool) -> Outcome {
         if is_right {
             self
@@ -46,7 +46,7 @@ impl Outcome {
         }
     }
 
-    /// The same, where what came whole is so long.
+    /// Returns this outcome if the length is right, and else an error.
     pub fn if_full(self, len: usize, want: usize) -> Outcome {
         match self {
             Outcome::Whole => Outcome::Whole.if_right(len == want),
@@ -54,7 +54,7 @@ impl Outcome {
         }
     }
 
-    /// What is printed of it.
+    /// Returns the text that is printed.
     pub fn text(self) -> &'static str {
         match self {
             Outcome::Whole => "whole",

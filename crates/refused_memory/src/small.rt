@@ -1,4 +1,4 @@
-// Readings of a short text, and what a run accepted: each is made of many small askings.
+// Reads of a short text, and the bytes that a run accepted: calls with many small allocations.
 use crate::outcome::Outcome;
 use io_bench::{Op, Reply, joined};
 use no_std_io2::io::{BufRead, BufReader, Cursor, Read};
@@ -6,7 +6,7 @@ use std::alloc::Global;
 
 const TEXT: &str = "a line that grows\r\nend";
 
-// The same as `split` and `lines` give it.
+// The lines of the text, as `split` and `lines` yield them.
 const PIECES: [&str; 2] = ["a line that grows\r", "end"];
 
 const LINES: [&str; 2] = ["a line that grows", "end"];
@@ -17,7 +17,8 @@ fn reader() -> Reader {
     BufReader::new(Cursor::new(TEXT.as_bytes()))
 }
 
-// After a refusal the text is as it was, and the rest of the reader is an end of the whole text.
+// After a failed allocation the string is unchanged, and the rest of the reader is a suffix of the
+// whole text.
 fn after_refusal<R: Read>(alloc: Global, r: &mut R, text: &str, len: usize) -> Outcome {
     if text.len() != len || !TEXT.starts_with(text) {
         return Outcome::Wrong("a text that a refusal has changed");
@@ -43,14 +44,14 @@ fn by_read_line<R: BufRead>(alloc: Global, r: &mut R) -> Outcome {
     Outcome::Whole.if_right(text.as_str() == TEXT)
 }
 
-/// `read_line` of a buffer, of a buffer up to a limit and of a cursor.
+/// Makes a `read_line` of a buffer, of a buffer with a limit, and of a cursor.
 pub fn by_read_lines(alloc: Global) -> Outcome {
     by_read_line(alloc, &mut reader())
         .and(by_read_line(alloc, &mut reader().take(99)))
         .and(by_read_line(alloc, &mut Cursor::new(TEXT.as_bytes())))
 }
 
-/// The pieces between newlines.
+/// Takes the pieces between newlines.
 pub fn by_split(alloc: Global) -> Outcome {
     let mut pieces = reader().split(alloc, b'\n');
     'pieces: for want in PIECES {
@@ -63,7 +64,7 @@ pub fn by_split(alloc: Global) -> Outcome {
     Outcome::Whole.if_right(pieces.next().is_none())
 }
 
-/// The lines.
+/// Takes the lines.
 pub fn by_lines(alloc: Global) -> Outcome {
     let mut lines = reader().lines(alloc);
     'lines: for want in LINES {
@@ -76,7 +77,7 @@ pub fn by_lines(alloc: Global) -> Outcome {
     Outcome::Whole.if_right(lines.next().is_none())
 }
 
-/// The bytes that a run accepted.
+/// Joins the bytes that a run accepted.
 pub fn by_joined(alloc: Global) -> Outcome {
     let ops = [Op::Write(b"abc"), Op::WriteAll(b"de"), Op::Flush];
     let replies = [Reply::Took(2), Reply::Done, Reply::Done];

@@ -1,4 +1,4 @@
-// A reader that fails once behind its first part, where it has one, and knows nothing of what is to come.
+// A reader that fails once after its first part, if it has one, and tells no events.
 ghost use Rattle.std.specs.Prelude.{[]};
 
 use no_std_io2::io::{Error, ErrorKind, Read, Result, Stored};
@@ -8,7 +8,7 @@ pub struct Torn<'a> {
     first: &'a [u8],
     second: &'a [u8],
     is_to_fail: bool,
-    // How many answers are left.
+    // The number of turns that are left.
     turns: u64,
 }
 

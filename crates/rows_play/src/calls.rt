@@ -1,4 +1,5 @@
-// The call of a row, calls that several kinds of streams have, and what a device's journal shows after them.
+// The call of a row, the calls that several kinds of streams have, and what a device's journal shows after
+// them.
 use super::fault::{Fault, Made};
 use super::journal::Journal;
 use super::line::{Line, unescape};
@@ -8,19 +9,19 @@ use std::alloc::Global;
 use std::cell::RefCell;
 use std::rc::Rc;
 
-/// A call of a row: a word, and what stands behind it.
+/// A call of a row: a word, and the text after it.
 #[derive(Drop)]
 pub struct Call<'a> {
-    /// What is called.
+    /// The name of the call.
     pub word: &'a str,
-    /// What stands behind the word.
+    /// The text after the word.
     pub rest: &'a str,
-    /// The same as bytes.
+    /// The bytes that this text stands for.
     pub bytes: Vec<u8>,
 }
 
 impl<'a> Call<'a> {
-    /// Reads a call. A fault says that an escape is bad, or that memory is refused.
+    /// Reads a call. It fails if an escape is bad, or if an allocation fails.
     pub fn parse(alloc: Global, call: &'a str) -> Made<Call<'a>> {
         let (word, rest) = match call.split_once(" ") {
             Some(both) => both,
@@ -33,7 +34,7 @@ impl<'a> Call<'a> {
         })
     }
 
-    /// What stands behind the word, as a number; where it is none the row can't be played.
+    /// Returns the text after the word as a number. If it is no number, the row cannot be played.
     pub fn number(&self, line: &mut Line) -> usize {
         match self.rest.parse::<usize>() {
             Ok(n) => n,
@@ -47,7 +48,7 @@ impl<'a> Call<'a> {
 
 const IN_USE: &str = "the journal is in use";
 
-/// Makes a writer's call of a row, through the trait alone, and prints its answer.
+/// Makes the call of a row on any writer, and prints its result.
 pub fn make_call<W: Write>(w: &mut W, call: &Call<'_>, line: &mut Line) {
     match call.word {
         "write" => line.length(&w.write(&call.bytes)),
@@ -58,7 +59,7 @@ pub fn make_call<W: Write>(w: &mut W, call: &Call<'_>, line: &mut Line) {
     }
 }
 
-// The answer, and what is left to be written.
+// Prints the result of a `write_rest`, and the bytes that are left.
 fn call_write_rest<W: Write>(w: &mut W, bytes: &[u8], line: &mut Line) {
     let mut rest = bytes;
     line.done(&w.write_rest(&mut rest));
@@ -66,7 +67,7 @@ fn call_write_rest<W: Write>(w: &mut W, bytes: &[u8], line: &mut Line) {
     line.bytes(rest);
 }
 
-// Where a row's seek goes.
+// Returns the target of a row's seek.
 fn target(words: &str) -> Option<SeekFrom> {
     let (from, offset) = words.split_once(" ")?;
     if from == "start" {
@@ -80,7 +81,7 @@ fn target(words: &str) -> Option<SeekFrom> {
     }
 }
 
-/// Makes a seeker's call of a row, through the trait alone, and prints its answer; `false` where the row makes none.
+/// Makes the call of a row on any seeker, and prints its result. Returns `false` if the row makes no such call.
 pub fn make_seek<S: Seek>(s: &mut S, call: &Call<'_>, line: &mut Line) -> bool {
     match call.word {
         "seek" => match target(call.rest) {
@@ -95,7 +96,8 @@ pub fn make_seek<S: Seek>(s: &mut S, call: &Call<'_>, line: &mut Line) -> bool {
     true
 }
 
-/// A journal whose device answers so. A fault says what is no answer, or that memory is refused.
+/// Makes a journal whose device has these results. It fails if a word is no result, or if an
+/// allocation fails.
 pub fn new_journal(alloc: Global, words: &str) -> Made<Rc<RefCell<Journal>>> {
     let answers = parse_answers(alloc, words)?;
     match Rc::new(alloc, RefCell::new(Journal::new(alloc, answers))) {
@@ -104,7 +106,7 @@ pub fn new_journal(alloc: Global, words: &str) -> Made<Rc<RefCell<Journal>>> {
     }
 }
 
-/// Prints a column of the bytes that the device took.
+/// Prints a column with the bytes that the device took.
 pub fn show_out(journal: &RefCell<Journal>, line: &mut Line) {
     line.column();
     match journal.try_borrow() {
@@ -113,7 +115,7 @@ pub fn show_out(journal: &RefCell<Journal>, line: &mut Line) {
     }
 }
 
-/// Prints a column of the calls that reached the device since this was last asked.
+/// Prints a column with the calls that reached the device since the last such column.
 pub fn show_calls(journal: &RefCell<Journal>, line: &mut Line) {
     line.column();
     match journal.try_borrow_mut() {
@@ -122,7 +124,7 @@ pub fn show_calls(journal: &RefCell<Journal>, line: &mut Line) {
     }
 }
 
-/// From here on the device answers so.
+/// Sets the results of the device from here on.
 pub fn expect(alloc: Global, journal: &RefCell<Journal>, words: &str) -> Made<()> {
     let answers = parse_answers(alloc, words)?;
     let Ok(mut journal) = journal.try_borrow_mut() else {

@@ -1,8 +1,8 @@
-// What came of the rows that were played.
+// The counts of the rows that were played.
 use super::fault::Fault;
 use std::io;
 
-/// How many rows were played and how they came out, and where the player stands in its file.
+/// The number of rows that were played, how they came out, and the place in the file.
 #[derive(Clone, Copy)]
 pub struct Count<'a> {
     /// The name of the file.
@@ -19,14 +19,14 @@ pub struct Count<'a> {
     pub rows: u64,
     /// Rows that were played with other faults than those that they name.
     pub turned: u64,
-    /// Rows that came out otherwise.
+    /// Rows that came out differently.
     pub differing: u64,
     /// Lines that say nothing that can be played.
     pub malformed: u64,
 }
 
 impl<'a> Count<'a> {
-    /// Of a file of which nothing was read.
+    /// Makes the counts of a file of which nothing was read.
     pub fn new(file: &'a str, turns_faults: bool) -> Count<'a> {
         Count {
             file,
@@ -41,12 +41,12 @@ impl<'a> Count<'a> {
         }
     }
 
-    /// The same at another line.
+    /// Returns these counts at another line.
     pub fn at(self, line: u64) -> Count<'a> {
         Count { line, ..self }
     }
 
-    /// With one more table.
+    /// Returns these counts with one more table.
     pub fn add_table(self) -> Count<'a> {
         Count {
             tables: self.tables.wrapping_add(1),
@@ -54,7 +54,7 @@ impl<'a> Count<'a> {
         }
     }
 
-    /// With one more group.
+    /// Returns these counts with one more group.
     pub fn add_group(self) -> Count<'a> {
         Count {
             groups: self.groups.wrapping_add(1),
@@ -62,7 +62,7 @@ impl<'a> Count<'a> {
         }
     }
 
-    /// With what came of the same rows with other faults, from here on.
+    /// Returns these counts with those of the same rows with other faults.
     pub fn add_turned(self, later: Count<'a>) -> Count<'a> {
         Count {
             turned: self.turned.wrapping_add(later.rows.wrapping_sub(self.rows)),
@@ -72,19 +72,19 @@ impl<'a> Count<'a> {
         }
     }
 
-    /// Whether there were rows, and each came out as it says.
+    /// Returns whether there were rows, and each came out as it says.
     pub fn is_met(self) -> bool {
         self.rows > 0 && self.differing == 0 && self.malformed == 0
     }
 
-    // Prints where the player stands.
+    // Prints the place in the file.
     fn print_place<R: Print>(self, rt: &R) -> io::Result<()> {
         let Count { file, line, .. } = self;
         println!(rt; "{file}:{line}")
     }
 }
 
-/// How many lines a text has.
+/// Returns the number of lines of a text.
 pub fn lines_of(text: &str) -> u64 {
     let mut lines: u64 = 0;
     'lines: for _line in text.split("\n") {
@@ -93,7 +93,8 @@ pub fn lines_of(text: &str) -> u64 {
     lines
 }
 
-/// Prints what is wrong with a line, and counts it. Refused memory is `OutOfMemory`, and ends the run.
+/// Prints what is wrong with a line, and counts it. A failed allocation is `OutOfMemory`, and ends the
+/// run.
 pub fn tell_fault<'a, R: Print>(
     rt: &R,
     fault: Fault,

@@ -5,35 +5,35 @@ use super::kinds::name_of_kind;
 use no_std_io2::io::{Error, ErrorKind};
 use std::alloc::{AllocError, Global};
 
-/// What the faults of one kind in a table become.
+/// How the faults of one kind in a table are replaced.
 #[derive(Clone, Copy)]
 pub struct Turn {
     /// The kind that a table names.
     pub from: ErrorKind,
-    /// The kind that stands in its place.
+    /// The kind that replaces it.
     pub to: ErrorKind,
-    /// How they have texts.
+    /// Which of them have texts.
     pub texts: Texts,
 }
 
-/// How faults have texts.
+/// Which faults have texts.
 #[derive(Clone, Copy, PartialEq, Eq)]
 pub enum Texts {
-    /// As the table has them.
+    /// Those that have one in the table.
     Same,
-    /// Those without a text have one.
+    /// All: those without a text get one.
     Added,
-    /// None has one.
+    /// None.
     Left,
 }
 
 impl Turn {
-    /// Whether it changes nothing.
+    /// Returns whether it changes nothing.
     pub fn is_none(self) -> bool {
         self.from == self.to && self.texts == Texts::Same
     }
 
-    // The text that stands in place of this one.
+    // Returns the text that replaces this one.
     fn text<'a>(self, text: &'a str) -> &'a str {
         match self.texts {
             Texts::Same => text,
@@ -43,22 +43,22 @@ impl Turn {
         }
     }
 
-    // Whether a group is played so. A line whose device is out of memory can't be told from one that found none, and then the
-    // text is put back.
+    // Returns whether a group is played like this. A line whose device returns `OutOfMemory` cannot be told from one whose
+    // allocation failed, and then the text is put back.
     fn takes(self, group: &str, fault: &str) -> bool {
         group.contains(fault)
             && !(self.to == ErrorKind::OutOfMemory && group.contains("\nread_line"))
     }
 }
 
-// What stands behind a kind's name: the fault's text, whether it is printed once more in parentheses, and the rest.
+// What follows the name of a kind: the fault's text, whether it is printed once more in parentheses, and the rest.
 struct Behind<'a> {
     text: &'a str,
     has_aside: bool,
     rest: &'a str,
 }
 
-// What of a text stands before this end of it.
+// Returns the part of a text before this suffix of it.
 fn before<'a>(text: &'a str, end: &str) -> &'a str {
     match text.split_once(end) {
         Some((front, _)) => front,
@@ -66,7 +66,7 @@ fn before<'a>(text: &'a str, end: &str) -> &'a str {
     }
 }
 
-// The text at the front, up to what ends it, and the rest.
+// Returns the text at the front, up to what ends it, and the rest.
 fn cut_text(words: &str) -> (&str, &str) {
     let text = before(before(before(before(words, ","), "\n"), " |"), " (");
     match words.strip_prefix(text) {
@@ -103,7 +103,7 @@ fn cut_behind(words: &str) -> Behind<'_> {
     }
 }
 
-// Adds a fault to what was turned so far, and what stands behind it.
+// Appends a replaced fault, and what follows it.
 fn push_turned(alloc: Global, turned: &mut String, words: &str, turn: Turn) -> Made<()> {
     let is_answer = turned.as_str().ends_with("fail ");
     let Behind {
@@ -130,7 +130,7 @@ fn push_turned(alloc: Global, turned: &mut String, words: &str, turn: Turn) -> M
     Ok(())
 }
 
-// A group with other faults.
+// Returns a group with other faults.
 fn turn_group(alloc: Global, group: &str, turn: Turn) -> Made<String> {
     let mut turned = String::new(alloc);
     'faults: for (i, words) in group.split(name_of_kind(turn.from)).enumerate() {
@@ -143,7 +143,7 @@ fn turn_group(alloc: Global, group: &str, turn: Turn) -> Made<String> {
     Ok(turned)
 }
 
-// Adds so many empty lines.
+// Appends this many empty lines.
 fn push_empty(text: &mut String, count: u64) -> Result<(), AllocError> {
     'lines: for _ in 0..count {
         text.push_str("\n")?;
@@ -151,8 +151,8 @@ fn push_empty(text: &mut String, count: u64) -> Result<(), AllocError> {
     Ok(())
 }
 
-/// A table with other faults, on the same lines; the groups without a fault of the kind are left out. `None` where each is.
-/// A fault says that memory is refused.
+/// Returns a table with other faults, on the same lines, without the groups that have no fault of the kind. Returns `None`
+/// if no group has one. It fails if an allocation fails.
 pub fn turn_table(alloc: Global, table: &str, turn: Turn) -> Made<Option<String>> {
     let name = name_of_kind(turn.from);
     let fault = format!(in alloc; "fail {name}")?;

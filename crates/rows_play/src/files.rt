@@ -52,7 +52,7 @@ fn play_faults<'a, S: Streams, R: Print>(
     Ok(count)
 }
 
-// The same in place of those of one kind.
+// Plays a table with other faults in place of those of one kind.
 fn play_kinds<'a, S: Streams, R: Print>(
     rt: &R,
     alloc: Global,
@@ -75,7 +75,7 @@ fn play_kinds<'a, S: Streams, R: Print>(
     Ok(count)
 }
 
-// The same by those of another kind, with texts and without.
+// Plays a table with faults of another kind, with texts and without.
 fn play_texts<'a, S: Streams, R: Print>(
     rt: &R,
     alloc: Global,
@@ -123,7 +123,7 @@ fn play_text<'a, S: Streams, R: Print>(
     Ok(count)
 }
 
-// Plays a file, and prints how much it has. Whether each row came out as it says.
+// Plays a file, and prints its counts. Returns whether each row came out as it says.
 fn play_file<S: Streams>(rt: &HostRuntime, file: &str, turns_faults: bool) -> io::Result<bool> {
     let text = fs::read_to_string(rt, file)?;
     let count = Count::new(file, turns_faults);
@@ -155,10 +155,10 @@ fn play_arguments<S: Streams>(rt: &HostRuntime) -> io::Result<bool> {
     Ok(is_met)
 }
 
-/// Plays the files that the arguments name, and prints for each how many tables, groups and rows it has, and each row that
-/// came out otherwise. Behind a word `each-kind` each table is played with other faults too, with the number of those rows.
-/// The status is 1 where a row came out otherwise, where a line can't be read, where a file has no row, and where the files
-/// can't be read or memory is refused, with the reason on standard error.
+/// Plays the files that the arguments name. For each it prints how many tables, groups and rows it has, and each row that
+/// came out differently. After the argument `each-kind` each table is also played with other faults, and the number of
+/// those rows is printed. The status is 1 if a row came out differently, if a line or a file cannot be read, if a file has
+/// no row, or if an allocation fails; the reason is printed to standard error.
 pub fn play_files<S: Streams>(rt: &HostRuntime) -> ExitCode {
     match play_arguments::<S>(rt) {
         Ok(true) => ExitCode::SUCCESS,

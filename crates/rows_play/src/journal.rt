@@ -1,4 +1,4 @@
-// What a device is told to answer, what it took, and the calls that reached it.
+// The results that a device is to return, the bytes that it took, and the calls that reached it.
 use super::line::Line;
 use super::script::{Answer, error_of, misfit, no_memory};
 use no_std_io2::io::{Result, SeekFrom};
@@ -8,9 +8,9 @@ use std::mem;
 // The journal of a device, or of several that share it.
 #[derive(Drop)]
 pub struct Journal {
-    // The answers that are left, the next one last.
+    // The results that are left, the next one last.
     answers: Vec<Answer>,
-    // What is left of the bytes that an answer gives.
+    // The rest of the bytes that a result gives.
     pending: Vec<u8>,
     out: Vec<u8>,
     calls: Line,
@@ -28,7 +28,7 @@ impl Journal {
         }
     }
 
-    // From here on these are the answers, in place of those that were left.
+    // Replaces the results that are left by these.
     pub fn expect(&mut self, answers: Vec<Answer>) {
         self.answers = answers;
     }
@@ -38,7 +38,7 @@ impl Journal {
         line.bytes(&self.out);
     }
 
-    // Prints the calls since this was last asked.
+    // Prints the calls since they were last printed.
     pub fn show_calls(&mut self, line: &mut Line) {
         line.text(self.calls.as_str());
         if self.calls.is_cut() {
@@ -65,7 +65,7 @@ impl Journal {
         self.calls.length(answer);
     }
 
-    // Answers a write.
+    // Returns the result of a `write`, and notes the call.
     pub fn write(&mut self, buf: &[u8]) -> Result<usize> {
         let answer = match self.next_answer() {
             Answer::Plain => self.take(buf, buf.len()),
@@ -90,7 +90,7 @@ impl Journal {
         self.calls.done(answer);
     }
 
-    // Answers a flush.
+    // Returns the result of a `flush`, and notes the call.
     pub fn flush(&mut self) -> Result<()> {
         let answer = match self.next_answer() {
             Answer::Plain | Answer::Take(_) => Ok(()),
@@ -101,7 +101,7 @@ impl Journal {
         answer
     }
 
-    // What a read into so much room gives. What has no room comes next.
+    // Returns the bytes that a read into this much room gives. Bytes that do not fit come next.
     fn give(&mut self, bytes: &[u8], room: usize) -> Result<Vec<u8>> {
         let n = room.min(bytes.len());
         let given = Vec::from_slice(self.alloc, &bytes[..n])?;
@@ -136,14 +136,15 @@ impl Journal {
         self.give(&bytes, room)
     }
 
-    // Answers a read into so much room, a call of this name. One into no room gives nothing.
+    // Returns the result of a read into this much room, by a call of this name, and notes it. A
+    // read into no room gives nothing.
     pub fn read(&mut self, call: &str, room: usize) -> Result<Vec<u8>> {
         let answer = self.next_bytes(room);
         self.note_read(call, room, &answer);
         answer
     }
 
-    // Notes that so many lent bytes were consumed.
+    // Notes that `amount` lent bytes were consumed.
     pub fn consume(&mut self, call: &str, amount: usize) {
         self.begin_call(call);
         self.calls.number(amount as u64);
@@ -168,7 +169,7 @@ impl Journal {
         self.calls.position(answer);
     }
 
-    // Answers a seek.
+    // Returns the result of a seek, and notes the call.
     pub fn seek(&mut self, pos: SeekFrom) -> Result<u64> {
         let answer = match self.next_answer() {
             Answer::At(n) => Ok(n),
@@ -184,13 +185,13 @@ impl Journal {
         self.begin_call(call);
     }
 
-    /// The same with the bytes that it is of.
+    /// Notes such a call with its bytes.
     pub fn note_bytes(&mut self, call: &str, bytes: &[u8]) {
         self.begin_call(call);
         self.calls.bytes(bytes);
     }
 
-    /// The same with a number.
+    /// Notes such a call with a number.
     pub fn note_number(&mut self, call: &str, number: usize) {
         self.begin_call(call);
         self.calls.number(number as u64);

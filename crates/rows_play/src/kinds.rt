@@ -1,4 +1,4 @@
-// Kinds of errors by their names.
+// The kinds of errors and their names.
 use no_std_io2::io::ErrorKind;
 
 /// Each kind and its name.
@@ -26,7 +26,8 @@ pub const NAMES: [(ErrorKind, &str); 21] = [
     (ErrorKind::Uncategorized, "Uncategorized"),
 ];
 
-/// The kinds that stand for any in a table: what takes one of them takes each other kind so, but for an interruption.
+/// The kinds that stand for all others in a table: code that treats one of them in some way treats each other kind in
+/// the same way, except an interruption.
 pub const ANY: [ErrorKind; 5] = [
     ErrorKind::NotFound,
     ErrorKind::BrokenPipe,
@@ -35,7 +36,7 @@ pub const ANY: [ErrorKind; 5] = [
     ErrorKind::Other,
 ];
 
-/// The kind of this name.
+/// Returns the kind of this name.
 pub fn kind_of_name(name: &str) -> Option<ErrorKind> {
     'kinds: for (kind, known) in &NAMES {
         if *known == name {
@@ -45,7 +46,7 @@ pub fn kind_of_name(name: &str) -> Option<ErrorKind> {
     None
 }
 
-/// The name of a kind.
+/// Returns the name of a kind.
 pub fn name_of_kind(kind: ErrorKind) -> &'static str {
     'kinds: for (known, name) in &NAMES {
         if *known == kind {

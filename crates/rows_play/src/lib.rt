@@ -2,8 +2,8 @@
 //! result and the expected state afterwards.
 //!
 //! A file has tables. A table begins with a line `stream NAME`, or `stream NAME, NAME`, and has groups of rows. A group
-//! begins with a line `new ANSWERS`, which makes the stream anew over a device that answers so. A row is
-//! `CALL | ANSWER | what stands then`, column by column. Empty lines, and those that begin with `#`, say nothing.
+//! begins with a line `new RESULTS`, which makes a new stream over a device that has these results. A row is `CALL |
+//! RESULT | the state afterwards`, in columns. Empty lines, and those that begin with `#`, are ignored.
 //!
 //! ```text
 //! stream writer BufWriter 8
@@ -13,9 +13,9 @@
 //! flush | !BrokenPipe: gone | ab | cdef | write abcdef = 2, write cdef = !BrokenPipe: gone
 //! ```
 //!
-//! A device answers `all` (it takes all, as when no answer is left), `take 2` (so many bytes at most), `give abc` (a read
-//! gives these), `end` (a read gives none), `at 5` (a seek's place), and `fail KIND` or `fail KIND TEXT`. Bytes that don't print are
-//! `\n`, `\\` and `\x0d`, none are a dash, and `\*300a` are 300 bytes from `a` on, of which each follows the one before it: the
+//! The results of a device are `all` (it takes all, as it does once no result is left), `take 2` (at most 2 bytes), `give abc` (a
+//! read gives these bytes), `end` (a read gives none), `at 5` (the position that a seek returns), and `fail KIND` or `fail KIND
+//! TEXT`. Bytes that cannot be printed are `\n`, `\\` and `\x0d`, no bytes are a dash, and `\*300a` are 300 bytes from `a` on: the
 //! letters from `a` to `w` over and over, or dots. An error is `!KIND`, or `!KIND: TEXT`.
 //!
 //! After the argument `each-kind`, each table is also played with every other kind of fault in

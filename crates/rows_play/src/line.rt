@@ -1,7 +1,7 @@
-// A row of a table as it is printed: a call, its answer and what stands after it, column by column.
+// A row of a table as it is printed: a call, its result and the state afterwards, in columns.
 //
-// A run is so many bytes of which each follows the one before it: dots, or the letters from `a` to `w`, over and over. A long one
-// is printed as `\*300a`: 300 bytes from `a` on.
+// A run is a list of bytes of which each follows the one before it: dots, or the letters from `a` to `w`, over and over. A long
+// run is printed as `\*300a`: 300 bytes from `a` on.
 use super::fault::{Fault, Made};
 use super::kinds::name_of_kind;
 use no_std_io2::io::{Error, Result};
@@ -39,28 +39,28 @@ impl Line {
         self.text.clear();
     }
 
-    // Whether memory was refused for a part of it.
+    // Returns whether an allocation failed for a part of it.
     pub fn is_cut(&self) -> bool {
         self.is_cut
     }
 
-    // Keeps in mind that a part is missing.
+    // Notes that a part is missing.
     pub fn cut(&mut self) {
         self.is_cut = true;
     }
 
-    // Whether its row says nothing that can be played.
+    // Returns whether its row cannot be played.
     pub fn is_malformed(&self) -> bool {
         self.is_malformed
     }
 
-    // Says why a row can't be played, in place of an answer.
+    // Prints why a row cannot be played, in place of a result.
     pub fn malformed(&mut self, why: &str) {
         self.word(why);
         self.is_malformed = true;
     }
 
-    // Says why a row is not played, in place of an answer.
+    // Prints why a row is not played, in place of a result.
     pub fn tell(&mut self, fault: Fault) {
         match fault {
             Fault::Memory => self.cut(),
@@ -99,12 +99,12 @@ impl Line {
         self.number(offset.unsigned_abs());
     }
 
-    // A text, and none as a dash.
+    // Prints a text, or a dash if it is empty.
     pub fn text(&mut self, text: &str) {
         self.word(if text.is_empty() { "-" } else { text });
     }
 
-    // Printable bytes as they are, others escaped, and none as a dash.
+    // Prints bytes, escaped if they are not printable, or a dash if there are none.
     pub fn bytes(&mut self, bytes: &[u8]) {
         let Some((first, rest)) = bytes.split_first() else {
             self.word("-");
@@ -149,7 +149,7 @@ impl Line {
         }
     }
 
-    // The kind's name after a mark, and the text where there is one.
+    // Prints the name of the kind after a mark, and the text if there is one.
     pub fn error(&mut self, error: &Error) {
         self.word("!");
         self.word(name_of_kind(error.kind()));
@@ -159,14 +159,14 @@ impl Line {
         }
     }
 
-    // A printed text in parentheses.
+    // Prints a text in parentheses.
     pub fn aside(&mut self, text: &str) {
         self.word(" (");
         self.word(text);
         self.word(")");
     }
 
-    // What a call answered that answers no number.
+    // Prints the result of a call that returns no number.
     pub fn done(&mut self, answer: &Result<()>) {
         match answer {
             Ok(()) => self.word("ok"),
@@ -174,7 +174,7 @@ impl Line {
         }
     }
 
-    // What a call answered that answers a length.
+    // Prints the result of a call that returns a length.
     pub fn length(&mut self, answer: &Result<usize>) {
         match answer {
             Ok(n) => self.number(*n as u64),
@@ -182,7 +182,7 @@ impl Line {
         }
     }
 
-    // What a call answered that answers a position.
+    // Prints the result of a call that returns a position.
     pub fn position(&mut self, answer: &Result<u64>) {
         match answer {
             Ok(n) => self.number(*n),
@@ -191,10 +191,10 @@ impl Line {
     }
 }
 
-// The least run that is printed as one.
+// The length from which on a run is printed as one.
 const LONG: u64 = 24;
 
-// Bytes of which each follows the one before it.
+// A run of bytes, of which each follows the one before it.
 #[derive(Clone, Copy)]
 struct Run {
     first: u8,
@@ -220,7 +220,7 @@ impl Run {
     }
 }
 
-// The byte behind this one in a run.
+// Returns the byte after this one in a run.
 fn following(byte: u8) -> Option<u8> {
     match byte {
         b'a'..=b'v' => Some(byte + 1),
@@ -230,7 +230,7 @@ fn following(byte: u8) -> Option<u8> {
     }
 }
 
-// What of an escaped byte or run was read.
+// The part of an escaped byte or run that was read.
 #[derive(Clone, Copy)]
 enum Escape {
     None,
@@ -240,7 +240,7 @@ enum Escape {
     Count(u64),
 }
 
-// The state that comes of one more character, and the run that ends at it; none for a bad escape.
+// Returns the state after one more character, and the run that ends there; `None` for a bad escape.
 fn step(escape: Escape, b: u8) -> Option<(Escape, Option<Run>)> {
     match (escape, b) {
         (Escape::None, b'\\') => Some((Escape::Mark, None)),
@@ -279,7 +279,7 @@ fn push_run(bytes: &mut Vec<u8>, run: Run) -> std::result::Result<(), AllocError
     Ok(())
 }
 
-// The bytes that a printed text stands for.
+// Returns the bytes that a printed text stands for.
 pub fn unescape(alloc: Global, text: &str) -> Made<Vec<u8>> {
     let mut bytes = Vec::new(alloc);
     let mut escape = Escape::None;
@@ -298,7 +298,7 @@ pub fn unescape(alloc: Global, text: &str) -> Made<Vec<u8>> {
     }
 }
 
-// The hexadecimal digit of a number below 16.
+// Returns the hexadecimal digit of a number below 16.
 fn hex(number: u8) -> char {
     if number < 10 {
         char::from(number.wrapping_add(b'0'))
@@ -307,7 +307,7 @@ fn hex(number: u8) -> char {
     }
 }
 
-// Of a hexadecimal digit.
+// Returns the number of a hexadecimal digit.
 fn digit(b: u8) -> Option<u8> {
     match b {
         b'0'..=b'9' => Some(b - b'0'),

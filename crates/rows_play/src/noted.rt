@@ -8,8 +8,8 @@ use std::alloc::Allocator;
 use std::cell::RefCell;
 use std::rc::Rc;
 
-/// A stream in front of another one, whose journal it shares. Before the calls that the other one notes it notes its own, as
-/// `write_all abc` or `read_exact 3`, so that rows tell a call that was handed on from one that was made of others.
+/// A stream in front of another one, whose journal it shares. It notes its own call, such as `write_all abc` or `read_exact
+/// 3`, before those that the other one notes. So rows show whether a call was passed on or made of other calls.
 #[derive(Drop)]
 pub struct Noted<T> {
     inner: T,
@@ -17,7 +17,7 @@ pub struct Noted<T> {
 }
 
 impl<T> Noted<T> {
-    /// In front of a stream, on its journal.
+    /// Puts it in front of a stream, with the stream's journal.
     pub fn new(inner: T, journal: Rc<RefCell<Journal>>) -> Noted<T> {
         Noted { inner, journal }
     }

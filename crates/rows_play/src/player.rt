@@ -1,5 +1,4 @@
-// Rows that are played on a stream in its place: a program makes the stream that a table names, anew for each group, and lends
-// it to the player.
+// The player of rows. A program makes the stream that a table names, a new one for each group, and lends it to the player.
 use super::calls::Call;
 use super::count::{Count, lines_of, tell_fault};
 use super::fault::{Fault, Made};
@@ -7,19 +6,19 @@ use super::line::Line;
 use std::alloc::Global;
 use std::io;
 
-/// A stream that rows call.
+/// A stream on which rows make calls.
 pub trait Stream {
-    /// Makes a call, and prints its answer, and behind a mark of a column each what stands then.
+    /// Makes a call, and prints its result and the state afterwards, in columns.
     fn play(&mut self, alloc: Global, call: &Call<'_>, line: &mut Line);
 }
 
 /// The streams of a program's tables.
 pub trait Streams {
-    /// Makes the stream of this name, over a device that answers what stands behind `new`, and lends it to the player. A fault
-    /// says that there is none such.
+    /// Makes the stream of this name, over a device with the results after `new`, and lends it to the player. It fails if
+    /// there is no such stream.
     fn lend(name: &str, words: &str, player: &mut Player<'_, '_>) -> Made<()>;
 
-    /// Whether the faults of this stream's device may have texts.
+    /// Returns whether the faults of this stream's device may have texts.
     fn has_texts(_name: &str) -> bool {
         true
     }
@@ -31,12 +30,12 @@ pub struct Player<'r, 'a> {
     pub alloc: Global,
     rows: &'r str,
     count: Count<'a>,
-    // The rows that came out otherwise.
+    // The rows that came out differently.
     differing: Line,
 }
 
 impl<'r, 'a> Player<'r, 'a> {
-    /// Plays the rows on a stream. It ends at one that can't be played.
+    /// Plays the rows on a stream. It stops at a row that cannot be played.
     pub fn play<S: Stream>(&mut self, stream: &mut S) {
         self.count = self.count.add_group();
         'rows: for row in self.rows.lines() {
@@ -53,7 +52,7 @@ impl<'r, 'a> Player<'r, 'a> {
         }
     }
 
-    // Counts a row, and keeps it to be printed where it came out otherwise or can't be played.
+    // Counts a row, and keeps it for printing if it came out differently or cannot be played.
     fn compare(&mut self, row: &str, line: &Line) {
         self.count.rows = self.count.rows.wrapping_add(1);
         if line.is_cut() {
@@ -74,7 +73,7 @@ impl<'r, 'a> Player<'r, 'a> {
     }
 }
 
-// Makes the call of a row. Where it is none, the line says why.
+// Makes the call of a row. If there is no such call, the line says why.
 fn play_row<S: Stream>(alloc: Global, stream: &mut S, row: &str, line: &mut Line) {
     let Some((call, _)) = row.split_once(" | ") else {
         line.malformed("a row without an answer");
@@ -88,7 +87,7 @@ fn play_row<S: Stream>(alloc: Global, stream: &mut S, row: &str, line: &mut Line
     }
 }
 
-/// Plays a table's groups, each on a stream made anew. Refused memory is `OutOfMemory`.
+/// Plays the groups of a table, each on a new stream. A failed allocation is `OutOfMemory`.
 pub fn play_streams<'a, S: Streams, R: Print>(
     rt: &R,
     alloc: Global,
@@ -107,12 +106,12 @@ pub fn play_streams<'a, S: Streams, R: Print>(
     Ok(count)
 }
 
-/// The first line of a text, and what stands behind it.
+/// Returns the first line of a text, and the text after it.
 pub fn cut_line(text: &str) -> (&str, &str) {
     text.split_once("\n").unwrap_or((text, ""))
 }
 
-// Plays a group: what is made, and behind it the rows.
+// Plays a group: it makes the stream, and then plays the rows.
 fn play_rows<'a, S: Streams, R: Print>(
     rt: &R,
     alloc: Global,

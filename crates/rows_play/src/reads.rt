@@ -1,18 +1,18 @@
-// A reader's calls of rows, through the traits alone. The columns of a call are its answer, and the bytes that it gave, with
-// dots where nothing was written.
+// The calls of rows on any reader. The columns of a call are its result and the bytes that it gave, with dots for bytes that
+// were not written.
 use super::calls::Call;
 use super::line::Line;
 use no_std_io2::io::{BufRead, Read, Result, skip};
 use std::alloc::Global;
 
-// Prints a call's answer, a length, and the bytes that it gave.
+// Prints the result of a call, a length, and the bytes that it gave.
 fn show_given(answer: &Result<usize>, given: &[u8], line: &mut Line) {
     line.length(answer);
     line.column();
     line.bytes(given);
 }
 
-// So many dots, to be read into.
+// Makes a buffer of `count` dots.
 fn dots(alloc: Global, count: usize, line: &mut Line) -> Vec<u8> {
     let mut room = Vec::new(alloc);
     if room.resize(count, b'.').is_err() {
@@ -21,7 +21,7 @@ fn dots(alloc: Global, count: usize, line: &mut Line) -> Vec<u8> {
     room
 }
 
-// A vector of these bytes.
+// Makes a vector of these bytes.
 fn copied(alloc: Global, bytes: &[u8], line: &mut Line) -> Vec<u8> {
     let mut copy = Vec::new(alloc);
     if copy.extend_from_slice(bytes).is_err() {
@@ -42,7 +42,7 @@ fn call_read_exact<R: Read>(alloc: Global, r: &mut R, count: usize, line: &mut L
     line.bytes(&room);
 }
 
-// Reads all behind what stands in the vector.
+// Reads all, and appends it to the vector.
 fn call_read_to_end<R: Read>(r: &mut R, all: Vec<u8>, line: &mut Line) {
     let mut all = all;
     show_given(&r.read_to_end(&mut all), &all, line);
@@ -70,14 +70,14 @@ fn call_fill_buf<R: BufRead>(r: &mut R, line: &mut Line) {
     }
 }
 
-// Consumes at most so many of the bytes that are lent.
+// Consumes at most `most` of the lent bytes.
 fn pass<R: BufRead>(r: &mut R, most: usize) -> Result<usize> {
     let amount = r.fill_buf()?.len().min(most);
     r.consume(amount);
     Ok(amount)
 }
 
-// Passes over so many bytes, and tells how many are left to pass over.
+// Skips `count` bytes, and prints how many are still to be skipped.
 fn call_skip<R: BufRead>(r: &mut R, count: usize, line: &mut Line) {
     let mut left = count as u64;
     line.done(&skip(r, &mut left));
@@ -106,8 +106,9 @@ fn call_read_line<R: BufRead>(alloc: Global, r: &mut R, old: &str, line: &mut Li
     show_given(&r.read_line(alloc, &mut text), text.as_bytes(), line);
 }
 
-/// Makes a reader's call of a row, and prints its answer: `read N`, `read_exact N`, `read_to_end OLD`, which appends to these bytes,
-/// `read_into N`, which reads all into a vector of this capacity, or `take N`, which reads so many at most through the reader lent.
+/// Makes the call of a row on any reader, and prints its result: `read N`, `read_exact N`, `read_to_end OLD`, which appends to these
+/// bytes, `read_into N`, which reads all into a vector of this capacity, or `take N`, which reads at most that many bytes through
+/// the borrowed reader.
 pub fn make_read<R: Read>(alloc: Global, r: &mut R, call: &Call<'_>, line: &mut Line) {
     match call.word {
         "read" => call_read(alloc, r, call.number(line), line),
@@ -122,9 +123,9 @@ pub fn make_read<R: Read>(alloc: Global, r: &mut R, call: &Call<'_>, line: &mut 
     }
 }
 
-/// Makes a call of a reader that lends: beside those of [`make_read`] `fill_buf`, `pass N`, which lends and consumes so many of
-/// the bytes at most, `skip N`, `read_until DELIMITER` and `skip_until DELIMITER`, of a newline where none is named, and
-/// `read_line OLD`, which appends to this text.
+/// Makes the call of a row on any `BufRead`: besides those of [`make_read`], these are `fill_buf`, `pass N`, which lends and
+/// consumes at most that many bytes, `skip N`, `read_until DELIMITER` and `skip_until DELIMITER`, whose default is a newline,
+/// and `read_line OLD`, which appends to this text.
 pub fn make_lend<R: BufRead>(alloc: Global, r: &mut R, call: &Call<'_>, line: &mut Line) {
     match call.word {
         "fill_buf" => call_fill_buf(r, line),

@@ -1,5 +1,5 @@
-// A device that writes down each call that reaches it, and answers as it is told: a writer, a reader, a lender and a
-// seeker.
+// A device that notes each call that reaches it, and returns the results of its script: a writer, a reader, a
+// `BufRead` and a seeker.
 ghost use Rattle.std.specs.Prelude.{[], length, ◌+◌, drop};
 ghost use Rattle.no_std_io2.specs.Errors.{IsFault};
 
@@ -11,10 +11,10 @@ use std::alloc::Global;
 use std::cell::RefCell;
 use std::rc::Rc;
 
-// How many calls it answers.
+// The number of its turns.
 const TURNS: usize = 100_000;
 
-// How many bytes it lends at most.
+// The most bytes that it lends at once.
 const LENT: usize = 4;
 
 #[derive(Drop)]
@@ -23,12 +23,13 @@ pub struct Recorder {
     // Which of several readers it is.
     name: Name,
     taken: Trace,
-    // What it lends.
+    // The bytes that it lends.
     lent: Lent,
     turns: usize,
 }
 
-// Which of several readers it is. A boxed object holds no text of the program's, so this is a name's stand-in.
+// Which of several readers it is. A boxed object cannot contain a string of the program, so this stands for a
+// name.
 #[derive(Clone, Copy, PartialEq, Eq)]
 pub enum Name {
     Only,

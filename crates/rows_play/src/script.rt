@@ -1,4 +1,4 @@
-// What a device is told to answer.
+// The results that a device is to return.
 use super::fault::{Fault, Made};
 use super::kinds::kind_of_name;
 use super::line::unescape;
@@ -8,19 +8,19 @@ use std::alloc::Global;
 // What a device does with its next call.
 #[derive(Drop)]
 pub enum Answer {
-    // `all`, `end`, or no answer is left: it takes all, and gives nothing.
+    // `all`, `end`, or no result is left: it takes all, and gives nothing.
     Plain,
-    // `take 2`: a write takes so many at most.
+    // `take 2`: a write takes at most this many bytes.
     Take(usize),
-    // `give abc`: a read gives these, and a later one those that had no room.
+    // `give abc`: a read gives these bytes, and a later read those that did not fit.
     Give(Vec<u8>),
-    // `at 5`: a seek answers this.
+    // `at 5`: a seek returns this position.
     At(u64),
     // `fail KIND` or `fail KIND TEXT`, by the place of the text.
     Fail(ErrorKind, Option<usize>),
 }
 
-// The texts that an error may have: an error holds a text of the program's own.
+// The texts that an error may have. An error can only contain a text of the program.
 const TEXTS: [&str; 30] = [
     "a",
     "again",
@@ -63,7 +63,7 @@ fn place_of(words: &str) -> Option<usize> {
     None
 }
 
-// The error that an answer says.
+// Returns the error of a result.
 pub fn error_of(kind: ErrorKind, place: Option<usize>) -> Error {
     match place {
         Some(i) if i < TEXTS.len() => Error::new(kind, TEXTS[i]),
@@ -71,7 +71,7 @@ pub fn error_of(kind: ErrorKind, place: Option<usize>) -> Error {
     }
 }
 
-// The answers that a line names, the last one first.
+// Returns the results that a line names, the last one first.
 pub fn parse_answers(alloc: Global, words: &str) -> Made<Vec<Answer>> {
     let mut answers = Vec::new(alloc);
     if words.is_empty() {
