@@ -1,7 +1,7 @@
-// `copy` from a reader to a writer, played by rows of `copy`.
+// `copy` from a reader to a writer, played by rows `copy`.
 //
-// The columns behind a call are its answer, the bytes out, what stands at each level of the reader, and the calls that reached the
-// two devices; where names are noted the calls alone, and in memory none.
+// The columns after a call are its result, the bytes out, the state of each level of the reader, and the calls that reached the
+// two devices. If names are noted, there are only the calls, and in memory none.
 use crate::devices::{Columns, Devices, NO_STREAM};
 use crate::in_memory::scripts::{new_feed, new_text, new_writer};
 use crate::levels::Levels;
@@ -14,7 +14,7 @@ use rows_play::player::{Player, Stream};
 use rows_play::recorder::Recorder;
 use std::alloc::Global;
 
-// Copies by pieces of S bytes.
+// A `copy` by pieces of S bytes.
 #[derive(Drop)]
 struct Copying<'j, R: Drop, W: Drop, const S: usize> {
     from: R,
@@ -25,7 +25,7 @@ struct Copying<'j, R: Drop, W: Drop, const S: usize> {
 impl<'j, R: Read + Levels + Drop, W: Write + Levels + Drop, const S: usize> Stream
     for Copying<'j, R, W, S> {
     fn play(&mut self, _alloc: Global, call: &Call<'_>, line: &mut Line) {
-        // The second is what `copy` asks of S.
+        // `copy` requires the second.
         if call.word != "copy" || S >= 1 << 63 {
             line.malformed("no such call");
             return;
@@ -75,7 +75,7 @@ fn lend_plain<const S: usize>(devices: Devices<'_>, player: &mut Player<'_, '_>)
     Ok(())
 }
 
-// From a buffer of B bytes.
+// Copies from a buffer of B bytes.
 fn lend_buffered<const B: usize, const S: usize>(
     devices: Devices<'_>,
     player: &mut Player<'_, '_>,
@@ -91,7 +91,7 @@ fn lend_buffered<const B: usize, const S: usize>(
     Ok(())
 }
 
-// To a vector, through a writer that fails as it is told.
+// Copies to a vector, through a writer that fails as its acts say.
 fn lend_in_memory(
     name: &str,
     words: &str,

@@ -12,15 +12,16 @@ use std::rc::Rc;
 
 pub const NO_STREAM: Fault = Fault::Malformed("no such stream");
 
-// The columns behind a call's answer and the bytes that it gave.
+// The columns after a call's result and the bytes that it gave.
 #[derive(Clone, Copy, PartialEq)]
 pub enum Columns {
     Answers,
     // The calls that reached the devices.
     Calls,
-    // What each level holds or has left to give, and those calls.
+    // What each level holds or has left to give, and these calls.
     Levels,
-    // What stands at each level of a stream in memory: the bytes behind a buffer's, and a cursor's position, too.
+    // The state of each level of a stream in memory, including the bytes behind of a buffer and the position of a
+    // cursor.
     Memory,
 }
 
@@ -40,12 +41,12 @@ impl<'j> Devices<'j> {
         self.recorder(Name::Only)
     }
 
-    // One that notes the name of each call.
+    // Makes a device that notes the name of each call.
     pub fn noted(self) -> Made<Noted<Recorder>> {
         Ok(Noted::new(self.first()?, self.journal.clone()?))
     }
 
-    // Prints the columns behind a call.
+    // Prints the columns after a call.
     pub fn show<T: Levels>(self, tower: &T, line: &mut Line) {
         if matches!(self.columns, Columns::Levels | Columns::Memory) {
             tower.show(self.columns, line);
@@ -53,14 +54,14 @@ impl<'j> Devices<'j> {
         self.show_calls(line);
     }
 
-    // The calls that reached the devices, where there are such.
+    // Prints the calls that reached the devices, if there are devices.
     pub fn show_calls(self, line: &mut Line) {
         if matches!(self.columns, Columns::Calls | Columns::Levels) {
             show_calls(self.journal, line);
         }
     }
 
-    // The bytes that a writer took, and what stands at each level of the reader.
+    // Prints the bytes that a writer took, and the state of each level of the reader.
     pub fn show_copied<R: Levels, W: Levels>(self, from: &R, to: &W, line: &mut Line) {
         match self.columns {
             Columns::Levels => show_out(self.journal, line),
@@ -70,7 +71,7 @@ impl<'j> Devices<'j> {
         self.show(from, line);
     }
 
-    // Behind an item the calls, or in memory the item's capacity, where it has one.
+    // Prints the calls after an item, or in memory the item's capacity, if it has one.
     pub fn show_room(self, capacity: Option<usize>, line: &mut Line) {
         match (self.columns == Columns::Memory, capacity) {
             (true, Some(capacity)) => {

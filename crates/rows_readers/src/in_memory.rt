@@ -11,7 +11,7 @@ pub mod scripts;
 mod vectors;
 mod wrapped;
 
-/// Whether a stream of this name is one of these: the first word or the last one says so.
+/// Returns whether a stream of this name is one of these; its first or last word says so.
 pub fn has(name: &str) -> bool {
     let (word, _) = name.split_once(" ").unwrap_or((name, ""));
     let (_, base) = name.rsplit_once(" ").unwrap_or(("", name));
@@ -19,7 +19,7 @@ pub fn has(name: &str) -> bool {
         || matches!(base, "Cursor" | "Feed" | "&[u8]")
 }
 
-/// Lends the stream of this name: the first word says which columns a row has.
+/// Lends the stream of this name. Its first word says which columns a row has.
 pub fn lend(
     word: &str,
     name: &str,

@@ -1,7 +1,7 @@
-// Single bytes, pieces and lines of readers, played by rows of `next`.
+// Single bytes, pieces and lines of readers, played by rows `next`.
 //
-// The columns behind a call are the item, a piece or a line with its kind in front, and the calls that reached the devices, or in
-// memory the capacity that a piece or a line has.
+// The columns after a call are the item (a piece or a line with its kind in front), and the calls that reached the devices, or in
+// memory the capacity of a piece or a line.
 use crate::devices::{Devices, NO_STREAM};
 use crate::in_memory::scripts::{cut, new_feed, new_text};
 use crate::streams::show_byte;
@@ -14,7 +14,7 @@ use rows_play::player::{Player, Stream};
 use rows_play::recorder::Name;
 use std::alloc::Global;
 
-// Whether a row asks for an item.
+// Returns whether a row takes an item.
 fn is_next(call: &Call<'_>, line: &mut Line) -> bool {
     if call.word != "next" {
         line.malformed("no such call");
@@ -38,7 +38,7 @@ impl<'j, T: Read + Drop> Stream for Singles<'j, T> {
     }
 }
 
-// Prints a piece or a line, and the columns behind it.
+// Prints a piece or a line, and the columns after it.
 fn show_item(kind: &str, item: Option<Result<Vec<u8>>>, devices: Devices<'_>, line: &mut Line) {
     let mut capacity = None;
     match item {
@@ -113,7 +113,7 @@ pub fn lend_bytes(
     Ok(())
 }
 
-// The pieces that commas part, of a text those that each `3` does.
+// Lends the pieces between commas, or of a text those between the `3`s.
 pub fn lend_pieces(
     tower: &str,
     words: &str,
@@ -162,7 +162,7 @@ pub fn lend_lines(
     Ok(())
 }
 
-// The lines of two slices.
+// Lends the lines of two slices.
 fn lend_both(words: &str, devices: Devices<'_>, player: &mut Player<'_, '_>) -> Made<()> {
     let (first, second) = cut(words);
     let first = unescape(player.alloc, first)?;

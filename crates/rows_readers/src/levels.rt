@@ -1,4 +1,5 @@
-// What stands at each level of a reader, the outer one first: a column for each that has such.
+// The state of each level of a reader, the outer one first, in a column for each level that has
+// one.
 use crate::devices::Columns;
 use crate::in_memory::scripts::show_events;
 use io_bench::{Faulty, Feed, Tally};
@@ -10,7 +11,7 @@ use rows_play::recorder::Recorder;
 pub trait Levels {
     fn show(&self, _columns: Columns, _line: &mut Line) {}
 
-    // Sets the limit, and answers whether there is one.
+    // Sets the limit, and returns whether there is one.
     fn limit(&mut self, _limit: usize) -> bool {
         false
     }
@@ -20,7 +21,7 @@ impl Levels for Recorder {}
 
 impl Levels for Noted<Recorder> {}
 
-// Nothing of what is boxed as an object.
+// A boxed object shows nothing.
 impl Levels for Box<dyn Read + Drop> {}
 
 impl Levels for Box<dyn BufRead + Drop> {}
@@ -37,7 +38,7 @@ impl<'a, R: Levels> Levels for &'a mut R {
     }
 }
 
-// What is left.
+// The bytes that are left.
 impl<'a> Levels for &'a [u8] {
     fn show(&self, _columns: Columns, line: &mut Line) {
         line.column();
@@ -93,7 +94,7 @@ impl<A: Levels + Drop, B: Levels + Drop> Levels for Chain<A, B> {
     }
 }
 
-// Its limit.
+// The limit.
 impl<R: Levels + Drop> Levels for Take<R> {
     fn show(&self, columns: Columns, line: &mut Line) {
         line.column();
@@ -107,7 +108,7 @@ impl<R: Levels + Drop> Levels for Take<R> {
     }
 }
 
-// The bytes held, and in memory those behind.
+// The held bytes, and in memory those behind.
 impl<R: Levels + Drop, const S: usize> Levels for BufReader<R, S> {
     fn show(&self, columns: Columns, line: &mut Line) {
         if columns == Columns::Memory {

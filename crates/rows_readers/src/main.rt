@@ -1,5 +1,5 @@
-//! Plays the files of rows of readers, their seeks, pieces and copies, over devices that write down each call, and of streams in
-//! memory: those that its arguments name, as [`rows_play`] reads them.
+//! Plays the files of rows that its arguments name, as [`rows_play`] reads them: readers, their seeks, pieces and copies, over
+//! devices that note each call, and streams in memory.
 #![tactic(auto)]
 
 mod copying;
@@ -54,13 +54,13 @@ impl Streams for Readers {
         }
     }
 
-    // A scripted device has none.
+    // A scripted device has no texts.
     fn has_texts(name: &str) -> bool {
         !in_memory::has(name)
     }
 }
 
-// Over devices that write down each call.
+// Lends a stream over devices that note each call.
 fn lend_recorded(
     word: &str,
     tower: &str,

@@ -1,7 +1,8 @@
-// A buffered reader over a recorder that is moved, and from which records are read, played by rows of calls.
+// A buffered reader over a recorder, which is sought, and from which records are read, played by rows of
+// calls.
 //
-// The columns behind a call are its answer, for a read the bytes that it gave, the bytes behind, those held, and the calls that
-// reached the device.
+// The columns after a call are its result, for a read the bytes that it gave, the bytes behind, the held bytes, and the calls
+// that reached the device.
 use crate::devices::Devices;
 use examples::records::{peek_header, read_record};
 use no_std_io2::io::BufReader;
@@ -34,8 +35,8 @@ fn call_record(alloc: Global, r: &mut Reader, tag: u8, line: &mut Line) {
     }
 }
 
-// Beside the calls of a reader and a seeker a row has these: `seek_relative N`, `peek`, which answers the next record's tag and
-// length, and `record TAG`.
+// Besides the calls of a reader and a seeker there are `seek_relative N`, `peek`, which prints the tag and the length of the
+// next record, and `record TAG`.
 #[derive(Drop)]
 struct Moving<'j> {
     reader: Reader,

@@ -32,7 +32,7 @@ pub fn lend(name: &str, devices: Devices<'_>, player: &mut Player<'_, '_>) -> Ma
     Ok(())
 }
 
-// Lent so often for each call.
+// Lends the device, borrowed `lent` times for each call.
 fn lend_device(device: Device, lent: usize, devices: Devices<'_>, player: &mut Player<'_, '_>) {
     player.play(&mut Seeking {
         tower: device,

@@ -44,7 +44,7 @@ fn lend_object(device: Recorder, devices: Devices<'_>, player: &mut Player<'_, '
     Ok(())
 }
 
-// A buffer of so many bytes.
+// Lends a buffer of S bytes.
 fn lend_buffered<const S: usize>(
     device: Recorder,
     devices: Devices<'_>,
@@ -56,7 +56,7 @@ fn lend_buffered<const S: usize>(
     }
 }
 
-// What stands in a chain's first place.
+// Lends a chain, by its first reader.
 fn lend_chain(
     tower: &str,
     device: Recorder,
@@ -87,7 +87,7 @@ fn lend_chain(
     Ok(())
 }
 
-// A buffer of so many bytes over a chain.
+// Lends a buffer of S bytes over a chain.
 fn lend_above<const S: usize>(
     pair: Chain<Recorder, Recorder>,
     devices: Devices<'_>,
@@ -123,7 +123,7 @@ fn lend_three(
     Ok(())
 }
 
-/// A buffer of 4 bytes that seeks too.
+/// Lends a buffer of 4 bytes that also seeks.
 pub fn lend_seeker(devices: Devices<'_>, player: &mut Player<'_, '_>) -> Made<()> {
     player.play(&mut Seeking {
         tower: BufReader::<Recorder, 4>::new(devices.first()?),

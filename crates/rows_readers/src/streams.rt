@@ -1,5 +1,5 @@
-// Readers that are played by rows of calls. The columns behind a call are its answer, for a read the bytes that it gave, and
-// those that the table shows.
+// Readers that are played by rows of calls. The columns after a call are its result, for a read the bytes that it gave, and
+// those of the table.
 use crate::devices::Devices;
 use crate::levels::Levels;
 use no_std_io2::io::{BufRead, Read, Result, Seek};
@@ -9,7 +9,7 @@ use rows_play::player::Stream;
 use rows_play::reads::{make_lend, make_read};
 use std::alloc::Global;
 
-// A single byte, and a dash at the end.
+// Prints a single byte, or a dash at the end.
 pub fn show_byte(item: Option<Result<u8>>, line: &mut Line) {
     match item {
         None => line.word("-"),
@@ -18,7 +18,7 @@ pub fn show_byte(item: Option<Result<u8>>, line: &mut Line) {
     }
 }
 
-// One that reads.
+// A `Read`.
 #[derive(Drop)]
 pub struct Reading<'j, T: Drop> {
     pub tower: T,
@@ -32,7 +32,7 @@ impl<'j, T: Read + Levels + Drop> Stream for Reading<'j, T> {
     }
 }
 
-// One that lends. Beside its calls `limit N` sets a limit, and `next` gives a single byte.
+// A `BufRead`. Besides its calls, `limit N` sets a limit, and `next` gives a single byte.
 #[derive(Drop)]
 pub struct Lending<'j, T: Drop> {
     pub tower: T,
@@ -56,7 +56,7 @@ impl<'j, T: BufRead + Levels + Drop> Stream for Lending<'j, T> {
     }
 }
 
-// One that lends and seeks. It is lent so often for each call.
+// A `BufRead` that seeks. It is borrowed `lent` times for each call.
 #[derive(Drop)]
 pub struct Seeking<'j, T: Drop> {
     pub tower: T,
@@ -64,7 +64,7 @@ pub struct Seeking<'j, T: Drop> {
     pub devices: Devices<'j>,
 }
 
-/// A call of a reader that lends and seeks.
+/// Makes the call of a row on a `BufRead` that seeks.
 pub fn make_seeking_call<T: BufRead + Seek>(
     alloc: Global,
     stream: &mut T,
@@ -76,7 +76,7 @@ pub fn make_seeking_call<T: BufRead + Seek>(
     }
 }
 
-// The same of one that is lent once more.
+// Makes the call of a row on a `BufRead` that seeks, borrowed once more.
 fn make_lent_call<T: BufRead + Seek>(
     alloc: Global,
     stream: &mut T,

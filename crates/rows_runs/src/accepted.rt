@@ -1,6 +1,6 @@
-// `joined`: what a run accepted, by its replies.
+// `joined`, the bytes that a run accepted by its replies.
 //
-// A row is `joined`, the calls and behind an arrow their replies; then the bytes, or `none`.
+// A row is `joined`, the calls, an arrow and their replies; then the bytes, or `none`.
 use crate::ops::{ops_of, parse_calls, parse_replies};
 use io_bench::joined;
 use rows_play::calls::Call;
@@ -9,7 +9,7 @@ use rows_play::line::Line;
 use rows_play::player::{Player, Stream};
 use std::alloc::Global;
 
-// Nothing but what its rows say.
+// A stream without a state: its rows say everything.
 #[derive(Drop)]
 struct Joining;
 

@@ -1,4 +1,5 @@
-// The acts of a device as a row has them, `take 2, zero, fail BrokenPipe`, and the events of a feed, `ab!c`.
+// The acts of a device as rows write them, `take 2, zero, fail BrokenPipe`, and the events of a feed,
+// `ab!c`.
 use crate::ops::push;
 use io_bench::{Act, Event, Feed};
 use no_std_io2::io::ErrorKind;
@@ -17,7 +18,7 @@ fn parse_act(words: &str) -> Option<Act> {
     }
 }
 
-/// The acts that a line names, in order.
+/// Returns the acts that a line names, in order.
 pub fn parse_acts(alloc: Global, words: &str) -> Made<Vec<Act>> {
     let mut acts = Vec::new(alloc);
     if words.is_empty() {
@@ -32,8 +33,8 @@ pub fn parse_acts(alloc: Global, words: &str) -> Made<Vec<Act>> {
     Ok(acts)
 }
 
-// A character stands for a byte, but for these: a broken pipe, an interruption, a device's own end, its want of memory, and that
-// it was late.
+// Returns the event of a character. It is that byte, except for the marks of a broken pipe, an interruption, a device's own end,
+// its `OutOfMemory`, and its `TimedOut`.
 fn event_of(byte: u8) -> Event {
     match byte {
         b'!' => Event::Fail(ErrorKind::BrokenPipe),
@@ -45,7 +46,7 @@ fn event_of(byte: u8) -> Event {
     }
 }
 
-/// The character that stands for a failure.
+/// Returns the mark of a failure.
 pub fn mark_of(kind: ErrorKind) -> u8 {
     match kind {
         ErrorKind::BrokenPipe => b'!',
@@ -57,7 +58,7 @@ pub fn mark_of(kind: ErrorKind) -> u8 {
     }
 }
 
-/// The events that a text stands for.
+/// Returns the events that a text stands for.
 pub fn events_of(alloc: Global, script: &[u8], line: &mut Line) -> Vec<Event> {
     let mut events = Vec::new(alloc);
     'bytes: for byte in script {
@@ -66,7 +67,7 @@ pub fn events_of(alloc: Global, script: &[u8], line: &mut Line) -> Vec<Event> {
     events
 }
 
-/// The feed of a line that says its piece and its events.
+/// Makes the feed of a line that says its piece and its events.
 pub fn parse_feed(alloc: Global, words: &str) -> Made<Feed> {
     let (piece, script) = words.split_once(" ").unwrap_or((words, ""));
     let mut line = Line::new(alloc);
@@ -77,7 +78,7 @@ pub fn parse_feed(alloc: Global, words: &str) -> Made<Feed> {
     }
 }
 
-/// Prints the events that are left, and none as a dash.
+/// Prints the events that are left, or a dash if there are none.
 pub fn show_left(events: &[Event], line: &mut Line) {
     if events.is_empty() {
         line.word("-");

@@ -1,7 +1,7 @@
 // `run_reads`: asks of a buffered reader of 4 bytes over a tally.
 //
 // A row is `ask` and the asks, each a run of its own; then how many met the end and how many failed, what the buffer holds, what
-// is left below, and how many inner reads there were since the row before, of a filling reader also how many at most.
+// is left below, and how many inner reads there were since the row before; for a filling reader also the bound on them.
 ghost use Rattle.io_bench.specs.Asks.{Fits};
 
 use crate::NO_STREAM;
@@ -14,15 +14,15 @@ use rows_play::line::Line;
 use rows_play::player::{Player, Stream};
 use std::alloc::Global;
 
-// The most bytes that an ask may want.
+// The most bytes of an ask.
 const ROOM: usize = 16;
 
-/// What is asked below the buffer.
+/// The reader below the buffer.
 trait Source: Read {
     /// Prints what it has left.
     fn show(&self, line: &mut Line);
 
-    /// How many bytes it has left, where each read fills its buffer as far as there are some.
+    /// Returns how many bytes it has left, if it is a filling reader.
     fn filling(&self) -> Option<usize>;
 }
 
@@ -46,7 +46,7 @@ impl Source for Feed {
     }
 }
 
-// An ask of this many bytes, of a read `ROOM` at most.
+// Returns an ask of this many bytes, for a read at most `ROOM`.
 fn ask_of(word: &str, count: usize, line: &mut Line) -> Ask
     ensures { Fits 16 result }
 {
@@ -67,13 +67,13 @@ trait Asked {
     fn ask(&mut self, ask: Ask) -> ReadTotals
         requires { Fits 16 ask };
 
-    /// Prints what is held and what is left, a column each.
+    /// Prints what is held and what is left, in two columns.
     fn show(&self, line: &mut Line);
 
-    /// How many inner reads there were.
+    /// Returns the number of inner reads.
     fn reads(&self) -> u64;
 
-    /// How many bytes are held or left, of a filling reader.
+    /// Returns how many bytes are held or left, if the reader is filling.
     fn to_come(&self) -> Option<u64>;
 }
 
@@ -100,7 +100,7 @@ impl<R: Source + Drop, const S: usize> Asked for BufReader<Tally<R>, S> {
     }
 }
 
-// Makes the asks of a row, and adds up what they come to.
+// Makes the asks of a row, and adds up their totals.
 fn ask_all<T: Asked>(reader: &mut T, words: &str, line: &mut Line) -> ReadTotals {
     let mut totals = ReadTotals {
         at_end: 0,
@@ -122,7 +122,7 @@ fn ask_all<T: Asked>(reader: &mut T, words: &str, line: &mut Line) -> ReadTotals
     totals
 }
 
-// Asks of a reader.
+// The asks of a reader.
 #[derive(Drop)]
 struct Asking<T: Drop> {
     reader: T,
@@ -146,7 +146,7 @@ impl<T: Asked + Drop> Stream for Asking<T> {
     }
 }
 
-// The bytes of a slice, of which a line says the number.
+// The bytes of a slice; a line says how many there are.
 const DIGITS: &[u8] = b"0123456789";
 
 pub fn lend(name: &str, words: &str, player: &mut Player<'_, '_>) -> Made<()> {

@@ -1,7 +1,7 @@
-// Tallies and faulty devices over a device that has a body of its own for each call, and notes which of them it was.
+// Tallies and faulty devices over a device that has a body of its own for each call, and notes each call.
 //
-// A row is a call; then its answer, for a read the bytes that it gave, and the calls that reached the device. A line `new` of
-// a faulty device may have its acts before the device's answers, as `new take 2, zero; all, fail Other gone`.
+// A row is a call; then its result, for a read the bytes that it gave, and the calls that reached the device. A line `new` of
+// a faulty device may have its acts before the device's results: `new take 2, zero; all, fail Other gone`.
 use crate::NO_STREAM;
 use crate::acts::parse_acts;
 use io_bench::{Faulty, Tally};
@@ -17,7 +17,7 @@ use rows_play::recorder::{Name, Recorder};
 use std::alloc::Global;
 use std::cell::RefCell;
 
-// A writer, and its device's journal.
+// A writer, and the journal of its device.
 #[derive(Drop)]
 struct Writing<'j, W: Drop> {
     writer: W,
@@ -31,7 +31,7 @@ impl<'j, W: Write + Drop> Stream for Writing<'j, W> {
     }
 }
 
-// A tally as a reader, and its device's journal.
+// A tally as a reader, and the journal of its device.
 #[derive(Drop)]
 struct Reading<'j> {
     reader: Tally<Noted<Recorder>>,

@@ -1,5 +1,5 @@
-// Rows of what stands on the streams: `Patient` and `copy_through` of `system_streams`, `play` of `tower_play`, frames and lines of
-// a log, and sweeps that try these over a device that fails at each place.
+// Rows of the clients: `Patient` and `copy_through` of `system_streams`, `play` of `tower_play`, frames and lines of a log, and
+// sweeps that try these over a device that fails at each place.
 use rows_play::fault::Made;
 use rows_play::player::Player;
 

@@ -1,7 +1,7 @@
 // `run_closed` over a tally of a sink that notes the length of each write, and each flush.
 //
-// A row is `run` and the calls; then their replies, how many inner writes they took and how many at most, and the lengths
-// of the inner writes with `flush` for each inner flush. A run over a sink alone has to come to as many.
+// A row is `run` and the calls; then their replies, the number of inner writes and its bound, and the lengths of the
+// inner writes, with `flush` for each inner flush. A run over just a sink has to make as many.
 ghost use Rattle.std.specs.Prelude.{⊤, refl, ◌<◌};
 
 use crate::NO_STREAM;
@@ -14,14 +14,14 @@ use rows_play::line::Line;
 use rows_play::player::{Player, Stream};
 use std::alloc::Global;
 
-// Takes all, and notes the lengths of its writes, and its flushes.
+// A device that takes all, and notes the lengths of its writes, and its flushes.
 #[derive(Drop)]
 struct Lengths {
     sink: Sink,
     lengths: Line,
 }
 
-// Begins what is noted of one more call.
+// Begins the note of one more call.
 fn begin_note(lengths: &mut Line) {
     if !lengths.is_empty() {
         lengths.word(", ");
@@ -54,7 +54,8 @@ impl Write for Lengths {
     ghost steady = { λ w h. refl };
 }
 
-// The most inner writes that a run of `F` flushes and `N` bytes may take: `2 * (N / (S + 1)) + F + 1`.
+// Returns the bound on the inner writes of a run of `F` flushes and `N` bytes: `2 * (N / (S + 1)) + F
+// + 1`.
 fn most_writes(calls: &[Call<'_>], size: u64) -> u64 {
     let mut given: u64 = 0;
     let mut flushes: u64 = 0;
@@ -68,7 +69,7 @@ fn most_writes(calls: &[Call<'_>], size: u64) -> u64 {
     sent.wrapping_mul(2).wrapping_add(flushes).wrapping_add(1)
 }
 
-// Makes a run, and answers how many inner writes it took.
+// Makes a run, and returns the number of its inner writes.
 fn run<const S: usize>(
     device: &mut Lengths,
     ops: &[Op<'_>],
@@ -81,7 +82,7 @@ fn run<const S: usize>(
     Ok(tally.writes())
 }
 
-// The same over a sink.
+// Makes a run over a sink, and returns the number of its inner writes.
 fn run_sink<const S: usize>(ops: &[Op<'_>], replies: &mut Vec<Reply>) -> Result<u64> {
     if S == 0 || S >= 1 << 32 {
         return Ok(0);
@@ -90,7 +91,7 @@ fn run_sink<const S: usize>(ops: &[Op<'_>], replies: &mut Vec<Reply>) -> Result<
     Ok(tally.writes())
 }
 
-// Tells a run over a sink that comes to something else.
+// Prints a run over a sink that comes to something else.
 fn judge_sink<const S: usize>(alloc: Global, ops: &[Op<'_>], wanted: u64, line: &mut Line) {
     let mut replies = Vec::new(alloc);
     match run_sink::<S>(ops, &mut replies) {
@@ -103,7 +104,7 @@ fn judge_sink<const S: usize>(alloc: Global, ops: &[Op<'_>], wanted: u64, line: 
     }
 }
 
-// A device whose lengths go on from run to run, and the size of the buffer above it.
+// A device whose notes continue from run to run, and the size of the buffer above it.
 #[derive(Drop)]
 struct Closing<const S: usize> {
     device: Lengths,

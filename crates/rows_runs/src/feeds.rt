@@ -1,7 +1,7 @@
 // A feed, counted by a tally, as a reader.
 //
-// A line `new` says the feed's piece and its events. A row is a call; then its answer, the bytes that it gave, the events
-// that are left and how many reads with room there were since the row before.
+// A line `new` says the feed's piece and its events. A row is a call; then its result, the bytes that it gave, the events
+// that are left and how many reads into some room there were since the row before.
 use crate::acts::{parse_feed, show_left};
 use io_bench::{Feed, Tally};
 use rows_play::calls::Call;
@@ -11,7 +11,7 @@ use rows_play::player::{Player, Stream};
 use rows_play::reads::make_read;
 use std::alloc::Global;
 
-// A tally over a tally over a feed: both count alike.
+// A tally over a tally over a feed; both count the same.
 #[derive(Drop)]
 struct Feeding {
     reader: Tally<Tally<Feed>>,

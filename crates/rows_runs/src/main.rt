@@ -23,7 +23,7 @@ use std::process::ExitCode;
 
 pub const NO_STREAM: Fault = Fault::Malformed("no such stream");
 
-// The streams of this program: the first word says what a row runs.
+// The streams of this program. The first word says what a row runs.
 struct RunTables;
 
 impl Streams for RunTables {

@@ -1,4 +1,5 @@
-// Runs of a writer's calls as a row has them, `write ab, write_all c, flush`, and their replies, `2, ok, !BrokenPipe`.
+// Runs of a writer's calls as rows write them, `write ab, write_all c, flush`, and their replies, `2, ok,
+// !BrokenPipe`.
 use io_bench::{Op, Reply};
 use no_std_io2::io::Error;
 use rows_play::calls::Call;
@@ -14,7 +15,7 @@ pub fn push<T: Drop>(items: &mut Vec<T>, item: T, line: &mut Line) {
     }
 }
 
-/// The calls of a run.
+/// Returns the calls of a run.
 pub fn parse_calls<'a>(alloc: Global, words: &'a str, line: &mut Line) -> Vec<Call<'a>> {
     let mut calls = Vec::new(alloc);
     if words.is_empty() {
@@ -30,7 +31,7 @@ pub fn parse_calls<'a>(alloc: Global, words: &'a str, line: &mut Line) -> Vec<Ca
     calls
 }
 
-/// The same as `io_bench` has them.
+/// Returns the calls of a run as `io_bench` has them.
 pub fn ops_of<'a>(alloc: Global, calls: &'a [Call<'_>], line: &mut Line) -> Vec<Op<'a>> {
     let mut ops = Vec::new(alloc);
     'calls: for call in calls {
@@ -52,7 +53,7 @@ fn show_reply(reply: &Reply, line: &mut Line) {
     }
 }
 
-/// Prints replies, a comma between two.
+/// Prints replies, separated by commas.
 pub fn show_replies(replies: &[Reply], line: &mut Line) {
     if replies.is_empty() {
         line.word("-");
@@ -75,7 +76,7 @@ fn parse_reply(word: &str) -> Option<Reply> {
     }
 }
 
-/// The replies that are printed so.
+/// Returns the replies of a printed list.
 pub fn parse_replies(alloc: Global, words: &str, line: &mut Line) -> Vec<Reply> {
     let mut replies = Vec::new(alloc);
     if words.is_empty() {

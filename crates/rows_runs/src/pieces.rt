@@ -1,8 +1,8 @@
 // `run_split` and `run_lines` over a feed that gives pieces of each length from 1 to 6 through a buffer of 2 and of 4 bytes.
 //
-// A row is `lines` or `split`, a delimiter and what is to come; then the items, a bar behind each, and behind the last one
-// the fault that ended them: `!`, `#`, and `?` for a line that is no text. It stands for all lengths, which come to the same. Over
-// a device that answers as `new` says nothing stands behind the delimiter, and behind the items the calls of the device.
+// A row is `lines` or `split`, a delimiter and the text to come; then the items, a bar after each, and after the last the fault
+// that ended them: `!`, `#`, and `?` for a line that is not UTF-8. It is for all lengths, which have to give the same. Over a
+// device with the results of `new`, nothing follows the delimiter, and the calls of the device follow the items.
 use crate::NO_STREAM;
 use crate::acts::events_of;
 use io_bench::{Feed, run_lines, run_split};
@@ -17,7 +17,7 @@ use std::alloc::Global;
 use std::cell::RefCell;
 use std::rc::Rc;
 
-// More room for items than a few need.
+// More room for items than a few items need.
 const MUCH: usize = 64;
 
 fn show_end(end: &Result<()>, line: &mut Line) {
@@ -31,7 +31,7 @@ fn show_end(end: &Result<()>, line: &mut Line) {
     }
 }
 
-// Tells room for many more items than there are.
+// Prints whether there is room for many more items than there are.
 fn judge_room(capacity: usize, len: usize, line: &mut Line) {
     if capacity.saturating_sub(len) >= MUCH {
         line.word(" in much room");
@@ -65,7 +65,7 @@ fn lines<R: BufRead + Drop>(alloc: Global, r: R, line: &mut Line) {
     judge_room(items.capacity(), items.len(), line);
 }
 
-// The items between delimiters, or lines where there is none.
+// Returns the items between delimiters, or the lines if there is no delimiter.
 fn items<R: BufRead + Drop>(alloc: Global, r: R, delim: Option<u8>, line: &mut Line) {
     match delim {
         None => lines(alloc, r, line),
@@ -73,7 +73,7 @@ fn items<R: BufRead + Drop>(alloc: Global, r: R, delim: Option<u8>, line: &mut L
     }
 }
 
-// The delimiter of a row, none for lines, and what is to come.
+// Returns the delimiter of a row, none for lines, and the text to come.
 fn script_of<'a>(call: &'a Call<'_>) -> Option<(Option<u8>, &'a [u8])> {
     match call.word {
         "lines" => Some((None, &call.bytes)),
@@ -95,7 +95,7 @@ fn show_items(alloc: Global, script: &[u8], run: usize, delim: Option<u8>, line:
     }
 }
 
-// Nothing but what its rows say.
+// A stream without a state: its rows say everything.
 #[derive(Drop)]
 struct Splitting;
 
@@ -119,7 +119,7 @@ impl Stream for Splitting {
     }
 }
 
-// A device, whose calls are written down.
+// A device that notes its calls.
 #[derive(Drop)]
 struct Noting {
     device: Recorder,

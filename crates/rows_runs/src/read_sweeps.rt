@@ -1,7 +1,7 @@
-// Each tower of readers over feeds with an interruption, a fault or an early end at each place of the first, in pieces of one
-// byte and of three: what comes is a front of what the tower is to give, and all of it in the end.
+// Each tower of readers over feeds with an interruption, a fault or an early end at each place of the first feed, in pieces
+// of one byte and of three. The bytes that come are always a front of what the tower has to give, and all of it in the end.
 //
-// A row is a call, which is made until the end was met twice; then how many runs that were, or the first that goes wrong.
+// A row is a call, which is made until the end was met twice; then the number of runs, or the first run that goes wrong.
 use crate::acts::{events_of, mark_of};
 use crate::ops::push;
 use io_bench::Feed;
@@ -11,22 +11,22 @@ use rows_play::line::Line;
 use rows_play::player::{Player, Stream};
 use std::alloc::Global;
 
-// What the first feed gives, by the marks of `acts`.
+// The events of the first feed, by the marks of `acts`.
 const FIRST: [&str; 18] = [
     "~abcde", "a~bcde", "ab~cde", "abc~de", "abcd~e", "abcde~", "!abcde", "a!bcde", "ab!cde",
     "abc!de", "abcd!e", "abcde!", "", "a", "ab", "abc", "abcd", "abcde",
 ];
 
-// What the second one gives.
+// The events of the second feed.
 const SECOND: &str = "vw%xyz";
 
-// Where the limit of a tower with one lies.
+// The limit of a tower that has one.
 const LIMIT: usize = 7;
 
-// What stands in a byte that no call has written.
+// The value of a byte that no call has written.
 const UNWRITTEN: u8 = b'.';
 
-// Appends what a call gave; whether that is nothing.
+// Appends the bytes that a call gave, and returns whether there were none.
 fn append(got: &mut Vec<u8>, given: &[u8]) -> Result<bool> {
     got.extend_from_slice(given)?;
     Ok(given.is_empty())
@@ -40,7 +40,7 @@ fn read<R: Read>(r: &mut R, room: usize, got: &mut Vec<u8>) -> Result<bool> {
     }
 }
 
-// How many bytes of a buffer a call has written.
+// Returns how many bytes of a buffer a call has written.
 fn written(buf: &[u8]) -> usize {
     let mut written: usize = 0;
     'bytes: for byte in buf {
@@ -49,7 +49,8 @@ fn written(buf: &[u8]) -> usize {
     written
 }
 
-// All of the room where the call says so, and else what was written.
+// Makes a `read_exact`, and appends all of the room after `Ok`, or else the bytes that were
+// written.
 fn read_exact<R: Read>(r: &mut R, room: usize, got: &mut Vec<u8>) -> Result<bool> {
     let mut buf = [UNWRITTEN; 4];
     match r.read_exact(&mut buf[..room.min(4)]) {
@@ -91,7 +92,7 @@ fn pass<R: BufRead>(r: &mut R, got: &mut Vec<u8>) -> Result<bool> {
     Ok(is_end)
 }
 
-// Makes a call, appends the bytes that it gave, as many as it says, and hands on its answer: whether it met the end.
+// Makes a call, appends the bytes that it gave, and returns its result: whether it met the end.
 fn make<R: BufRead>(
     r: &mut R,
     call: &Call<'_>,
@@ -112,7 +113,7 @@ fn make<R: BufRead>(
     }
 }
 
-// The same, with a mark for a failure.
+// Makes a call, and appends a mark if it fails.
 fn meets_end<R: BufRead>(r: &mut R, call: &Call<'_>, got: &mut Vec<u8>, line: &mut Line) -> bool {
     let kind = match make(r, call, got, line) {
         Ok(is_end) => return is_end,
@@ -124,7 +125,7 @@ fn meets_end<R: BufRead>(r: &mut R, call: &Call<'_>, got: &mut Vec<u8>, line: &m
     kind == ErrorKind::UnexpectedEof
 }
 
-// Makes one call again and again until the end was met twice with nothing before it: whether all came, in order.
+// Makes one call again and again until the end was met twice in a row. Returns whether all bytes came, in order.
 fn gives<R: BufRead>(
     alloc: Global,
     r: &mut R,
@@ -149,7 +150,8 @@ fn gives<R: BufRead>(
     false
 }
 
-// A run: a kind of tower, what its first feed gives, and whether its pieces are single bytes, or three.
+// A run: a kind of tower, the events of its first feed, and whether its pieces are of one byte or of
+// three.
 #[derive(Clone, Copy)]
 struct Run<'r> {
     alloc: Global,
@@ -164,7 +166,8 @@ impl<'r> Run<'r> {
         Feed::new(events, if self.is_single { 1 } else { 3 })
     }
 
-    // What it is to give: the bytes up to its limit, and a mark for each failure that the call does not pass over.
+    // Returns what the tower has to give: the bytes up to its limit, and a mark for each failure that the call
+    // does not ignore.
     fn expected(self, call: &str, line: &mut Line) -> Vec<u8> {
         let passes = call != "read" && call != "pass";
         let limit = if self.kind.contains("Take") {
@@ -181,8 +184,8 @@ impl<'r> Run<'r> {
     }
 }
 
-// Appends events as long as there are not so many bytes, of which a call may pass over the interruptions; how many more there
-// may be.
+// Appends events until there are this many bytes, without the interruptions if the call ignores them. Returns how many more
+// bytes there may be.
 fn push_front(
     all: &mut Vec<u8>,
     events: &[u8],
@@ -206,7 +209,8 @@ fn chain(run: Run<'_>, line: &mut Line) -> Chain<Feed, Feed> {
     run.feed(run.first, line).chain(run.feed(SECOND, line))
 }
 
-// Makes the calls of the tower of a run, whose buffers are so long: whether all came, in order.
+// Makes the calls of a run on its tower, with buffers of S bytes. Returns whether all bytes came,
+// in order.
 fn gives_by<const S: usize>(run: Run<'_>, call: &Call<'_>, all: &[u8], line: &mut Line) -> bool {
     if S == 0 || S >= 1 << 32 {
         return false;
@@ -241,7 +245,7 @@ fn gives_by<const S: usize>(run: Run<'_>, call: &Call<'_>, all: &[u8], line: &mu
     }
 }
 
-// The towers of a kind, whose buffers are so long.
+// The towers of a kind, with buffers of this length.
 #[derive(Drop)]
 struct Sweeping<'n> {
     size: &'n str,
@@ -249,7 +253,7 @@ struct Sweeping<'n> {
 }
 
 impl<'n> Sweeping<'n> {
-    // Makes a run, and prints it where it goes wrong; whether it doesn't.
+    // Makes a run, prints it if it goes wrong, and returns whether it does not.
     fn is_lawful(&self, run: Run<'_>, call: &Call<'_>, line: &mut Line) -> bool {
         let all = run.expected(call.word, line);
         let is_lawful = match self.size {

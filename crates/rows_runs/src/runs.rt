@@ -1,7 +1,7 @@
 // `run_writes` over towers.
 //
-// A row is `run` and the calls; then their replies, the bytes out, what each level holds, the outer one first, and over a
-// device that notes them the calls that reached it.
+// A row is `run` and the calls; then their replies, the bytes out, what each level holds, the outer one first, and the
+// calls that reached the device, if it notes them.
 use crate::NO_STREAM;
 use crate::acts::parse_acts;
 use crate::ops::{ops_of, parse_calls, show_replies};
@@ -17,7 +17,7 @@ use rows_play::recorder::{Name, Recorder};
 use std::alloc::Global;
 use std::cell::RefCell;
 
-// Makes a row's calls, and prints their replies.
+// Makes the calls of a row, and prints their replies.
 fn run<W: Write>(alloc: Global, w: &mut W, call: &Call<'_>, line: &mut Line) {
     if call.word != "run" {
         line.malformed("no run");
@@ -93,7 +93,7 @@ fn lend_tower(
     Ok(())
 }
 
-// Two levels.
+// Lends a tower of two levels.
 fn lend_levels(
     name: &str,
     device: Recorder,

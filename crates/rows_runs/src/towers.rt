@@ -1,26 +1,26 @@
-// Towers of writers over one device, which can be looked at.
+// Towers of writers over one device, whose state can be shown.
 use io_bench::Faulty;
 use no_std_io2::io::{BufWriter, LineWriter, Write};
 use rows_play::line::Line;
 use rows_play::recorder::Recorder;
 
-/// A device of faults, whose bytes out are its vector's.
+/// A device that fails as its acts say; its bytes out are those of its vector.
 pub type Device = Faulty<Vec<u8>>;
 
-/// A tower of writers on a device. A device holds nothing.
+/// A tower of writers over a device. The device itself holds nothing.
 pub trait Tower: Write {
-    /// The bytes that the device keeps: a recorder's stand in its journal.
+    /// Returns the bytes that the device keeps; those of a recorder are in its journal.
     fn out(&self) -> &[u8] {
         &[]
     }
 
-    /// Prints a column of what each level holds, the outer one first.
+    /// Prints a column with what each level holds, the outer one first.
     fn show_held(&self, _line: &mut Line) {}
 
-    /// Appends what is held, the inner level's bytes first.
+    /// Appends the held bytes, the inner level's first.
     fn push_held(&self, _bytes: &mut Vec<u8>, _line: &mut Line) {}
 
-    /// Whether each buffer that sends lines has no newline, or ends in one.
+    /// Returns whether each line buffer has no newline, or ends in one.
     fn keeps_lines(&self) -> bool {
         true
     }
@@ -47,7 +47,7 @@ impl Tower for Vec<u8> {
 
 impl Tower for Recorder {}
 
-// What a box takes is not seen.
+// The bytes that a box takes are not visible.
 impl Tower for Box<dyn Write + Drop> {}
 
 impl<W: Tower + Drop, const S: usize> Tower for BufWriter<W, S> {

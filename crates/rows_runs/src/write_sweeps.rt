@@ -1,6 +1,7 @@
-// Each tower of writers over a device that takes one byte a call and then fails once, at each place.
+// Each tower of writers over a device that takes one byte in each call and then fails once, at each
+// place.
 //
-// A row is `sweep`; then how many runs that were, or the first run that breaks a law.
+// A row is `sweep`; then the number of runs, or the first run that breaks a law.
 use crate::ops::{push, show_replies};
 use crate::towers::{Device, Tower, push_bytes};
 use io_bench::{Act, Faulty, Op, Reply, joined, run_writes};
@@ -20,10 +21,10 @@ const OPS: [Op<'static>; 6] = [
     Op::Flush,
 ];
 
-// Each of three acts behind 0 to 12 calls that take a byte.
+// One run for each of three acts after 0 to 12 calls that take a byte.
 const RUNS: usize = 39;
 
-// The device of a run: so many calls take one byte, and then comes the act.
+// Makes the device of a run: some calls take one byte, and then comes the act.
 fn device_of(alloc: Global, run: usize, line: &mut Line) -> Device {
     let mut acts = Vec::new(alloc);
     'calls: for _ in 0..run / 3 {
@@ -38,7 +39,7 @@ fn device_of(alloc: Global, run: usize, line: &mut Line) -> Device {
     Faulty::new(Vec::new(alloc), acts)
 }
 
-// How many calls failed, or took none of some bytes.
+// Returns how many calls failed, or took none of their bytes.
 fn failures(replies: &[Reply]) -> u64 {
     let mut failures: u64 = 0;
     'replies: for reply in replies {
@@ -49,7 +50,8 @@ fn failures(replies: &[Reply]) -> u64 {
     failures
 }
 
-// What is wrong with the bytes that are out and then held, and with the replies, or nothing.
+// Returns what is wrong with the bytes out followed by those held, or with the replies, if anything
+// is.
 fn broken_law(all: &[u8], is_held: bool, accepted: &[u8], replies: &[Reply]) -> &'static str {
     if accepted != all {
         "other bytes than were accepted"
@@ -62,7 +64,7 @@ fn broken_law(all: &[u8], is_held: bool, accepted: &[u8], replies: &[Reply]) -> 
     }
 }
 
-// The same of a tower.
+// Returns what is wrong with a tower, if anything is.
 fn broken_by<T: Tower>(
     alloc: Global,
     tower: &T,
@@ -86,7 +88,7 @@ fn broken_by<T: Tower>(
     }
 }
 
-// Makes a run, and prints what is wrong with it; whether nothing is.
+// Makes a run, prints what is wrong with it, and returns whether nothing is.
 fn is_lawful<T: Tower>(alloc: Global, tower: &mut T, line: &mut Line) -> bool {
     let mut replies = Vec::new(alloc);
     if run_writes(tower, &OPS, &mut replies).is_err() {
@@ -102,7 +104,7 @@ fn is_lawful<T: Tower>(alloc: Global, tower: &mut T, line: &mut Line) -> bool {
     false
 }
 
-// The same of the tower of a kind, whose buffers are so long.
+// Makes a run on the tower of a kind, with buffers of S bytes.
 fn is_lawful_kind<const S: usize>(
     alloc: Global,
     kind: &str,
@@ -119,7 +121,7 @@ fn is_lawful_kind<const S: usize>(
     }
 }
 
-// The same of two levels.
+// Makes a run on a tower of two levels.
 fn is_lawful_above<const S: usize>(
     alloc: Global,
     kind: &str,
@@ -145,7 +147,7 @@ fn is_lawful_above<const S: usize>(
     }
 }
 
-// The towers of a kind, whose name says at its end how long their buffers are.
+// The towers of a kind; the name ends with the length of their buffers.
 #[derive(Drop)]
 struct Sweeping<'n> {
     kind: &'n str,

@@ -1,4 +1,5 @@
-// Devices that note no call, alone and below towers: vectors, writers that fail as they are told, and one that counts.
+// Devices that note no call, by themselves and below towers: vectors, writers that fail as their acts say, and one
+// that counts.
 ghost use Rattle.no_std_io2.specs.BufWriter.{BufWriterFits};
 
 use crate::devices::lend_object;
@@ -14,7 +15,7 @@ use rows_play::player::{Player, Stream};
 use rows_play::script::{Answer, parse_answers};
 use std::alloc::Global;
 
-// What a device that is told these answers does, the first one first.
+// Returns the acts of a device with these results, in order.
 fn parse_acts(alloc: Global, words: &str) -> Made<Vec<Act>> {
     let mut acts = Vec::new(alloc);
     'answers: for answer in parse_answers(alloc, words)?.iter().rev() {
@@ -34,7 +35,7 @@ pub fn new_faulty(alloc: Global, words: &str) -> Made<Faulty<Vec<u8>>> {
     Ok(Faulty::new(Vec::new(alloc), acts))
 }
 
-/// A stream's name ends with its device's.
+/// Lends the stream of this name, which ends with the name of its device.
 pub fn lend(name: &str, words: &str, player: &mut Player<'_, '_>) -> Made<()> {
     if let Some((levels, device)) = name.split_once(" Box dyn ") {
         return lend_boxed(levels, device, words, player);
@@ -100,16 +101,16 @@ fn lend_tally(level: &str, player: &mut Player<'_, '_>) -> Made<()> {
     }
 }
 
-// A vector that is lent to a buffer of 8 bytes for a row: `drop CALL` and `into_inner CALL` make this call of the buffer, and then
-// drop it, or take the vector back. With acts behind `new` the vector stands behind a writer that fails so. The columns behind a
-// call are its answer, and the content.
+// A vector that is lent to a buffer of 8 bytes for each row: `drop CALL` and `into_inner CALL` make this call of the buffer, and
+// then drop the buffer, or take the vector back. With acts after `new`, a writer that fails as they say is in front of the vector.
+// The columns after a call are its result and the content.
 #[derive(Drop)]
 struct Buffered<'a> {
     content: Vec<u8>,
     words: &'a str,
 }
 
-// Makes a call of a buffer, and drops or ends it.
+// Makes a call of a buffer, and drops or unwraps the buffer.
 fn buffer<W: Write + Drop>(mut w: BufWriter<W, 8>, word: &str, call: &Call<'_>, line: &mut Line)
     requires { BufWriterFits W.row 8 }
 {

@@ -1,4 +1,4 @@
-// Devices with a journal, alone and below towers.
+// Devices with a journal, by themselves and below towers.
 use crate::levels::{NO_STREAM, NOTED, RECORDER, lend, play_level};
 use crate::tower::{Device, Object};
 use crate::writing::{Columns, make_any_call, play, play_seeking};
@@ -14,17 +14,17 @@ use std::alloc::Global;
 use std::cell::RefCell;
 use std::rc::Rc;
 
-/// A recorder on this journal.
+/// Makes a recorder with this journal.
 pub fn new_recorder(alloc: Global, journal: &Rc<RefCell<Journal>>) -> Made<Recorder> {
     Ok(Recorder::new(alloc, journal.clone()?, Name::Only))
 }
 
-/// One that notes the name of each call, too.
+/// Makes a device that also notes the name of each call.
 pub fn new_device(alloc: Global, journal: &Rc<RefCell<Journal>>) -> Made<Device> {
     Ok(Noted::new(new_recorder(alloc, journal)?, journal.clone()?))
 }
 
-/// A recorder below levels.
+/// Lends a recorder below levels.
 pub fn lend_recorder(name: &str, words: &str, player: &mut Player<'_, '_>) -> Made<()> {
     let journal = new_journal(player.alloc, words)?;
     let recorder = new_recorder(player.alloc, &journal)?;
@@ -45,7 +45,7 @@ pub fn lend_recorder(name: &str, words: &str, player: &mut Player<'_, '_>) -> Ma
     Ok(())
 }
 
-// A level over a buffer of 8 bytes over a recorder, or one over the recorder.
+// Lends a level over a recorder, possibly with a buffer of 8 bytes between them.
 fn lend_tower(
     name: &str,
     recorder: Recorder,
@@ -65,7 +65,7 @@ fn lend_tower(
     }
 }
 
-/// A boxed object, alone or below levels.
+/// Lends a boxed object, by itself or below levels.
 pub fn lend_object(
     levels: &str,
     object: Object,
@@ -91,7 +91,7 @@ pub fn lend_object(
     }
 }
 
-/// A device that notes the name of each call, too.
+/// Lends a device that also notes the name of each call.
 pub fn lend_device(name: &str, words: &str, player: &mut Player<'_, '_>) -> Made<()> {
     let journal = new_journal(player.alloc, words)?;
     let device = new_device(player.alloc, &journal)?;
@@ -118,7 +118,7 @@ pub fn lend_device(name: &str, words: &str, player: &mut Player<'_, '_>) -> Made
     Ok(())
 }
 
-// A boxed seeker, and the device's journal.
+// A boxed seeker, and the journal of its device.
 #[derive(Drop)]
 struct Boxed {
     seeker: Box<dyn Seek + Drop>,
@@ -134,7 +134,7 @@ impl Stream for Boxed {
     }
 }
 
-// A device, which is called itself, or lent.
+// A device, which is called itself, or through a reference.
 #[derive(Drop)]
 struct Handed<'a> {
     name: &'a str,

@@ -1,4 +1,4 @@
-// A level over a device, whose name is its kind and its size.
+// A level over a device. The name of the level is its kind and its size.
 ghost use Rattle.no_std_io2.specs.BufWriter.{BufWriterFits};
 ghost use Rattle.no_std_io2.specs.LineWriter.{LineWriterFits};
 
@@ -16,13 +16,13 @@ pub const NO_STREAM: Fault = Fault::Malformed("no such stream");
 /// A recorder.
 pub const RECORDER: usize = 0;
 
-/// A device that notes the name of each call, too.
+/// A device that also notes the name of each call.
 pub const NOTED: usize = 1;
 
-/// An empty vector, behind a writer that fails as a row's `new` says.
+/// An empty vector behind a writer that fails as a row's `new` says.
 pub const FAULTY: usize = 2;
 
-/// Over one of these.
+/// Lends a level over one of these devices.
 pub fn lend<const BASE: usize>(level: &str, words: &str, player: &mut Player<'_, '_>) -> Made<()> {
     let (kind, size) = level.split_once(" ").unwrap_or((level, ""));
     match size {
@@ -70,7 +70,7 @@ pub fn play_level<W: Tower, const S: usize>(
     Ok(())
 }
 
-// The same over one that seeks, as a buffer does then.
+// Plays the rows on a level over a base that seeks, so that a buffer seeks too.
 fn play_seeking_level<W: Tower + Seek, const S: usize>(
     kind: &str,
     base: W,

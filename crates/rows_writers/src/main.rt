@@ -1,5 +1,5 @@
-//! Plays the files of rows of writers, over devices that write down each call and over refused memory: those that its arguments
-//! name, as [`rows_play`] reads them.
+//! Plays the files of rows that its arguments name, as [`rows_play`] reads them: writers over devices that note each call, and
+//! over memory that runs out.
 #![tactic(auto)]
 
 mod benches;
@@ -14,7 +14,7 @@ use rows_play::files::play_files;
 use rows_play::player::{Player, Streams};
 use std::process::ExitCode;
 
-// The streams of writers: the first word says which columns a row has.
+// The streams of this program. The first word says which columns a row has.
 struct Writers;
 
 impl Streams for Writers {
@@ -29,7 +29,7 @@ impl Streams for Writers {
         }
     }
 
-    // The acts of a bench have none.
+    // The acts of a `Faulty` have no texts.
     fn has_texts(name: &str) -> bool {
         !name.starts_with("bench ")
     }

@@ -1,4 +1,4 @@
-// Rows of refused memory: vectors, and what stands on them, over a heap that has room for so many bytes.
+// Rows of failed allocations: vectors, and streams over them, in a heap of limited size.
 use reads::Reading;
 use rows_play::fault::Made;
 use rows_play::player::Player;

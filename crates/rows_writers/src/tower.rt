@@ -1,4 +1,4 @@
-// Towers of writers: what stands on a device, level by level.
+// Towers of writers over a device, level by level.
 use io_bench::{Faulty, Sink, Tally};
 use no_std_io2::io::{BufWriter, Error, IntoInnerError, LineWriter, Write};
 use rows_play::calls::Call;
@@ -16,19 +16,20 @@ pub type Object = Box<dyn Write + Drop>;
 /// What a column of a tower shows.
 #[derive(Clone, Copy)]
 pub enum Part {
-    /// What the device took, where it keeps that itself.
+    /// The bytes that the device took, if it keeps them itself.
     Taken,
-    /// What each level holds.
+    /// The bytes that each level holds.
     Held,
 }
 
-/// A writer that stands on a device.
+/// A writer over a device.
 pub trait Tower: Write + Drop {
     /// Prints a column of each level that has this part, the outer one first.
     fn show(&self, _part: Part, _line: &mut Line) {}
 
-    /// Makes a call of the outer level that a device has not: `below TEXT` writes to the level below, and `into_inner` takes the
-    /// outer level off, and puts an empty one on. A refusal gives the tower back, and for `into_error` becomes an error alone.
+    /// Makes a call of the outer level that a device does not have: `below TEXT` writes to the level below, and `into_inner`
+    /// unwraps the outer level and puts an empty one in its place. If that fails, the tower is kept; for `into_error` only the
+    /// error is.
     fn call_level(_tower: &mut Option<Self>, _alloc: Global, _call: &Call<'_>, line: &mut Line)
     where
         Self: Sized,
@@ -58,7 +59,7 @@ impl Tower for Faulty<Vec<u8>> {
     }
 }
 
-// The number of the writes stands in place of the bytes.
+// The number of the writes is shown in place of the bytes.
 impl Tower for Tally<Sink> {
     fn show(&self, part: Part, line: &mut Line) {
         if let Part::Taken = part {
@@ -74,7 +75,7 @@ impl<W: Tower> Tower for Box<W> {
     }
 }
 
-// What a refused `into_inner` says: the error, and what the whole prints.
+// Prints what a failed `into_inner` contains: the error, and what the whole prints.
 fn show_refusal<W>(alloc: Global, refused: &IntoInnerError<W>, line: &mut Line) {
     line.error(refused.error());
     match format!(in alloc; "{refused}") {

@@ -1,7 +1,7 @@
 // Towers of writers, played by rows of calls.
 //
-// The columns behind a call are its answer, what the device took, the bytes held at each level, the outer one first, and over a
-// recorder the calls that reached it.
+// The columns after a call are its result, the bytes that the device took, the held bytes of each level, the outer one first,
+// and over a recorder the calls that reached it.
 use crate::tower::{Part, Tower};
 use no_std_io2::io::{Seek, Write};
 use rows_play::calls::{Call, expect, make_call, make_seek, show_calls, show_out};
@@ -12,19 +12,20 @@ use std::alloc::Global;
 use std::cell::RefCell;
 use std::rc::Rc;
 
-/// What stands behind an answer.
+/// The columns after a result.
 #[derive(Drop)]
 pub enum Columns {
-    /// What the device keeps, and what is held.
+    /// The bytes that the device keeps, and those that are held.
     State,
-    /// What a device took that has this journal, what is held at so many levels, and the calls.
+    /// The bytes that the device of this journal took, those that are held at this many levels, and
+    /// the calls.
     All(Rc<RefCell<Journal>>, usize),
-    /// The calls alone.
+    /// Only the calls.
     Calls(Rc<RefCell<Journal>>),
 }
 
-// A tower until it is dropped. Beside the calls of a writer, and those of a level, a row has these: `expect ANSWERS` sets the
-// device's next answers, and `drop` ends the tower.
+// A tower until it is dropped. Besides the calls of a writer and of a level, there are `expect RESULTS`, which sets the
+// device's next results, and `drop`, which ends the tower.
 #[derive(Drop)]
 struct Writing<T: Drop> {
     tower: Option<T>,
@@ -58,7 +59,7 @@ impl<T: Tower> Writing<T> {
         }
     }
 
-    // Makes a call, and prints its answer.
+    // Makes a call, and prints its result.
     fn call(&mut self, alloc: Global, call: &Call<'_>, line: &mut Line) {
         let Some(tower) = &mut self.tower else {
             line.malformed("the tower is gone");
@@ -77,7 +78,7 @@ impl<T: Tower> Writing<T> {
         }
     }
 
-    // Prints the columns behind the answer.
+    // Prints the columns after the result.
     fn show(&self, line: &mut Line) {
         match &self.columns {
             Columns::State => {
@@ -93,7 +94,7 @@ impl<T: Tower> Writing<T> {
         }
     }
 
-    // Prints a column of each level. Where the tower is gone none holds anything.
+    // Prints a column for each level. If the tower is gone, none holds anything.
     fn show_part(&self, part: Part, levels: usize, line: &mut Line) {
         if let Some(tower) = &self.tower {
             tower.show(part, line);
@@ -113,7 +114,7 @@ impl<T: Tower> Stream for Writing<T> {
     }
 }
 
-/// Plays the rows on one that seeks.
+/// Plays the rows on a tower that seeks.
 pub fn play_seeking<T: Tower + Seek>(tower: T, columns: Columns, player: &mut Player<'_, '_>) {
     let tower = Some(tower);
     player.play(&mut Seeking {
@@ -121,7 +122,7 @@ pub fn play_seeking<T: Tower + Seek>(tower: T, columns: Columns, player: &mut Pl
     });
 }
 
-// The same, with the calls of a seeker.
+// A tower that seeks, with the calls of a seeker.
 #[derive(Drop)]
 struct Seeking<T: Drop> {
     writing: Writing<T>,

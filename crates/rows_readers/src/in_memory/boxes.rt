@@ -10,7 +10,7 @@ use rows_play::line::{Line, unescape};
 use rows_play::player::{Player, Stream};
 use std::alloc::Global;
 
-// One that seeks.
+// A boxed object that seeks.
 #[derive(Drop)]
 struct Seeking {
     seeker: Box<dyn Seek + Drop>,
@@ -41,7 +41,7 @@ pub fn lend(
     }
 }
 
-// A text in a box.
+// Makes a box with a text.
 fn new_box(alloc: Global, words: &str) -> Made<Box<Cursor<Vec<u8>>>> {
     Ok(Box::new(alloc, new_text(alloc, words)?)?)
 }
@@ -83,7 +83,7 @@ fn lend_held(words: &str, devices: Devices<'_>, player: &mut Player<'_, '_>) -> 
     Ok(())
 }
 
-// A buffer of 4 bytes over a boxed object and three bytes of a text that is lent.
+// Lends a buffer of 4 bytes over a boxed object and three bytes of a borrowed text.
 fn lend_tower(words: &str, devices: Devices<'_>, player: &mut Player<'_, '_>) -> Made<()> {
     let (first, second) = cut(words);
     let mut second = new_text(player.alloc, second)?.take(3);

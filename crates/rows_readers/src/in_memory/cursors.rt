@@ -1,7 +1,7 @@
 // Cursors, and buffers over one, played by rows of calls.
 //
-// The columns behind a call are its answer, for a read the bytes that it gave, the content and the position; of a buffer what
-// stands at each level.
+// The columns after a call are its result, for a read the bytes that it gave, the content and the position; for a buffer the
+// state of each level.
 use super::scripts::new_text;
 use super::vectors::Buffered;
 use crate::devices::Devices;
@@ -22,13 +22,13 @@ pub fn show(content: &[u8], position: u64, line: &mut Line) {
     line.number(position);
 }
 
-// The position that a row `place N` sets.
+// Returns the position that a row `place N` sets.
 pub fn place_of(call: &Call<'_>, line: &mut Line) -> u64 {
     line.word("-");
     call.number(line) as u64
 }
 
-// A call of a stream that writes too.
+// Makes the call of a row on a stream that also writes.
 fn make_any_call<T: Write + BufRead + Seek>(
     alloc: Global,
     stream: &mut T,
@@ -42,8 +42,8 @@ fn make_any_call<T: Write + BufRead + Seek>(
     }
 }
 
-// A cursor on a vector. Beside the calls of its traits it has `place N`, which sets the position, and `clone`, which goes on
-// with the clone and answers whether it is equal.
+// A cursor on a vector. Besides the calls of its traits it has `place N`, which sets the position, and `clone`, which
+// continues with the clone and prints whether it is equal.
 #[derive(Drop)]
 struct OnVector {
     cursor: Text,
@@ -76,7 +76,8 @@ impl Stream for OnVector {
     }
 }
 
-// A cursor on what is lent, or on a boxed slice, made anew for each call where the last one stood. It has `place N` too.
+// A cursor on borrowed content, or on a boxed slice. A new one is made for each call, at the position of the last one.
+// It has `place N` too.
 #[derive(Drop)]
 struct OnLent<'a> {
     name: &'a str,
@@ -85,7 +86,7 @@ struct OnLent<'a> {
 }
 
 impl<'a> OnLent<'a> {
-    // Makes a call, and answers where the cursor stands then.
+    // Makes a call, and returns the position afterwards.
     fn make_call(&mut self, alloc: Global, call: &Call<'_>, line: &mut Line) -> u64 {
         match self.name {
             "&mut Vec" => {
@@ -133,8 +134,8 @@ impl<'a> Stream for OnLent<'a> {
     }
 }
 
-// A buffer of 4 bytes over a text. Beside the calls of a reader and a seeker it has `seek_relative N`, and `place N`, which sets
-// the position of the text below.
+// A buffer of 4 bytes over a text. Besides the calls of a reader and a seeker it has `seek_relative N`, and `place N`, which
+// sets the position of the text below.
 #[derive(Drop)]
 struct Moving<'j> {
     reader: BufReader<Text, 4>,

@@ -8,7 +8,7 @@ use rows_play::fault::{Fault, Made};
 use rows_play::line::unescape;
 use rows_play::player::Player;
 
-// A stream's name ends with its device's.
+// Lends the stream of this name, which ends with the name of its device.
 pub fn lend(
     name: &str,
     words: &str,
@@ -25,7 +25,7 @@ pub fn lend(
     }
 }
 
-// A limit is 2, or what stands before an `of`.
+// Lends a stream over a feed. The limit is 2, or the number before an `of`.
 fn lend_feed(
     tower: &str,
     words: &str,
@@ -129,7 +129,7 @@ fn three<'a>(words: &'a str) -> Three<'a> {
     two.chain(third.as_bytes())
 }
 
-// Three slices in a row, or four.
+// Lends a chain of three or four slices.
 fn lend_slices(
     tower: &str,
     words: &str,

@@ -1,7 +1,7 @@
-// How much room `read_to_end` and `read_until` make in a vector, and `read_line` in a text.
+// How much room `read_to_end` and `read_until` make in a vector, and `read_line` in a string.
 //
-// A row says the capacity, how many bytes stand there, and how many are to come; behind a piece or a line come 40 others. The
-// columns behind it are the answer, the length and the capacity then, and how many bytes are left to come.
+// A row says the capacity, how many bytes are in the vector, and how many are to come; a piece or a line is followed by 40
+// others. The columns after it are the result, the length and the capacity afterwards, and how many bytes are still to come.
 use super::scripts::push_bytes;
 use io_bench::{Feed, Tally};
 use no_std_io2::io::{BufRead, BufReader, Cursor, Read};
@@ -10,7 +10,7 @@ use rows_play::line::Line;
 use rows_play::player::Stream;
 use std::alloc::Global;
 
-// What stands behind the letters to come of a piece or a line.
+// The bytes that follow a piece or a line.
 const BEHIND: &[u8] = b"\nbbbbbbbbbbbbbbbbbbbbbbbbbbbbbbbbbbbbbbbb";
 
 // What a row says: a vector's capacity and length, and how many bytes are to come.
@@ -66,7 +66,7 @@ fn room_of(alloc: Global, trial: Trial<'_>, line: &mut Line) -> Vec<u8> {
     room
 }
 
-// The same as a text.
+// Makes a string with this capacity and length.
 fn text_of(alloc: Global, trial: Trial<'_>, line: &mut Line) -> String {
     let mut text = match String::with_capacity(alloc, trial.capacity) {
         Ok(text) => text,
@@ -80,7 +80,7 @@ fn text_of(alloc: Global, trial: Trial<'_>, line: &mut Line) -> String {
     text
 }
 
-// Prints the columns behind an answer.
+// Prints the columns after a result.
 fn show<R: Read>(alloc: Global, len: usize, capacity: usize, r: &mut R, line: &mut Line) {
     line.column();
     line.number(len as u64);
@@ -101,7 +101,7 @@ fn read_all<R: Read>(alloc: Global, trial: Trial<'_>, r: &mut R, line: &mut Line
     show(alloc, room.len(), room.capacity(), r, line);
 }
 
-// Up to a newline.
+// Reads up to a newline.
 fn read_piece<R: BufRead>(alloc: Global, trial: Trial<'_>, r: &mut R, line: &mut Line) {
     let mut room = room_of(alloc, trial, line);
     line.length(&r.read_until(b'\n', &mut room));
@@ -114,7 +114,7 @@ fn read_line<R: BufRead>(alloc: Global, trial: Trial<'_>, r: &mut R, line: &mut 
     show(alloc, text.len(), text.capacity(), r, line);
 }
 
-// Reads what the row says.
+// Makes the call of the row.
 fn read_some<R: BufRead>(alloc: Global, trial: Trial<'_>, r: &mut R, line: &mut Line) {
     match trial.word {
         "read_until" => read_piece(alloc, trial, r, line),
@@ -127,7 +127,7 @@ fn read_lent<R: BufRead>(alloc: Global, trial: Trial<'_>, r: &mut R, line: &mut 
     read_some(alloc, trial, &mut &mut *r, line);
 }
 
-// A feed has the trait's own body.
+// Reads from a feed, which has the trait's body.
 fn read_feed(alloc: Global, trial: Trial<'_>, bytes: &[u8], line: &mut Line) {
     let mut events = Vec::new(alloc);
     match push_bytes(&mut events, bytes) {
@@ -159,7 +159,7 @@ fn read_box(
     }
 }
 
-// By a buffer of 4 bytes that is empty, or full.
+// Reads through a buffer of 4 bytes that is empty, or full.
 fn read_buffer(alloc: Global, trial: Trial<'_>, bytes: &[u8], is_full: bool, line: &mut Line) {
     let mut reader = BufReader::<Cursor<&[u8]>, 4>::new(Cursor::new(bytes));
     if is_full && reader.fill_buf().is_err() {

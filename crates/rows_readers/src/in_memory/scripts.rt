@@ -1,4 +1,4 @@
-// What a group's `new` says: feeds of `io_bench`, its faulty writers, and texts.
+// The streams that a group's `new` describes: feeds of `io_bench`, its faulty writers, and texts.
 use io_bench::{Act, Event, Faulty, Feed};
 use no_std_io2::io::Cursor;
 use rows_play::fault::{Fault, Made};
@@ -7,7 +7,7 @@ use rows_play::line::{Line, unescape};
 use rows_play::script::{Answer, parse_answers};
 use std::alloc::{AllocError, Global};
 
-// Two texts on both sides of a plus: where there is none the first is empty.
+// Returns the two texts on both sides of a plus. If there is no plus, the first is empty.
 pub fn cut(words: &str) -> (&str, &str) {
     words.rsplit_once(" + ").unwrap_or(("", words))
 }
@@ -24,8 +24,8 @@ pub fn push_bytes(events: &mut Vec<Event>, bytes: &[u8]) -> Result<(), AllocErro
     Ok(())
 }
 
-// A feed: `give xy, fail Interrupted, give z` are two bytes, an interruption and a byte, `end` is no event, and in front of that
-// `by 1, ` says how many bytes a read gives at most, which are 4 else.
+// Makes a feed. `give xy, fail Interrupted, give z` are two bytes, an interruption and a byte; `end` is no event; `by 1, ` in
+// front says how many bytes a read gives at most, and the default is 4.
 pub fn new_feed(alloc: Global, words: &str) -> Made<Feed> {
     let (piece, words) = match words.strip_prefix("by ") {
         Some(rest) => rest.split_once(", ").unwrap_or((rest, "")),
@@ -48,7 +48,7 @@ pub fn new_feed(alloc: Global, words: &str) -> Made<Feed> {
     }
 }
 
-// Prints events, and none as a dash.
+// Prints events, or a dash if there are none.
 pub fn show_events(events: &[Event], line: &mut Line) {
     if events.is_empty() {
         line.word("-");
@@ -77,7 +77,8 @@ pub fn show_events(events: &[Event], line: &mut Line) {
     }
 }
 
-// A writer to a vector that acts so: `take 3, fail BrokenPipe` takes three bytes and then fails.
+// Makes a writer to a vector with these acts: `take 3, fail BrokenPipe` takes three bytes and then
+// fails.
 pub fn new_writer(alloc: Global, words: &str) -> Made<Faulty<Vec<u8>>> {
     let mut answers = parse_answers(alloc, words)?;
     let mut acts = Vec::new(alloc);

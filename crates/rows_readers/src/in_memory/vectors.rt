@@ -10,7 +10,7 @@ use rows_play::reads::make_read;
 use std::alloc::Global;
 use std::collections::VecDeque;
 
-// A buffer over a cursor, whose place `place N` sets. The columns are those of the cursor, and behind them the bytes held.
+// A buffer over a cursor, whose position `place N` sets. The columns are those of the cursor, and then the held bytes.
 #[derive(Drop)]
 pub struct Buffered {
     pub writer: BufWriter<Cursor<Vec<u8>>, 8>,
@@ -30,8 +30,8 @@ impl Stream for Buffered {
     }
 }
 
-// A cursor on an empty vector with room, or the vector alone, which is written at its end. The columns behind a call are its
-// answer, the content's length, and for how many bytes there is room.
+// A cursor on an empty vector with room, or just the vector, which is written at its end. The columns after a call are its
+// result, the content's length, and the capacity.
 #[derive(Drop)]
 struct Grown {
     cursor: Cursor<Vec<u8>>,
@@ -52,7 +52,7 @@ impl Stream for Grown {
     }
 }
 
-// A queue. The column behind a call is what it holds.
+// A queue. The column after a call is its content.
 #[derive(Drop)]
 struct Queue {
     bytes: VecDeque<u8>,
@@ -81,7 +81,7 @@ pub fn lend_queue(words: &str, player: &mut Player<'_, '_>) -> Made<()> {
     Ok(())
 }
 
-// With room for so many bytes as a row's `new` says.
+// Lends a stream with room for as many bytes as a row's `new` says.
 pub fn lend(name: &str, words: &str, player: &mut Player<'_, '_>) -> Made<()> {
     let is_cursor = name == "Cursor";
     let Ok(room) = words.parse::<usize>() else {

@@ -1,10 +1,11 @@
-// A slice in a type without a lifetime, and a buffer of 4 bytes in one without a parameter, as a box of an object asks for.
+// A slice in a type without a lifetime, and a buffer of 4 bytes in one without a parameter, because boxed objects need such
+// types.
 ghost use Rattle.std.specs.Prelude.{[], length};
 
 use no_std_io2::io::{BufRead, BufReader, Cursor, Read, Result, Stored};
 use rows_play::fault::{Fault, Made};
 
-/// The slice that a row names: one that lives as long as the program.
+/// Returns the slice that a row names, which lives as long as the program.
 pub fn slice_of(words: &str) -> Made<&'static [u8]> {
     match words {
         "cd" => Ok(b"cd"),

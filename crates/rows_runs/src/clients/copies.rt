@@ -1,7 +1,8 @@
 // `copy_through`, to an output that notes its calls.
 //
-// A row is a copy with lines, `line`, or without, `buf`, of what stands behind; then its answer and the calls of the output.
-// With `from` it is a copy of a device, whose calls stand there too; with `pieces` of `ab\nc`, `d\ne\n` and `f`, a read each.
+// A row is a copy of the text after it, with a line buffer, `line`, or without, `buf`; then its result and the calls of the
+// output. With `from` a device is copied, whose calls are shown too; with `pieces` three reads give `ab\nc`, `d\ne\n` and
+// `f`.
 ghost use Rattle.no_std_io2.specs.BufReader.{BufReaderFits};
 
 use io_bench::{Event, Feed};
@@ -17,7 +18,7 @@ use std::cell::RefCell;
 use std::rc::Rc;
 use system_streams::copy_through;
 
-/// An event for each byte.
+/// Returns an event for each byte.
 pub fn events_of(alloc: Global, bytes: &[u8], line: &mut Line) -> Vec<Event> {
     let mut events = Vec::new(alloc);
     'bytes: for byte in bytes {
@@ -37,7 +38,7 @@ fn copy<R: Read + Drop>(input: R, output: &mut Recorder, form: &str, line: &mut 
     }
 }
 
-/// A device to be read and one to be written, which note their calls in one journal.
+/// A device that is read and one that is written, which note their calls in one journal.
 #[derive(Drop)]
 pub struct Ends {
     pub input: Recorder,
@@ -46,7 +47,7 @@ pub struct Ends {
 }
 
 impl Ends {
-    /// Both answer so, in the order of their calls.
+    /// Makes two devices that have these results, in the order of their calls.
     pub fn new(alloc: Global, words: &str) -> Made<Ends> {
         let journal = new_journal(alloc, words)?;
         let input = journal.clone()?;

@@ -1,7 +1,7 @@
 // Frames, and lines of a log, over devices that note their calls, through a buffer of 4 bytes.
 //
-// A row of what sends is a call; then its answer, whether a frame or a line is under way, the bytes out and the calls that
-// reached the device; `drop` and `into_inner` end what sends. A row of a reader is a call; then its answer and the calls.
+// A row of a sender is a call; then its result, whether a frame or a line is under way, the bytes out and the calls that
+// reached the device; `drop` and `into_inner` end the sender. A row of a reader is a call; then its result and the calls.
 use framing::{FrameReader, FrameWriter};
 use line_log::LineLog;
 use no_std_io2::io::Result as IoResult;
@@ -16,7 +16,7 @@ use std::cell::RefCell;
 use std::fmt;
 use std::rc::Rc;
 
-// Prints the columns behind the answer of what sends.
+// Prints the columns after the result of a sender.
 fn show_sent(is_under_way: bool, journal: &RefCell<Journal>, line: &mut Line) {
     line.column();
     line.word(if is_under_way { "under way" } else { "-" });
@@ -24,7 +24,7 @@ fn show_sent(is_under_way: bool, journal: &RefCell<Journal>, line: &mut Line) {
     show_calls(journal, line);
 }
 
-// A writer of frames, until it is dropped or taken off, and its device's journal.
+// A writer of frames until it is dropped or unwrapped, and the journal of its device.
 #[derive(Drop)]
 struct Sending {
     writer: Option<FrameWriter<Recorder, 4>>,
@@ -48,7 +48,7 @@ fn send_by(to: &mut FrameWriter<Recorder, 4>, call: &Call<'_>, line: &mut Line) 
     }
 }
 
-// Takes the writer off, and shows the calls of that alone: what an error holds is dropped behind them.
+// Unwraps the writer, and shows only the calls of that; what an error contains is dropped after them.
 fn unwrap(w: FrameWriter<Recorder, 4>, journal: &RefCell<Journal>, line: &mut Line) {
     if w.is_under_way() {
         line.malformed("a frame is under way");
@@ -85,7 +85,7 @@ impl Stream for Sending {
     }
 }
 
-// A reader of frames of at most 5 bytes, and its device's journal.
+// A reader of frames of at most 5 bytes, and the journal of its device.
 #[derive(Drop)]
 struct Receiving {
     reader: FrameReader<Recorder, 4>,
@@ -117,7 +117,7 @@ impl Stream for Receiving {
     }
 }
 
-// A log of lines, until it is dropped or taken off, and its device's journal.
+// A log of lines until it is dropped or unwrapped, and the journal of its device.
 #[derive(Drop)]
 struct Logging {
     log: Option<LineLog<Recorder, 4>>,
@@ -135,7 +135,8 @@ impl fmt::Display for Broken {
     }
 }
 
-// `log TEXT`, `log_text TEXT`, which prints the text in two pieces with a number behind it, and `log_broken`.
+// Makes the calls `log TEXT`, `log_text TEXT`, which prints the text in two pieces followed by a number, and
+// `log_broken`.
 fn log(to: &mut LineLog<Recorder, 4>, call: &Call<'_>, line: &mut Line) {
     match std::str::from_utf8(&call.bytes) {
         Ok(_) if to.is_under_way() => line.malformed("a line is under way"),
@@ -158,7 +159,7 @@ fn log_by(to: &mut LineLog<Recorder, 4>, call: &Call<'_>, line: &mut Line) {
     }
 }
 
-// Takes the log off, as `unwrap` does a writer of frames.
+// Unwraps the log, as `unwrap` does for a writer of frames.
 fn unwrap_log(log: LineLog<Recorder, 4>, journal: &RefCell<Journal>, line: &mut Line) {
     if log.is_under_way() {
         line.malformed("a line is under way");

@@ -1,6 +1,6 @@
-// A `Patient` over a device of the standard library's that notes its calls.
+// A `Patient` over a device of the standard library that notes its calls.
 //
-// A line `new` says the turns, and behind a colon the device's answers. A row is a call; then its answer, for a read the
+// A line `new` says the turns, and after a colon the device's results. A row is a call; then its result, for a read the
 // bytes that it gave, and the calls that reached the device.
 use rows_play::calls::{Call, make_call, new_journal, show_calls};
 use rows_play::fault::{Fault, Made};
@@ -14,7 +14,7 @@ use std::cell::RefCell;
 use std::rc::Rc;
 use system_streams::{Patient, ToStd};
 
-// A patient, and its device's journal.
+// A `Patient`, and the journal of its device.
 #[derive(Drop)]
 struct Patience {
     patient: Patient<ToStd<Recorder>>,

@@ -1,9 +1,9 @@
 // `play` of a script.
 //
-// A line `new` says the shape of the tower, and behind a colon what the devices answer that are the input and the output of a
-// row `devices`. A row is `play` and a script; then what is written, or the fault. A row `feed` plays a feed of one fault of this
-// kind. A row `flushes` plays so many lines `f` onto a vector that takes one write and fails at the second flush; then the length
-// of what is written.
+// A line `new` says the shape of the tower, and after a colon the results of the two devices that are input and output in a row
+// `devices`. A row is `play` and a script; then the text that is written, or the fault. A row `feed` plays a feed of one fault of
+// this kind. A row `flushes` plays that many lines `f` onto a vector that takes one write and fails at the second flush; then the
+// length of the text that is written.
 ghost use Rattle.no_std_io2.specs.BufReader.{BufReaderFits};
 
 use super::copies::Ends;
@@ -34,7 +34,7 @@ fn show_fault(alloc: Global, fault: &PlayFault, line: &mut Line) {
     }
 }
 
-// Plays onto a vector, and prints what is written.
+// Plays onto a vector, and prints the text that is written.
 fn show_play<R: Read + Drop>(alloc: Global, input: R, shape: Shape, line: &mut Line)
     requires { BufReaderFits R.row 64 }
 {
@@ -55,7 +55,7 @@ fn play_feed(alloc: Global, kind: &str, shape: Shape, line: &mut Line) {
     }
 }
 
-// So many lines `f`.
+// Makes `count` lines `f`.
 fn flushes(alloc: Global, count: usize, line: &mut Line) -> Vec<u8> {
     let mut script = Vec::new(alloc);
     'lines: for _ in 0..count {
@@ -66,7 +66,7 @@ fn flushes(alloc: Global, count: usize, line: &mut Line) -> Vec<u8> {
     script
 }
 
-// The second act is the flush's.
+// The second act is for the flush.
 const ACTS: [Act; 3] = [
     Act::Take(usize::MAX),
     Act::Take(1),

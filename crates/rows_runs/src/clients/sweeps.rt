@@ -19,15 +19,16 @@ const PAYLOADS: [&[u8]; 3] = [b"hello", b"", b"ab"];
 
 const WIRE: &[u8] = b"\x05\0\0\0hello\0\0\0\0\x02\0\0\0ab";
 
-// How much of them goes out before a flush, through a buffer of 8: the last frame is held.
+// The number of their bytes that go out before a flush, through a buffer of 8: the last frame is
+// held.
 const SENT: usize = 13;
 
-// The lines of a log, and what goes out.
+// The lines of a log, and the bytes that go out.
 const TEXTS: [&str; 3] = ["one", "", "three"];
 
 const LINES: &[u8] = b"one\n\nthree\n";
 
-// What a device does once.
+// The acts of which a device does one, once.
 const ACTS: [Act; 4] = [
     Act::Zero,
     Act::Fail(ErrorKind::Interrupted),
@@ -35,7 +36,7 @@ const ACTS: [Act; 4] = [
     Act::Fail(ErrorKind::WouldBlock),
 ];
 
-// The kinds of faults, one of which is that of an end inside a frame, and the lengths of pieces.
+// The kinds of faults, including that of an end inside a frame, and the lengths of pieces.
 const READS: [(ErrorKind, usize); 8] = [
     (ErrorKind::BrokenPipe, 1),
     (ErrorKind::BrokenPipe, 3),
@@ -63,7 +64,7 @@ fn texts(alloc: Global) -> Made<Vec<String>> {
     Ok(lines)
 }
 
-// A device that takes one byte each of so many times, and then does this once.
+// Makes a device that takes one byte in each of `times` calls, and then does this act once.
 fn faulty(alloc: Global, times: usize, once: Act, line: &mut Line) -> Faulty<Vec<u8>> {
     let mut acts = Vec::new(alloc);
     if acts.resize(times, Act::Take(1)).is_err() || acts.push(once).is_err() {
@@ -72,7 +73,7 @@ fn faulty(alloc: Global, times: usize, once: Act, line: &mut Line) -> Faulty<Vec
     Faulty::new(Vec::new(alloc), acts)
 }
 
-// The frames, with a fault before the byte at this place, or behind all.
+// Makes a feed of the frames, with a fault before the byte at this place, or after all.
 fn feed(alloc: Global, at: usize, kind: ErrorKind, piece: usize, line: &mut Line) -> Feed {
     let mut events = events_of(alloc, WIRE, line);
     let at = at.min(events.len());
@@ -82,7 +83,8 @@ fn feed(alloc: Global, at: usize, kind: ErrorKind, piece: usize, line: &mut Line
     Feed::new(events, piece.max(1))
 }
 
-// The kind of what a run is refused by, whose bytes are all out before the last call, which is a flush.
+// Returns the kind of error with which a run fails whose bytes are all out before the last call, which
+// is a flush.
 fn refused_by(once: Act, is_flush: bool) -> Option<ErrorKind> {
     match once {
         Act::Fail(kind) if is_flush || kind != ErrorKind::Interrupted => Some(kind),
@@ -91,7 +93,7 @@ fn refused_by(once: Act, is_flush: bool) -> Option<ErrorKind> {
     }
 }
 
-// The kind of a refusal.
+// Returns the kind of an error.
 fn refusal(answer: io::Result<()>) -> Option<ErrorKind> {
     match answer {
         Ok(()) => None,
@@ -99,18 +101,18 @@ fn refusal(answer: io::Result<()>) -> Option<ErrorKind> {
     }
 }
 
-// What a run came to.
+// The outcome of a run.
 #[derive(Clone, Copy, PartialEq, Eq)]
 struct Outcome {
-    // The kinds of what the sending and the flush were refused by.
+    // The kinds of the errors of the sending and the flush.
     sending: Option<ErrorKind>,
     flush: Option<ErrorKind>,
-    // Whether all went out, once, after one more try of each.
+    // Whether all bytes went out, once, after one more try of each.
     is_whole: bool,
 }
 
-// What a run comes to over a device that does this behind so many calls, where `sent` of the `len` bytes go out before the
-// flush.
+// Returns the outcome of a run over a device that does this act after `times` calls, if `sent` of the `len` bytes go out
+// before the flush.
 fn wanted(times: usize, sent: usize, len: usize, once: Act) -> Outcome {
     let refusal = refused_by(once, times == len);
     let is_sending = times < sent;
@@ -141,7 +143,7 @@ fn send(alloc: Global, device: Faulty<Vec<u8>>, payloads: &[Vec<u8>]) -> Outcome
     }
 }
 
-// Whether the frames are delivered, once, with so many tries more.
+// Returns whether the frames are delivered, once, with this many more tries.
 fn deliver(alloc: Global, device: Faulty<Vec<u8>>, payloads: &[Vec<u8>], tries: u32) -> bool {
     let mut w = Sender::new(alloc, device);
     let mut rest = payloads;
@@ -168,7 +170,7 @@ fn log(alloc: Global, device: Faulty<Vec<u8>>, lines: &[String]) -> Outcome {
     }
 }
 
-// How many frames end before this place.
+// Returns how many frames end before this place.
 fn frames_before(at: usize) -> usize {
     if at < 9 {
         0
@@ -181,7 +183,8 @@ fn frames_before(at: usize) -> usize {
     }
 }
 
-// Whether the fault at this place comes out once, behind the frames before it, and every frame once.
+// Returns whether the fault at this place is returned once, after the frames before it, and every
+// frame once.
 fn receive(alloc: Global, feed: Feed, at: usize, kind: ErrorKind, sent: &[Vec<u8>]) -> bool {
     let mut r = FrameReader::<Feed, 8>::new(alloc, feed, 5);
     let mut given = Vec::new(alloc);
@@ -201,12 +204,12 @@ struct Sweep<'a> {
     name: &'a str,
     payloads: Vec<Vec<u8>>,
     lines: Vec<String>,
-    // How many runs were tried.
+    // The number of runs that were tried.
     runs: u64,
 }
 
 impl<'a> Sweep<'a> {
-    // Counts a run, and prints it where it goes wrong, with its place and its fault.
+    // Counts a run. If it goes wrong, prints it with its place and its fault.
     fn count(&mut self, is_right: bool, what: &str, at: usize, once: Act, line: &mut Line) {
         self.runs = self.runs.wrapping_add(1);
         if is_right {

@@ -1,12 +1,12 @@
-// What stands in heaps. A heap has room for so many bytes, in blocks that are rounded up to 16; what does not fit is refused. A
-// block that grows stands beside its copy until that is made.
+// Vectors in heaps. A heap has room for a number of bytes, in blocks whose lengths are rounded up to 16; an allocation that
+// does not fit fails. A block that grows is in the heap together with its copy until the copy is made.
 use linked_list_allocator::LocalHeap;
 use rows_play::fault::{Fault, Made};
 
-/// A vector over a heap.
+/// A vector in a heap.
 pub type HeapVec<'a> = Vec<u8, &'a LocalHeap>;
 
-/// A vector of a capacity, with some bytes.
+/// Makes a vector of a capacity, with some bytes.
 pub fn vector_of<'a>(heap: &'a LocalHeap, capacity: usize, bytes: &[u8]) -> Made<HeapVec<'a>> {
     let Ok(mut vector) = Vec::with_capacity(heap, capacity) else {
         return Err(Fault::Memory);
@@ -17,7 +17,7 @@ pub fn vector_of<'a>(heap: &'a LocalHeap, capacity: usize, bytes: &[u8]) -> Made
     }
 }
 
-/// A word that is a number.
+/// Returns the number that a word is.
 pub fn number(word: &str) -> Made<usize> {
     match word.parse::<usize>() {
         Ok(n) => Ok(n),
@@ -25,7 +25,7 @@ pub fn number(word: &str) -> Made<usize> {
     }
 }
 
-/// The number that is a line's first word, and what stands behind it.
+/// Returns the number that is the first word of a line, and the rest of the line.
 pub fn cut_number(words: &str) -> Made<(usize, &str)> {
     let (word, rest) = words.split_once(" ").unwrap_or((words, ""));
     Ok((number(word)?, rest))

@@ -44,7 +44,7 @@ fn read_buffer(trial: Trial, is_held: bool, line: &mut Line) -> Made<Outcome> {
     read(trial, &mut reader, line)
 }
 
-// Of two readers, each of a lifetime of its own.
+// Reads from a chain of two readers with different lifetimes.
 fn read_both<A: BufRead, B: BufRead>(
     trial: Trial,
     chain: &mut Chain<A, B>,
@@ -53,7 +53,7 @@ fn read_both<A: BufRead, B: BufRead>(
     read(trial, chain, line)
 }
 
-// `limit N`: at most so many bytes.
+// Reads through `limit N`, at most N bytes.
 fn read_limit(trial: Trial, form: &str, line: &mut Line) -> Made<Outcome> {
     match form.strip_prefix("limit ").unwrap_or("").parse::<u64>() {
         Ok(limit) => read(trial, &mut Cursor::new(trial.text()).take(limit), line),
@@ -67,8 +67,8 @@ fn read_feed(trial: Trial, line: &mut Line) -> Made<Outcome> {
     read_all(trial, &mut Feed::new(events, 7), line)
 }
 
-/// Reads as a slice, by a cursor that is alone or below something, by a buffer of four bytes that may hold some, by a chain of
-/// two halves, or of nothing and then a cursor, or by a feed, which has the trait's own body.
+/// Reads from a slice, from a cursor by itself or below another reader, through a buffer of four bytes that may hold some,
+/// from a chain of two halves, or of nothing and then a cursor, or from a feed, which has the trait's body.
 pub fn read_form(trial: Trial, form: &str, line: &mut Line) -> Made<Outcome> {
     let text = trial.text();
     let (first, second) = text.split_at(text.len() / 2);

@@ -1,10 +1,10 @@
-// `read_to_end` and `read_until` into a vector over a heap.
+// `read_to_end` and `read_until` into a vector in a heap.
 //
-// A line `new` says the readers, which all come to the same. A row is a call, the heap's size, and the vector's capacity, how
-// many bytes it has and how many are to come; then the answer, how many bytes the vector has, how many of the heap are in use,
-// and how many bytes are left.
-// A row `within` is a heap's size, a call and how many bytes are to come; then that a heap of this size, or which smaller one,
-// has room for all of it. In each smaller heap the call is refused, and the vector and what is left are all that was to come.
+// A line `new` names the readers, which all have to give the same. A row is a call, the heap's size, the vector's capacity and
+// length, and how many bytes are to come; then the result, the vector's length, how many bytes of the heap are in use, and how
+// many bytes are left. A row `within` is a heap's size, a call and how many bytes are to come; then the smallest heap that has
+// room for all of it, which must not be larger. In each smaller heap the call fails, and the vector followed by what is left
+// is all that was to come.
 use super::heaps::{cut_number, number, vector_of};
 use super::readers::read_form;
 use linked_list_allocator::LocalHeap;
@@ -19,7 +19,7 @@ const TEXT: &[u8] = &[b'a'; 600];
 
 const DOTS: &[u8] = &[b'.'; 16];
 
-/// A vector over a heap, and how many bytes are to come.
+/// A vector in a heap, and how many bytes are to come.
 #[derive(Clone, Copy)]
 pub struct Trial {
     pub alloc: Global,
@@ -32,7 +32,7 @@ pub struct Trial {
     pub bytes: usize,
 }
 
-// Whether a call is `read_until`, of the two that there are.
+// Returns whether a call is `read_until`, and not `read_to_end`.
 fn is_until(word: &str) -> Made<bool> {
     match word {
         "read_to_end" => Ok(false),
@@ -64,17 +64,17 @@ impl Trial {
         })
     }
 
-    /// What is to come.
+    /// Returns the bytes to come.
     pub fn text(self) -> &'static [u8] {
         text_of(self.bytes)
     }
 
-    // What stands in the vector at first.
+    // Returns the bytes that are in the vector at first.
     fn dots(self) -> &'static [u8] {
         &DOTS[..self.held.min(DOTS.len())]
     }
 
-    // What came of a read into a vector.
+    // Returns the outcome of a read into a vector.
     fn end<R: Read>(
         self,
         answer: &Result<usize>,
@@ -96,12 +96,12 @@ impl Trial {
     }
 }
 
-// The first bytes of the text.
+// Returns the first bytes of the text.
 fn text_of(bytes: usize) -> &'static [u8] {
     &TEXT[..bytes.min(TEXT.len())]
 }
 
-// Whether a read was refused. It gave so many bytes where it was not.
+// Returns whether a read failed for lack of memory. If it did not, it has to give this many bytes.
 fn is_refused(answer: &Result<usize>, given: usize, line: &mut Line) -> bool {
     match answer {
         Ok(n) => {
@@ -119,7 +119,7 @@ fn is_refused(answer: &Result<usize>, given: usize, line: &mut Line) -> bool {
     }
 }
 
-// How many bytes are left, all of the text.
+// Returns how many bytes are left, all of which have to be of the text.
 fn left_of<R: Read>(alloc: Global, r: &mut R, line: &mut Line) -> usize {
     let mut rest = Vec::new(alloc);
     match r.read_to_end(&mut rest) {
@@ -131,7 +131,7 @@ fn left_of<R: Read>(alloc: Global, r: &mut R, line: &mut Line) -> usize {
     }
 }
 
-/// What came of a trial.
+/// The outcome of a trial.
 #[derive(Clone, Copy)]
 pub struct Outcome {
     is_refused: bool,
@@ -148,7 +148,7 @@ pub fn read_all<R: Read>(trial: Trial, r: &mut R, line: &mut Line) -> Made<Outco
     Ok(trial.end(&answer, &all, heap.used(), r, line))
 }
 
-/// The same, or by `read_until`, of which no byte is the delimiter.
+/// Reads all, by `read_to_end`, or by a `read_until` whose delimiter does not come.
 pub fn read<R: BufRead>(trial: Trial, r: &mut R, line: &mut Line) -> Made<Outcome> {
     if !trial.is_until {
         return read_all(trial, r, line);
@@ -171,7 +171,7 @@ fn show(trial: Trial, outcome: Outcome, line: &mut Line) {
     }
 }
 
-// Tries each heap up to the first one in which a read is not refused, and prints whether that is one of this size at most.
+// Tries each size of the heap up to the first in which a read succeeds, and prints whether that is at most this size.
 fn show_need(trial: Trial, form: &str, line: &mut Line) -> Made<()> {
     'heaps: for units in 1..400 {
         let heap = 16 * units;
@@ -199,7 +199,7 @@ fn try_form(trial: Trial, form: &str, line: &mut Line) -> Made<()> {
     Ok(())
 }
 
-// What a reader of this form comes to.
+// Returns the printed outcome of a reader of this form.
 fn play_form(trial: Trial, form: &str) -> Line {
     let mut line = Line::new(trial.alloc);
     if let Err(fault) = try_form(trial, form, &mut line) {
@@ -208,7 +208,7 @@ fn play_form(trial: Trial, form: &str) -> Line {
     line
 }
 
-// Goes on with another line.
+// Appends another line.
 fn append(shown: &Line, line: &mut Line) {
     line.word(shown.as_str());
     if shown.is_cut() {
@@ -219,7 +219,7 @@ fn append(shown: &Line, line: &mut Line) {
     }
 }
 
-// Prints what a reader of the first form comes to, and each other that comes to something else.
+// Prints the outcome of a reader of the first form, and each other outcome that differs.
 fn play_forms(trial: Trial, forms: &str, line: &mut Line) {
     let mut forms = forms.split(", ");
     let first = play_form(trial, forms.next().unwrap_or(""));
@@ -235,7 +235,7 @@ fn play_forms(trial: Trial, forms: &str, line: &mut Line) {
     }
 }
 
-/// Readers of these forms.
+/// The readers of these forms.
 #[derive(Drop)]
 pub struct Reading<'a> {
     pub forms: &'a str,

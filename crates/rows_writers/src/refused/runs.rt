@@ -1,7 +1,7 @@
 // `run_writes` and `run_closed` whose replies are in a heap, over a buffer that holds `held`.
 //
-// A row is `run` or `closed`, the heap's size, and the capacity and the number of the replies that are there already; then
-// whether three calls were made, how many replies there are, and what the device has once the buffer is dropped.
+// A row is `run` or `closed`, the heap's size, and the capacity and length of the list of replies; then whether three
+// calls were made, how many replies there are, and what the device has after the buffer is dropped.
 ghost use Rattle.std.specs.Prelude.{⊤, refl};
 
 use super::heaps::{cut_number, number};
@@ -17,7 +17,7 @@ use std::cell::RefCell;
 
 const OPS: [Op<'static>; 3] = [Op::Write(b"ab"), Op::WriteAll(b"123456789"), Op::Flush];
 
-// Takes all, and keeps it as far as there is memory.
+// A device that takes all, and keeps as much as there is memory for.
 #[derive(Drop)]
 struct Kept<'b> {
     sink: Sink,
@@ -51,7 +51,7 @@ impl<'b> Write for Kept<'b> {
 
 type Replies<'a> = Vec<Reply, &'a LocalHeap>;
 
-// Replies in a heap, of which some are there already.
+// Makes a list of replies in a heap, with some replies in it.
 fn replies_of<'a>(heap: &'a LocalHeap, capacity: usize, count: usize) -> Made<Replies<'a>> {
     let Ok(mut replies) = Vec::with_capacity(heap, capacity) else {
         return Err(Fault::Memory);
@@ -100,7 +100,7 @@ fn play_run(alloc: Global, call: &Call<'_>, line: &mut Line) -> Made<()> {
     Ok(())
 }
 
-/// Nothing but what its rows say.
+/// A stream without a state: its rows say everything.
 #[derive(Drop)]
 pub struct Running;
 

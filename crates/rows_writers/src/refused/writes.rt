@@ -1,8 +1,8 @@
 // Writers over a vector in a heap.
 //
-// A line `new` says the heap's size, the vector's capacity and its first bytes. A row is a call; then its answer, the vector's
-// bytes, what is held or the position, and how many bytes of the heap are in use. Beside the calls of a writer there are
-// `fill`, which takes all of the heap that is left, and `free`, which gives it back.
+// A line `new` says the heap's size, the vector's capacity and its first bytes. A row is a call; then its result, the vector's
+// bytes, the held bytes or the position, and how many bytes of the heap are in use. Besides the calls of a writer there are
+// `fill`, which allocates all of the heap that is left, and `free`, which frees that.
 use super::heaps::{HeapVec, cut_number, vector_of};
 use crate::writing::make_any_call;
 use linked_list_allocator::LocalHeap;
@@ -15,7 +15,7 @@ use std::alloc::{Allocator, Global};
 
 // A writer over a vector in a heap.
 trait HeapWriter: Write {
-    /// Makes a call, and prints its answer.
+    /// Makes a call, and prints its result.
     fn call(&mut self, call: &Call<'_>, line: &mut Line)
     where
         Self: Sized,
@@ -23,7 +23,7 @@ trait HeapWriter: Write {
         make_call(self, call, line);
     }
 
-    /// Prints the vector's bytes, and in a column behind them what is held, or the position.
+    /// Prints the vector's bytes, and in the next column the held bytes or the position.
     fn show(&self, line: &mut Line);
 }
 
@@ -82,7 +82,7 @@ impl HeapWriter for Cursor<HeapVec<'_>> {
     }
 }
 
-// Of any allocator, since a call through a bound takes a type of one lifetime.
+// For every allocator, because a call through a bound needs a type with one lifetime.
 impl<A: Allocator> HeapWriter for Cursor<&mut Vec<u8, A>> {
     fn call(&mut self, call: &Call<'_>, line: &mut Line) {
         make_any_call(self, call, line);
@@ -93,7 +93,7 @@ impl<A: Allocator> HeapWriter for Cursor<&mut Vec<u8, A>> {
     }
 }
 
-// A writer, its heap, and what fills the heap.
+// A writer, its heap, and the block that fills the heap.
 #[derive(Drop)]
 struct Writing<'h, W: Drop> {
     writer: W,
@@ -101,7 +101,7 @@ struct Writing<'h, W: Drop> {
     filler: HeapVec<'h>,
 }
 
-// Takes all of the heap that is left, in one block.
+// Allocates all of the heap that is left, as one block.
 fn fill(filler: &mut HeapVec<'_>, heap: &LocalHeap, line: &mut Line) {
     line.word("-");
     if filler.reserve(heap.free()).is_err() {
