@@ -32,7 +32,7 @@ fn each_content_lends_its_bytes(rt: HostRuntime) -> Result<(), Fail> {
     Ok(())
 }
 
-// A mark that is removed when the first reader has bytes again.
+// A mark that is taken back when the first reader has bytes again.
 #[test]
 fn a_chain_does_not_go_back_to_its_first_reader(rt: HostRuntime) -> Result<(), Fail> {
     let mut r = b"A".as_slice().chain(b"BC".as_slice());

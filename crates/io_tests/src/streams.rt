@@ -1,4 +1,4 @@
-// The examples in the comments of the traits and of their adaptors.
+// What the comments of the traits and of their adaptors show.
 use no_std_io2::io::{BufRead, BufWriter, Cursor, Read, Seek, SeekFrom, Write};
 use std::collections::VecDeque;
 use std::test::Fail;

@@ -1,5 +1,4 @@
-// A stream that is longer than the zeros that a `read_to_end` adds at once, a list of asks, and copies
-// to a vector.
+// A stream that is longer than any room that is opened at once, a list of asks, and copies to a vector.
 use io_bench::{Ask, Tally, run_reads};
 use no_std_io2::io::{BufReader, ErrorKind, Read};
 use std::test::Fail;
@@ -20,7 +19,7 @@ fn two_halves_of_a_mebibyte_are_the_whole(rt: HostRuntime) -> Result<(), Fail> {
     Ok(())
 }
 
-// An ask that reads after the front of its buffer, or a run that takes its asks one by one.
+// An ask that reads behind the front of its buffer, or a run that takes its asks one by one.
 #[test]
 fn asks_fill_the_front_of_their_buffer(rt: HostRuntime) {
     let mut buf = *b"xyz";
@@ -33,7 +32,7 @@ fn asks_fill_the_front_of_their_buffer(rt: HostRuntime) {
     assert!(rt; buf == *b"91z");
 }
 
-// A turn too few or too many, bytes that are lost with the turns, and a vector that changes at an end with no bytes.
+// A turn too few or too many, bytes that are lost with the turns, and a vector that is not as it was at the end of nothing.
 #[test]
 fn a_patient_reader_is_copied_while_it_has_turns(rt: HostRuntime) -> Result<(), Fail> {
     let (count, v) = copy_through(&b""[..], Vec::<u8>::new(rt.alloc()), false)?;
