@@ -1,6 +1,6 @@
 -- What a stream with a checksum adds to its sum.
 use Rattle.std.specs.Prelude.{◌≡◌, ℕ, List, [], Ok, Err, ◌+◌, ◌%◌, ◌^◌, sum}
-use Rattle.no_std_io2.specs.Read.{ReadCall, Gave, GaveExactly, GaveAll}
+use Rattle.no_std_io2.specs.Read.{ReadCall, Gave}
 use Rattle.examples.specs.declared.summed.Summed.{Summed}
 
 -- the inner writer or reader
@@ -15,9 +15,8 @@ summed_sum s = s.sum
 abbrev pub Sums : {W : Type 0} → Summed W → List ℕ → Summed W → Type 0
 Sums old bytes new = summed_sum new % 2 ^ 64 ≡ (summed_sum old + sum bytes) % 2 ^ 64
 
--- A read adds the bytes that it gave, and none if it failed. A `read_exact` and a `read_to_end` are reads.
+-- A read adds the bytes that it gave, and none if it failed. No other call is made.
 abbrev pub ReadSums : {R : Type 0} → Summed R → ReadCall → Summed R → Type 0
 ReadSums old (Gave room (Ok x)) new = Sums old x new
 ReadSums old (Gave room (Err e)) new = Sums old [] new
-ReadSums old (GaveExactly room answer) new = ⊥
-ReadSums old (GaveAll x answer) new = ⊥
+ReadSums old _ new = ⊥

@@ -11,7 +11,7 @@ use Rattle.std.proofs.Common.{take, drop, min, append_assoc, length-take-le, tak
 use Rattle.std.proofs.lemmas.Bool.{cases_lt}
 use Rattle.std.proofs.Math.Seq.{drop-append_seam}
 use Rattle.no_std_io2.specs.declared.buffered.buf_reader.BufReader.{BufReader}
-use Rattle.no_std_io2.specs.BufReader.{reader_held, reader_inner, PassesOn, ReaderMay}
+use Rattle.no_std_io2.specs.BufReader.{reader_held, reader_inner, PassesOn, FillsBelow, ReaderMay}
 use Rattle.no_std_io2.specs.Buffer.{ReadsAhead, IsSound}
 use Rattle.no_std_io2.specs.BufReader.{FillsFrom, behind_anew}
 use Rattle.no_std_io2.proofs.BufferTests.{is_past, is_own}
@@ -72,6 +72,11 @@ behind_own room len got behind own is = is ∙ sym (ap (λ b. if b then [] else 
 -- an error is no `Ok`
 pub not_ok : (e : Error) → IsOk {T = Unit {0}} {E = Error} (Err e) → ⊥
 not_ok e is = let no : ⊥ = cc in no
+
+-- if bytes are held, a `fill_buf` lends them and changes nothing
+pub lends_held : {R : Type 0} {S : ℕ} (may : R → ReadCall → R → Type 0) (r : BufReader R S) → 0 < length (reader_held r)
+    → FillsBelow may r (Ok (reader_held r)) r
+lends_held may r some = record { held = λ _. refl; filled = λ none. absurd (omega (arith, some, none)); lends = refl; failed = tt }
 
 -- of the bytes that were read into the buffer as many were given as both have
 pub passes_on : (n room : ℕ) (read shown held : List ℕ) → n ≡ min (length read) room → take n shown ≡ take n read → held ≡ drop n read

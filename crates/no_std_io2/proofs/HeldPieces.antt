@@ -1,11 +1,12 @@
 -- A piece at the front of the held bytes.
 use Rattle.std.proofs.Common.{◌≡◌, ℕ, Bool, true, List, [], ◌∷◌, ◌++◌, length, take, drop, refl, sym, ap, ap₂, subst, ◌∙◌, arith, ◌≤◌, ◌<◌}
-use Rattle.std.proofs.Common.{true≢false, Result, Ok, Err, inl, inr, ⊎_elim, append_assoc, length-append, length-take-le, take-append-drop}
+use Rattle.std.proofs.Common.{Result, Ok, Err, inl, inr, ⊎_elim, append_assoc, length-append, length-take-le, take-append-drop}
 use Rattle.std.proofs.Common.{take_all}
 use Rattle.no_std_io2_base.specs.declared.error.Error.{Error}
 use Rattle.no_std_io2_base.specs.Errors.{IsOutOfMemory}
 use Rattle.no_std_io2_base.specs.BufRead.{IsNotEmpty}
 use Rattle.no_std_io2_base.specs.Pieces.{AnswersLine, Lacks, EndsPiece, FindsPiece}
+use Rattle.no_std_io2_base.proofs.PieceLemmas.{found_end}
 use Rattle.no_std_io2.specs.declared.buffered.buf_reader.BufReader.{BufReader}
 use Rattle.no_std_io2.specs.BufReader.{reader_held, reader_behind, reader_inner, TakesHeld, TakesHeldLine}
 
@@ -91,9 +92,7 @@ pub line_given : {R : Type 0} {S n : ℕ} (line rest : List ℕ) (old new : BufR
     → text' ≡ text ++ take n (reader_held old) → reader_held old ≡ line ++ rest → EndsPiece 10 line
     → TakesHeldLine line rest old text (Ok n) text' new
 line_given {n = n} line rest old new text within first held behind inner given is ends =
-    let found : FindsPiece 10 (reader_held old) n true =
-    record { within = within; whole = λ whole. inl first; open_ended = λ none. absurd (true≢false none) } in
-    let part = piece_found line rest (reader_held old) is ends found refl in (
+    let part = piece_found line rest (reader_held old) is ends (found_end within first) refl in (
       part.0,
       given ∙ ap (λ l. text ++ l) part.1,
       held ∙ part.2,

@@ -1,6 +1,6 @@
 -- What a `BufReader` holds and tells, what its calls do, and the lemmas that are its laws.
 use Rattle.std.specs.Prelude.{◌≡◌, ℕ, ℤ, ◌^◌, ◌<◌, ◌≤◌, negsuc, pos, ◌+◌, ◌-◌, ◌-ℤ◌, ◌*◌, ◌&&◌, min, nat_lt, nat_le, if◌then◌else◌, List}
-use Rattle.std.specs.Prelude.{[], ◌∷◌, ◌++◌, Ok, Err, Result, IsOk, IsErr, OnOk, OnErr, IfErr, length, ◌⊎◌, take, drop, refl}
+use Rattle.std.specs.Prelude.{[], ◌∷◌, ◌++◌, Ok, Err, Result, IsOk, IsErr, OnOk, OnErr, IfOk, IfErr, length, ◌⊎◌, take, drop, refl}
 use denote.Param.{param, number}
 use denote.RattleType.{RattleType}
 use Rattle.std.specs.Mem.{FitsInMemory}
@@ -12,7 +12,7 @@ use Rattle.no_std_io2_base.specs.Cursor.{HasMoved}
 use Rattle.no_std_io2_base.specs.Write.{IsFront, Made}
 use Rattle.no_std_io2_base.specs.Seek.{SeekCall, Sought, Measured, LenCalls}
 use Rattle.no_std_io2_base.specs.Read.{Event, events_of, fails, ReadsExact, bytes, bytes-events_of, Reader, ReadCall, Gave}
-use Rattle.no_std_io2_base.specs.Read.{GaveExactly, GaveAll, gave_whole, ended, ExactMade, ToEndMade}
+use Rattle.no_std_io2_base.specs.Read.{GaveExactly, GaveAll, Filled, Consumed, gave_whole, ended, ExactMade, ToEndMade}
 use Rattle.no_std_io2.specs.contracts.buffered.buf_reader.BufReader.{the_row as reader-row}
 use Rattle.no_std_io2.specs.declared.buffered.buf_reader.BufReader.{BufReader}
 use Rattle.no_std_io2.specs.Buffer.{buffer_held, buffer_behind, IsSuffix, IsSound}
@@ -153,13 +153,24 @@ pub record ReadsBelow {R : Type 0} {S : ℕ} (may : R → ReadCall → R → Typ
   pub filled : length (reader_held old) ≡ 0 → room < S → (read : Result (List ℕ) Error)
       × may (reader_inner old) (Gave S read) (reader_inner new) × PassesOn read room answer (reader_held new)
 
+-- A `fill_buf` of a `BufReader` changes nothing while bytes are held. If none are, it makes one inner read into the buffer. It lends the
+-- bytes that are held then; after an error none are.
+pub record FillsBelow {R : Type 0} {S : ℕ} (may : R → ReadCall → R → Type 0) (old : BufReader R S) (answer : Result (List ℕ) Error)
+    (new : BufReader R S) : Type 0 where
+  pub held : 0 < length (reader_held old) → new ≡ old
+  pub filled : length (reader_held old) ≡ 0 → may (reader_inner old) (Gave S answer) (reader_inner new)
+  pub lends : IfOk answer (λ x. x ≡ reader_held new)
+  pub failed : OnErr answer (reader_held new ≡ [])
+
 -- What a call may do to a `BufReader`. A `read_exact` of its own gives only held bytes. A `read_to_end` takes the held bytes, and then
--- calls the inner `read_to_end`.
+-- calls the inner `read_to_end`. A `consume` drops held bytes.
 abbrev pub ReaderMay : {R : Type 0} {S : ℕ} → (R → ReadCall → R → Type 0) → BufReader R S → ReadCall → BufReader R S → Type 0
 ReaderMay may old (Gave room answer) new = ReadsBelow may old room answer new
 ReaderMay may old (GaveExactly room answer) new = (room ≤ length (reader_held old)) × (reader_inner new ≡ reader_inner old)
 ReaderMay may old (GaveAll x answer) new = (reader_inner new ≡ reader_inner old)
     ⊎ ((reply : Result ℕ Error) × (ended reply ≡ answer) × ToEndMade may (reader_inner old) (reader_held old) reply x (reader_inner new))
+ReaderMay may old (Filled answer) new = FillsBelow may old answer new
+ReaderMay may old (Consumed amount) new = (reader_held new ≡ drop amount (reader_held old)) × (reader_inner new ≡ reader_inner old)
 
 -- If nothing was held, one inner read into the buffer was made.
 pub record FillsBuffer {R : Type 0} {S : ℕ} (inner : Reader R) (old : BufReader R S) (reply : Result (Unit {0}) Error)

@@ -5,8 +5,9 @@ use Rattle.std.specs.declared.dyn_box.DynBox.{DynBox}
 use Rattle.no_std_io2_base.specs.declared.error.Error.{Error}
 use Rattle.no_std_io2_base.specs.Errors.{IsNoInterruption}
 use Rattle.no_std_io2_base.specs.Read.{Event, events_of, Reads, ReadsExact, SpendsTurn, ReadLaw, ReadExactLaw, ReadCall, Gave, gave, ExactMade}
+use Rattle.no_std_io2_base.specs.Read.{Filled, Consumed}
 use Rattle.no_std_io2_base.proofs.ReadCalls.{exact_map}
-use Rattle.no_std_io2_base.specs.BufRead.{ConsumeLaw, IsNotEmpty, BeginsWith, LendsFrom, LendingTurn}
+use Rattle.no_std_io2_base.specs.BufRead.{ConsumeLaw, IsNotEmpty, BeginsWith, LendsFrom, LendingTurn, lent_bytes}
 use Rattle.no_std_io2_base.proofs.Readers.{box_reader, holds_alone, lends_as}
 use Rattle.no_std_io2_base.proofs.CallsLemmas.{made_map}
 use Rattle.no_std_io2_base.specs.Write.{Told, WriteCall, Wrote, WroteAll, WroteRest, Flushed, Made, CallLaw, BoxMay}
@@ -68,13 +69,13 @@ module _ {I A : Type 0} {V : I → Type 0} (tells : ((x : I) × V x) → Type 0)
   abbrev pub ConsumeIn : (((x : I) × V x) → List ℕ) → ℕ → ((x : I) × V x) → Type 0
   ConsumeIn held amount lent = (new : V lent.0) → held (lent.0, new) ≡ drop amount (held lent)
       → (tells lent → tells (lent.0, new) × (events lent ≡ events_of (take amount (held lent)) ++ events (lent.0, new)))
-      → turns (lent.0, new) ≤ turns lent → (0 < amount → turns (lent.0, new) < turns lent)
+      → turns (lent.0, new) ≤ turns lent → (0 < amount → turns (lent.0, new) < turns lent) → may lent.0 lent.1 (Consumed amount) new
       → ConsumeLaw (lends_as (box_reader tells events turns may_take_none may) (holds_alone (λ b. held (b.vtable, b.value)))) box amount
       (read_box lent.0 new)
 
   pub consume_box : (held : ((x : I) × V x) → List ℕ) (amount : ℕ) (lent : (x : I) × V x) → lent ≡ (box.vtable, box.value)
       → ConsumeIn held amount lent
-  consume_box held amount lent back = subst (ConsumeIn held amount) (sym back) (λ new dropped told less spent. record {
+  consume_box held amount lent back = subst (ConsumeIn held amount) (sym back) (λ new dropped told less spent call. record {
     held = dropped;
     told = told;
     turns_never_rise = less;
@@ -84,11 +85,12 @@ module _ {I A : Type 0} {V : I → Type 0} (tells : ((x : I) × V x) → Type 0)
     filling = λ f. f;
     lends_surely = λ l. l;
     store = λ s. absurd s;
+    call = (new, refl, call);
   })
 
 module _ {I A : Type 0} {V : I → Type 0} (tells : ((x : I) × V x) → Type 0) (events : ((x : I) × V x) → List Event)
-    (turns : ((x : I) × V x) → ℕ) (held : ((x : I) × V x) → List ℕ) (box : DynBox I A V)
-    (reply : Result (Bor (List ℕ)) Error) where
+    (turns : ((x : I) × V x) → ℕ) (may : (i : I) → V i → ReadCall → V i → Type 0) (held : ((x : I) × V x) → List ℕ)
+    (box : DynBox I A V) (reply : Result (Bor (List ℕ)) Error) where
   -- what a `fill_buf` of a value says
   abbrev pub Lent : ((x : I) × V x) → Type 0
   Lent old = (IsNotEmpty (held old) → IsOkAnd reply (λ s. s.now ≡ held old))
@@ -100,6 +102,7 @@ module _ {I A : Type 0} {V : I → Type 0} (tells : ((x : I) × V x) → Type 0)
   Loan lent = (new : V lent.0) → Lent lent
       → (tells lent → tells (lent.0, new) × LendsFrom (events lent) reply (events (lent.0, new))) → turns (lent.0, new) ≤ turns lent
       → LendingTurn reply (turns lent) (turns (lent.0, new)) → (IsNotEmpty (held lent) → new ≡ lent.1)
+      → may lent.0 lent.1 (Filled (lent_bytes reply)) new
       → Lent (box.vtable, box.value)
       × (tells (box.vtable, box.value) → tells (lent.0, new)
       × LendsFrom (events (box.vtable, box.value)) reply (events (lent.0, new)))
@@ -107,15 +110,17 @@ module _ {I A : Type 0} {V : I → Type 0} (tells : ((x : I) × V x) → Type 0)
       × LendingTurn reply (turns (box.vtable, box.value)) (turns (lent.0, new))
       × (IsNotEmpty (held (box.vtable, box.value))
       → record { ptr = box.ptr; vtable = lent.0; alloc = box.alloc; value = new } ≡ box)
+      × BoxMay box (may box.vtable) (Filled (lent_bytes reply)) (record { ptr = box.ptr; vtable = lent.0; alloc = box.alloc; value = new })
 
   -- the value that was lent is that in the box
   pub loan_box : (lent : (x : I) × V x) → lent ≡ (box.vtable, box.value) → Loan lent
-  loan_box lent back = subst Loan (sym back) (λ new law told less turn same. (
+  loan_box lent back = subst Loan (sym back) (λ new law told less turn same call. (
     law,
     told,
     less,
     turn,
     λ some. ap (λ v. record { ptr = box.ptr; vtable = box.vtable; alloc = box.alloc; value = v }) (same some),
+    (new, refl, call),
   ))
 
 module _ {I A : Type 0} {V : I → Type 0} (told : (i : I) → V i → Told) (takes_all : (i : I) → V i → Type 0)

@@ -1,22 +1,23 @@
 -- A line that lies whole in what a reader lends, and goes straight to a text.
 use Rattle.std.proofs.Common.{◌≡◌, ℕ, ◌+◌, ◌<◌, ◌≤◌, List, length, take, drop, refl, ap, inl, arith, length-append, length-take-le, Ok, String}
-use Rattle.std.proofs.Common.{string_bytes, string_len, string_capacity, IfOk, IfErr, IsOk, OnOk, Err, Result, Vec, [], sym, subst}
+use Rattle.std.proofs.Common.{string_bytes, string_len, string_capacity, IfOk, IfErr, IsOk, OnOk, Err, Result, Vec, [], ◌∷◌, sym, subst}
 use Rattle.no_std_io2_base.specs.declared.error.Error.{Error}
 use Rattle.no_std_io2_base.specs.Write.{IsFront}
 use Rattle.no_std_io2_base.specs.Errors.{IsFault}
-use Rattle.no_std_io2_base.specs.Read.{events_of}
+use Rattle.no_std_io2_base.specs.Read.{events_of, Filled, Consumed}
 use Rattle.no_std_io2_base.specs.BufRead.{Lender, ConsumeLaw, ReadUntilLaw, ReadLineLaw}
-use Rattle.no_std_io2_base.specs.Pieces.{AnswersLine, EndsPiece, Follows, TakesPiece}
+use Rattle.no_std_io2_base.specs.Pieces.{AnswersLine, EndsPiece, Follows, TakesPiece, PieceMade, no_part}
 use Rattle.no_std_io2_base.proofs.EventLemmas.{length-events_of}
-use Rattle.no_std_io2_base.proofs.PieceLemmas.{piece_none, piece_ended}
+use Rattle.no_std_io2_base.proofs.PieceLoop.{whole_made}
+use Rattle.no_std_io2_base.proofs.PieceLemmas.{piece_none, piece_ended, found_end}
 
 -- it is taken by one `consume`, and the text grows by it
 pub line_at_once : {X A : Type 0} {R : Lender X} {old new : X} {n : ℕ} {buf buf' : String A}
     → ((x : X) → R.has_store x → R.tells x × (R.events x ≡ events_of (drop (R.position x) (R.content x))))
-    → n ≤ length (R.held old) → EndsPiece 10 (take n (R.held old)) → ConsumeLaw R old n new
+    → n ≤ length (R.held old) → EndsPiece 10 (take n (R.held old)) → R.may old (Filled (Ok (R.held old))) old → ConsumeLaw R old n new
     → Follows (take n (R.held old)) (string_bytes buf) (string_bytes buf') → string_len buf' ≡ string_len buf + n
     → ReadLineLaw R old buf (Ok n) buf' new
-line_at_once {R = R} {old} {new} {n} law within ends dropped follows grows =
+line_at_once {R = R} {old} {new} {n} law within ends lends dropped follows grows =
     let line = take n (R.held old) in
     let long = length-take-le n (R.held old) within in
     record {
@@ -44,6 +45,16 @@ line_at_once {R = R} {old} {new} {n} law within ends dropped follows grows =
             rest.1,
             omega (arith, rest.2, ap length gone, length-append (events_of line) (R.events new), length-events_of line, long),
           );
+      calls = (
+        line,
+        Ok n,
+        record {
+          calls = Filled (Ok (R.held old)) ∷ Consumed n ∷ [];
+          made = (old, lends, (new, dropped.call, refl));
+          are = ([], [], R.held old, n, no_part, found_end within ends, refl, refl);
+        },
+        (follows, refl),
+      );
     }
 
 -- where the answer is the read's, so is what is said of it
@@ -85,4 +96,5 @@ line_gathered {R = R} {old} {new} none all {line} {buf} {buf'} read reply empty 
   metered = until.metered;
   filling = until.filling;
   store = until.store;
+  calls = (line, read, subst (λ l. PieceMade (Unit {0}) R.may old 10 read l new) (sym same) (whole_made none all empty until), answers);
 }

@@ -145,18 +145,18 @@ all_before P bs at within each k e short =
     let below : k < at = omega (arith, short, long) in
     subst P (sym (get_or-take at bs k e below)) (each k e (omega arith) below)
 
+-- if a part ends in d, it is the piece
+pub found_end : {d n : ℕ} {bs : List ℕ} → n ≤ length bs → EndsPiece d (take n bs) → FindsPiece d bs n true
+found_end within ends = record { within = within; whole = λ _. inl ends; open_ended = λ e. absurd (true≢false e) }
+
 -- if d is found, the piece ends there
 pub found_at : (d : ℕ) (bs : List ℕ) (at : ℕ) → at < length bs → slice_index bs at ≡ d → All (λ b. b ≢ d) (take at bs)
     → FindsPiece d bs (at + 1) true
-found_at d bs at within is none = record {
-  within = omega (arith, within);
-  whole = λ _. inl (
-    take at bs,
-    ap (λ k. take k bs) (add-one at) ∙ take-suc bs at 0 within ∙ ap (λ b. take at bs ++ b ∷ []) is,
-    recursion_from_All (λ b. b ≢ d) (take at bs) none,
-  );
-  open_ended = λ e. absurd (true≢false e);
-}
+found_at d bs at within is none = found_end (omega (arith, within)) (
+  take at bs,
+  ap (λ k. take k bs) (add-one at) ∙ take-suc bs at 0 within ∙ ap (λ b. take at bs ++ b ∷ []) is,
+  recursion_from_All (λ b. b ≢ d) (take at bs) none,
+)
 
 -- if d is not among the bytes, all belong to the piece
 pub found_none : {d : ℕ} {bs : List ℕ} {is_whole : Bool} → is_whole ≡ (length bs == 0) → All (λ b. b ≢ d) bs
@@ -167,6 +167,7 @@ found_none {d} {bs} is none = record {
   open_ended = λ e. (
     omega (arith, λ (zero : length bs ≡ 0). true≢false (sym (eq-eqb (length bs) 0 zero) ∙ sym is ∙ e)),
     subst (Lacks d) (sym (take_all (length bs) bs (le_refl _))) (recursion_from_All (λ b. b ≢ d) bs none),
+    refl,
   );
 }
 
@@ -210,12 +211,12 @@ pub whole_part : {d : ℕ} {E : List Event} {lent : List ℕ} {n : ℕ} {is_whol
 whole_part {E = E} {n = n} found whole end = ⊎_elim (λ e. inl e) (λ e. inr (ap (take n) e ∙ take-none n, end e)) (found.whole whole)
 
 -- more is appended
-pub front_more : (old : List ℕ) {mid new : List ℕ} (more : List ℕ)
+abbrev pub front_more : (old : List ℕ) {mid new : List ℕ} (more : List ℕ)
     → IsFront old mid → new ≡ mid ++ more → IsFront old new
 front_more old more front is = (front.0 ++ more, is ∙ ap (λ l. l ++ more) front.1 ∙ append_assoc old front.0 more)
 
 -- if nothing more is appended, the old bytes are still in front
-pub front_same : (old : List ℕ) {mid new : List ℕ} → IsFront old mid → new ≡ mid → IsFront old new
+abbrev pub front_same : (old : List ℕ) {mid new : List ℕ} → IsFront old mid → new ≡ mid → IsFront old new
 front_same old front is = (front.0, is ∙ front.1)
 
 -- a turn was spent if anything was appended

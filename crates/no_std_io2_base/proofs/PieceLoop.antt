@@ -1,19 +1,93 @@
 -- A loop that reads one piece, by what each of its turns does, for any reader that lends.
-use Rattle.std.proofs.Common.{◌≡◌, ℕ, ◌+◌, ◌-◌, ◌<◌, ◌≤◌, Bool, true, false, List, [], ◌++◌, Result, Ok, Err, Vec, vec_len}
-use Rattle.std.proofs.Common.{vec_capacity, length, take, drop, refl, sym, ap, ap₂, ◌∙◌, arith, append-nil, le_refl, le_trans}
-use Rattle.std.proofs.Common.{lt_of_le_of_lt}
+use Rattle.std.proofs.Common.{◌≡◌, ℕ, ◌+◌, ◌-◌, ◌<◌, ◌≤◌, Bool, true, false, List, [], ◌∷◌, ◌++◌, Result, Ok, Err, Vec, vec_len}
+use Rattle.std.proofs.Common.{vec_capacity, length, take, drop, refl, sym, ap, ap₂, subst, ◌∙◌, arith, append-nil, le_refl, le_trans}
+use Rattle.std.proofs.Common.{lt_of_le_of_lt, inl, inr}
+use Rattle.std.proofs.lemmas.List.{take_all}
 use Rattle.std.specs.Borrow.{Bor}
 use Rattle.no_std_io2_base.specs.declared.error.Error.{Error}
 use Rattle.no_std_io2_base.specs.Errors.{IsInterruption, IsFault, IsOutOfMemory}
-use Rattle.no_std_io2_base.specs.Read.{events_of}
-use Rattle.no_std_io2_base.specs.BufRead.{Lender, FillBufLaw, AfterLoan, ConsumeLaw, ReadUntilLaw}
-use Rattle.no_std_io2_base.specs.Pieces.{FindsPiece}
-use Rattle.no_std_io2_base.specs.Write.{IsFront}
+use Rattle.no_std_io2_base.specs.Read.{events_of, ReadCall, Filled, Consumed}
+use Rattle.no_std_io2_base.specs.BufRead.{Lender, FillBufLaw, AfterLoan, ConsumeLaw, ReadUntilLaw, lent_bytes}
+use Rattle.no_std_io2_base.specs.Pieces.{FindsPiece, PartCalls, no_part, and_part, and_waited, PieceMade}
+use Rattle.no_std_io2_base.specs.Write.{IsFront, Made}
 use Rattle.no_std_io2_base.proofs.PieceLemmas.{PieceSoFar, piece_none, piece_more, piece_interruption, piece_ended, piece_fault}
 use Rattle.no_std_io2_base.proofs.PieceLemmas.{byte_next, piece_memory, part_taken, none_taken, error_taken}
 use Rattle.no_std_io2_base.proofs.PieceLemmas.{whole_part, front_more, front_same, spent_more, part_fits, memory_fault}
 use Rattle.no_std_io2_base.proofs.PieceRoom.{part_has_room, fault_is_first}
 use Rattle.no_std_io2_base.proofs.ReadToEndTaken.{moved_read, no_error}
+use Rattle.no_std_io2_base.proofs.CallsLemmas.{made_more, made_then, made_map}
+
+-- the calls so far, which took x
+abbrev pub PartMade : {X : Type 0} → (X → ReadCall → X → Type 0) → X → ℕ → List ℕ → X → Type 0
+PartMade may old d x now = (C : List ReadCall) × Made may old C now × PartCalls d C x
+
+-- at the start there are none
+pub made_none : {X : Type 0} {may : X → ReadCall → X → Type 0} {old : X} {d : ℕ} → PartMade may old d [] old
+made_none = ([], refl, no_part)
+
+-- the calls of a part are calls of the whole
+pub piece_map : {S T may_refuse : Type 0} {may : S → ReadCall → S → Type 0} {may' : T → ReadCall → T → Type 0} {old new : S} {d : ℕ}
+    {reply : Result ℕ Error} {x : List ℕ} (put : S → T) → ((a b : S) (call : ReadCall) → may a call b → may' (put a) call (put b))
+    → PieceMade may_refuse may old d reply x new → PieceMade may_refuse may' (put old) d reply x (put new)
+piece_map {may = may} {may' = may'} put each m =
+    record { calls = m.calls; made = made_map may may' put each m.calls _ _ m.made; are = m.are }
+
+-- a piece that was read into an empty vector is its content
+pub whole_made : {X A : Type 0} {R : Lender X} {old new : X} {d : ℕ} {read : Result ℕ Error} (none all : Vec ℕ A) → none.items ≡ []
+    → ReadUntilLaw R old d none read all new → PieceMade (Unit {0}) R.may old d read all.items new
+whole_made {R = R} {old} {new} {d} {read} none all empty law =
+    let whole = sym (law.appends.1 ∙ ap (λ l. l ++ law.appends.0) empty) in
+    subst (λ l. PieceMade (Unit {0}) R.may old d read l new) whole law.calls
+
+module _ {X : Type 0} (R : Lender X) {old now after : X} {d : ℕ} {x : List ℕ} {reply : Result (Bor (List ℕ)) Error}
+    (before : PartMade R.may old d x now) (filled : AfterLoan R now reply after) where
+  -- the `fill_buf`, as a call
+  loan : {answer : Result (Bor (List ℕ)) Error} → reply ≡ answer → R.may now (Filled (lent_bytes answer)) after
+  loan is = subst (λ r. R.may now (Filled (lent_bytes r)) after) is filled.call
+
+  module _ {e : Error} (is : reply ≡ Err e) where
+    -- the calls up to a `fill_buf` that returned an error
+    failed : Made R.may old (before.0 ++ Filled (Err e) ∷ []) after
+    failed = made_more R.may before.0 old before.1 (loan is)
+
+    -- if it was interrupted, the loop goes on
+    pub part_waited : IsInterruption e → PartMade R.may old d x after
+    part_waited again = (_, failed, and_waited _ _ _ before.2 again)
+
+    -- a fault ends the loop
+    pub piece_faults : {may_refuse : Type 0} → IsFault e → PieceMade may_refuse R.may old d (Err e) x after
+    piece_faults fault = record { calls = _; made = failed; are = (before.0, before.2, inl (fault, refl)) }
+
+  module _ {lent : Bor (List ℕ)} (is : reply ≡ Ok lent) where
+    -- refused memory ends the loop
+    pub piece_refused : {e : Error} → IsOutOfMemory e → PieceMade (Unit {0}) R.may old d (Err e) x after
+    piece_refused refused =
+        let made = made_more R.may before.0 old before.1 (loan is) in
+        record { calls = _; made = made; are = (before.0, before.2, inr (tt, refused, lent.now, refl)) }
+
+    module _ {n : ℕ} {is_whole : Bool} (found : FindsPiece d lent.now n is_whole) {new : X} (dropped : ConsumeLaw R after n new) where
+      -- the calls up to a `consume`
+      took : Made R.may old (before.0 ++ Filled (Ok lent.now) ∷ Consumed n ∷ []) new
+      took =
+          made_then R.may before.0 old (Filled (Ok lent.now) ∷ Consumed n ∷ []) now new before.1 (after, loan is, (new, dropped.call, refl))
+
+      -- if the piece goes on, all lent bytes belong to it
+      pub part_took : is_whole ≡ false → PartMade R.may old d (x ++ take n lent.now) new
+      part_took going =
+          let part = found.open_ended going in
+          let all = part.2 in
+          let whole : take n lent.now ≡ lent.now = ap (λ k. take k lent.now) all ∙ take_all (length lent.now) lent.now (le_refl _) in (
+            _,
+            subst (λ k. Made R.may old (before.0 ++ Filled (Ok lent.now) ∷ Consumed k ∷ []) new) all took,
+            rw whole (and_part before.0 x lent.now before.2 (subst (λ k. 0 < k) all part.0) (rw (sym whole) part.1)),
+          )
+
+      -- the end of the piece ends the loop
+      pub piece_took : {may_refuse : Type 0} {count : ℕ} → is_whole ≡ true
+          → PieceMade may_refuse R.may old d (Ok count) (x ++ take n lent.now) new
+      piece_took whole =
+          let found' = subst (FindsPiece d lent.now n) whole found in
+          record { calls = _; made = took; are = (before.0, x, lent.now, n, before.2, found', refl, refl) }
 
 -- the position of such a loop in a told store
 abbrev pub StoreSoFar : {X : Type 0} → Lender X → X → X → Type 0
@@ -31,6 +105,7 @@ pub record UntilSoFar {X A : Type 0} (R : Lender X) (d : ℕ) (old : X) (buf buf
   pub metered : R.is_metered old → R.is_metered now
   pub filling : R.is_filling old → R.is_filling now
   pub store : StoreSoFar R old now
+  pub calls : PartMade R.may old d front.0 now
 
 -- at the start nothing is taken
 pub until_none : {X A : Type 0} {R : Lender X} {d : ℕ} {old : X} {buf : Vec ℕ A} → UntilSoFar R d old buf buf old
@@ -44,6 +119,7 @@ until_none = record {
   metered = λ m. m;
   filling = λ f. f;
   store = λ s. (s, refl, refl);
+  calls = made_none;
 }
 
 module _ {X : Type 0} (R : Lender X) (old : X) {now after : X} {reply : Result (Bor (List ℕ)) Error} (so_far : StoreSoFar R old now)
@@ -96,6 +172,7 @@ module _ {X A : Type 0} {R : Lender X} {d : ℕ} {old now after : X} {buf xs : V
       metered = λ m. filled.metered (before.metered m);
       filling = λ f. filled.filling (before.filling f);
       store = λ s. absurd (no_store R old before.store law filled is s);
+      calls = part_waited R before.calls filled is again;
     }
 
     -- a fault ends the loop
@@ -116,6 +193,7 @@ module _ {X A : Type 0} {R : Lender X} {d : ℕ} {old now after : X} {buf xs : V
       metered = λ m. filled.metered (before.metered m);
       filling = λ f. filled.filling (before.filling f);
       store = λ s. absurd (no_store R old before.store law filled is s);
+      calls = piece_faults R before.calls filled is fault;
     }
 
   module _ {lent : Bor (List ℕ)} {n : ℕ} {is_whole : Bool} (is : reply ≡ Ok lent) (shows : FillBufLaw R now (Ok lent))
@@ -145,6 +223,7 @@ module _ {X A : Type 0} {R : Lender X} {d : ℕ} {old now after : X} {buf xs : V
           let loan = filled.store so_far.0 in
           let told = filled.told (law now so_far.0).0 in
           (loan.0, loan.1 ∙ so_far.1, ap₂ (λ p l. p + length l) loan.2 (none_taken lent is told.1) ∙ so_far.2);
+      calls = piece_refused R before.calls filled is refused;
     }
 
     module _ {new : X} (dropped : ConsumeLaw R after n new) where
@@ -172,6 +251,7 @@ module _ {X A : Type 0} {R : Lender X} {d : ℕ} {old now after : X} {buf xs : V
           metered = λ m. (dropped.cost (filled.metered (before.metered m))).0;
           filling = λ f. dropped.filling (filled.filling (before.filling f));
           store = moved;
+          calls = part_took R before.calls filled is found dropped going;
         }
 
         -- the part that makes the piece whole, and the loop ends
@@ -197,4 +277,5 @@ module _ {X A : Type 0} {R : Lender X} {d : ℕ} {old now after : X} {buf xs : V
           metered = λ m. (dropped.cost (filled.metered (before.metered m))).0;
           filling = λ f. dropped.filling (filled.filling (before.filling f));
           store = moved;
+          calls = piece_took R before.calls filled is found dropped whole;
         }

@@ -1,12 +1,12 @@
 -- What `fill_buf` lends and what it leaves, and the law of each call of `BufRead`.
 use Rattle.std.specs.Prelude.{◌≡◌, ℕ, ◌-◌, ◌<◌, List, [], ◌∷◌, ◌++◌, length, ⊤, Ok, Err, Result, ◌+◌, ◌≤◌, take, drop, Some, Vec, String}
-use Rattle.std.specs.Prelude.{vec_len, vec_capacity, string_bytes, string_len, string_capacity, IfOk, IfErr, IsOkAnd}
+use Rattle.std.specs.Prelude.{◌^◌, min, vec_len, vec_capacity, string_bytes, string_len, string_capacity, IfOk, IfErr, IsOkAnd}
 use mathlib.Core.Option.{none}
 use Rattle.std.specs.Borrow.{follows_so, Fml, RattleType, MutBor, Bor}
 use Rattle.no_std_io2_base.specs.declared.error.Error.{Error}
-use Rattle.no_std_io2_base.specs.Read.{Event, events_of, fails, first_fault, ReadCall}
+use Rattle.no_std_io2_base.specs.Read.{Event, events_of, fails, first_fault, ReadCall, Filled, Consumed}
 use Rattle.no_std_io2_base.specs.Errors.{IsNoInterruption}
-use Rattle.no_std_io2_base.specs.Pieces.{TakesLine, TakesPiece, HasPieceRoom, SkipsPiece}
+use Rattle.no_std_io2_base.specs.Pieces.{TakesLine, TakesPiece, HasPieceRoom, SkipsPiece, AnswersLine, PieceMade}
 use Rattle.no_std_io2_base.specs.Write.{IsFront}
 
 -- P holds for the value behind the `&mut` s after the borrow of it by the result has ended
@@ -36,6 +36,11 @@ LendsFrom E (Err e) after = E ≡ fails e ∷ after
 abbrev pub LendingTurn : Result (Bor (List ℕ)) Error → ℕ → ℕ → Type 0
 LendingTurn (Ok s) old new = ⊤
 LendingTurn (Err e) old new = new < old
+
+-- the bytes that were lent, or the error
+abbrev pub lent_bytes : Result (Bor (List ℕ)) Error → Result (List ℕ) Error
+lent_bytes (Ok s) = Ok s.now
+lent_bytes (Err e) = Err e
 
 -- `fill_buf` reads once where nothing is held
 abbrev pub reads_needed : List ℕ → ℕ
@@ -93,6 +98,8 @@ AfterLoan R old reply new = record {
   filling : R.is_filling old → R.is_filling new;
   -- a told store is as it was
   store : R.has_store old → R.has_store new × (R.content new ≡ R.content old) × (R.position new ≡ R.position old);
+  -- it is one call
+  call : R.may old (Filled (lent_bytes reply)) new;
 }
 
 -- `consume(amount)`
@@ -113,6 +120,8 @@ pub record ConsumeLaw {X : Type 0} (R : Lender X) (old : X) (amount : ℕ) (new 
   pub lends_surely : R.lends_surely old → R.lends_surely new
   -- a told store keeps its content, and its position goes on by what was dropped
   pub store : R.has_store old → R.has_store new × (R.content new ≡ R.content old) × (R.position new ≡ R.position old + amount)
+  -- it is one call
+  pub call : R.may old (Consumed amount) new
 
 -- `read_until(delim, buf)`
 pub record ReadUntilLaw {X A : Type 0} (R : Lender X) (old : X) (delim : ℕ) (buf : Vec ℕ A) (reply : Result ℕ Error) (buf' : Vec ℕ A)
@@ -140,6 +149,8 @@ pub record ReadUntilLaw {X A : Type 0} (R : Lender X) (old : X) (delim : ℕ) (b
   -- a told store keeps its content, and its position goes on by what was taken
   pub store : R.has_store old → R.has_store new × (R.content new ≡ R.content old)
       × (R.position new + length (R.events new) ≡ R.position old + length (R.events old))
+  -- which calls it made: they took the appended bytes
+  pub calls : PieceMade (Unit {0}) R.may old delim reply appends.0 new
 
 -- `skip_until(delim)`
 pub record SkipUntilLaw {X : Type 0} (R : Lender X) (old : X) (delim : ℕ) (reply : Result ℕ Error) (new : X) : Type 0 where
@@ -157,6 +168,8 @@ pub record SkipUntilLaw {X : Type 0} (R : Lender X) (old : X) (delim : ℕ) (rep
   -- a told store keeps its content, and its position goes on by what was taken
   pub store : R.has_store old → R.has_store new × (R.content new ≡ R.content old)
       × (R.position new + length (R.events new) ≡ R.position old + length (R.events old))
+  -- which calls it made: they took a piece of this length
+  pub calls : (piece : List ℕ) × IfOk reply (λ n. n ≡ min (length piece) (2 ^ 64 - 1)) × PieceMade ⊥ R.may old delim reply piece new
 
 -- `read_line(alloc, buf)`
 pub record ReadLineLaw {X A : Type 0} (R : Lender X) (old : X) (buf : String A) (reply : Result ℕ Error) (buf' : String A) (new : X)
@@ -180,3 +193,6 @@ pub record ReadLineLaw {X A : Type 0} (R : Lender X) (old : X) (buf : String A) 
   -- a told store keeps its content, and its position goes on by what was taken
   pub store : R.has_store old → R.has_store new × (R.content new ≡ R.content old)
       × (R.position new + length (R.events new) ≡ R.position old + length (R.events old))
+  -- which calls it made: they took the line
+  pub calls : (line : List ℕ) × (read : Result ℕ Error) × PieceMade (Unit {0}) R.may old 10 read line new
+      × AnswersLine line read (string_len buf) (string_capacity buf) reply (string_bytes buf) (string_bytes buf')

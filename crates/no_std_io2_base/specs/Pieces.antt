@@ -3,8 +3,10 @@ use Rattle.std.specs.Prelude.{◌≡◌, ◌≢◌, ℕ, ◌+◌, ◌-◌, ◌^�
 use Rattle.std.specs.Prelude.{if◌then◌else◌, ◌⊎◌, ⊤, Option, None, Some, Result, Ok, Err, suc, codes, IsUtf8}
 use Rattle.std.specs.List.{AllByRecursion, concat}
 use Rattle.no_std_io2_base.specs.declared.error.Error.{Error}
-use Rattle.no_std_io2_base.specs.Errors.{error_kind, IsOutOfMemory, error_text}
+use Rattle.no_std_io2_base.specs.Errors.{error_kind, IsInterruption, IsFault, IsOutOfMemory, error_text}
 use Rattle.no_std_io2_base.specs.Read.{Event, byte, fails, bytes, HasNoFault, EndsInFault, bytes_to_fault, first_fault}
+use Rattle.no_std_io2_base.specs.Read.{ReadCall, Filled, Consumed}
+use Rattle.no_std_io2_base.specs.Write.{Made}
 use Rattle.no_std_io2_base.specs.declared.error.ErrorKind.TheVariants.{InvalidData, OutOfMemory}
 use Rattle.no_std_io2_base.specs.declared.traits.split.Split.{Split}
 use Rattle.no_std_io2_base.specs.declared.traits.lines.Lines.{Lines}
@@ -59,11 +61,11 @@ abbrev pub EndsPiece : ℕ → List ℕ → Type 0
 EndsPiece d bs = (front : List ℕ) × (bs ≡ front ++ d ∷ []) × Lacks d front
 
 -- The first n of these bytes belong to the next piece. They complete it if they end in d, or if there are no bytes: then nothing is to
--- come.
+-- come. If they do not complete it, they are all of these bytes.
 pub record FindsPiece (d : ℕ) (bs : List ℕ) (n : ℕ) (is_whole : Bool) : Type 0 where
   pub within : n ≤ length bs
   pub whole : is_whole ≡ true → EndsPiece d (take n bs) ⊎ (bs ≡ [])
-  pub open_ended : is_whole ≡ false → (0 < n) × Lacks d (take n bs)
+  pub open_ended : is_whole ≡ false → (0 < n) × Lacks d (take n bs) × (n ≡ length bs)
 
 -- `read_until(d)` returned `Ok(n)`: a piece of n bytes was taken from E, and its bytes were appended
 pub record GivesPiece (d : ℕ) (E : List Event) (n : ℕ) (old new : List ℕ) (after : List Event) : Type 0 where
@@ -110,6 +112,30 @@ up_to d (b ∷ bs) = if b == d then b ∷ [] else b ∷ up_to d bs
 -- a vector of this length and capacity has room for the bytes of the first piece of E
 abbrev pub HasPieceRoom : ℕ → List Event → ℕ → ℕ → Type 0
 HasPieceRoom d E len capacity = len + length (up_to d (bytes_to_fault E)) ≤ capacity
+
+-- C are the calls of a loop that took x, and no d yet: each `fill_buf` lent some bytes without d, and all of them were consumed; or it was
+-- interrupted
+pub data PartCalls (d : ℕ) : List ReadCall → List ℕ → Type 0 where
+  no_part : PartCalls d [] []
+  and_part : (C : List ReadCall) (x lent : List ℕ) → PartCalls d C x → 0 < length lent → Lacks d lent
+      → PartCalls d (C ++ Filled (Ok lent) ∷ Consumed (length lent) ∷ []) (x ++ lent)
+  and_waited : (C : List ReadCall) (x : List ℕ) (e : Error) → PartCalls d C x → IsInterruption e → PartCalls d (C ++ Filled (Err e) ∷ []) x
+
+-- C are the calls of a loop that took a piece x: the last `fill_buf` lent the end of x, and the bytes up to this end were consumed; or it
+-- lent nothing. If the result is an error, the last `fill_buf` returned this fault; or, if memory may be refused, it was refused for the
+-- bytes that were lent, and none of them were consumed.
+abbrev pub PieceCalls : Type 0 → ℕ → List ReadCall → List ℕ → Result ℕ Error → Type 0
+PieceCalls may_refuse d C x (Ok _) = (D : List ReadCall) × (y : List ℕ) × (lent : List ℕ) × (n : ℕ) × PartCalls d D y
+    × FindsPiece d lent n true × (x ≡ y ++ take n lent) × (C ≡ D ++ Filled (Ok lent) ∷ Consumed n ∷ [])
+PieceCalls may_refuse d C x (Err e) = (D : List ReadCall) × PartCalls d D x × ((IsFault e × (C ≡ D ++ Filled (Err e) ∷ []))
+    ⊎ (may_refuse × IsOutOfMemory e × (lent : List ℕ) × (C ≡ D ++ Filled (Ok lent) ∷ [])))
+
+-- The calls that were made to take a piece, and the bytes x that were taken.
+pub record PieceMade {X : Type 0} (may_refuse : Type 0) (may : X → ReadCall → X → Type 0) (old : X) (d : ℕ) (reply : Result ℕ Error)
+    (x : List ℕ) (new : X) : Type 0 where
+  pub calls : List ReadCall
+  pub made : Made may old calls new
+  pub are : PieceCalls may_refuse d calls x reply
 
 -- all pieces; or, if a fault comes after them, those that end in d
 abbrev pub pieces_before : ℕ → Option Error → List ℕ → List (List ℕ)
@@ -162,6 +188,20 @@ YieldsPiece view trim refuses d E None after = (piece : List ℕ) × GivesPiece 
 YieldsPiece view trim refuses d E (Some (Ok item)) after = (piece : List ℕ) × TakesSome d E piece after × (view item ≡ trim piece)
 YieldsPiece view trim refuses d E (Some (Err e)) after =
     (piece : List ℕ) × (StopsInPiece d E e [] piece after ⊎ (TakesSome d E piece after × refuses piece e))
+
+-- what `next` yields if a piece was read with this result
+abbrev pub YieldsRead : {T : Type 0} → (T → List ℕ) → (List ℕ → List ℕ) → (List ℕ → Error → Type 0) → List ℕ → Result ℕ Error
+    → Option (Result T Error) → Type 0
+YieldsRead view trim refuses piece (Ok n) None = length piece ≡ 0
+YieldsRead view trim refuses piece (Ok n) (Some (Ok item)) = (0 < length piece) × (view item ≡ trim piece)
+YieldsRead view trim refuses piece (Ok n) (Some (Err e)) = (0 < length piece) × refuses piece e
+YieldsRead view trim refuses piece (Err e) result = result ≡ Some (Err e)
+
+-- The calls that a `next` made: those that read a piece.
+abbrev pub NextMade : {X T : Type 0} → (X → ReadCall → X → Type 0) → X → (T → List ℕ) → (List ℕ → List ℕ) → (List ℕ → Error → Type 0) → ℕ
+    → Option (Result T Error) → X → Type 0
+NextMade may old view trim refuses d result new = (piece : List ℕ) × (read : Result ℕ Error)
+    × PieceMade (Unit {0}) may old d read piece new × YieldsRead view trim refuses piece read result
 
 -- whether the iterator has ended after yielding this: yes, if it is an error
 abbrev pub ends_at : {T : Type 0} → Option (Result T Error) → Bool

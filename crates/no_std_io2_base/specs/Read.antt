@@ -115,6 +115,10 @@ pub data ReadCall : Type 0 where
   GaveExactly : ℕ → Result (List ℕ) Error → ReadCall
   -- a `read_to_end` of such a type: the bytes that it appended, and how it ended
   GaveAll : List ℕ → Result (Unit {0}) Error → ReadCall
+  -- a `fill_buf`: the bytes that it lent, or its error
+  Filled : Result (List ℕ) Error → ReadCall
+  -- a `consume` of so many of the held bytes
+  Consumed : ℕ → ReadCall
 
 -- the bytes that `read` gave at the front of buf, or its error
 abbrev pub gave : Result ℕ Error → List ℕ → Result (List ℕ) Error

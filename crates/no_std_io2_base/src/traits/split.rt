@@ -2,7 +2,8 @@
 ghost use Rattle.std.specs.Prelude.{◌≡◌, ◌≤◌, ◌<◌, true, false, None, IfSome, IfErr, OnSome, vec_items};
 ghost use Rattle.std.specs.Iterator.{at_most};
 ghost use Rattle.no_std_io2_base.specs.Errors.{IsFault};
-ghost use Rattle.no_std_io2_base.specs.Pieces.{without, split_reader, split_delim, split_is_ended, YieldsPiece, ends_at, items_left};
+ghost use Rattle.no_std_io2_base.specs.Pieces.{without, split_reader, split_delim, split_is_ended};
+ghost use Rattle.no_std_io2_base.specs.Pieces.{YieldsPiece, NextMade, ends_at, items_left};
 
 use super::buf_read::BufRead;
 use super::pieces::drop_last;
@@ -39,9 +40,11 @@ impl<R> Split<R> {
 }
 
 // Reads the next piece, and drops its delimiter. `None` means the end.
+#[tactic(auto, using(crate::proofs::PieceLoop::whole_made))]
 fn next_piece<R: BufRead>(reader: &mut R, alloc: Global, delim: u8) -> Option<Result<Vec<u8>>>
     ensures told { R.tells reader.old → R.tells reader.new
         × YieldsPiece vec_items (without delim) (λ _ _. ⊥) delim (R.events reader.old) result (R.events reader.new) }
+    ensures calls { NextMade R.may reader.old vec_items (without delim) (λ _ _. ⊥) delim result reader.new }
     ensures never_interrupted { IfSome result (λ item. IfErr item IsFault) }
     ensures turns_never_rise { R.turns reader.new ≤ R.turns reader.old }
     ensures spends_turn { ends_at result ≡ false → OnSome result (R.turns reader.new < R.turns reader.old) }
@@ -68,7 +71,8 @@ where
         × (split_is_ended s ≡ false → (split_is_ended t ≡ ends_at r)
         × (R.tells (split_reader s) → R.tells (split_reader t)
         × YieldsPiece vec_items (without (split_delim s)) (λ _ _. ⊥) (split_delim s)
-        (R.events (split_reader s)) r (R.events (split_reader t))))
+        (R.events (split_reader s)) r (R.events (split_reader t)))
+        × NextMade R.may (split_reader s) vec_items (without (split_delim s)) (λ _ _. ⊥) (split_delim s) r (split_reader t))
         × (split_delim t ≡ split_delim s)
         × IfSome r (λ item. IfErr item IsFault)
         × OnSome r (items_left (split_is_ended t) (R.turns (split_reader t))

@@ -5,4 +5,4 @@ use Rattle.no_std_io2.proofs.buffered.buf_reader.BufReader.take_line.Goals as go
 
 pub returns-clause-line : goal.returns-clause-line
 returns-clause-line g c =
-    line_first _ c.buffer-held.ensures.value c.find_piece-len.ensures.finds c.if-not-is_whole.false (omega (arith, c.if-len-eq0.false))
+    line_first _ c.buffer-held.ensures.value c.find_piece-len.ensures c.if-not-is_whole.false (omega (arith, c.if-len-eq0.false))

@@ -26,4 +26,5 @@ returns-clause-law g c =
         refl,
         refl,
       );
+      call = tt;
     }

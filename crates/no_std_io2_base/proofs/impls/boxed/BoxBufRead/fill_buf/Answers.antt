@@ -19,6 +19,7 @@ returns g c =
           metered = search rules;
           filling = search rules;
           store = search rules;
+          call = search rules;
         },
       ),
       record { law = search rules; after_borrow = tt },

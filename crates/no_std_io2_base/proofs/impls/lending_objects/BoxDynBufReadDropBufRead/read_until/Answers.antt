@@ -1,7 +1,10 @@
 use Rattle.std.proofs.Common.{◌∙◌, sym, lt_of_lt_of_le}
 use Rattle.std.proofs.lemmas.Result.{err_from_is_err_and}
-use Rattle.no_std_io2_base.proofs.PieceLoop.{until_interruption, until_fault, until_refused, until_more, until_whole}
+use Rattle.no_std_io2_base.proofs.PieceLoop.{until_none, until_interruption, until_fault, until_refused, until_more, until_whole}
 use Rattle.no_std_io2_base.proofs.impls.lending_objects.BoxDynBufReadDropBufRead.read_until.Goals as goal
+
+pub pieces-init : goal.pieces-init
+pieces-init g c = until_none
 
 pub returns-then-is_whole : goal.returns-then-is_whole
 returns-then-is_whole g c =

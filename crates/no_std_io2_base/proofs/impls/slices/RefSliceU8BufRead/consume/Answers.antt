@@ -20,5 +20,6 @@ returns c =
         filling = λ fills. fills;
         lends_surely = λ sure. sure;
         store = λ no. absurd no;
+        call = tt;
       };
     }

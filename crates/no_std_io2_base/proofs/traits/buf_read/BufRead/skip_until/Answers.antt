@@ -1,9 +1,6 @@
 use Rattle.std.proofs.Common.{◌∙◌, sym, lt_of_lt_of_le}
-use Rattle.no_std_io2_base.proofs.SkipLoop.{skip_none, skip_interruption, skip_fault, skip_more, skip_whole}
+use Rattle.no_std_io2_base.proofs.SkipLoop.{skip_interruption, skip_fault, skip_more, skip_whole}
 use Rattle.no_std_io2_base.proofs.traits.buf_read.BufRead.skip_until.Goals as goal
-
-pub pieces-init : goal.pieces-init
-pieces-init g c = skip_none
 
 pub returns-then-is_whole : goal.returns-then-is_whole
 returns-then-is_whole g c = record {

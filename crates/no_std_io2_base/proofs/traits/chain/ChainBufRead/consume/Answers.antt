@@ -24,4 +24,5 @@ returns-else-self-clause-law g c =
       filling = λ no. absurd no;
       lends_surely = λ no. absurd no;
       store = λ no. absurd no;
+      call = tt;
     }

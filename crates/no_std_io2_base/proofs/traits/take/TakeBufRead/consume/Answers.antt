@@ -27,6 +27,7 @@ returns-clause-law g c =
       filling = dropped.filling;
       lends_surely = λ no. absurd no;
       store = λ no. absurd no;
+      call = tt;
     }
 
 pub returns-clause-along : goal.returns-clause-along

@@ -1,11 +1,15 @@
 -- As the trait's, and the limit falls by what is appended.
-use Rattle.std.proofs.Common.{◌≡◌, ◌∙◌, length, sym, ap, arith, lt_of_lt_of_le, length-take-le}
+use Rattle.std.proofs.Common.{◌≡◌, ◌∙◌, length, refl, sym, ap, arith, lt_of_lt_of_le, length-take-le}
 use Rattle.std.proofs.lemmas.Result.{err_from_is_err_and}
 use Rattle.no_std_io2_base.specs.Take.{take_limit}
 use Rattle.no_std_io2_base.proofs.TakeAlong.{along_none, along_then, along_fault}
 use Rattle.no_std_io2_base.proofs.PieceLemmas.{none_taken, error_taken}
-use Rattle.no_std_io2_base.proofs.PieceLoop.{until_interruption, until_fault, until_refused, until_more, until_whole}
+use Rattle.no_std_io2_base.proofs.PieceLoop.{until_none, until_interruption, until_fault, until_refused, until_more, until_whole}
 use Rattle.no_std_io2_base.proofs.traits.take.TakeBufRead.read_until.Goals as goal
+
+pub pieces-init : goal.pieces-init
+pieces-init g c =
+    record { law = until_none; limit = refl; at_limit = λ none. refl; along = λ t. along_none refl refl }
 
 pub returns-then-is_whole : goal.returns-then-is_whole
 returns-then-is_whole g c =

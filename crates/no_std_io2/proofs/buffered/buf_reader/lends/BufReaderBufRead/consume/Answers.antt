@@ -20,6 +20,7 @@ returns-clause-law g c =
       filling = λ no. absurd no;
       lends_surely = λ f. f;
       store = λ s. let sound = give_sound held now _ _ c.args.amount is c.requires s.1 in ((s.0, sound.0), refl, sound.1);
+      call = (is, refl);
     }
 
 pub returns-clause-sound : goal.returns-clause-sound

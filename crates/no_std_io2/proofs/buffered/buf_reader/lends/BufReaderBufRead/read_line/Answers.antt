@@ -1,16 +1,20 @@
 -- A line that is held whole goes straight to the text; else nothing has changed, and it is read into a vector first.
-use Rattle.std.proofs.Common.{string_len, string_capacity, string_bytes, arith, take, sym}
+use Rattle.std.proofs.Common.{string_len, string_capacity, string_bytes, arith, take, drop, sym, take-append-drop}
 use Rattle.no_std_io2_base.proofs.LineTaken.{line_at_once, line_gathered}
 use Rattle.no_std_io2.specs.BufReader.{reader_held, reader_behind}
 use Rattle.no_std_io2.proofs.BufReaderLends.{buf_tells}
 use Rattle.no_std_io2.proofs.BufReaderTrail.{trail_line, trail_given}
-use Rattle.no_std_io2.proofs.HeldPieces.{line_held, line_given}
+use Rattle.no_std_io2.proofs.HeldPieces.{piece_some, line_held, line_given}
+use Rattle.no_std_io2.proofs.BufReaderCalls.{lends_held}
 use Rattle.no_std_io2.proofs.buffered.buf_reader.lends.BufReaderBufRead.read_line.Goals as goal
 
 pub returns-in-Some-clause-law : goal.returns-in-Some-clause-law
 returns-in-Some-clause-law g c =
     let given = c.in-Some.ensures in
-    line_at_once (buf_tells g.R.Stored g.R.Read g.met.R.Read.store_tells) given.line.0 given.line.1 given.law given.text.0 given.text.1
+    let held = reader_held c.args.self.now in
+    let some = piece_some 10 (take c.in-Some.len held) (drop c.in-Some.len held) (sym (take-append-drop c.in-Some.len held)) given.line.1 in
+    line_at_once (buf_tells g.R.Stored g.R.Read g.met.R.Read.store_tells) given.line.0 given.line.1
+    (lends_held g.R.Read.may c.args.self.now some) given.law given.text.0 given.text.1
 
 pub returns-in-Some-clause-held : goal.returns-in-Some-clause-held
 returns-in-Some-clause-held g c = λ line rest is ends.

@@ -24,7 +24,7 @@ returns-then-is_whole g c =
     let before = c.pieces.invariant in
     let filled = c.fill_buf.follows.holds-at-none in
     let dropped = c.consume.ensures.law in
-    let found = c.find_piece-len.ensures.finds in
+    let found = c.find_piece-len.ensures in
     let appended = c.in_ok-append-in-Ok.ensures.ok in
     let lent = lent_held c.in-Ok.lent _ c.in-Ok.is filled.law.lends in
     record {
@@ -65,7 +65,7 @@ pieces-preserved-else-is_whole g c =
     let before = c.pieces.invariant in
     let filled = c.fill_buf.follows.holds-at-none in
     let dropped = c.consume.ensures.law in
-    let found = c.find_piece-len.ensures.finds in
+    let found = c.find_piece-len.ensures in
     let appended = c.in_ok-append-in-Ok.ensures.ok in
     let lent = lent_held c.in-Ok.lent _ c.in-Ok.is filled.law.lends in
     record {
@@ -77,7 +77,7 @@ pieces-preserved-else-is_whole g c =
           let kept = filled.law.unchanged (piece_some c.args.delim piece rest stands ends) in
           absurd
           (piece_open c.args.delim piece rest c.in-Ok.lent.now c.find_piece-len.result.0 (sym lent ∙ ap reader_held kept ∙ stands) ends
-          (c.find_piece-len.ensures.all c.if-is_whole.false) (found.open_ended c.if-is_whole.false).1);
+          (found.open_ended c.if-is_whole.false).2 (found.open_ended c.if-is_whole.false).1);
       behind = trail_taken (reader_behind c.args.self.now) c.pieces.buf.items c.append.new.buf.items (vec_len c.args.buf.now)
           c.find_piece-len.result.0 (trail_filled before.behind (λ some. ap reader_behind (filled.law.unchanged some)) filled.behind)
           (omega (arith, before.law.grows, c.pieces.buf.ok.0)) lent appended c.consume.ensures.behind;
@@ -87,7 +87,7 @@ pieces-preserved-else-is_whole g c =
 pub pieces-smaller-else-is_whole : goal.pieces-smaller-else-is_whole
 pieces-smaller-else-is_whole g c =
     let filled = c.fill_buf.follows.holds-at-none in
-    lt_of_lt_of_le (c.consume.ensures.law.spends_turn (c.find_piece-len.ensures.finds.open_ended c.if-is_whole.false).0)
+    lt_of_lt_of_le (c.consume.ensures.law.spends_turn (c.find_piece-len.ensures.open_ended c.if-is_whole.false).0)
     filled.law.turns_never_rise
 
 pub pieces-preserved : goal.pieces-preserved
@@ -131,7 +131,7 @@ returns-in_err-append-in-Ok g c =
     rw (p.1, p.2) (record {
       law = until_refused before.law (buf_tells g.R.Stored g.R.Read g.met.R.Read.store_tells)
           filled.law
-          c.in-Ok.is c.in-Ok.ensures.law c.find_piece-len.ensures.finds c.append.ensures.grows refused.refused refused.err refused.full;
+          c.in-Ok.is c.in-Ok.ensures.law c.find_piece-len.ensures c.append.ensures.grows refused.refused refused.err refused.full;
       held = λ piece rest is ends.
           let same = before.fresh piece rest is ends in
           let kept = filled.law.unchanged (piece_some c.args.delim piece rest (ap reader_held same.0 ∙ is) ends) in
