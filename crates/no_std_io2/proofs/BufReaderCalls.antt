@@ -7,7 +7,7 @@ use Rattle.no_std_io2_base.specs.declared.error.Error.{Error}
 use Rattle.no_std_io2_base.specs.Read.{Event, events_of, fails, Reads, SpendsTurn, ReadCall, Gave, Gathers, no_read, and_gave, IsRest}
 use Rattle.no_std_io2_base.specs.Read.{ToEndMade}
 use Rattle.no_std_io2_base.specs.Write.{Made}
-use Rattle.std.proofs.Common.{take, drop, min, append_assoc, length-take-le, take_all, drop_of_length-le, ◌⊎◌, inl, inr}
+use Rattle.std.proofs.Common.{take, drop, min, append_assoc, length-take-le, take_all, drop_of_length-le, inl, inr}
 use Rattle.std.proofs.lemmas.Bool.{cases_lt}
 use Rattle.std.proofs.Math.Seq.{drop-append_seam}
 use Rattle.no_std_io2.specs.declared.buffered.buf_reader.BufReader.{BufReader}

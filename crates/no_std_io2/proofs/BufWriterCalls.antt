@@ -6,7 +6,7 @@ use Rattle.std.proofs.lemmas.Bool.Decides.{nat_tests}
 use Rattle.no_std_io2_base.specs.declared.error.Error.{Error}
 use Rattle.no_std_io2_base.specs.Errors.{IsNoInterruption}
 use Rattle.no_std_io2_base.specs.declared.traits.write.Write.{Ghosts as Writer}
-use Rattle.no_std_io2_base.specs.Write.{Told, Moves, MovesFront, WriteCall, Wrote, Flushed, Made, taken, write_mishap, call_mishap}
+use Rattle.no_std_io2_base.specs.Write.{Told, Moves, MovesFront, WriteCall, Made, taken, write_mishap, call_mishap}
 use Rattle.no_std_io2_base.specs.Write.{calls_for, none as no_write}
 use Rattle.no_std_io2_base.proofs.MovesLemmas.{IsFront-refl, Moves-then, zero_write-whole}
 use Rattle.no_std_io2_base.proofs.CallsLemmas.{made_split, writes_whole}

@@ -1,5 +1,5 @@
 -- What each inner call adds to an inner writer's own state, the calls of a buffer in front of it add together.
-use Rattle.std.proofs.Common.{◌≡◌, ℕ, List, [], ◌∷◌, ◌++◌, Result, sym, ap, subst, ◌∙◌, append-nil}
+use Rattle.std.proofs.Common.{ℕ, List, [], ◌++◌, Result, sym, ap, subst, ◌∙◌, append-nil}
 use Rattle.no_std_io2_base.specs.declared.error.Error.{Error}
 use Rattle.no_std_io2_base.specs.Write.{WriteCall, WroteRest, Flushed, CallAdds, Made}
 use Rattle.no_std_io2_base.proofs.CallsLemmas.{made_split}

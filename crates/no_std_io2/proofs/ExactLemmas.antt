@@ -36,17 +36,16 @@ stands_behind (b ∷ bs) (fails d ∷ Q) R rest e is = absurd (cc)
 bytes_end : (Q : List Event) (e : Error) → bytes (Q ++ fails e ∷ []) ≡ bytes Q
 bytes_end Q e = bytes-append Q (fails e ∷ []) ∙ append-nil (bytes Q)
 
--- it does not fail if the events begin with enough bytes
-pub ReadsExact-enough : (t : Type 0) {E : List Event} (after : List Event) (r : Result (Unit {0}) Error) (buf bs : List ℕ)
-    (rest : List Event) → E ≡ events_of bs ++ rest → length buf ≤ length bs → ReadsExact t E r buf after → IsOk r
-ReadsExact-enough t after (Ok u) buf bs rest is fits f = refl
-ReadsExact-enough t after (Err e) buf bs rest is fits (inl s) =
+-- a `read_exact` into no more room than there are bytes first does not fail
+pub ReadsExact-failed : {t : Type 0} {E after : List Event} {room : ℕ} {e : Error} (bs : List ℕ) (rest : List Event)
+    → E ≡ events_of bs ++ rest → room ≤ length bs → StopsAtFault E room e after ⊎ FallsShort t E room e after → ⊥
+ReadsExact-failed {after = after} {e = e} bs rest is fits (inl s) =
     let Q = s.ends.0 in
     let whole = sym is ∙ s.split ∙ ap (λ l. l ++ after) s.ends.1 ∙ append_assoc Q (fails e ∷ []) after in
     let far : length bs ≤ length (bytes Q) = stands_behind bs Q after rest e whole in
-    absurd (omega (arith, far, fits, s.short, ap (λ l. length (bytes l)) s.ends.1, ap length (bytes_end Q e)))
-ReadsExact-enough t after (Err e) buf bs rest is fits (inr s) =
-    absurd (omega (
+    omega (arith, far, fits, s.short, ap (λ l. length (bytes l)) s.ends.1, ap length (bytes_end Q e))
+ReadsExact-failed bs rest is fits (inr s) =
+    omega (
       arith,
       fits,
       s.short,
@@ -54,4 +53,10 @@ ReadsExact-enough t after (Err e) buf bs rest is fits (inr s) =
       ap length (bytes-append (events_of bs) rest),
       length-append (bytes (events_of bs)) (bytes rest),
       ap length (bytes-events_of bs),
-    ))
+    )
+
+-- so its result is `Ok`
+pub ReadsExact-enough : (t : Type 0) {E : List Event} (after : List Event) (r : Result (Unit {0}) Error) (buf bs : List ℕ)
+    (rest : List Event) → E ≡ events_of bs ++ rest → length buf ≤ length bs → ReadsExact t E r buf after → IsOk r
+ReadsExact-enough t after (Ok u) buf bs rest is fits f = refl
+ReadsExact-enough t after (Err e) buf bs rest is fits f = absurd (ReadsExact-failed bs rest is fits f)

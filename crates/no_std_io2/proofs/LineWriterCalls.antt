@@ -1,7 +1,7 @@
 -- What the calls of a line writer tell and count, by the calls of its inner writer.
-use Rattle.std.proofs.Common.{◌≡◌, ◌+◌, ℕ, ◌<◌, ◌≤◌, ◌==◌, ◌∙◌, List, [], ◌∷◌, ◌++◌, length, take, drop, Result, Ok, Err, Some, OnOk, IsOk}
+use Rattle.std.proofs.Common.{◌≡◌, ◌+◌, ℕ, ◌<◌, ◌≤◌, ◌==◌, ◌∙◌, List, [], ◌++◌, length, take, drop, Result, Ok, Err, Some, OnOk, IsOk}
 use Rattle.std.proofs.Common.{IfOk}
-use Rattle.std.proofs.Common.{refl, sym, ap, subst, arith, append-nil, if◌then◌else◌, ⊎_elim, inl, inr, le_refl, take-append-drop}
+use Rattle.std.proofs.Common.{refl, sym, ap, subst, arith, if◌then◌else◌, ⊎_elim, inl, inr, take-append-drop}
 use Rattle.std.proofs.lemmas.Bool.{cases_lt}
 use Rattle.std.proofs.lemmas.Bool.Decides.{nat_tests}
 use lib.Seq.{take-take}
@@ -15,7 +15,7 @@ use Rattle.no_std_io2_base.proofs.WritesFacts.{writes_fault}
 use Rattle.no_std_io2_base.proofs.AllFacts.{all_calls}
 use Rattle.no_std_io2.specs.Lines.{IsLineState, lines_of, lines_len, unfinished_line, held_tail}
 use Rattle.no_std_io2.specs.BufWriter.{CallOf, Then, stops, goes_on, with_buffer}
-use Rattle.no_std_io2.specs.BufWriter.{SendCalls, WriteCalls, WriteAllCalls, OneWrite, OneWriteAll, way_calls, buffer_after, writing_calls}
+use Rattle.no_std_io2.specs.BufWriter.{SendCalls, WriteCalls, WriteAllCalls, OneWrite, OneWriteAll, buffer_after, writing_calls}
 use Rattle.no_std_io2.specs.LineWriter.{SendLineCalls, HoldsTail, LinesCalls, SendLinesCalls, LineWriteCalls, LineWriteAllCalls}
 use Rattle.no_std_io2.specs.LineWriter.{line_buffer_filled, KeepsTaking}
 use Rattle.no_std_io2.proofs.BufWriterLemmas.{Moves-buffered, Moves-emptied, MovesFront-emptied}

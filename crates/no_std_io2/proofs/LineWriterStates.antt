@@ -1,5 +1,5 @@
 -- What the calls of a line writer leave: line states, and after an `Ok` these.
-use Rattle.std.proofs.Common.{◌≡◌, ◌+◌, ◌-◌, ℕ, ◌<◌, ◌≤◌, ◌==◌, ◌∙◌, List, [], ◌∷◌, ◌++◌, length, take, drop, get_or, slice_index, Result}
+use Rattle.std.proofs.Common.{◌≡◌, ◌+◌, ◌-◌, ℕ, ◌<◌, ◌≤◌, ◌==◌, ◌∙◌, List, [], ◌∷◌, ◌++◌, length, take, drop, slice_index, Result}
 use Rattle.std.proofs.Common.{Ok, Err, OnOk}
 use Rattle.std.proofs.Common.{IsOk, IfOk, refl, sym, ap, subst, arith, if◌then◌else◌, ⊎_elim, inl, inr, length-take, take-append-drop}
 use Rattle.std.proofs.lemmas.Bool.{cases_lt}
@@ -10,7 +10,7 @@ use Rattle.no_std_io2_base.specs.Write.{WriteCall, Wrote, Writes, none as no_wri
 use Rattle.no_std_io2_base.specs.declared.traits.write.Write.{Ghosts as Writer}
 use Rattle.no_std_io2_base.proofs.CallsLemmas.{writes_whole}
 use Rattle.no_std_io2.specs.Buffer.{IsSuffix}
-use Rattle.no_std_io2.specs.Lines.{IsLineState, HasNoNewline, HasNewline, IsLinesLen, lines_of, lines_len, unfinished_line, held_tail}
+use Rattle.no_std_io2.specs.Lines.{IsLineState, HasNoNewline, IsLinesLen, lines_of, lines_len, unfinished_line}
 use Rattle.no_std_io2.specs.BufWriter.{CallOf, Then, stops, goes_on, SendCalls, WayCalls, Buffered, WriteCalls, WriteAllCalls, FlushCalls}
 use Rattle.no_std_io2.specs.BufWriter.{OneWriteAll, buffer_after}
 use Rattle.no_std_io2.specs.LineWriter.{SendLineCalls, HoldsTail, LinesCalls, SendLinesCalls, LineWriteCalls, LineWriteAllCalls}

@@ -1,5 +1,5 @@
 -- A read after a seek.
-use Rattle.std.proofs.Common.{◌≡◌, ℕ, ◌+◌, ◌≤◌, ◌<◌, ℤ, pos, negsuc, List, [], length, drop, Result, Ok, Err, refl, ap, ◌∙◌, sym, subst}
+use Rattle.std.proofs.Common.{◌≡◌, ℕ, ◌+◌, ◌≤◌, ℤ, pos, negsuc, List, [], length, drop, Result, Ok, Err, ap, ◌∙◌, sym}
 use Rattle.std.proofs.Common.{arith, append-nil, length-drop}
 use Rattle.std.specs.Result.{IfOk, IsOk}
 use Rattle.no_std_io2_base.specs.declared.error.Error.{Error}

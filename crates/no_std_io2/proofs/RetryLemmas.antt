@@ -1,7 +1,5 @@
 -- How tries follow one another.
 use Rattle.std.proofs.Common.{◌≡◌, ℕ, ◌+◌, List, [], ◌∷◌, length, true, Option, None, Some, Result, Ok, Err, refl, subst, arith, count_by}
-use Rattle.std.proofs.Common.{zero, suc, replicate, cond}
-use Rattle.std.proofs.lemmas.List.Sums.{sum_by-cons}
 use Rattle.std.proofs.lemmas.List.Recursion.{is_count_by}
 use Rattle.no_std_io2_base.specs.declared.error.Error.{Error}
 use Rattle.no_std_io2_base.specs.declared.error.ErrorKind.{ErrorKind}
@@ -34,13 +32,6 @@ spent_more n left less None mid new k f g is = tt
 spent_more n left less (Some old) None new k f g is = absurd f
 spent_more n left less (Some old) (Some mid) None k f g is = absurd g
 spent_more n left less (Some old) (Some mid) (Some new) k f g is = omega (arith, f, g (λ _. true), count_all mid, count_all new)
-
--- of n equal mishaps that were told one was spent
-pub HasSpent-one : (k : ErrorKind) (m n : ℕ) → n ≡ m + 1 → HasSpent (Some (replicate n k)) (k ∷ []) (Some (replicate m k))
-HasSpent-one k m zero is = absurd (omega arith)
-HasSpent-one k m (suc n) is = λ counted.
-    let same : n ≡ m = omega arith in
-    rw same (omega (arith, sum_by-cons (λ x. cond (counted x) 1 0) k (replicate m k)))
 
 -- no more mishaps than were told
 pub spent_all : (n : ℕ) (old mid new : Option (List ErrorKind)) (k : ErrorKind) → HasSpentTries n 0 old mid

@@ -1,9 +1,8 @@
 -- The calls of a buffered writer that first send the held bytes: its seeks and `into_inner`.
-use Rattle.std.proofs.Common.{◌≡◌, ℕ, ◌<◌, List, [], length, Result, Ok, Err, OnOk, IsOk, Some, refl, sym, ap, subst, arith, ◌∙◌}
+use Rattle.std.proofs.Common.{◌≡◌, ℕ, List, [], length, Result, Ok, Err, IsOk, refl, ap, subst, arith}
 use Rattle.no_std_io2_base.specs.declared.error.Error.{Error}
-use Rattle.no_std_io2_base.specs.Errors.{error_kind}
 use Rattle.no_std_io2_base.specs.declared.traits.write.Write.{Ghosts as Writer}
-use Rattle.no_std_io2_base.specs.Write.{Moves, WriteCall, Made}
+use Rattle.no_std_io2_base.specs.Write.{WriteCall, Made}
 use Rattle.no_std_io2_base.proofs.MovesLemmas.{Moves-steady}
 use Rattle.no_std_io2_base.proofs.CallsLemmas.{writes_whole}
 use Rattle.no_std_io2_base.proofs.WritesFacts.{writes_fault, writes_left, writes_idle, writes_sends}

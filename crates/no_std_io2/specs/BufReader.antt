@@ -194,6 +194,28 @@ pub record FillsBuffer {R : Type 0} {S : ℕ} (inner : Reader R) (old : BufReade
       × (inner.content (reader_inner new) ≡ inner.content (reader_inner old))
       × (reader_position inner.position new ≡ reader_position inner.position old)
 
+-- The buffer after a `read_exact` of a `BufReader`, and the inner reads that were made.
+pub record LeavesExact {R : Type 0} {S : ℕ} (inner : Reader R) (old : BufReader R S) (room : ℕ) (reply : Result (Unit {0}) Error)
+    (buf : List ℕ) (new : BufReader R S) : Type 0 where
+  -- if enough bytes are held, it gives only held bytes
+  pub held : room ≤ length (reader_held old) → IsOk reply × (buf ≡ take room (reader_held old))
+      × (reader_held new ≡ drop room (reader_held old)) × (reader_behind new ≡ reader_behind old ++ buf)
+      × (reader_inner new ≡ reader_inner old)
+  -- if not, the bytes behind are the last of the given bytes, fewer than a full buffer
+  pub behind : length (reader_held old) < room → OnOk reply (IsSuffix buf (reader_behind new) × (length (reader_behind new) < S))
+  -- an error leaves nothing in the buffer
+  pub failed : OnErr reply (HasNoBuffer new)
+  pub sound : StaysSound inner.has_store inner.position inner.content old new
+  -- over a filling reader: how many inner reads were made, how many bytes are held, and how many of the given bytes lie behind
+  pub asks : inner.is_metered (reader_inner old) → inner.is_filling (reader_inner old) → inner.is_metered (reader_inner new)
+      × (inner.cost (reader_inner new) ≡ inner.cost (reader_inner old)
+      + exact_reads room (length (reader_held old)) (length (reader_events inner.events old)))
+  pub left : inner.is_filling (reader_inner old) → inner.is_filling (reader_inner new)
+      × (length (reader_held new) ≡ exact_left S room (length (reader_held old)) (length (reader_events inner.events old)))
+      × (length (reader_events inner.events new) ≡ length (reader_events inner.events old) - room)
+  pub behind_length : inner.is_filling (reader_inner old) → length (reader_held old) < room
+      → OnOk reply (length (reader_behind new) ≡ exact_behind S room (length (reader_held old)))
+
 -- A `read_exact` of more than the held bytes: the room was filled, or the bytes ended, or a fault came.
 pub record ReadsOn {R : Type 0} {S : ℕ} (inner : Reader R) (old : BufReader R S) (room : ℕ) (reply : Result (Unit {0}) Error)
     (buf : List ℕ) (new : BufReader R S) : Type 0 where
@@ -207,20 +229,7 @@ pub record ReadsOn {R : Type 0} {S : ℕ} (inner : Reader R) (old : BufReader R 
       × (inner.content (reader_inner new) ≡ inner.content (reader_inner old))
       × (reader_position inner.position new + length (reader_events inner.events new)
       ≡ reader_position inner.position old + length (reader_events inner.events old))
-  -- the bytes behind are the last of the given bytes, fewer than a full buffer
-  pub behind : OnOk reply (IsSuffix buf (reader_behind new) × (length (reader_behind new) < S))
-  -- an error leaves nothing in the buffer
-  pub failed : OnErr reply (HasNoBuffer new)
-  pub sound : StaysSound inner.has_store inner.position inner.content old new
-  -- over a filling reader: how many inner reads were made, how many bytes are held, and how many of the given bytes lie behind
-  pub asks : inner.is_metered (reader_inner old) → inner.is_filling (reader_inner old) → inner.is_metered (reader_inner new)
-      × (inner.cost (reader_inner new) ≡ inner.cost (reader_inner old)
-      + exact_reads room (length (reader_held old)) (length (reader_events inner.events old)))
-  pub left : inner.is_filling (reader_inner old) → inner.is_filling (reader_inner new)
-      × (length (reader_held new) ≡ exact_left S room (length (reader_held old)) (length (reader_events inner.events old)))
-      × (length (reader_events inner.events new) ≡ length (reader_events inner.events old) - room)
-  pub behind_length : inner.is_filling (reader_inner old)
-      → OnOk reply (length (reader_behind new) ≡ exact_behind S room (length (reader_held old)))
+  pub leaves : LeavesExact inner old room reply buf new
   pub calls : ExactMade (ReaderMay inner.may) old reply buf new
 
 -- the result of a seek that led to `place`, with the position added

@@ -91,6 +91,11 @@ line_buffer_filled S held x = if lines_len x == 0 then buffer_after S (unfinishe
 abbrev pub IsShortText : ℕ → List ℕ → Type 0
 IsShortText S x = HasNoNewline x × (length x < S)
 
+-- a short text that fits beside an unfinished line is held, and no inner call is made
+abbrev pub HoldsShort : {W A : Type 0} {S : ℕ} → LineWriter W S → List ℕ → Result A Error → LineWriter W S → Type 0
+HoldsShort {S = room} old x reply new = IsShortText room x → HasNoNewline (line_buffer old) → length (line_buffer old) + length x ≤ room
+    → IsOk reply × (line_inner new ≡ line_inner old) × (line_buffer new ≡ line_buffer old ++ x)
+
 -- if the inner writer takes all, it still does, and there was no error; if it counts its calls, it got at most three
 abbrev pub KeepsTaking : {W A : Type 0} → Writer W → W → Result A Error → W → Type 0
 KeepsTaking I old reply new = I.takes_all old

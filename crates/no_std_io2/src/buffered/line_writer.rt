@@ -5,7 +5,7 @@ ghost use Rattle.no_std_io2.specs.contracts.buffered.line_writer.LineWriter.{the
 ghost use Rattle.no_std_io2.specs.Lines.{IsLineState, HasNoNewline};
 ghost use Rattle.no_std_io2.specs.LineWriter.{line_inner, line_buffer, line_told, line_with_inner, LineMay};
 ghost use Rattle.no_std_io2.specs.LineWriter.{LineWriteCalls, LineWriteAllCalls, line_buffer_after, line_buffer_filled};
-ghost use Rattle.no_std_io2.specs.LineWriter.{IsShortText, KeepsTaking};
+ghost use Rattle.no_std_io2.specs.LineWriter.{IsShortText, HoldsShort, KeepsTaking};
 ghost use Rattle.no_std_io2.specs.BufWriter.{Takes, Unwraps, Flushes, into_inner_error_writer};
 ghost use Rattle.no_std_io2_base.specs.Writers.{FlushOf, WriteAllOf, WriteOf};
 
@@ -156,10 +156,7 @@ impl<W: Write + Drop, const S: usize> Write for LineWriter<W, S> {
 
         // A short text without a newline is taken whole or not at all, and held if it fits.
         ensures short { IsShortText S buf.now → IfOk result (λ n. n ≡ length buf.now) }
-        ensures fits { IsShortText S buf.now → HasNoNewline (line_buffer self.old)
-            → length (line_buffer self.old) + length buf.now ≤ S
-            → IsOk result × (line_inner self.new ≡ line_inner self.old)
-            × (line_buffer self.new ≡ line_buffer self.old ++ buf.now) }
+        ensures fits { HoldsShort self.old buf.now result self.new }
 
         // Over an inner writer that takes all: which bytes are held afterwards.
         ensures held { W.takes_all (line_inner self.old)
@@ -202,10 +199,7 @@ impl<W: Write + Drop, const S: usize> Write for LineWriter<W, S> {
         // After `Ok` only the unfinished line is held.
         ensures no_newline_held { OnOk result (HasNoNewline (line_buffer self.new)) }
         ensures held { OnOk result (line_buffer self.new ≡ line_buffer_after S (line_buffer self.old) buf.now) }
-        ensures fits { IsShortText S buf.now → HasNoNewline (line_buffer self.old)
-            → length (line_buffer self.old) + length buf.now ≤ S
-            → IsOk result × (line_inner self.new ≡ line_inner self.old)
-            × (line_buffer self.new ≡ line_buffer self.old ++ buf.now) }
+        ensures fits { HoldsShort self.old buf.now result self.new }
         ensures inner { KeepsTaking W.Write (line_inner self.old) result (line_inner self.new) }
     {
         let len = lines_len(buf);

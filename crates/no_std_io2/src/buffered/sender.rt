@@ -1,4 +1,8 @@
 //! An inner writer with a buffer in front of it, from which both buffered writers are built.
+//!
+//! A write that is held is a hot path, which its callers inline. All else is in a cold function, `.._cold`. The hot path does
+//! not call it: a function that makes a call zeroes the room for the result when it starts, which costs four instructions.
+//! So a function that is inlined too, `.._out_of_line`, makes the call, and only its path makes the room.
 ghost use Rattle.std.specs.Prelude.{◌≡◌, ◌+◌, ◌<◌, ◌≤◌, [], ◌++◌, length};
 ghost use Rattle.std.specs.Bool.{OnTrue, OnFalse};
 ghost use Rattle.std.specs.Borrow.{Lends, sem};
@@ -146,8 +150,7 @@ impl<W: Write + Drop, const S: usize> Sender<W, S> {
         self.write_out_of_line(buf)
     }
 
-    // Calls `write_cold`. This function is inlined, so the room for the result is made only on this
-    // path. That saves four instructions in a write that is held.
+    // Calls `write_cold`.
     #[inline(always)]
     fn write_out_of_line(&mut self, buf: &[u8]) -> Result<usize>
         ensures { Takes W.Write sender_inner sender_buffer (WriteCalls S buf.now) self.old result self.new }
@@ -155,7 +158,7 @@ impl<W: Write + Drop, const S: usize> Sender<W, S> {
         self.write_cold(buf)
     }
 
-    /// The whole of `write`. It is a function of its own, so that callers inline only the hot path.
+    /// The whole of `write`.
     #[cold]
     #[inline(never)]
     fn write_cold(&mut self, buf: &[u8]) -> Result<usize>
@@ -188,7 +191,7 @@ impl<W: Write + Drop, const S: usize> Sender<W, S> {
         self.write_all_out_of_line(buf)
     }
 
-    // Calls `write_all_cold`, like `write_out_of_line`.
+    // Calls `write_all_cold`.
     #[inline(always)]
     fn write_all_out_of_line(&mut self, buf: &[u8]) -> Result<()>
         ensures { Takes W.Write sender_inner sender_buffer (WriteAllCalls S buf.now) self.old result self.new }
@@ -196,7 +199,7 @@ impl<W: Write + Drop, const S: usize> Sender<W, S> {
         self.write_all_cold(buf)
     }
 
-    /// The whole of `write_all`. It is a function of its own, like `write_cold`.
+    /// The whole of `write_all`.
     #[cold]
     #[inline(never)]
     fn write_all_cold(&mut self, buf: &[u8]) -> Result<()>

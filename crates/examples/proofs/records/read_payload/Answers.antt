@@ -12,7 +12,7 @@ returns-in_err-read_exact g c = λ enough.
     let long : length c.deref_mut.result.now ≡ c.args.len = c.deref_mut.ensures.len ∙ c.in_ok-payload.ensures.len ∙ c.from.ensures in
     let room : length c.deref_mut.result.now ≤ length (reader_held c.seek_relative.new.self) =
     omega (arith, enough, long, ap length left, length-drop 2 (reader_held c.args.r.now)) in
-    let read = c.in_err-read_exact.ensures.held room in
+    let read = c.in_err-read_exact.ensures.leaves.held room in
     grind (arith, read.0)
 
 pub returns : goal.returns
@@ -22,7 +22,7 @@ returns g c = λ enough.
     let long : length c.deref_mut.result.now ≡ c.args.len = c.deref_mut.ensures.len ∙ c.in_ok-payload.ensures.len ∙ c.from.ensures in
     let room : length c.deref_mut.result.now ≤ length (reader_held c.seek_relative.new.self) =
     omega (arith, enough, long, ap length left, length-drop 2 (reader_held c.args.r.now)) in
-    let read = c.in_ok-read_exact.ensures.held room in
+    let read = c.in_ok-read_exact.ensures.leaves.held room in
     let got : length c.read_exact.new.buf ≡ length c.deref_mut.result.now = ap length read.1 ∙ length-take-le _ _ room in (
       ap (λ m. take m (c.read_exact.new.buf ++ drop (length c.read_exact.new.buf) c.in_ok-payload.payload.items))
           (sym c.deref_mut.ensures.len ∙ sym got)

@@ -14,9 +14,9 @@ returns-in-Ok g c =
     record {
       told = λ t. let filled = done.law.told t in (filled.0, (buf, same, filled.1));
       filling = λ f.
-          let left = done.left f in
+          let left = done.leaves.left f in
           let filled = done.law.told (g.met.R.Read.filling_tells _ f).0 in
-          (left.0, exact_filled g.row.S _ buf same filled.1 left.2 (done.asks tt f).1 left.1);
+          (left.0, exact_filled g.row.S _ buf same filled.1 left.2 (done.leaves.asks tt f).1 left.1);
     }
 
 pub returns-in-UnexpectedEof : goal.returns-in-UnexpectedEof
@@ -28,11 +28,11 @@ returns-in-UnexpectedEof g c =
           let after = failed.law.told t in
           (after.0, (e, sym c.kind.ensures ∙ c.in-UnexpectedEof.is, fell _ c.read_exact.auto.buf after.1));
       filling = λ f.
-          let left = failed.left f in
+          let left = failed.leaves.left f in
           let tells = g.met.R.Read.filling_tells _ f in
           let short = falls_short _ e _ (bytes_behind (reader_held c.args.r.now) _ _ tells.1) (failed.law.told tells.0).1 in
           let few = subst (λ n. length (asked_events g.R.Read.events c.args.r.now) < n) c.read_exact.auto.buf short.1 in
-          (left.0, exact_short g.row.S _ few short.2 left.2 (failed.asks tt f).1 left.1);
+          (left.0, exact_short g.row.S _ few short.2 left.2 (failed.leaves.asks tt f).1 left.1);
     }
 
 pub returns-in_default : goal.returns-in_default

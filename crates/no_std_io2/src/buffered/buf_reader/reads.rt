@@ -1,13 +1,11 @@
 // The `impl` of `Read` for `BufReader`.
-ghost use Rattle.std.specs.Prelude.{◌≡◌, ◌+◌, ◌-◌, ◌<◌, ◌≤◌, [], ◌++◌, min, length, take, drop, IsOk, IsOkAnd, IfOk};
-ghost use Rattle.std.specs.Prelude.{IfErr, OnErr, vec_len, vec_capacity, OnOk};
+ghost use Rattle.std.specs.Prelude.{◌≡◌, ◌+◌, ◌-◌, ◌<◌, ◌≤◌, [], ◌++◌, min, length, take, drop, IsOkAnd};
 ghost use Rattle.no_std_io2_base.specs.Read.{events_of, given, ReadLaw, ReadExactLaw, ReadToEndLaw};
 ghost use Rattle.no_std_io2_base.specs.BufRead.{IsNotEmpty, reads_needed};
 ghost use Rattle.no_std_io2.specs.BufReader.{reader_held, reader_behind, reader_inner, reader_events, reader_turns};
 ghost use Rattle.no_std_io2.specs.BufReader.{reader_has_store, StaysSound, reader_position, behind_anew};
-ghost use Rattle.no_std_io2.specs.BufReader.{held_or_to_come, exact_reads, exact_left, exact_behind, EmptiesInto};
-ghost use Rattle.no_std_io2.specs.BufReader.{HasNoBuffer, FillsBuffer, ReadsOn, ReaderMay, sound_tells, sound_fits};
-ghost use Rattle.no_std_io2.specs.Buffer.{IsSuffix};
+ghost use Rattle.no_std_io2.specs.BufReader.{held_or_to_come, EmptiesInto, FillsBuffer, LeavesExact, ReadsOn};
+ghost use Rattle.no_std_io2.specs.BufReader.{ReaderMay, sound_tells, sound_fits};
 
 use super::BufReader;
 use no_std_io2_base::error::Result;
@@ -64,7 +62,7 @@ impl<R: Read, const S: usize> BufReader<R, S> {
         Ok(())
     }
 
-    // Calls `read_rest`. The room for its result is made only on this path.
+    // Calls `read_rest`, for the reason that `sender.rt` gives.
     #[inline(always)]
     fn read_out_of_line(&mut self, buf: &mut [u8]) -> Result<()>
         requires { length (reader_held self.old) < length buf.old }
@@ -138,33 +136,8 @@ impl<R: Read, const S: usize> Read for BufReader<R, S> {
         // If the bytes end too early, all of them are taken.
         ensures law { ReadExactLaw ⟦<Self as Read>⟧ self.old buf.old result buf.new self.new }
 
-        // If enough bytes are held, it gives only held bytes.
-        ensures held { length buf.old ≤ length (reader_held self.old) → IsOk result
-            × (buf.new ≡ take (length buf.old) (reader_held self.old))
-            × (reader_held self.new ≡ drop (length buf.old) (reader_held self.old))
-            × (reader_behind self.new ≡ reader_behind self.old ++ buf.new)
-            × (reader_inner self.new ≡ reader_inner self.old) }
-
-        // Over a filling reader: how many inner reads it makes, and how many bytes are held and
-        // left afterwards.
-        ensures asks { R.is_metered (reader_inner self.old) → R.is_filling (reader_inner self.old)
-            → R.is_metered (reader_inner self.new) × (R.cost (reader_inner self.new)
-            ≡ R.cost (reader_inner self.old) + exact_reads (length buf.old)
-            (length (reader_held self.old)) (length (reader_events R.events self.old))) }
-        ensures left { R.is_filling (reader_inner self.old) → R.is_filling (reader_inner self.new)
-            × (length (reader_held self.new) ≡ exact_left S (length buf.old)
-            (length (reader_held self.old)) (length (reader_events R.events self.old)))
-            × (length (reader_events R.events self.new)
-            ≡ length (reader_events R.events self.old) - length buf.old) }
-
-        // If it needed more than the held bytes, the last of the given bytes lie behind, fewer than `S`. An error leaves
-        // nothing in the buffer.
-        ensures behind { length (reader_held self.old) < length buf.old
-            → OnOk result (IsSuffix buf.new (reader_behind self.new) × (length (reader_behind self.new) < S)) }
-        ensures failed { OnErr result (HasNoBuffer self.new) }
-        ensures behind_length { R.is_filling (reader_inner self.old) → length (reader_held self.old) < length buf.old
-            → OnOk result (length (reader_behind self.new) ≡ exact_behind S (length buf.old) (length (reader_held self.old))) }
-        ensures sound { StaysSound R.has_store R.position R.content self.old self.new }
+        // How many inner reads it made, what is held and what lies behind.
+        ensures leaves { LeavesExact R.Read self.old (length buf.old) result buf.new self.new }
     {
         if buf.len() > self.buffer.len() {
             return self.read_out_of_line(buf);

@@ -133,17 +133,20 @@ returns-in-Err-2 g c =
       no_later = law.turns_never_rise;
       turn = tt;
       store = law.store;
-      behind = tt;
-      failed = (
-        read.rest (omega arith),
-        none_behind g.row.S _ 0 c.read.new.buf (reader_behind c.read.new.self) (read.behind_anew none)
-            (omega arith),
-      );
-      sound = λ h. read.sound (c.reads.invariant.sound h);
-      asks = λ m f. absurd (read.gives (c.reads.invariant.filling f).0).1;
-      left = λ f. absurd (read.gives (c.reads.invariant.filling f).0).1;
-      behind_length = λ f. tt;
       calls = law.calls;
+      leaves = record {
+        held = λ fits. absurd (omega (arith, fits, c.requires));
+        behind = λ past. tt;
+        failed = (
+          read.rest (omega arith),
+          none_behind g.row.S _ 0 c.read.new.buf (reader_behind c.read.new.self) (read.behind_anew none)
+              (omega arith),
+        );
+        sound = λ h. read.sound (c.reads.invariant.sound h);
+        asks = λ m f. absurd (read.gives (c.reads.invariant.filling f).0).1;
+        left = λ f. absurd (read.gives (c.reads.invariant.filling f).0).1;
+        behind_length = λ f past. tt;
+      };
     }
 
 -- the inner reader's end, before the buffer was full
@@ -164,32 +167,35 @@ returns-in-Ok-eq0 g c =
       no_later = law.turns_never_rise;
       turn = tt;
       store = law.store;
-      behind = tt;
-      failed = (
-        read.rest (omega arith),
-        none_behind g.row.S _ c.in-Ok-eq0.field-0 c.read.new.buf (reader_behind c.read.new.self) (read.behind_anew none) zero,
-      );
-      sound = λ h. read.sound (c.reads.invariant.sound h);
-      asks = λ m f.
-          let before = c.reads.invariant.cost m f in
-          let so_far = c.reads.invariant.filling f in
-          let now = read.asks before.0 in
-          let gives = read.gives so_far.0 in
-          let short = exact_short so_far.1 (omega arith) (omega (arith, gives.1, to_come, zero)) (omega (arith, c.requires)) in
-          (now.0, omega (arith, before.1, now.1, short, empty));
-      left = λ f.
-          let so_far = c.reads.invariant.filling f in
-          let gives = read.gives so_far.0 in
-          let tells = g.met.R.Read.filling_tells _ so_far.0 in
-          let told = (read.law.told tells.0).1 in
-          let end = told.1 zero (omega arith) in
-          let held = length (reader_held c.read.new.self) in
-          let left = exact_left-end g.row.S held (length c.reads.buf - c.reads.at) so_far.1 (omega arith)
-          (omega (arith, gives.1, to_come, zero)) (λ h. ap length (read.direct so_far.0 none (omega (arith, h))))
-          (λ h. omega (arith, read.filled so_far.0 none (omega (arith, h)), zero)) (omega (arith, c.requires)) in
-          (gives.0, left.0, ap length (sym (nothing_read _ _ _ _ told zero) ∙ end) ∙ left.1);
-      behind_length = λ f. tt;
       calls = law.calls;
+      leaves = record {
+        held = λ fits. absurd (omega (arith, fits, c.requires));
+        behind = λ past. tt;
+        failed = (
+          read.rest (omega arith),
+          none_behind g.row.S _ c.in-Ok-eq0.field-0 c.read.new.buf (reader_behind c.read.new.self) (read.behind_anew none) zero,
+        );
+        sound = λ h. read.sound (c.reads.invariant.sound h);
+        asks = λ m f.
+            let before = c.reads.invariant.cost m f in
+            let so_far = c.reads.invariant.filling f in
+            let now = read.asks before.0 in
+            let gives = read.gives so_far.0 in
+            let short = exact_short so_far.1 (omega arith) (omega (arith, gives.1, to_come, zero)) (omega (arith, c.requires)) in
+            (now.0, omega (arith, before.1, now.1, short, empty));
+        left = λ f.
+            let so_far = c.reads.invariant.filling f in
+            let gives = read.gives so_far.0 in
+            let tells = g.met.R.Read.filling_tells _ so_far.0 in
+            let told = (read.law.told tells.0).1 in
+            let end = told.1 zero (omega arith) in
+            let held = length (reader_held c.read.new.self) in
+            let left = exact_left-end g.row.S held (length c.reads.buf - c.reads.at) so_far.1 (omega arith)
+            (omega (arith, gives.1, to_come, zero)) (λ h. ap length (read.direct so_far.0 none (omega (arith, h))))
+            (λ h. omega (arith, read.filled so_far.0 none (omega (arith, h)), zero)) (omega (arith, c.requires)) in
+            (gives.0, left.0, ap length (sym (nothing_read _ _ _ _ told zero) ∙ end) ∙ left.1);
+        behind_length = λ f past. tt;
+      };
     }
 
 pub returns : goal.returns
@@ -204,18 +210,21 @@ returns g c =
       no_later = law.turns_never_rise;
       turn = law.spends_turn (omega (arith, c.requires));
       store = law.store;
-      behind = rw whole at all.behind (omega (arith, full, c.requires));
-      failed = tt;
-      sound = all.sound;
-      asks = λ m f.
-          let now = all.cost m f in
-          (now.0, omega (arith, now.1, exact_ends (all.filling f).1 (omega arith) (omega (arith, c.requires))));
-      left = λ f.
-          let now = all.filling f in
-          let to_come = length-events (reader_held c.reads.self) (g.R.Read.events (reader_inner c.reads.self)) in
-          let left = exact_left-full (length (reader_events g.R.Read.events c.reads.self)) now.1 (omega arith) (omega
-          (arith, c.requires)) to_come in
-          (now.0, left.0, left.1);
       calls = law.calls;
-      behind_length = λ f. rw full at (all.filling f).2 (omega (arith, full, c.requires));
+      leaves = record {
+        held = λ fits. absurd (omega (arith, fits, c.requires));
+        behind = λ past. rw whole at all.behind (omega (arith, full, c.requires));
+        failed = tt;
+        sound = all.sound;
+        asks = λ m f.
+            let now = all.cost m f in
+            (now.0, omega (arith, now.1, exact_ends (all.filling f).1 (omega arith) (omega (arith, c.requires))));
+        left = λ f.
+            let now = all.filling f in
+            let to_come = length-events (reader_held c.reads.self) (g.R.Read.events (reader_inner c.reads.self)) in
+            let left = exact_left-full (length (reader_events g.R.Read.events c.reads.self)) now.1 (omega arith) (omega
+            (arith, c.requires)) to_come in
+            (now.0, left.0, left.1);
+        behind_length = λ f past. rw full at (all.filling f).2 (omega (arith, full, c.requires));
+      };
     }

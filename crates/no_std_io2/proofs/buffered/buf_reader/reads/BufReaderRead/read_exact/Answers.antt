@@ -26,13 +26,7 @@ returns-then-buf-len g c =
         empty = λ none. absurd (omega (arith, none, more));
         calls = read.calls;
       };
-      held = λ fits. absurd (omega (arith, fits, more));
-      asks = read.asks;
-      left = read.left;
-      behind = λ past. read.behind;
-      failed = read.failed;
-      behind_length = λ f past. read.behind_length f;
-      sound = read.sound;
+      leaves = read.leaves;
     }
 
 pub returns : goal.returns
@@ -60,24 +54,26 @@ returns g c =
         empty = λ none. (refl, same_buffer c.args.self.now _ _ _ (gave.empty none));
         calls = exact_own (omega (arith, most, ap length gave.gave, length-take-le n old most), refl);
       };
-      held = λ fits. (refl, gave.gave, gave.held, gave.behind, refl);
-      asks = λ m f. (m, omega (arith, exact_reads-held n (length old) (length (events_of old ++ inner)) most));
-      left = λ f. (
-        f,
-        exact_left-held g.row.S n (length old) _ (length new) most left,
-        omega (
-          arith,
-          left,
-          length-events old inner,
-          length-events new inner,
-        ),
-      );
-      behind = λ past. absurd (omega (arith, past, most));
-      failed = tt;
-      behind_length = λ f past. absurd (omega (arith, past, most));
-      sound = λ s. (
-        s.0,
-        sound_moved (reader_behind c.args.self.now) old (buffer_behind c.give_whole.new.self) new _ n gave.behind
-            gave.gave gave.held s.1,
-      );
+      leaves = record {
+        held = λ fits. (refl, gave.gave, gave.held, gave.behind, refl);
+        asks = λ m f. (m, omega (arith, exact_reads-held n (length old) (length (events_of old ++ inner)) most));
+        left = λ f. (
+          f,
+          exact_left-held g.row.S n (length old) _ (length new) most left,
+          omega (
+            arith,
+            left,
+            length-events old inner,
+            length-events new inner,
+          ),
+        );
+        behind = λ past. absurd (omega (arith, past, most));
+        failed = tt;
+        behind_length = λ f past. absurd (omega (arith, past, most));
+        sound = λ s. (
+          s.0,
+          sound_moved (reader_behind c.args.self.now) old (buffer_behind c.give_whole.new.self) new _ n gave.behind
+              gave.gave gave.held s.1,
+        );
+      };
     }
