@@ -1,5 +1,6 @@
 pub mod Headers
 pub mod Indexed
 pub mod Lengths
+pub mod Messages
 pub mod Readings
 pub mod Summed

@@ -17,7 +17,7 @@ returns g c =
     let long : length c.read_exact.new.buf ≡ 2 = c.read_exact.auto.buf in
     record {
       held = λ enough.
-          let of_held = read.held enough in
+          let of_held = read.leaves.held enough in
           let deep = given_behind 2 (reader_behind r) (reader_held r) _ _ of_held.1 enough of_held.3 in
           let moved = c.seek_relative.ensures.within (omega (arith, deep)) in
           let same =
@@ -33,7 +33,7 @@ returns g c =
           let moved = c.in_ok-seek_relative.ensures.within enough in
           let end =
           ends_in_header 2 (reader_behind r) (reader_held r) c.read_exact.new.buf (reader_behind c.read_exact.new.self)
-          (λ of_held. (read.held of_held).3) (λ past. (read.behind past).0) long enough in
+          (λ of_held. (read.leaves.held of_held).3) (λ past. (read.leaves.behind past).0) long enough in
           let again =
           held_again 2 (reader_behind c.read_exact.new.self) (reader_held c.read_exact.new.self) c.read_exact.new.buf
           (reader_behind c.seek_relative.new.self) (reader_held c.seek_relative.new.self) end long moved.2.0 moved.2.1 in
@@ -47,7 +47,7 @@ returns g c =
           let is = sound_tells (reader_held r) at content _ held tells.1 in
           let header = header_read (drop (at - length (reader_held r)) content) _ 2 is (read.law.told tells.0).1 long in
           let gone = read.law.store (s.0, held) in
-          let back = c.in_ok-seek_relative.ensures.store (read.sound s) in (
+          let back = c.in_ok-seek_relative.ensures.store (read.leaves.sound s) in (
             back.0,
             back.1 ∙ gone.1,
             ((both_items _ long ∙ header.0, omega (arith, back.2.0.0, gone.2, header.1)), tt),
@@ -63,7 +63,7 @@ returns-in_err-seek_relative g c =
     let p = err_from_is_err_and c.from_residual-in_err-seek_relative.result c.from_residual-in_err-seek_relative.ensures.1 in
     rw (p.1, p.2) (record {
       held = λ enough.
-          let of_held = read.held enough in
+          let of_held = read.leaves.held enough in
           let deep = given_behind 2 (reader_behind r) (reader_held r) _ _ of_held.1 enough of_held.3 in
           absurd (not_ok c.in_err-seek_relative.field-0.0 (c.in_err-seek_relative.ensures.within (omega (arith, deep))).0);
       told = λ t. tt;
@@ -76,7 +76,7 @@ returns-in_err-seek_relative g c =
           let is = sound_tells (reader_held r) at content _ held tells.1 in
           let header = header_read (drop (at - length (reader_held r)) content) _ 2 is (read.law.told tells.0).1 long in
           let gone = read.law.store (s.0, held) in
-          let back = c.in_err-seek_relative.ensures.store (read.sound s) in
+          let back = c.in_err-seek_relative.ensures.store (read.leaves.sound s) in
           let fits = (g.met.R.Read.store_fits (reader_inner r) s.0).1 in
           absurd (back.2.0 (at - length (reader_held r)) (omega (arith, gone.2, header.1), omega (arith, fits)));
     })
@@ -88,7 +88,7 @@ returns-in_err-read_exact g c =
     let read = c.in_err-read_exact.ensures in
     let p = err_from_is_err_and c.from_residual.result c.from_residual.ensures.1 in
     rw (p.1, p.2) (record {
-      held = λ enough. absurd (not_ok c.in_err-read_exact.field-0.0 (read.held enough).0);
+      held = λ enough. absurd (not_ok c.in_err-read_exact.field-0.0 (read.leaves.held enough).0);
       told = λ t. tt;
       steps_back = tt;
       store = λ s.
@@ -100,7 +100,7 @@ returns-in_err-read_exact g c =
           let short = header_short (drop (at - length (reader_held r)) content) _ is (read.law.told tells.0).1 in
           let long : length c.read_exact.new.buf ≡ 2 = c.read_exact.auto.buf in
           let gone = read.law.store (s.0, held) in (
-            read.sound s,
+            read.leaves.sound s,
             gone.1,
             (tt, (omega (arith, short.0, long), short.1, omega (arith, gone.2, short.2, short.3))),
           );

@@ -1,0 +1,24 @@
+use Rattle.std.proofs.Common.{◌++◌, length, take, drop, sym, ap, ◌∙◌, subst}
+use Rattle.std.proofs.Math.Seq.{take-append_seam}
+use Rattle.std.specs.Int.{w16, to_be_bytes}
+use Rattle.no_std_io2.specs.Passing.{Passes}
+use Rattle.no_std_io2.proofs.EventLemmas.{Passes-then, Passes-fills}
+use Rattle.examples.specs.Messages.{message}
+use Rattle.examples.proofs.messages.read_message.Goals as goal
+
+pub returns : goal.returns
+returns g c =
+    let buf = c.read_exact-2.new.buf in
+    let room = c.read_exact-2.auto.buf ∙ c.deref_mut.ensures.len in
+    let items = ap (λ m. take m (buf ++ drop (length buf) c.in_ok-payload.payload.items)) (sym room) ∙ take-append_seam buf _ in
+    let len = room ∙ c.in_ok-payload.ensures.len ∙ c.from.ensures in
+    let whole = ap (λ l. l ++ buf) (sym c.length_of-len.ensures) ∙ ap (λ n. to_be_bytes w16 n ++ buf) (sym len) ∙ ap message (sym items) in
+    record {
+      told = λ t.
+          let one = c.in_ok-read_exact.ensures.law.told t in
+          let two = c.in_ok-read_exact-2.ensures.law.told one.0 in (
+            two.0,
+            subst (λ l. Passes (g.R.Read.events c.args.r.now) l (g.R.Read.events c.read_exact-2.new.self)) whole
+                (Passes-then (Passes-fills one.1) (Passes-fills two.1)),
+          );
+    }

@@ -1,0 +1,32 @@
+//! Messages: the length of the payload, as a big-endian `u16`, followed by the payload.
+ghost use Rattle.std.specs.Prelude.{◌≡◌, IfOk};
+ghost use Rattle.std.specs.Int.{w16, to_be_bytes};
+ghost use Rattle.no_std_io2.specs.Passing.{Passes};
+ghost use Rattle.examples.specs.Messages.{message};
+
+use no_std_io2::io::{Read, Result};
+use std::alloc::Global;
+
+// Returns the length that these bytes are.
+fn length_of(prefix: [u8; 2]) -> u16
+    ensures { to_be_bytes w16 result ≡ prefix }
+{
+    u16::from_be_bytes(prefix)
+}
+
+/// Reads a message, and returns its payload.
+///
+/// # Errors
+/// Returns the error of a `read_exact` that fails, and `OutOfMemory` if an allocation failed. Some first bytes of the
+/// message may be taken then.
+pub fn read_message<R: Read>(alloc: Global, r: &mut R) -> Result<Vec<u8>>
+    ensures told { R.tells r.old → R.tells r.new
+        × IfOk result (λ v. Passes (R.events r.old) (message v.items) (R.events r.new)) }
+{
+    let mut prefix = [0u8; 2];
+    r.read_exact(&mut prefix)?;
+    let len = length_of(prefix);
+    let mut payload = Vec::from_elem(alloc, 0u8, usize::from(len))?;
+    r.read_exact(&mut payload)?;
+    Ok(payload)
+}
