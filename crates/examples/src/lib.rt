@@ -25,7 +25,7 @@ pub use messages::read_message;
 pub use narrow::Narrow;
 use no_std_io2::io::{BufWriter, Result, Write};
 pub use patiently::send_patiently;
-pub use readings::write_reading;
+pub use readings::{send_reading, write_reading};
 pub use retries::save_with_retries;
 pub use serial::{Port, Serial};
 pub use summed::{Summed, flush_summed, write_summed};

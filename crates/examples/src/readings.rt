@@ -1,4 +1,4 @@
-//! [`write_reading`], which prints a reading of an instrument straight to a writer.
+//! [`write_reading`] and [`send_reading`], which print a reading of an instrument straight to a writer.
 ghost use Rattle.std.specs.Prelude.{◌⊎◌, IsErrAnd};
 ghost use Rattle.no_std_io2.specs.Text.{IsTextError};
 ghost use Rattle.no_std_io2.specs.Write.{MovesFront};
@@ -15,4 +15,16 @@ pub fn write_reading<W: Write>(w: &mut W, name: &str, value: u32) -> Result<()>
     ensures line { MovesFront (W.told w.old) (reading name.now value) result (W.told w.new) ⊎ IsErrAnd result IsTextError }
 {
     write!(w, "{name}={value}\n")
+}
+
+/// Writes `NAME=VALUE` and a newline, and flushes the writer. It allocates nothing.
+///
+/// # Errors
+/// Returns the errors that [`write_reading`] returns, and the error of the flush if that fails; the whole line
+/// was then accepted.
+pub fn send_reading<W: Write>(w: &mut W, name: &str, value: u32) -> Result<()>
+    ensures line { MovesFront (W.told w.old) (reading name.now value) result (W.told w.new) ⊎ IsErrAnd result IsTextError }
+{
+    write!(w, "{name}={value}\n")?;
+    w.flush()
 }

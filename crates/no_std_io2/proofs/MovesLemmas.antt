@@ -1,7 +1,7 @@
 -- How calls of a writer follow one another, for a crate that lists this one alone. Those of the base are stated again: `rt lemma` finds
 -- none after a `pub use`.
 use Rattle.std.proofs.Common.{◌≡◌, ◌⊎◌, Some, IsErrAnd, Result, Ok, Err, subst, refl, ap, ◌∙◌, append-nil, List, [], ◌++◌, ℕ}
-use Rattle.std.proofs.Common.{length, length-append, arith}
+use Rattle.std.proofs.Common.{length, length-append, arith, inl, inr}
 use Rattle.std.proofs.lemmas.List.{nil_from_length}
 use Rattle.std.specs.List.{concat}
 use Rattle.std.specs.Result.{OnOk}
@@ -90,6 +90,15 @@ MovesFront-flush x u r f g = lines.MovesFront-ends x r (lines.MovesFront-whole x
 pub MovesFront-text : {a b : Told} {text : List ℕ} {r : Result (Unit {0}) Error} → MovesText a (Some text) r b
     → MovesFront a text r b ⊎ IsErrAnd r IsTextError
 MovesFront-text f = texts.MovesFront-text f
+
+-- `write!(..)?; flush()`, if the `write!` returned `Ok`
+pub MovesFront-text_flush : {a b c : Told} {text : List ℕ} {u : Unit {0}} (r : Result (Unit {0}) Error) → MovesText a (Some text) (Ok u) b
+    → Moves b [] (call_mishap r) c → MovesFront a text r c
+MovesFront-text_flush {a} {b} {c} {text} {u} r f g = whole (MovesFront-text f)
+  where
+    whole : MovesFront a text (Ok u) b ⊎ IsErrAnd (Ok u) IsTextError → MovesFront a text r c
+    whole (inl front) = MovesFront-flush text u r front g
+    whole (inr failed) = absurd failed
 
 -- a call that says what is left is a call that accepted some front
 pub MovesFront-sends : {a b : Told} {r : Result (Unit {0}) Error} (x rest : List ℕ) → Sends a x r b rest

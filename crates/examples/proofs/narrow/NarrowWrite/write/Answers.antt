@@ -1,0 +1,14 @@
+-- The law, field by field: the form in which the check names the fields that it cannot prove.
+use Rattle.std.proofs.Common.{rules}
+use Rattle.examples.proofs.narrow.NarrowWrite.write.Goals as goal
+
+pub returns : goal.returns
+returns c = record {
+  law = record {
+    bound = search rules;
+    moves = record { front = search rules; bytes = search rules; mishaps = search rules; turns = search rules };
+    all = search rules;
+    counts = search rules;
+    call = search rules;
+  };
+}

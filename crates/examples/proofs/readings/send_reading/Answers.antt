@@ -1,0 +1,6 @@
+use Rattle.std.proofs.Common.{inl}
+use Rattle.no_std_io2.proofs.MovesLemmas.{MovesFront-text_flush}
+use Rattle.examples.proofs.readings.send_reading.Goals as goal
+
+pub returns : goal.returns
+returns g c = record { line = inl (MovesFront-text_flush c.flush.result c.in_ok-write.ensures.law.moves c.flush.ensures.law.moves) }
