@@ -57,7 +57,7 @@ line_at_once {R = R} {old} {new} {n} law within ends lends dropped follows grows
       );
     }
 
--- where the answer is the read's, so is what is said of it
+-- what holds for the result of the read holds for an equal result
 ok_same : (P : ℕ → Type 0) (read reply : Result ℕ Error) → (IsOk reply → reply ≡ read) → IfOk read P → IfOk reply P
 ok_same P read (Ok n) same said = subst (λ r. IfOk r P) (sym (same refl)) said
 ok_same P read (Err e) same said = tt

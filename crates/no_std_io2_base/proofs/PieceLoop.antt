@@ -50,7 +50,7 @@ module _ {X : Type 0} (R : Lender X) {old now after : X} {d : ℕ} {x : List ℕ
     failed : Made R.may old (before.0 ++ Filled (Err e) ∷ []) after
     failed = made_more R.may before.0 old before.1 (loan is)
 
-    -- if it was interrupted, the loop goes on
+    -- if it was interrupted, the loop continues
     pub part_waited : IsInterruption e → PartMade R.may old d x after
     part_waited again = (_, failed, and_waited _ _ _ before.2 again)
 
@@ -59,7 +59,7 @@ module _ {X : Type 0} (R : Lender X) {old now after : X} {d : ℕ} {x : List ℕ
     piece_faults fault = record { calls = _; made = failed; are = (before.0, before.2, inl (fault, refl)) }
 
   module _ {lent : Bor (List ℕ)} (is : reply ≡ Ok lent) where
-    -- refused memory ends the loop
+    -- a failed allocation ends the loop
     pub piece_refused : {e : Error} → IsOutOfMemory e → PieceMade (Unit {0}) R.may old d (Err e) x after
     piece_refused refused =
         let made = made_more R.may before.0 old before.1 (loan is) in
@@ -71,7 +71,7 @@ module _ {X : Type 0} (R : Lender X) {old now after : X} {d : ℕ} {x : List ℕ
       took =
           made_then R.may before.0 old (Filled (Ok lent.now) ∷ Consumed n ∷ []) now new before.1 (after, loan is, (new, dropped.call, refl))
 
-      -- if the piece goes on, all lent bytes belong to it
+      -- if the piece is not complete, all lent bytes belong to it
       pub part_took : is_whole ≡ false → PartMade R.may old d (x ++ take n lent.now) new
       part_took going =
           let part = found.open_ended going in

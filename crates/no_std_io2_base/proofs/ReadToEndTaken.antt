@@ -54,7 +54,7 @@ taken_interruption {e} {rest} t read again short is = record {
   full = λ h. absurd (omega (arith, ap length is));
 }
 
--- where the buffer is full, `read_exact` has filled it
+-- if the buffer is full, `read_exact` has filled it
 pub taken_fills : (E : List Event) (room : ℕ) (got : List ℕ) (after : List Event)
     → Taken E room got after → length got ≡ room → Fills E got after
 taken_fills E room got after t h =
@@ -65,7 +65,7 @@ taken_fills E room got after t h =
       filled = ap bytes is ∙ t.gave;
     }
 
--- where a fault came before the buffer was full, `read_exact` stopped at it
+-- if a fault came before the buffer was full, `read_exact` stopped at it
 pub taken_fault : {E : List Event} {room most : ℕ} {got : List ℕ} {after : List Event} {e : Error} {rest : List Event}
     → Taken E room got after → after ≡ fails e ∷ rest → IsFault e → length got < most → StopsAtFault E most e rest
 taken_fault {most} {got} {e} {rest} t read fault short =
@@ -77,7 +77,7 @@ taken_fault {most} {got} {e} {rest} t read fault short =
       short = subst (λ l. length l < most) (sym gave) short;
     }
 
--- where the end came before the buffer was full, `read_exact` fell short
+-- if the end came before the buffer was full, `read_exact` fell short
 pub taken_short : (may_take_none : Type 0) (E : List Event) (room : ℕ) (got : List ℕ) (after : List Event) (e : Error) (rest : List Event)
     → Taken E room got after → after ≡ [] → after ≡ rest → IsUnexpectedEnd e → length got < room → FallsShort may_take_none E room e rest
 taken_short may_take_none E room got after e rest t end same kind short =
@@ -105,7 +105,7 @@ moved_read {E} E' n buf p fits read move is =
     ∙ ap (λ m. m + length E') (length-events_of (take n buf) ∙ length-take-le n buf fits) in
     omega arith
 
--- bytes alone hold no error
+-- events that are only bytes contain no error
 pub no_error : (bs : List ℕ) {E E' : List Event} {e : Error} → E ≡ events_of bs → E ≡ fails e ∷ E' → ⊥
 no_error [] h k = cc
 no_error (b ∷ bs) h k = cc

@@ -78,7 +78,7 @@ module _ {X : Type 0} {R : Lender X} {d : ℕ} {old now after : X} {skipped : �
   module _ {lent : Bor (List ℕ)} {n total : ℕ} {is_whole : Bool} (is : reply ≡ Ok lent) (shows : FillBufLaw R now (Ok lent))
       (found : FindsPiece d lent.now n is_whole) {new : X} (dropped : ConsumeLaw R after n new)
       (total_is : total ≡ min (skipped + n) (2 ^ 64 - 1)) where
-    -- what is passed over now
+    -- the bytes that are skipped now
     abbrev longer : List ℕ
     longer = before.piece ++ take n lent.now
 

@@ -1,4 +1,4 @@
--- What `fill_buf` lends and what it leaves, and the law of each call of `BufRead`.
+-- The bytes that `fill_buf` lends, the state after the borrow, and the law of each call of `BufRead`.
 use Rattle.std.specs.Prelude.{◌≡◌, ℕ, ◌-◌, ◌<◌, List, [], ◌∷◌, ◌++◌, length, ⊤, Ok, Err, Result, ◌+◌, ◌≤◌, take, drop, Some, Vec, String}
 use Rattle.std.specs.Prelude.{◌^◌, min, vec_len, vec_capacity, string_bytes, string_len, string_capacity, IfOk, IfErr, IsOkAnd}
 use mathlib.Core.Option.{none}
@@ -22,12 +22,12 @@ pub record BeginsWith (E : List Event) (bs : List ℕ) : Type 0 where
   pub rest : List Event
   pub is : E ≡ events_of bs ++ rest
 
--- what is held now is what was lent, and nothing after an error
+-- the held bytes are the lent bytes, and none after an error
 abbrev pub Lends : Result (Bor (List ℕ)) Error → List ℕ → Type 0
 Lends (Ok s) held = held ≡ s.now
 Lends (Err e) held = held ≡ []
 
--- lending takes nothing, and an error that is answered stood first and is gone
+-- a `fill_buf` takes no event, or it returned an error, which was the first event and is taken
 abbrev pub LendsFrom : List Event → Result (Bor (List ℕ)) Error → List Event → Type 0
 LendsFrom E (Ok s) after = after ≡ E
 LendsFrom E (Err e) after = E ≡ fails e ∷ after
@@ -42,11 +42,11 @@ abbrev pub lent_bytes : Result (Bor (List ℕ)) Error → Result (List ℕ) Erro
 lent_bytes (Ok s) = Ok s.now
 lent_bytes (Err e) = Err e
 
--- `fill_buf` reads once where nothing is held
+-- `fill_buf` reads once if nothing is held
 abbrev pub reads_needed : List ℕ → ℕ
 reads_needed held = 1 - length held
 
--- what a reader that lends tells, as `⟦<R as BufRead>⟧` names it: the members of its store, those of `Read`, and its own
+-- the ghost members of a `BufRead`, as `⟦<R as BufRead>⟧` names them: those of its store, those of `Read`, and its own
 abbrev pub Lender : Type 0 → Type 1
 Lender X = record {
   has_store : X → Type 0;
@@ -67,36 +67,36 @@ Lender X = record {
   lent_length : X → ℕ;
 }
 
--- `fill_buf()`: what it answers
+-- `fill_buf()`: its result
 pub record FillBufLaw {X : Type 0} (R : Lender X) (old : X) (reply : Result (Bor (List ℕ)) Error) : Type 0 where
   -- held bytes are lent, all of them
   pub held : IsNotEmpty (R.held old) → IsOkAnd reply (λ s. s.now ≡ R.held old)
-  -- what is lent comes next
+  -- the lent bytes come next
   pub front : R.tells old → IfOk reply (λ s. BeginsWith (R.events old) s.now)
   -- an empty slice is lent only at the end
   pub end : R.tells old → IfOk reply (λ s. s.now ≡ [] → R.events old ≡ [])
-  -- it lends as much as it tells
+  -- if it is known how many bytes it lends, it lends that many
   pub lends_surely : R.lends_surely old → IsOkAnd reply (λ s. length s.now ≡ R.lent_length old)
 
--- `fill_buf()`: what stands once the loan has ended
+-- `fill_buf()`: the state once the borrow has ended
 abbrev pub AfterLoan : {X : Type 0} → Lender X → X → Result (Bor (List ℕ)) Error → X → Type 0
 AfterLoan R old reply new = record {
-  -- what was lent is held
+  -- the lent bytes are held
   lends : Lends reply (R.held new);
-  -- no event is gone but the error that was answered
+  -- no event is gone, except the error that was returned
   told : R.tells old → R.tells new × LendsFrom (R.events old) reply (R.events new);
-  -- turns are never won, and an error spends one
+  -- turns never rise, and an error spends one
   turns_never_rise : R.turns new ≤ R.turns old;
   spends_turn : LendingTurn reply (R.turns old) (R.turns new);
-  -- where bytes were held nothing has changed
+  -- if bytes were held, nothing has changed
   unchanged : IsNotEmpty (R.held old) → new ≡ old;
-  -- where none were held one read was made
+  -- if none were held, one read was made
   counts : R.counts_fills old → R.counts_fills new × (R.fills new ≡ R.fills old + reads_needed (R.held old));
   -- what the reader claims about itself still holds
   stays_sure : R.lends_surely old → R.lends_surely new;
   metered : R.is_metered old → R.is_metered new;
   filling : R.is_filling old → R.is_filling new;
-  -- a told store is as it was
+  -- a told store does not change
   store : R.has_store old → R.has_store new × (R.content new ≡ R.content old) × (R.position new ≡ R.position old);
   -- it is one call
   call : R.may old (Filled (lent_bytes reply)) new;
@@ -106,19 +106,19 @@ AfterLoan R old reply new = record {
 pub record ConsumeLaw {X : Type 0} (R : Lender X) (old : X) (amount : ℕ) (new : X) : Type 0 where
   -- the first of the held bytes are dropped
   pub held : R.held new ≡ drop amount (R.held old)
-  -- and gone from the events
+  -- they are gone from the events
   pub told : R.tells old → R.tells new × (R.events old ≡ events_of (take amount (R.held old)) ++ R.events new)
-  -- turns are never won
+  -- turns never rise
   pub turns_never_rise : R.turns new ≤ R.turns old
-  -- a byte spends one
+  -- if a byte was dropped, a turn was spent
   pub spends_turn : 0 < amount → R.turns new < R.turns old
-  -- nothing is read
+  -- no read was made
   pub cost : R.is_metered old → R.is_metered new × (R.cost new ≡ R.cost old)
   pub counts : R.counts_fills old → R.counts_fills new × (R.fills new ≡ R.fills old)
   -- what the reader claims about itself still holds
   pub filling : R.is_filling old → R.is_filling new
   pub lends_surely : R.lends_surely old → R.lends_surely new
-  -- a told store keeps its content, and its position goes on by what was dropped
+  -- a told store keeps its content, and its position moves by the number of dropped bytes
   pub store : R.has_store old → R.has_store new × (R.content new ≡ R.content old) × (R.position new ≡ R.position old + amount)
   -- it is one call
   pub call : R.may old (Consumed amount) new
@@ -128,25 +128,25 @@ pub record ReadUntilLaw {X A : Type 0} (R : Lender X) (old : X) (delim : ℕ) (b
     (new : X) : Type 0 where
   -- a piece is taken from the events, and its bytes are appended
   pub told : R.tells old → R.tells new × TakesPiece delim (R.events old) reply buf.items buf'.items (R.events new)
-  -- what stood in the vector stays
+  -- the old content of the vector stays
   pub appends : IsFront buf.items buf'.items
-  -- the answer is how many bytes it grew by
+  -- the result is the number of bytes that were appended
   pub count : IfOk reply (λ n. vec_len buf' ≡ vec_len buf + n)
-  -- room is never given back
+  -- the capacity never shrinks
   pub capacity : vec_capacity buf ≤ vec_capacity buf'
-  -- a vector with room for the piece is never refused memory: what fails is the first fault
+  -- if the vector has room for the piece, an error is the first fault, and not a failed allocation
   pub room : R.tells old → HasPieceRoom delim (R.events old) (vec_len buf) (vec_capacity buf)
       → IfErr reply (λ e. first_fault (R.events old) ≡ Some e)
-  -- no interruption is answered
+  -- the result is never an interruption
   pub never_interrupted : IsNoInterruption reply
-  -- turns are never won
+  -- turns never rise
   pub turns_never_rise : R.turns new ≤ R.turns old
-  -- a piece of some bytes spends one
+  -- if the piece is not empty, a turn was spent
   pub spends_turn : IfOk reply (λ n. 0 < n → R.turns new < R.turns old)
   -- what the reader claims about itself still holds
   pub metered : R.is_metered old → R.is_metered new
   pub filling : R.is_filling old → R.is_filling new
-  -- a told store keeps its content, and its position goes on by what was taken
+  -- a told store keeps its content, and its position moves by the number of bytes that were taken
   pub store : R.has_store old → R.has_store new × (R.content new ≡ R.content old)
       × (R.position new + length (R.events new) ≡ R.position old + length (R.events old))
   -- which calls it made: they took the appended bytes
@@ -156,16 +156,16 @@ pub record ReadUntilLaw {X A : Type 0} (R : Lender X) (old : X) (delim : ℕ) (b
 pub record SkipUntilLaw {X : Type 0} (R : Lender X) (old : X) (delim : ℕ) (reply : Result ℕ Error) (new : X) : Type 0 where
   -- a piece is taken from the events
   pub told : R.tells old → R.tells new × SkipsPiece delim (R.events old) reply (R.events new)
-  -- no interruption is answered
+  -- the result is never an interruption
   pub never_interrupted : IsNoInterruption reply
-  -- turns are never won
+  -- turns never rise
   pub turns_never_rise : R.turns new ≤ R.turns old
-  -- a piece of some bytes spends one
+  -- if the piece is not empty, a turn was spent
   pub spends_turn : IfOk reply (λ n. 0 < n → R.turns new < R.turns old)
   -- what the reader claims about itself still holds
   pub metered : R.is_metered old → R.is_metered new
   pub filling : R.is_filling old → R.is_filling new
-  -- a told store keeps its content, and its position goes on by what was taken
+  -- a told store keeps its content, and its position moves by the number of bytes that were taken
   pub store : R.has_store old → R.has_store new × (R.content new ≡ R.content old)
       × (R.position new + length (R.events new) ≡ R.position old + length (R.events old))
   -- which calls it made: they took a piece of this length
@@ -174,23 +174,23 @@ pub record SkipUntilLaw {X : Type 0} (R : Lender X) (old : X) (delim : ℕ) (rep
 -- `read_line(alloc, buf)`
 pub record ReadLineLaw {X A : Type 0} (R : Lender X) (old : X) (buf : String A) (reply : Result ℕ Error) (buf' : String A) (new : X)
     : Type 0 where
-  -- a line is taken from the events, and appended where it is text; a text that has the room is never refused it
+  -- a line is taken from the events, and appended if it is UTF-8; if the text has room for it, no allocation fails
   pub told : R.tells old → R.tells new × TakesLine (R.events old) (string_len buf) (string_capacity buf) reply
       (string_bytes buf) (string_bytes buf') (R.events new)
-  -- what stood in the text stays
+  -- the old content of the text stays
   pub appends : IsFront (string_bytes buf) (string_bytes buf')
-  -- the answer is how many bytes it grew by
+  -- the result is the number of bytes that were appended
   pub count : IfOk reply (λ n. string_len buf' ≡ string_len buf + n)
-  -- no interruption is answered
+  -- the result is never an interruption
   pub never_interrupted : IsNoInterruption reply
-  -- turns are never won
+  -- turns never rise
   pub turns_never_rise : R.turns new ≤ R.turns old
-  -- a line of some bytes spends one
+  -- if the line is not empty, a turn was spent
   pub spends_turn : IfOk reply (λ n. 0 < n → R.turns new < R.turns old)
   -- what the reader claims about itself still holds
   pub metered : R.is_metered old → R.is_metered new
   pub filling : R.is_filling old → R.is_filling new
-  -- a told store keeps its content, and its position goes on by what was taken
+  -- a told store keeps its content, and its position moves by the number of bytes that were taken
   pub store : R.has_store old → R.has_store new × (R.content new ≡ R.content old)
       × (R.position new + length (R.events new) ≡ R.position old + length (R.events old))
   -- which calls it made: they took the line

@@ -122,8 +122,8 @@ pub data PartCalls (d : ℕ) : List ReadCall → List ℕ → Type 0 where
   and_waited : (C : List ReadCall) (x : List ℕ) (e : Error) → PartCalls d C x → IsInterruption e → PartCalls d (C ++ Filled (Err e) ∷ []) x
 
 -- C are the calls of a loop that took a piece x: the last `fill_buf` lent the end of x, and the bytes up to this end were consumed; or it
--- lent nothing. If the result is an error, the last `fill_buf` returned this fault; or, if memory may be refused, it was refused for the
--- bytes that were lent, and none of them were consumed.
+-- lent nothing. If the result is an error, the last `fill_buf` returned this fault; or, if the loop allocates, the allocation for the lent
+-- bytes failed, and none of them were consumed.
 abbrev pub PieceCalls : Type 0 → ℕ → List ReadCall → List ℕ → Result ℕ Error → Type 0
 PieceCalls may_refuse d C x (Ok _) = (D : List ReadCall) × (y : List ℕ) × (lent : List ℕ) × (n : ℕ) × PartCalls d D y
     × FindsPiece d lent n true × (x ≡ y ++ take n lent) × (C ≡ D ++ Filled (Ok lent) ∷ Consumed n ∷ [])

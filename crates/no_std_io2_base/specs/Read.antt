@@ -117,7 +117,7 @@ pub data ReadCall : Type 0 where
   GaveAll : List ℕ → Result (Unit {0}) Error → ReadCall
   -- a `fill_buf`: the bytes that it lent, or its error
   Filled : Result (List ℕ) Error → ReadCall
-  -- a `consume` of so many of the held bytes
+  -- a `consume` of that many held bytes
   Consumed : ℕ → ReadCall
 
 -- the bytes that `read` gave at the front of buf, or its error
