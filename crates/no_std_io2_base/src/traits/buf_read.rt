@@ -23,7 +23,8 @@ pub trait BufRead: Read {
     // The bytes in the buffer. If the reader tells its events, the events begin with these bytes.
     ghost held: { Self → List ℕ };
 
-    // Whether the inner reads are counted that `fill_buf` makes, and how many were made. Left out, they aren't.
+    // Whether the inner reads that `fill_buf` makes are counted, and how many were made. By default they are
+    // not.
     ghost counts_fills: { Self → Type 0 } = { λ _. ⊥ };
 
     ghost fills: { Self → ℕ } = { λ _. 0 };
@@ -90,9 +91,9 @@ pub trait BufRead: Read {
         }
     }
 
-    /// Passes over the bytes up to and including the first `delim`, and returns their number, or the
-    /// greatest `usize` if there are more. If there is no `delim`, it passes over all bytes that are
-    /// left. 0 means the end. It ignores interruptions, and allocates nothing. Follows
+    /// Skips the bytes up to and including the first `delim`, and returns their number, or
+    /// `usize::MAX` if there are more. If there is no `delim`, it skips all bytes that are left. 0
+    /// means the end. It ignores interruptions, and allocates nothing. Follows
     /// `std::io::BufRead::skip_until`.
     ///
     /// # Errors
