@@ -9,7 +9,8 @@ use Rattle.no_std_io2_base.proofs.MovesLemmas.{Moves-steady, MovesFront-sends}
 use Rattle.no_std_io2_base.proofs.WritesFacts.{writes_fault, writes_sends, writes_all}
 
 -- a call of a writer with no mishap to come returns `Ok`
-pub call_steady : {a c : Told} {x : List ℕ} (reply : Result (Unit {0}) Error) → a.mishaps ≡ Some [] → Moves a x (call_mishap reply) c → IsOk reply
+pub call_steady : {a c : Told} {x : List ℕ} (reply : Result (Unit {0}) Error) → a.mishaps ≡ Some [] → Moves a x (call_mishap reply) c
+    → IsOk reply
 call_steady (Ok u) e f = refl
 call_steady (Err err) e f = absurd (Moves-steady e f)
 

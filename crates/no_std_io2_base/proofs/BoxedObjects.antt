@@ -4,8 +4,8 @@ use Rattle.std.specs.Borrow.{Bor}
 use Rattle.std.specs.declared.dyn_box.DynBox.{DynBox}
 use Rattle.no_std_io2_base.specs.declared.error.Error.{Error}
 use Rattle.no_std_io2_base.specs.Errors.{IsNoInterruption}
-use Rattle.no_std_io2_base.specs.Read.{Event, events_of, Reads, ReadsExact, SpendsTurn, ReadLaw, ReadExactLaw, ReadCall, Gave, gave, ExactMade}
-use Rattle.no_std_io2_base.specs.Read.{Filled, Consumed}
+use Rattle.no_std_io2_base.specs.Read.{Event, events_of, Reads, ReadsExact, SpendsTurn, ReadLaw, ReadExactLaw, ReadCall, Gave, gave}
+use Rattle.no_std_io2_base.specs.Read.{ExactMade, Filled, Consumed}
 use Rattle.no_std_io2_base.proofs.ReadCalls.{exact_map}
 use Rattle.no_std_io2_base.specs.BufRead.{ConsumeLaw, IsNotEmpty, BeginsWith, LendsFrom, LendingTurn, lent_bytes}
 use Rattle.no_std_io2_base.proofs.Readers.{box_reader, holds_alone, lends_as}
@@ -172,12 +172,14 @@ module _ {I A : Type 0} {V : I → Type 0} (told : (i : I) → V i → Told) (ta
   abbrev pub WriteAllOf : List ℕ → Result (Unit {0}) Error → ((i : I) × V i) → Type 0
   WriteAllOf x reply lent = (new : V lent.0)
       → WriteAllLaw (told lent.0) (takes_all lent.0) (cost lent.0) (is_metered lent.0) (may lent.0) lent.1 x reply new
-      → WriteAllLaw (λ b. told b.vtable b.value) (λ _. ⊥) (λ _. 0) (λ _. ⊥) (λ b. BoxMay b (may b.vtable)) box x reply (other_box lent.0 new)
+      → WriteAllLaw (λ b. told b.vtable b.value) (λ _. ⊥) (λ _. 0) (λ _. ⊥) (λ b. BoxMay b (may b.vtable)) box x reply
+      (other_box lent.0 new)
 
   abbrev pub WriteRestOf : List ℕ → Result (Unit {0}) Error → List ℕ → ((i : I) × V i) → Type 0
   WriteRestOf x reply left lent = (new : V lent.0)
       → WriteRestLaw (told lent.0) (takes_all lent.0) (cost lent.0) (is_metered lent.0) (may lent.0) lent.1 x reply new left
-      → WriteRestLaw (λ b. told b.vtable b.value) (λ _. ⊥) (λ _. 0) (λ _. ⊥) (λ b. BoxMay b (may b.vtable)) box x reply (other_box lent.0 new) left
+      → WriteRestLaw (λ b. told b.vtable b.value) (λ _. ⊥) (λ _. 0) (λ _. ⊥) (λ b. BoxMay b (may b.vtable)) box x reply
+      (other_box lent.0 new) left
 
   pub write_all_box : (x : List ℕ) (reply : Result (Unit {0}) Error) (lent : (i : I) × V i) → lent ≡ (box.vtable, box.value)
       → WriteAllOf x reply lent

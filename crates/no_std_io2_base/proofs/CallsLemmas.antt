@@ -1,7 +1,8 @@
 -- Calls one after another.
 use Rattle.std.proofs.Common.{◌≡◌, ℕ, List, [], ◌∷◌, ◌++◌, Result, OnOk, refl, sym, ap, subst, append_assoc, inl}
 use Rattle.no_std_io2_base.specs.declared.error.Error.{Error}
-use Rattle.no_std_io2_base.specs.Write.{WriteCall, Made, WroteAll, WroteRest, Told, CallLaw, Wrote, Flushed, Writes, none, took, again, stuck, fault, RestCalls, AllCalls}
+use Rattle.no_std_io2_base.specs.Write.{WriteCall, Made, WroteAll, WroteRest, Told, CallLaw, Wrote, Flushed, Writes, none, took, again}
+use Rattle.no_std_io2_base.specs.Write.{stuck, fault, RestCalls, AllCalls}
 
 -- one call more
 pub made_more : {W A : Type 0} (may : W → A → W → Type 0) (C : List A) (a : W) {b c : W} {call : A}

@@ -1,6 +1,7 @@
 -- A line that lies whole in what a reader lends, and goes straight to a text.
-use Rattle.std.proofs.Common.{◌≡◌, ℕ, ◌+◌, ◌<◌, ◌≤◌, List, length, take, drop, refl, ap, inl, arith, length-append, length-take-le, Ok, String}
-use Rattle.std.proofs.Common.{string_bytes, string_len, string_capacity, IfOk, IfErr, IsOk, OnOk, Err, Result, Vec, [], ◌∷◌, sym, subst}
+use Rattle.std.proofs.Common.{◌≡◌, ℕ, ◌+◌, ◌<◌, ◌≤◌, List, length, take, drop, refl, ap, inl, arith, length-append, length-take-le, Ok}
+use Rattle.std.proofs.Common.{String, string_bytes, string_len, string_capacity, IfOk, IfErr, IsOk, OnOk, Err, Result, Vec, [], ◌∷◌, sym}
+use Rattle.std.proofs.Common.{subst}
 use Rattle.no_std_io2_base.specs.declared.error.Error.{Error}
 use Rattle.no_std_io2_base.specs.Write.{IsFront}
 use Rattle.no_std_io2_base.specs.Errors.{IsFault}
@@ -89,7 +90,8 @@ line_gathered {R = R} {old} {new} none all {line} {buf} {buf'} read reply empty 
         },
       );
   appends = appends;
-  count = grown read reply (string_len buf) (string_len buf') given (omega (arith, none.ok.0, ap length empty)) (omega (arith, all.ok.0, ap length same)) until.count more;
+  count = grown read reply (string_len buf) (string_len buf') given (omega (arith, none.ok.0, ap length empty))
+      (omega (arith, all.ok.0, ap length same)) until.count more;
   never_interrupted = fault until.never_interrupted;
   turns_never_rise = until.turns_never_rise;
   spends_turn = ok_same (λ n. 0 < n → R.turns new < R.turns old) read reply given until.spends_turn;

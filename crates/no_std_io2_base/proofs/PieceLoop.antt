@@ -243,7 +243,8 @@ module _ {X A : Type 0} {R : Lender X} {d : ℕ} {old now after : X} {buf xs : V
           capacity = le_trans before.capacity grown;
           front = front_more _ _ before.front appended;
           turns = omega (arith, dropped.turns_never_rise, filled.turns_never_rise, before.turns);
-          spent = spent_more before.spent before.turns filled.turns_never_rise dropped.turns_never_rise dropped.spends_turn (part_fits _ _ len found.within);
+          spent = spent_more before.spent before.turns filled.turns_never_rise dropped.turns_never_rise dropped.spends_turn
+              (part_fits _ _ len found.within);
           told = λ t.
               let so_far = before.told t in
               let rest = taken so_far.0 in

@@ -5,7 +5,8 @@ use Rattle.std.proofs.lemmas.Slice.{take-put_mid_below}
 use borrow.Rule.Slice.PartMut.{put_mid}
 use Rattle.no_std_io2_base.specs.declared.error.Error.{Error}
 use Rattle.no_std_io2_base.specs.Errors.{is_interruption, IsInterruption, IsFault, IsUnexpectedEnd}
-use Rattle.no_std_io2_base.specs.Read.{Reader, GoesOn, ReadLaw, ReadExactLaw, ReadCall, Gave, Gathers, no_read, and_gave, and_again, GathersUntil, IsRest}
+use Rattle.no_std_io2_base.specs.Read.{Reader, GoesOn, ReadLaw, ReadExactLaw, ReadCall, Gave, Gathers, no_read, and_gave, and_again}
+use Rattle.no_std_io2_base.specs.Read.{GathersUntil, IsRest}
 use Rattle.no_std_io2_base.specs.Write.{Made}
 use Rattle.no_std_io2_base.proofs.CallsLemmas.{made_more}
 use Rattle.no_std_io2_base.proofs.ReadCalls.{gave_nothing}
@@ -93,7 +94,8 @@ module _ {S : Type 0} {R : Reader S} {old now new : S} {buf xs part ys : List �
               so_far.0 ++ Gave (length ys) (Ok (take n ys)) ∷ [],
               made_more R.may so_far.0 old so_far.1 read.call,
               subst (Gathers (IsRest (length buf)) (so_far.0 ++ Gave (length ys) (Ok (take n ys)) ∷ []))
-                  (sym (take-put_mid at (length xs - at) n xs ys before.within read.bound)) (and_gave _ _ _ _ so_far.2 (rest at _ xs ys below before.long room) some),
+                  (sym (take-put_mid at (length xs - at) n xs ys before.within read.bound))
+                  (and_gave _ _ _ _ so_far.2 (rest at _ xs ys below before.long room) some),
             );
       }
 
@@ -124,7 +126,8 @@ module _ {S : Type 0} {R : Reader S} {old now new : S} {buf xs part ys : List �
               so_far.0 ++ Gave (length ys) (Err e) ∷ [],
               made_more R.may so_far.0 old so_far.1 read.call,
               subst (Gathers (IsRest (length buf)) (so_far.0 ++ Gave (length ys) (Err e) ∷ []))
-                  (sym (take-put_mid_below _ _ _ _ _ (le_refl _) before.within)) (and_again _ _ _ _ so_far.2 (rest at _ xs ys below before.long room) interrupted),
+                  (sym (take-put_mid_below _ _ _ _ _ (le_refl _) before.within))
+                  (and_again _ _ _ _ so_far.2 (rest at _ xs ys below before.long room) interrupted),
             );
       }
 
@@ -180,7 +183,14 @@ module _ {S : Type 0} {R : Reader S} {old now new : S} {buf xs part ys : List �
     calls = record {
       calls = before.calls.0 ++ Gave (length ys) (Err e) ∷ [];
       made = made_more R.may before.calls.0 old before.calls.1 read.call;
-      are = inr (take at xs, inr (fault, last before.calls.2 (rest at _ xs ys below before.long room) (length_stays at xs ys room ∙ before.long)));
+      are = inr (
+        take at xs,
+        inr (
+          fault,
+          last before.calls.2 (rest at _ xs ys below before.long room)
+              (length_stays at xs ys room ∙ before.long),
+        ),
+      );
     };
   }
 

@@ -24,7 +24,8 @@ module _ {S : Type 0} {told : S → Told} {takes_all : S → Type 0} {cost : S �
     {may : S → WriteCall → S → Type 0} {old : S} where
   -- a piece more, if the test says that no error was met
   pub prints_next : (b : Bool) {met : Result (Unit {0}) Error} → b ≡ is_ok met → b ≡ true
-      → {text bytes x : List ℕ} {reply : Result (Unit {0}) Error} {mid new : S} → WriteAllLaw told takes_all cost is_metered may mid bytes reply new → bytes ≡ x
+      → {text bytes x : List ℕ} {reply : Result (Unit {0}) Error} {mid new : S}
+      → WriteAllLaw told takes_all cost is_metered may mid bytes reply new → bytes ≡ x
       → Prints told takes_all cost is_metered may old text met mid → Prints told takes_all cost is_metered may old (text ++ x) reply new
   prints_next b {met = Ok u} is had {text = text} {bytes = bytes} {reply = reply} {new = new} wrote same so_far =
       subst (λ l. Prints told takes_all cost is_metered may old (text ++ l) reply new) same (piece bytes so_far wrote)

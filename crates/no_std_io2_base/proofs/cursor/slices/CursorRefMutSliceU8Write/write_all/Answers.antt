@@ -10,7 +10,14 @@ returns-then-write_fitting-buf-clause-law c =
       moves = fits_moves_part _ _ c.failed_to_write.result c.failed_to_write.ensures.0 c.write_fitting.ensures.puts;
       all = λ h. h;
       counts = λ h. absurd h;
-      calls = all_own _ _ _ (tt, search rules, fits_moves_part _ _ c.failed_to_write.result c.failed_to_write.ensures.0 c.write_fitting.ensures.puts, λ h. h, λ h. absurd h);
+      calls = all_own _ _ _ (
+        tt,
+        search rules,
+        fits_moves_part _ _ c.failed_to_write.result c.failed_to_write.ensures.0
+            c.write_fitting.ensures.puts,
+        λ h. h,
+        λ h. absurd h,
+      );
     }
 
 pub returns-clause-law : goal.returns-clause-law

@@ -18,8 +18,10 @@ returns g c =
         counts = search rules;
         calls = let made = wrote.calls in (
           made.0,
-          made_map (CallLaw w.told w.takes_all w.cost w.is_metered w.may) _ put (λ a b call law. law_of_part w.told w.takes_all w.cost w.is_metered w.may (λ v. v.value) (put a) (put b) call law) made.0 _ _
-              (subst (λ v. Made (CallLaw w.told w.takes_all w.cost w.is_metered w.may) v made.0 c.write_all.new.self) c.as_mut.ensures.value made.1),
+          made_map (CallLaw w.told w.takes_all w.cost w.is_metered w.may) _ put
+              (λ a b call law. law_of_part w.told w.takes_all w.cost w.is_metered w.may (λ v. v.value) (put a) (put b) call law) made.0 _ _
+              (subst (λ v. Made (CallLaw w.told w.takes_all w.cost w.is_metered w.may) v made.0 c.write_all.new.self)
+              c.as_mut.ensures.value made.1),
           made.2,
         );
       };

@@ -15,7 +15,12 @@ returns g c =
         done = wrote.done;
         all = wrote.all;
         counts = wrote.counts;
-        calls = let made = wrote.calls in
-            (made.0, made_map (CallLaw w.told w.takes_all w.cost w.is_metered w.may) _ put (λ a b call law. law_of_part w.told w.takes_all w.cost w.is_metered w.may (λ v. v.now) (put a) (put b) call law) made.0 _ _ made.1, made.2);
+        calls = let made = wrote.calls in (
+          made.0,
+          made_map (CallLaw w.told w.takes_all w.cost w.is_metered w.may) _ put
+              (λ a b call law. law_of_part w.told w.takes_all w.cost w.is_metered w.may (λ v. v.now) (put a) (put b) call law) made.0 _ _
+              made.1,
+          made.2,
+        );
       };
     }

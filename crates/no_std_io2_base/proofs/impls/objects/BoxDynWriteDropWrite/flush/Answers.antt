@@ -9,6 +9,7 @@ returns g c =
     let o = goal.Write-dyn g in
     record {
       law = lent_call (λ i v. (o (i, v)).told v) (λ i v. (o (i, v)).takes_all v) (λ i v. (o (i, v)).cost v) (λ i v. (o (i, v)).is_metered v)
-          (λ i old call new. (o (i, old)).may old call new) c.args.self.now (Flushed c.flush.result) c.deref_box_mut-1.result.now (search rules)
+          (λ i old call new. (o (i, old)).may old call new) c.args.self.now (Flushed c.flush.result) c.deref_box_mut-1.result.now
+          (search rules)
           c.flush.new.self c.flush.ensures;
     }

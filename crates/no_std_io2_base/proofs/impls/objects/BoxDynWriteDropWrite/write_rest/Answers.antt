@@ -7,7 +7,9 @@ pub returns : goal.returns
 returns g c =
     let o = goal.Write-dyn g in
     record {
-      law = write_rest_box (λ i v. (o (i, v)).told v) (λ i v. (o (i, v)).takes_all v) (λ i v. (o (i, v)).cost v) (λ i v. (o (i, v)).is_metered v)
-          (λ i old call new. (o (i, old)).may old call new) c.args.self.now c.args.rest.now.now c.write_rest.result c.write_rest.new.rest.now c.deref_box_mut-1.result.now (search rules)
+      law = write_rest_box (λ i v. (o (i, v)).told v) (λ i v. (o (i, v)).takes_all v) (λ i v. (o (i, v)).cost v)
+          (λ i v. (o (i, v)).is_metered v)
+          (λ i old call new. (o (i, old)).may old call new) c.args.self.now c.args.rest.now.now c.write_rest.result
+          c.write_rest.new.rest.now c.deref_box_mut-1.result.now (search rules)
           c.write_rest.new.self c.write_rest.ensures;
     }

@@ -6,7 +6,9 @@ use Rattle.no_std_io2_base.proofs.traits.write.Write.write_rest.Goals as goal
 pub returns-in-Ok-eq0 : goal.returns-in-Ok-eq0
 returns-in-Ok-eq0 g c =
     let some = not_empty _ c.writes.rest.now c.is_empty.ensures c.writes-test.true in
-    record { law = writes_zero c.writes.invariant c.write.ensures.law c.in-Ok-eq0.is c.in-Ok-eq0.field-0-test some c.failed_to_write.ensures }
+    record {
+      law = writes_zero c.writes.invariant c.write.ensures.law c.in-Ok-eq0.is c.in-Ok-eq0.field-0-test some c.failed_to_write.ensures;
+    }
 
 pub writes-smaller-in-Ok : goal.writes-smaller-in-Ok
 writes-smaller-in-Ok g c =
