@@ -1,28 +1,57 @@
 // What the Debug of each public type prints, over lines too, as Rust's derived ones do.
+use crate::printing::Narrow;
 use io_bench::{Act, Ask, Event, Faulty, Feed, Op, ReadTotals, Reply, Sink, Tally};
 use no_std_io2::io::{
     BufRead, BufReader, BufWriter, Cursor, Error, ErrorKind, LineWriter, Read, SeekFrom, Write,
 };
 use std::alloc::Global;
-use std::fmt::Debug;
+use std::fmt::{Debug, Write as _};
 use std::test::Fail;
 use tar_reader::{Header, Kind};
 use tower_play::{Fault, Shape};
 
+// Whether a value prints this, and tells a writer without room for it.
 fn prints<T: Debug>(alloc: Global, value: &T, short: &str, long: &str) -> Result<bool, Fail> {
     let text = format!(in alloc; "{value:?}")?;
     let lines = format!(in alloc; "{value:#?}")?;
-    Ok(text.as_str() == short && lines.as_str() == long)
+    let mut is_told = true;
+    'rooms: for left in 0..short.len() {
+        is_told = is_told && write!(&mut Narrow { left }, "{value:?}").is_err();
+    }
+    Ok(is_told && text.as_str() == short && lines.as_str() == long)
 }
 
-// A stream in memory that prints a field under another name, or all on one line.
+// A text in place of the kind's name, or none.
 #[test]
-fn streams_print_over_lines(rt: HostRuntime) -> Result<(), Fail> {
+fn errors_print_their_kind_and_their_text(rt: HostRuntime) -> Result<(), Fail> {
+    let alloc = rt.alloc();
+    let error = Error::new(ErrorKind::TimedOut, "late");
+    let short = "Custom { kind: TimedOut, error: \"late\" }";
+    let long = "Custom {\n    kind: TimedOut,\n    error: \"late\",\n}";
+    assert!(rt; prints(alloc, &error, short, long)?);
+    let error = Error::from(ErrorKind::NotFound);
+    assert!(rt; prints(alloc, &error, "Kind(NotFound)", "Kind(\n    NotFound,\n)")?);
+    Ok(())
+}
+
+// A place under another name, or without its number.
+#[test]
+fn places_print_their_number(rt: HostRuntime) -> Result<(), Fail> {
     let alloc = rt.alloc();
     let short = "Cursor { inner: [1], pos: 0 }";
     let long = "Cursor {\n    inner: [\n        1,\n    ],\n    pos: 0,\n}";
     assert!(rt; prints(alloc, &Cursor::new([1u8]), short, long)?);
-    assert!(rt; prints(alloc, &SeekFrom::End(-3), "End(-3)", "End(\n    -3,\n)")?);
+    let places = [SeekFrom::Start(3), SeekFrom::End(-3), SeekFrom::Current(-3)];
+    let long =
+        "[\n    Start(\n        3,\n    ),\n    End(\n        -3,\n    ),\n    Current(\n        -3,\n    ),\n]";
+    assert!(rt; prints(alloc, &places, "[Start(3), End(-3), Current(-3)]", long)?);
+    Ok(())
+}
+
+// A field that is left out, under another name, or all on one line.
+#[test]
+fn streams_in_memory_print_their_fields(rt: HostRuntime) -> Result<(), Fail> {
+    let alloc = rt.alloc();
     let text = b"A".as_slice();
     let short = "Chain { first: [65], second: [], done_first: false }";
     let long =
@@ -36,9 +65,9 @@ fn streams_print_over_lines(rt: HostRuntime) -> Result<(), Fail> {
     Ok(())
 }
 
-// A buffer that prints how much it holds on a line without its name.
+// A reader that prints its capacity for what it holds, or what it holds cut to a byte.
 #[test]
-fn buffers_print_over_lines(rt: HostRuntime) -> Result<(), Fail> {
+fn a_buffered_reader_prints_how_much_it_holds(rt: HostRuntime) -> Result<(), Fail> {
     let alloc = rt.alloc();
     let mut r = BufReader::<&[u8], 4>::new(b"abcd");
     let _lent = r.fill_buf()?;
@@ -46,11 +75,48 @@ fn buffers_print_over_lines(rt: HostRuntime) -> Result<(), Fail> {
     let short = "BufReader { reader: [], buffer: 3/4 }";
     let long = "BufReader {\n    reader: [],\n    buffer: 3/4,\n}";
     assert!(rt; prints(alloc, &r, short, long)?);
-    let mut w = LineWriter::<Sink, 8>::new(Sink::new());
-    w.write_all(b"ab")?;
-    let short = "LineWriter { writer: Sink, buffer: 2/8 }";
-    let long = "LineWriter {\n    writer: Sink,\n    buffer: 2/8,\n}";
+    let long = [b'a'; 300];
+    let mut r = BufReader::<&[u8], 300>::new(&long);
+    let _lent = r.fill_buf()?;
+    let short = "BufReader { reader: [], buffer: 300/300 }";
+    let long = "BufReader {\n    reader: [],\n    buffer: 300/300,\n}";
+    assert!(rt; prints(alloc, &r, short, long)?);
+    Ok(())
+}
+
+// The same of a writer.
+#[test]
+fn a_buffered_writer_prints_how_much_it_holds(rt: HostRuntime) -> Result<(), Fail> {
+    let alloc = rt.alloc();
+    let mut w = BufWriter::<Sink, 300>::new(Sink::new());
+    w.write_all(&[7; 270])?;
+    let short = "BufWriter { writer: Sink, buffer: 270/300 }";
+    let long = "BufWriter {\n    writer: Sink,\n    buffer: 270/300,\n}";
     assert!(rt; prints(alloc, &w, short, long)?);
+    Ok(())
+}
+
+// A held line of which not each byte counts.
+#[test]
+fn a_line_writer_prints_how_much_it_holds(rt: HostRuntime) -> Result<(), Fail> {
+    let alloc = rt.alloc();
+    let acts = vec![in alloc; Act::Zero]?;
+    let mut w = LineWriter::<Faulty<Sink>, 8>::new(Faulty::new(Sink::new(), acts));
+    w.write_all(b"ab")?;
+    assert!(rt; w.write_all(b"c\n").is_err());
+    let short = "LineWriter { writer: Faulty { inner: Sink, acts: [Zero], at: 1 }, buffer: 4/8 }";
+    let long = concat!(
+        "LineWriter {\n    writer: Faulty {\n        inner: Sink,\n        acts: [\n            Zero,\n",
+        "        ],\n        at: 1,\n    },\n    buffer: 4/8,\n}",
+    );
+    assert!(rt; prints(alloc, &w, short, long)?);
+    Ok(())
+}
+
+// A refusal that prints no writer, or another error than its own.
+#[test]
+fn a_refusal_prints_its_writer_and_its_error(rt: HostRuntime) -> Result<(), Fail> {
+    let alloc = rt.alloc();
     let acts = vec![in alloc; Act::Fail(ErrorKind::BrokenPipe)]?;
     let mut w = BufWriter::<Faulty<Sink>, 8>::new(Faulty::new(Sink::new(), acts));
     w.write_all(b"ab")?;
@@ -70,35 +136,59 @@ fn buffers_print_over_lines(rt: HostRuntime) -> Result<(), Fail> {
     Ok(())
 }
 
-// A device or a call of a bench whose numbers are not shown.
+// Counts that are not shown, or one in the other's place.
 #[test]
-fn a_bench_prints_its_calls(rt: HostRuntime) -> Result<(), Fail> {
+fn a_tally_prints_its_counts(rt: HostRuntime) -> Result<(), Fail> {
+    let mut r = Tally::new(b"ab".as_slice());
+    r.read_exact(&mut [0; 2])?;
+    let short = "Tally { inner: [], writes: 0, reads: 1 }";
+    let long = "Tally {\n    inner: [],\n    writes: 0,\n    reads: 1,\n}";
+    assert!(rt; prints(rt.alloc(), &r, short, long)?);
+    Ok(())
+}
+
+// A device of a bench whose events or acts are not shown.
+#[test]
+fn a_feed_prints_its_events(rt: HostRuntime) -> Result<(), Fail> {
     let alloc = rt.alloc();
-    let short = "Tally { inner: Sink, writes: 0, reads: 0 }";
-    let long = "Tally {\n    inner: Sink,\n    writes: 0,\n    reads: 0,\n}";
-    assert!(rt; prints(alloc, &Tally::new(Sink::new()), short, long)?);
-    let events = vec![in alloc; Event::Byte(b'a')]?;
-    let short = "Feed { events: [Byte(97)], at: 0, piece: 4 }";
-    let long =
-        "Feed {\n    events: [\n        Byte(\n            97,\n        ),\n    ],\n    at: 0,\n    piece: 4,\n}";
+    let events = vec![in alloc; Event::Byte(b'a'), Event::Fail(ErrorKind::BrokenPipe)]?;
+    let short = "Feed { events: [Byte(97), Fail(BrokenPipe)], at: 0, piece: 4 }";
+    let long = concat!(
+        "Feed {\n    events: [\n        Byte(\n            97,\n        ),\n        Fail(\n            BrokenPipe,\n",
+        "        ),\n    ],\n    at: 0,\n    piece: 4,\n}",
+    );
     assert!(rt; prints(alloc, &Feed::new(events, 4), short, long)?);
+    let acts = [Act::Take(1), Act::Zero];
+    let long = "[\n    Take(\n        1,\n    ),\n    Zero,\n]";
+    assert!(rt; prints(alloc, &acts, "[Take(1), Zero]", long)?);
+    Ok(())
+}
+
+// A call or a reply under another name, or without its number.
+#[test]
+fn a_run_prints_its_calls(rt: HostRuntime) -> Result<(), Fail> {
+    let alloc = rt.alloc();
     let ops = [Op::Write(b"a"), Op::WriteAll(b""), Op::Flush];
     let long = concat!(
         "[\n    Write(\n        [\n            97,\n        ],\n    ),\n    WriteAll(\n        [],\n    ),\n",
         "    Flush,\n]",
     );
     assert!(rt; prints(alloc, &ops, "[Write([97]), WriteAll([]), Flush]", long)?);
-    let replies = [
-        Reply::Took(2),
-        Reply::Done,
-        Reply::Failed(Error::new(ErrorKind::TimedOut, "late")),
-    ];
+    let late = Error::new(ErrorKind::TimedOut, "late");
+    let replies = [Reply::Took(2), Reply::Done, Reply::Failed(late)];
     let short = "[Took(2), Done, Failed(Custom { kind: TimedOut, error: \"late\" })]";
     let long = concat!(
         "[\n    Took(\n        2,\n    ),\n    Done,\n    Failed(\n        Custom {\n            kind: TimedOut,\n",
         "            error: \"late\",\n        },\n    ),\n]",
     );
     assert!(rt; prints(alloc, &replies, short, long)?);
+    Ok(())
+}
+
+// The same of asks and their totals.
+#[test]
+fn a_run_prints_its_asks(rt: HostRuntime) -> Result<(), Fail> {
+    let alloc = rt.alloc();
     let asks = [Ask::Read(1), Ask::Exact(2), Ask::Fill(3)];
     let long =
         "[\n    Read(\n        1,\n    ),\n    Exact(\n        2,\n    ),\n    Fill(\n        3,\n    ),\n]";
@@ -129,7 +219,7 @@ fn a_play_prints_its_shape_and_its_fault(rt: HostRuntime) -> Result<(), Fail> {
     Ok(())
 }
 
-// A header without one of its fields, or a kind under another name.
+// A header without one of its fields.
 #[test]
 fn a_member_prints_its_header(rt: HostRuntime) -> Result<(), Fail> {
     let alloc = rt.alloc();
@@ -144,6 +234,12 @@ fn a_member_prints_its_header(rt: HostRuntime) -> Result<(), Fail> {
     let long =
         "Header {\n    name: [\n        97,\n    ],\n    mode: 420,\n    size: 3,\n    mtime: 9,\n    kind: File,\n}";
     assert!(rt; prints(alloc, &header, short, long)?);
+    Ok(())
+}
+
+// A kind of member under another name.
+#[test]
+fn kinds_of_members_print_their_names(rt: HostRuntime) -> Result<(), Fail> {
     let kinds = [
         Kind::Link,
         Kind::Symlink,
@@ -155,6 +251,6 @@ fn a_member_prints_its_header(rt: HostRuntime) -> Result<(), Fail> {
     let short = "[Link, Symlink, CharacterDevice, BlockDevice, Directory, Fifo]";
     let long =
         "[\n    Link,\n    Symlink,\n    CharacterDevice,\n    BlockDevice,\n    Directory,\n    Fifo,\n]";
-    assert!(rt; prints(alloc, &kinds, short, long)?);
+    assert!(rt; prints(rt.alloc(), &kinds, short, long)?);
     Ok(())
 }

@@ -19,8 +19,6 @@ mod memory;
 #[cfg(test)]
 mod printing;
 #[cfg(test)]
-mod shapes;
-#[cfg(test)]
 mod streams;
 #[cfg(test)]
 mod tables;

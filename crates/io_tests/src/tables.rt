@@ -1,15 +1,15 @@
-// Tables that the crate `csv` reads and writes over this library's streams.
+// A table that the crate `csv` reads over this library's streams.
 ghost use Rattle.std.specs.Prelude.{◌≡◌, [], take, IfOk, option_map};
 ghost use Rattle.csv.specs.Machine.{next_record};
 ghost use Rattle.csv.specs.Reading.{default_config, strip_bom};
 ghost use Rattle.csv.specs.Records.{fields_of};
 ghost use Rattle.csv.specs.declared.parser.State.TheVariants as st;
 
-use csv::{ByteRecord, Error, ReaderBuilder, Writer};
-use no_std_io2::io::{BufReader, Cursor, LineWriter, Read};
+use csv::{ByteRecord, Error, ReaderBuilder};
+use no_std_io2::io::{BufReader, Cursor, Read};
 use std::alloc::Global;
 use std::test::Fail;
-use system_streams::{Telling, ToStd};
+use system_streams::Telling;
 
 // The first record of the table that the first `len` bytes of a text are.
 #[tactic(auto, using(crate::proofs::Fronts::front_bytes))]
@@ -38,18 +38,5 @@ fn a_table_is_read_from_the_front_of_a_stream(rt: HostRuntime) -> Result<(), Fai
     let row = first_record(rt.alloc(), text.as_slice(), 27)?.ok_or("no record")?;
     assert!(rt; row.len() == 2 && row.get(1) == Some(b"two,\nthree".as_slice()));
     assert!(rt; first_record(rt.alloc(), text.as_slice(), 0)?.is_none());
-    Ok(())
-}
-
-// A record that is lost between two buffers.
-#[test]
-fn a_table_is_written_through_a_buffer(rt: HostRuntime) -> Result<(), Fail> {
-    let lines = LineWriter::<Vec<u8>, 8>::new(Vec::new(rt.alloc()));
-    let mut rows = Writer::from_writer(ToStd::new(lines));
-    rows.write_fields(&[b"one", b"two,\nthree"])?;
-    rows.write_fields(&[b"four", b"five"])?;
-    rows.flush()?;
-    let written = rows.get_ref().get_ref().get_ref();
-    assert!(rt; written.as_slice() == b"one,\"two,\nthree\"\nfour,five\n".as_slice());
     Ok(())
 }
