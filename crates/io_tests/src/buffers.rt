@@ -1,4 +1,4 @@
-// What the comments of the buffers, of `copy` and of `skip` show.
+// The examples in the comments of the buffers, of `copy` and of `skip`.
 use examples::Narrow;
 use io_bench::{Act, Faulty, Tally};
 use no_std_io2::io::{
@@ -161,7 +161,7 @@ fn a_slice_is_written_with_retries(rt: HostRuntime) -> Result<(), Fail> {
     Ok(())
 }
 
-// Tries that are not made, one too many, and a byte that goes out twice.
+// A try that is missing, one too many, and a byte that goes out twice.
 #[test]
 fn so_many_retries_are_made(rt: HostRuntime) -> Result<(), Fail> {
     let fault = Act::Fail(ErrorKind::BrokenPipe);

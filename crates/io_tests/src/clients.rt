@@ -1,4 +1,4 @@
-// What the comments of `framing`, `line_log`, `system_streams` and `io_bench` show: an example that no longer does what it says.
+// The examples in the comments of `framing`, `line_log`, `system_streams` and `io_bench`: one that no longer does what it says.
 use examples::save;
 use framing::{FrameReader, FrameWriter, Shown, round_trip};
 use io_bench::{Op, Reply, Tally, joined};
@@ -216,7 +216,7 @@ fn a_record_is_saved(rt: HostRuntime) -> std::result::Result<(), Fail> {
     Ok(())
 }
 
-// An end that the reader is asked for once more.
+// A reader that is called again after its end.
 #[test]
 fn an_archive_of_no_bytes_asks_its_reader_once(rt: HostRuntime) -> std::result::Result<(), Fail> {
     let input = BufReader::<Tally<&[u8]>, 64>::new(Tally::new(b""));

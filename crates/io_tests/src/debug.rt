@@ -1,4 +1,5 @@
-// What the Debug of each public type prints, over lines too, as Rust's derived ones do.
+// What the `Debug` of each public type prints, on one line and on several, as Rust's derived ones
+// do.
 use crate::printing::Narrow;
 use io_bench::{Act, Ask, Event, Faulty, Feed, Op, ReadTotals, Reply, Sink, Tally};
 use no_std_io2::io::{
@@ -10,7 +11,7 @@ use std::test::Fail;
 use tar_reader::{Header, Kind};
 use tower_play::{Fault, Shape};
 
-// Whether a value prints this, and tells a writer without room for it.
+// Returns whether a value prints this, and reports the error of a writer without room for it.
 fn prints<T: Debug>(alloc: Global, value: &T, short: &str, long: &str) -> Result<bool, Fail> {
     let text = format!(in alloc; "{value:?}")?;
     let lines = format!(in alloc; "{value:#?}")?;
@@ -34,7 +35,7 @@ fn errors_print_their_kind_and_their_text(rt: HostRuntime) -> Result<(), Fail> {
     Ok(())
 }
 
-// A place under another name, or without its number.
+// A target of a seek under another name, or without its number.
 #[test]
 fn places_print_their_number(rt: HostRuntime) -> Result<(), Fail> {
     let alloc = rt.alloc();
@@ -65,7 +66,8 @@ fn streams_in_memory_print_their_fields(rt: HostRuntime) -> Result<(), Fail> {
     Ok(())
 }
 
-// A reader that prints its capacity for what it holds, or what it holds cut to a byte.
+// A reader that prints its capacity in place of the number of held bytes, or that number cut to a
+// byte.
 #[test]
 fn a_buffered_reader_prints_how_much_it_holds(rt: HostRuntime) -> Result<(), Fail> {
     let alloc = rt.alloc();
@@ -84,7 +86,7 @@ fn a_buffered_reader_prints_how_much_it_holds(rt: HostRuntime) -> Result<(), Fai
     Ok(())
 }
 
-// The same of a writer.
+// A writer that prints such a wrong number.
 #[test]
 fn a_buffered_writer_prints_how_much_it_holds(rt: HostRuntime) -> Result<(), Fail> {
     let alloc = rt.alloc();
@@ -96,7 +98,7 @@ fn a_buffered_writer_prints_how_much_it_holds(rt: HostRuntime) -> Result<(), Fai
     Ok(())
 }
 
-// A held line of which not each byte counts.
+// A held line of which not each byte is counted.
 #[test]
 fn a_line_writer_prints_how_much_it_holds(rt: HostRuntime) -> Result<(), Fail> {
     let alloc = rt.alloc();
@@ -113,7 +115,7 @@ fn a_line_writer_prints_how_much_it_holds(rt: HostRuntime) -> Result<(), Fail> {
     Ok(())
 }
 
-// A refusal that prints no writer, or another error than its own.
+// A failed `into_inner` that prints no writer, or another error than its own.
 #[test]
 fn a_refusal_prints_its_writer_and_its_error(rt: HostRuntime) -> Result<(), Fail> {
     let alloc = rt.alloc();
@@ -136,7 +138,7 @@ fn a_refusal_prints_its_writer_and_its_error(rt: HostRuntime) -> Result<(), Fail
     Ok(())
 }
 
-// Counts that are not shown, or one in the other's place.
+// Counts that are not shown, or that are swapped.
 #[test]
 fn a_tally_prints_its_counts(rt: HostRuntime) -> Result<(), Fail> {
     let mut r = Tally::new(b"ab".as_slice());
@@ -147,7 +149,7 @@ fn a_tally_prints_its_counts(rt: HostRuntime) -> Result<(), Fail> {
     Ok(())
 }
 
-// A device of a bench whose events or acts are not shown.
+// A test device whose events or acts are not shown.
 #[test]
 fn a_feed_prints_its_events(rt: HostRuntime) -> Result<(), Fail> {
     let alloc = rt.alloc();
@@ -185,7 +187,7 @@ fn a_run_prints_its_calls(rt: HostRuntime) -> Result<(), Fail> {
     Ok(())
 }
 
-// The same of asks and their totals.
+// An ask or a total under another name, or without its number.
 #[test]
 fn a_run_prints_its_asks(rt: HostRuntime) -> Result<(), Fail> {
     let alloc = rt.alloc();

@@ -1,4 +1,4 @@
-// The devices that `examples` shows, through a buffer and alone.
+// The devices of `examples`, through a buffer and without one.
 ghost use Rattle.std.specs.Prelude.{[]};
 
 use examples::{Broken, Inbox, Narrow, Port, Serial, Source};
@@ -9,7 +9,7 @@ use no_std_io2::io::{
 use no_std_io2::trace::Trace;
 use std::test::Fail;
 
-// The kind of a refusal.
+// Returns the kind of an error.
 fn refusal(answer: IoResult<()>) -> Option<ErrorKind> {
     match answer {
         Ok(()) => None,
@@ -35,7 +35,7 @@ impl Port for Shy {
     }
 }
 
-// A source of these bytes.
+// A source that gives these bytes.
 #[derive(Drop)]
 struct Letters(&'static [u8]);
 
@@ -47,7 +47,7 @@ impl Source for Letters {
     }
 }
 
-// A device that takes little and is not asked again, or one that takes nothing and is.
+// A device that takes little and is not called again, or one that takes nothing and is.
 #[test]
 fn a_narrow_device_takes_all_in_pieces(rt: HostRuntime) -> Result<(), Fail> {
     'devices: for (most, writes, refused) in [(4, 15, None), (0, 1, Some(ErrorKind::WriteZero))] {
@@ -64,7 +64,7 @@ fn a_narrow_device_takes_all_in_pieces(rt: HostRuntime) -> Result<(), Fail> {
     Ok(())
 }
 
-// A byte that goes out twice, or none, behind a refusal.
+// A byte that goes out twice, or not at all, after an error.
 #[test]
 fn a_serial_line_gets_each_byte_once(rt: HostRuntime) -> Result<(), Fail> {
     let device = Serial {
@@ -88,7 +88,7 @@ fn a_serial_line_gets_each_byte_once(rt: HostRuntime) -> Result<(), Fail> {
     Ok(())
 }
 
-// What a read into two bytes gave, or its error's kind.
+// Returns what a read into two bytes gave, or the kind of its error.
 fn read<R: Read>(r: &mut R) -> Result<[u8; 2], ErrorKind> {
     let mut buf = [0u8; 2];
     match r.read(&mut buf) {
@@ -122,7 +122,7 @@ fn readers_give_these(rt: HostRuntime) -> Result<(), Fail> {
     Ok(())
 }
 
-// Stands at 9 of 9 bytes, and counts how often it is asked for that.
+// A device at position 9 of 9 bytes, which counts how often its length is asked for.
 #[derive(Drop)]
 struct AtEnd {
     asked: u8,
@@ -149,7 +149,7 @@ impl Seek for AtEnd {
     ghost seek_fits = { λ s h. absurd h };
 }
 
-// A length that seeks for the position, where the device has an answer of its own.
+// A `stream_len` that seeks, although the device has a body of its own for it.
 #[test]
 fn a_length_asks_the_device_for_its_position(rt: HostRuntime) -> Result<(), Fail> {
     let mut device = AtEnd { asked: 0 };

@@ -52,7 +52,7 @@ fn equal_kinds_hash_equally_and_others_do_not(rt: HostRuntime) {
     }
 }
 
-// Through the bound alone.
+// Prints an error by the bound of the standard `Error`.
 fn shown<E: std::error::Error>(alloc: Global, error: &E) -> Result<String, Fail> {
     Ok(format!(in alloc; "{error}")?)
 }

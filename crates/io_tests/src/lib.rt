@@ -1,5 +1,5 @@
-//! Tests of what neither a clause nor a row of a table says: printed texts, kinds as keys, a long stream; and the examples of
-//! comments, those of the library in `buffers`, `memory` and `streams`, those of its clients in `clients`.
+//! Tests of what no clause and no row of a table can show: printed texts, kinds as keys, a long stream; and the examples of
+//! comments. Those of the library are in `buffers`, `memory` and `streams`, and those of its clients in `clients`.
 //!
 //! The comment above each test names the mistake that the test would find.
 #![tactic(auto)]

@@ -1,4 +1,4 @@
-// What the comments of errors and cursors show.
+// The examples in the comments of errors and cursors.
 use no_std_io2::io::{AsSlice, Cursor, Error, ErrorKind, Read, Write};
 use no_std_io2::trace::Trace;
 use std::test::Fail;

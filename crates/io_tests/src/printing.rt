@@ -1,4 +1,5 @@
-// What values print, and that each tells a writer without room for its text, wherever the room ends.
+// What values print, and that each reports the error of a writer without room for its text, wherever
+// the room ends.
 use no_std_io2::io::{BufWriter, Cursor, Error, ErrorKind, Write};
 use std::alloc::Global;
 use std::fmt::{Display, Write as _};
@@ -6,7 +7,7 @@ use std::test::Fail;
 use std::{fmt, io};
 use system_streams::{Patient, ToStd};
 
-// A writer of texts, with room for so many bytes.
+// A writer of texts, with room for some bytes.
 #[derive(Drop)]
 pub struct Narrow {
     pub left: usize,
@@ -22,7 +23,7 @@ impl fmt::Write for Narrow {
     }
 }
 
-// Whether this is what a value's Display prints.
+// Returns whether this is what the `Display` of a value prints.
 fn is_display<T: Display>(alloc: Global, value: &T, want: &str) -> Result<bool, Fail> {
     let text = format!(in alloc; "{value}")?;
     let mut is_told = true;
@@ -32,7 +33,7 @@ fn is_display<T: Display>(alloc: Global, value: &T, want: &str) -> Result<bool, 
     Ok(is_told && text.as_str() == want)
 }
 
-// An error that prints its kind's text in place of its own, or swallows a writer's refusal.
+// An error that prints its kind's text in place of its own, or ignores a writer's error.
 #[test]
 fn errors_print_their_texts(rt: HostRuntime) -> Result<(), Fail> {
     let alloc = rt.alloc();
@@ -41,7 +42,7 @@ fn errors_print_their_texts(rt: HostRuntime) -> Result<(), Fail> {
     Ok(())
 }
 
-// A text that is lost where an error becomes one of the system's.
+// A text that is lost when an error becomes one of the system's.
 #[test]
 fn an_error_of_the_systems_prints_its_text(rt: HostRuntime) -> Result<(), Fail> {
     let mut r = ToStd::new(Patient::new(b"a".as_slice(), 1));
@@ -50,7 +51,7 @@ fn an_error_of_the_systems_prints_its_text(rt: HostRuntime) -> Result<(), Fail> 
     Ok(())
 }
 
-// A refusal that prints another error than its own.
+// A failed `into_inner` that prints another error than its own.
 #[test]
 fn a_refusal_prints_its_error(rt: HostRuntime) -> Result<(), Fail> {
     let mut w = BufWriter::<Cursor<[u8; 0]>, 8>::new(Cursor::new([]));

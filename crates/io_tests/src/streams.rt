@@ -1,4 +1,4 @@
-// What the comments of the traits and of their adaptors show.
+// The examples in the comments of the traits and of their adaptors.
 use no_std_io2::io::{BufRead, BufWriter, Cursor, Read, Seek, SeekFrom, Write};
 use std::collections::VecDeque;
 use std::test::Fail;

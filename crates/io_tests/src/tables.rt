@@ -11,7 +11,7 @@ use std::alloc::Global;
 use std::test::Fail;
 use system_streams::Telling;
 
-// The first record of the table that the first `len` bytes of a text are.
+// Returns the first record of a table, which is the first `len` bytes of a text.
 #[tactic(auto, using(crate::proofs::Fronts::front_bytes))]
 fn first_record(alloc: Global, text: &[u8], len: u64) -> Result<Option<ByteRecord>, Error>
     ensures { IfOk result (λ row. option_map fields_of row ≡ option_map (λ p. p.0)
@@ -29,7 +29,7 @@ fn first_record(alloc: Global, text: &[u8], len: u64) -> Result<Option<ByteRecor
     }
 }
 
-// A table that is cut by a buffer, or that ends behind its own bytes.
+// A table that is cut by a buffer, or that ends after its own bytes.
 #[test]
 fn a_table_is_read_from_the_front_of_a_stream(rt: HostRuntime) -> Result<(), Fail> {
     let text = b"one,\"two,\nthree\"\nfour,five\n";

@@ -1,4 +1,4 @@
-// What `write!` prints to each writer, and what it does where a device fails or a text's own `fmt` does.
+// What `write!` prints to each writer, and what it does if a device or the text's own `fmt` fails.
 ghost use Rattle.no_std_io2.specs.Write.{told_out};
 
 use line_log::LineLog;
@@ -6,7 +6,7 @@ use no_std_io2::io::{Cursor, Error, ErrorKind, LineWriter, Result as IoResult, W
 use std::fmt;
 use std::test::Fail;
 
-// Takes so many writes whole, and then fails at each, with a text of its own.
+// A device that takes some writes whole, and then fails at each, with a text of its own.
 #[derive(Drop)]
 struct Failing {
     taken: Vec<u8>,
@@ -32,7 +32,7 @@ impl Write for Failing {
     ghost steady = { λ w h. absurd h };
 }
 
-// It prints `ab`, and then answers an error of its own.
+// A value that prints `ab`, and then returns an error of its own.
 #[derive(Drop)]
 struct Broken;
 
@@ -43,7 +43,7 @@ impl fmt::Display for Broken {
     }
 }
 
-// It prints `abcdef` in two parts, and passes over what the parts answer.
+// A value that prints `abcdef` in two parts, and ignores the results of the parts.
 #[derive(Drop)]
 struct Deaf;
 
@@ -78,7 +78,7 @@ fn a_text_is_printed_whole(rt: HostRuntime) -> Result<(), Fail> {
     Ok(())
 }
 
-// A writer whose own calls a text passes by.
+// A text that does not make the writer's own calls.
 #[test]
 fn a_text_is_printed_to_each_writer(rt: HostRuntime) -> Result<(), Fail> {
     let mut lines = LineWriter::<Vec<u8>, 8>::new(Vec::new(rt.alloc()));
@@ -89,7 +89,8 @@ fn a_text_is_printed_to_each_writer(rt: HostRuntime) -> Result<(), Fail> {
     Ok(())
 }
 
-// An error that is swallowed, made anew or told without its text, and a piece that is written behind it.
+// An error that is ignored, made anew or returned without its text, and a piece that is written after
+// it.
 #[test]
 fn a_device_that_fails_at_a_piece_has_the_front_before_it(rt: HostRuntime) -> Result<(), Fail> {
     let whole = b"t=  21, (1, -2)\n".as_slice();
@@ -115,7 +116,7 @@ fn a_device_that_fails_at_a_piece_has_the_front_before_it(rt: HostRuntime) -> Re
     Ok(())
 }
 
-// A device's error that a text passes over, as if it had gone well.
+// A device's error that a text ignores, reported as success.
 #[test]
 fn a_text_that_passes_over_errors_hides_none(rt: HostRuntime) -> Result<(), Fail> {
     let mut room = [0u8; 4];
@@ -128,7 +129,7 @@ fn a_text_that_passes_over_errors_hides_none(rt: HostRuntime) -> Result<(), Fail
     Ok(())
 }
 
-// A text's own failure that is passed over, and what it had printed taken back.
+// A text's own failure that is ignored, and printed bytes that are taken back.
 #[test]
 fn a_text_that_fails_is_told(rt: HostRuntime) -> Result<(), Fail> {
     let mut device = Vec::<u8>::new(rt.alloc());

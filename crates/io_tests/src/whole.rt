@@ -1,4 +1,5 @@
-// A stream that is longer than any room that is opened at once, a list of asks, and copies to a vector.
+// A stream that is longer than the zeros that a `read_to_end` adds at once, a list of asks, and copies
+// to a vector.
 use io_bench::{Ask, Tally, run_reads};
 use no_std_io2::io::{BufReader, ErrorKind, Read};
 use std::test::Fail;
@@ -19,7 +20,7 @@ fn two_halves_of_a_mebibyte_are_the_whole(rt: HostRuntime) -> Result<(), Fail> {
     Ok(())
 }
 
-// An ask that reads behind the front of its buffer, or a run that takes its asks one by one.
+// An ask that reads after the front of its buffer, or a run that takes its asks one by one.
 #[test]
 fn asks_fill_the_front_of_their_buffer(rt: HostRuntime) {
     let mut buf = *b"xyz";
