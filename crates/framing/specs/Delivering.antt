@@ -1,4 +1,4 @@
--- What `deliver` does.
+-- What `send_all_with_retries` does.
 use Rattle.std.specs.Prelude.{◌≡◌, ℕ, List, [], ◌∷◌, ◌++◌, Option, Some, None, Result, Ok, Err}
 use Rattle.no_std_io2.specs.Errors.{error_kind}
 use Rattle.no_std_io2.specs.Write.{Told, Moves, Sends}

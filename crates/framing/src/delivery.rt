@@ -1,4 +1,4 @@
-//! [`FrameWriter::deliver`], which sends frames until the device has them all.
+//! [`FrameWriter::send_all_with_retries`], which sends frames until the device has them all.
 ghost use Rattle.std.specs.Prelude.{◌≡◌, ◌≤◌, ◌⊎◌, [], ◌++◌, None, map, OnOk, IfOk, IfErr, IfSome};
 ghost use Rattle.framing.specs.Frames.{frames, IsPayloadRefusal};
 ghost use Rattle.framing.specs.Sending.{writer_tells, frame_writer, frame_room, under_way, still_to_go, TakesPayloads};
@@ -32,7 +32,7 @@ impl<W: Write + Drop, const S: usize> FrameWriter<W, S> {
 
     /// Sends these payloads like [`send_all`](FrameWriter::send_all) and flushes. If the device
     /// fails, it tries again, up to `tries` times. After `Ok` every frame is out, once, and nothing
-    /// is held. If the device tells that at most `tries` mishaps are to come, `deliver` fails only
+    /// is held. If the device tells that at most `tries` mishaps are to come, `send_all_with_retries` fails only
     /// if a payload is refused.
     ///
     /// # Errors
@@ -43,10 +43,10 @@ impl<W: Write + Drop, const S: usize> FrameWriter<W, S> {
     /// ```rust
     /// let mut w = FrameWriter::<Vec<u8>, 64>::new(rt.alloc(), Vec::new(rt.alloc()));
     /// let mut rest = payloads.as_slice();
-    /// w.deliver(&mut rest, 3)?; // tries again after each of the first three faults
+    /// w.send_all_with_retries(&mut rest, 3)?; // tries again after each of the first three faults
     /// assert!(rt; rest.is_empty());
     /// ```
-    pub fn deliver(&mut self, rest: &mut &[Vec<u8>], tries: u32) -> Result<()>
+    pub fn send_all_with_retries(&mut self, rest: &mut &[Vec<u8>], tries: u32) -> Result<()>
         ensures sends { Delivers (writer_tells W.told self.old)
             (still_to_go self.old ++ frames (map (λ v. v.items) rest.old.now))
             (writer_tells W.told self.new) (still_to_go self.new ++ frames (map (λ v. v.items) rest.new.now)) }

@@ -63,7 +63,7 @@ impl<W: Shown> Shown for Box<W> {
 /// for a frame that is longer than the writer's room for one, or, after all frames are out, for what is read.
 ///
 /// # Errors
-/// Returns the errors that [`FrameWriter::deliver`] returns, and `OutOfMemory` if the reader could
+/// Returns the errors that [`FrameWriter::send_all_with_retries`] returns, and `OutOfMemory` if the reader could
 /// not allocate.
 ///
 /// ```rust
@@ -89,7 +89,7 @@ pub fn round_trip<W: Shown + Drop, const S: usize>(
 {
     let before = w.get_ref().shown().len();
     let mut rest = payloads;
-    w.deliver(&mut rest, tries)?;
+    w.send_all_with_retries(&mut rest, tries)?;
     let sent = &w.get_ref().shown()[before..];
     let mut reader = FrameReader::<&[u8], 64>::new(alloc, sent, u32::MAX);
     let mut given = Vec::new(alloc);

@@ -14,7 +14,7 @@ use std::alloc::Global;
 /// A writer of frames, with a buffer of `S` bytes in front of any writer.
 ///
 /// If the device fails before a whole frame was accepted, that frame is *under way*.
-/// [`retry`](FrameWriter::retry), `send_all` and `flush` continue where it stopped, so no byte goes
+/// [`resume`](FrameWriter::resume), `send_all` and `flush` continue where it stopped, so no byte goes
 /// out twice. Take the bytes that the device has, then the bytes in the buffer, then the unsent
 /// rest of the frame under way: together they are always the bytes at the start, followed by
 /// exactly the frames that were sent.
@@ -71,7 +71,7 @@ impl<W: Write + Drop, const S: usize> FrameWriter<W, S> {
     /// Returns the device's first fault, and `WriteZero` if the device takes no byte. The frame is
     /// still under way, and the same call continues at the first byte that was not accepted. Never
     /// returns `Interrupted`.
-    pub fn retry(&mut self) -> Result<()>
+    pub fn resume(&mut self) -> Result<()>
         ensures law { RestLaw ⟦<BufWriter<W, S> as Write>⟧ (frame_writer self.old) (still_to_go self.old) result
             (frame_writer self.new) (still_to_go self.new) }
         ensures done { OnOk result (under_way self.new ≡ []) }
@@ -89,13 +89,13 @@ impl<W: Write + Drop, const S: usize> FrameWriter<W, S> {
     }
 
     /// Sends a payload. After `Ok` its whole frame was accepted, and is out or held; it is not flushed.
-    /// No other frame may be under way: if [`is_under_way`](FrameWriter::is_under_way), call `retry`
+    /// No other frame may be under way: if [`is_under_way`](FrameWriter::is_under_way), call `resume`
     /// first.
     ///
     /// # Errors
     /// Returns `InvalidInput` if the payload has 2^32 bytes or more, and `OutOfMemory` if an allocation
     /// failed; nothing was then accepted, and no frame is under way. Otherwise returns the errors that
-    /// `retry` returns; the frame is then under way.
+    /// `resume` returns; the frame is then under way.
     pub fn send(&mut self, payload: &[u8]) -> Result<()>
         requires { under_way self.old ≡ [] }
         ensures sends { SendsRecord (RestLaw ⟦<BufWriter<W, S> as Write>⟧) (frame payload.now) (IsPayloadRefusal (frame_room self.old) payload.now)
@@ -103,7 +103,7 @@ impl<W: Write + Drop, const S: usize> FrameWriter<W, S> {
         ensures small { OnOk result (length payload.now < 2 ^ 32) }
     {
         stage(&mut self.pending, payload)?;
-        self.retry()
+        self.resume()
     }
 
     /// Continues the frame under way, and then sends these payloads in order. It removes each payload
@@ -111,7 +111,7 @@ impl<W: Write + Drop, const S: usize> FrameWriter<W, S> {
     /// continues, and each frame goes out once.
     ///
     /// # Errors
-    /// Returns the errors that `retry` returns; a frame is then under way. Returns `InvalidInput` and
+    /// Returns the errors that `resume` returns; a frame is then under way. Returns `InvalidInput` and
     /// `OutOfMemory` as `send` does; no frame is then under way, and the refused payload is at the
     /// front of `rest`.
     ///
@@ -137,7 +137,7 @@ impl<W: Write + Drop, const S: usize> FrameWriter<W, S> {
         ensures room { frame_room self.old ≤ frame_room self.new }
     {
         'frames: loop {
-            self.retry()?;
+            self.resume()?;
             let Some((payload, others)) = rest.split_first() else {
                 return Ok(());
             };
@@ -150,7 +150,7 @@ impl<W: Write + Drop, const S: usize> FrameWriter<W, S> {
     /// frame is under way.
     ///
     /// # Errors
-    /// Returns the errors that `retry` returns, and the device's error if its `flush` fails. Bytes that
+    /// Returns the errors that `resume` returns, and the device's error if its `flush` fails. Bytes that
     /// were not sent are still held or in the frame under way, and a later call continues with them.
     pub fn flush(&mut self) -> Result<()>
         ensures calls { RestFlushLaw ⟦<BufWriter<W, S> as Write>⟧ (frame_writer self.old) (still_to_go self.old) result
@@ -159,12 +159,12 @@ impl<W: Write + Drop, const S: usize> FrameWriter<W, S> {
             × ((writer_tells W.told self.new).held ≡ [])) }
         ensures room { frame_room self.new ≡ frame_room self.old }
     {
-        self.retry()?;
+        self.resume()?;
         self.inner.flush()
     }
 
     /// Sends the held bytes and returns the writer below, which is not flushed. If nothing is held, it makes no call. No frame may be under
-    /// way: if [`is_under_way`](FrameWriter::is_under_way), call `retry` first.
+    /// way: if [`is_under_way`](FrameWriter::is_under_way), call `resume` first.
     ///
     /// # Errors
     /// Returns the device's first fault, and `WriteZero` if the device takes no byte. The error contains

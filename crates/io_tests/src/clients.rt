@@ -49,7 +49,7 @@ fn a_frame_that_was_torn_goes_on(rt: HostRuntime) -> std::result::Result<(), Fai
     let mut w = FrameWriter::<Cursor<&mut [u8]>, 4>::new(rt.alloc(), Cursor::new(&mut room[..4]));
     assert!(rt; w.send(b"hello").is_err()); // the device has room for the length alone
     assert!(rt; w.is_under_way());
-    assert!(rt; w.retry().is_err()); // there is still no room, and the frame still under way
+    assert!(rt; w.resume().is_err()); // there is still no room, and the frame still under way
     Ok(())
 }
 
@@ -70,7 +70,7 @@ fn frames_of_a_list_are_delivered(rt: HostRuntime) -> std::result::Result<(), Fa
     let payloads = payloads(rt.alloc())?;
     let mut w = FrameWriter::<Vec<u8>, 64>::new(rt.alloc(), Vec::new(rt.alloc()));
     let mut rest = payloads.as_slice();
-    w.deliver(&mut rest, 3)?; // tries again after each of the first three faults
+    w.send_all_with_retries(&mut rest, 3)?; // tries again after each of the first three faults
     assert!(rt; rest.is_empty());
     Ok(())
 }
@@ -156,7 +156,7 @@ fn a_line_that_was_cut_goes_on(rt: HostRuntime) -> std::result::Result<(), Fail>
     let mut log = LineLog::<_, 8>::new(rt.alloc(), Cursor::new(&mut room[..]));
     assert!(rt; log.log("started").is_err()); // the device has room for `star` alone
     assert!(rt; log.is_under_way());
-    assert!(rt; log.retry().is_err()); // there is still no room, and the line still under way
+    assert!(rt; log.resume().is_err()); // there is still no room, and the line still under way
     Ok(())
 }
 

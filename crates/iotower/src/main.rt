@@ -80,15 +80,15 @@ fn command_of(verb: &str, mode: &str) -> Option<Command>
 }
 
 // Makes a stream of the system a stream of this library, with more turns than a program can use up.
-fn patiently<D>(device: D) -> Patient<D>
+fn with_all_turns<D>(device: D) -> Patient<D>
     ensures turns { patient_turns result ≡ 2 ^ 64 - 1 }
 {
     Patient::new(device, u64::MAX)
 }
 
 fn run(rt: &HostRuntime, command: Command) -> Result<(), Fault> {
-    let input = patiently(rt.reader());
-    let output = patiently(io::writer(rt));
+    let input = with_all_turns(rt.reader());
+    let output = with_all_turns(io::writer(rt));
     match command {
         Command::Copy(mode) => {
             copy_through(input, output, matches!(mode, Mode::LineBuffered))?;

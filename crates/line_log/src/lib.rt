@@ -25,7 +25,7 @@ use std::fmt::Display;
 /// A log of lines, through a `LineWriter` of `S` bytes in front of any writer.
 ///
 /// If the device fails before a whole line was accepted, that line is *under way*.
-/// [`retry`](LineLog::retry), `log_all` and `flush` continue where it stopped, so no byte goes out twice.
+/// [`resume`](LineLog::resume), `log_all` and `flush` continue where it stopped, so no byte goes out twice.
 /// Take the bytes that the device has, then the held bytes, then the unsent rest of the line under way:
 /// together they are always the bytes at the start, followed by exactly the lines that were logged, each
 /// with its newline.
@@ -82,7 +82,7 @@ impl<W: Write + Drop, const S: usize> LineLog<W, S> {
     /// Returns the device's first fault, and `WriteZero` if the device takes no byte. The line is still
     /// under way, and the same call continues at the first byte that was not accepted. Never returns
     /// `Interrupted`.
-    pub fn retry(&mut self) -> Result<()>
+    pub fn resume(&mut self) -> Result<()>
         ensures calls { LineLaw ⟦<LineWriter<W, S> as Write>⟧ (log_writer self.old) (log_left self.old) result
             (log_writer self.new) (log_left self.new) }
         ensures done { OnOk result (log_under_way self.new ≡ []) }
@@ -107,11 +107,11 @@ impl<W: Write + Drop, const S: usize> LineLog<W, S> {
 
     /// Logs a line: the text, followed by a newline. After `Ok` the writer below has all of it, and
     /// nothing is held here. No other line may be under way: if [`is_under_way`](LineLog::is_under_way),
-    /// call `retry` first.
+    /// call `resume` first.
     ///
     /// # Errors
     /// Returns `InvalidInput` if the text has a newline in it, and `OutOfMemory` if an allocation failed;
-    /// nothing was then accepted, and no line is under way. Otherwise returns the errors that `retry` returns;
+    /// nothing was then accepted, and no line is under way. Otherwise returns the errors that `resume` returns;
     /// the line is then under way.
     pub fn log(&mut self, line: &str) -> Result<()>
         requires { log_under_way self.old ≡ [] }
@@ -122,17 +122,17 @@ impl<W: Write + Drop, const S: usize> LineLog<W, S> {
         ensures started { 0 < length (log_under_way self.new) → HasNoNewline line.now }
     {
         stage(&mut self.pending, line)?;
-        self.retry()
+        self.resume()
     }
 
     /// Logs the printed text of a value, followed by a newline. The text is printed into the memory that earlier lines
     /// left, so the call allocates only if that is too small. If printing fails, nothing is sent. No other line may be
-    /// under way: if [`is_under_way`](LineLog::is_under_way), call `retry` first.
+    /// under way: if [`is_under_way`](LineLog::is_under_way), call `resume` first.
     ///
     /// # Errors
     /// Returns `InvalidInput` if the text has a newline in it, `Other`, `formatter error`, if the value's own `fmt`
     /// failed, and `OutOfMemory` if an allocation failed; nothing was then accepted, and no line is under way.
-    /// Otherwise returns the errors that `retry` returns; the line is then under way.
+    /// Otherwise returns the errors that `resume` returns; the line is then under way.
     ///
     /// ```rust
     /// let mut log = LineLog::<Vec<u8>, 64>::new(rt.alloc(), Vec::new(rt.alloc()));
@@ -159,7 +159,7 @@ impl<W: Write + Drop, const S: usize> LineLog<W, S> {
         ensures passed { OnOk result (log_buffer self.new ≡ []) }
     {
         stage_text(&mut self.pending, text)?;
-        self.retry()
+        self.resume()
     }
 
     /// Continues the line under way, and then logs these lines in order. It removes each line from the
@@ -167,7 +167,7 @@ impl<W: Write + Drop, const S: usize> LineLog<W, S> {
     /// each line goes out once.
     ///
     /// # Errors
-    /// Returns the errors that `retry` returns; a line is then under way. Returns `InvalidInput` and
+    /// Returns the errors that `resume` returns; a line is then under way. Returns `InvalidInput` and
     /// `OutOfMemory` as `log` does; no line is then under way, and the refused line is at the front of
     /// `rest`.
     ///
@@ -192,7 +192,7 @@ impl<W: Write + Drop, const S: usize> LineLog<W, S> {
         ensures done { OnOk result ((log_under_way self.new ≡ []) × (log_left self.new ≡ []) × (rest.new.now ≡ [])) }
     {
         'lines: loop {
-            self.retry()?;
+            self.resume()?;
             let Some((line, others)) = rest.split_first() else {
                 return Ok(());
             };
@@ -205,7 +205,7 @@ impl<W: Write + Drop, const S: usize> LineLog<W, S> {
     /// line is under way.
     ///
     /// # Errors
-    /// Returns the errors that `retry` returns, and the device's error if its `flush` fails. Bytes that
+    /// Returns the errors that `resume` returns, and the device's error if its `flush` fails. Bytes that
     /// were not sent are still held or in the line under way, and a later call continues with them.
     pub fn flush(&mut self) -> Result<()>
         ensures calls { let L = ⟦<LineWriter<W, S> as Write>⟧ in AndThen (LineLaw L) (FlushedLaw L) (log_writer self.old)
@@ -213,12 +213,12 @@ impl<W: Write + Drop, const S: usize> LineLog<W, S> {
         ensures done { OnOk result ((log_under_way self.new ≡ []) × (log_left self.new ≡ [])
             × ((log_told W.told self.new).held ≡ [])) }
     {
-        self.retry()?;
+        self.resume()?;
         self.lines.flush()
     }
 
     /// Sends the held bytes and returns the writer below, which is not flushed. If nothing is held, it makes no
-    /// call. No line may be under way: if [`is_under_way`](LineLog::is_under_way), call `retry` first.
+    /// call. No line may be under way: if [`is_under_way`](LineLog::is_under_way), call `resume` first.
     ///
     /// # Errors
     /// Returns the device's first fault, and `WriteZero` if the device takes no byte. The error contains the

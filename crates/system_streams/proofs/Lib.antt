@@ -1,3 +1,3 @@
 pub mod CopyLemmas
 mod LoopLemmas
-mod TellingLemmas
+mod KnownLemmas

@@ -1,5 +1,5 @@
 pub mod Turns
 pub mod Patient
 pub mod ToStd
-pub mod Telling
+pub mod ToStdKnown
 pub mod Copies

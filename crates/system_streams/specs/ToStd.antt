@@ -1,4 +1,4 @@
--- The stream in a `ToStd`, and the results of a `ToStd` and a `Telling`.
+-- The stream in a `ToStd`, and the results of a `ToStd` and a `ToStdKnown`.
 use Rattle.std.specs.Prelude.{◌≡◌, ℕ, List, ◌++◌, Ok, Err, Result}
 use Rattle.std.specs.IoError as Io
 use Rattle.std.specs.declared.io.Error as Std

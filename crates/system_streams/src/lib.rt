@@ -3,7 +3,7 @@
 //!
 //! A real device does not tell what it will give or take, and may be interrupted for ever. [`Patient`] makes a reader
 //! or writer of Rust's `std::io` one of this library's, with a number of turns that bounds every loop over it.
-//! [`copy_through`] copies one stream to another with a buffer at each. [`ToStd`] and [`Telling`] make a stream of this
+//! [`copy_through`] copies one stream to another with a buffer at each. [`ToStd`] and [`ToStdKnown`] make a stream of this
 //! library one of `std::io`, for crates that need those.
 //!
 //! These are standard input and standard output, with more turns than a program can use up:
@@ -18,11 +18,11 @@ mod copy;
 mod patient;
 mod pins;
 mod system;
-mod telling;
 mod to_std;
+mod to_std_known;
 
 pub use copy::copy_through;
 pub use patient::Patient;
 pub use system::{SystemRead, SystemWrite};
-pub use telling::Telling;
 pub use to_std::ToStd;
+pub use to_std_known::ToStdKnown;

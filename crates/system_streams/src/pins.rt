@@ -4,13 +4,13 @@ ghost use Rattle.std.specs.Prelude.{◌≡◌, Some};
 ghost use Rattle.no_std_io2.specs.Read.{bytes};
 ghost use Rattle.system_streams.specs.Patient.{patient_turns, patient_told, PatientMay};
 ghost use Rattle.no_std_io2.specs.Write.{WriteCall};
-ghost use Rattle.system_streams.specs.Telling.{telling_inner};
+ghost use Rattle.system_streams.specs.ToStdKnown.{known_inner};
 ghost use Rattle.system_streams.specs.ToStd.{std_inner, accepted};
 
 use crate::patient::Patient;
 use crate::system::{SystemRead, SystemWrite};
-use crate::telling::Telling;
 use crate::to_std::ToStd;
+use crate::to_std_known::ToStdKnown;
 use no_std_io2::io::{Read, Stored, Write};
 use std::io;
 
@@ -40,9 +40,9 @@ pub fn patient_writer_calls<D: SystemWrite>(old: &Patient<D>, new: &Patient<D>)
         → PatientMay ⟦<D as SystemWrite>⟧ old.now call new.now }
 {}
 
-/// A `Telling` tells `std::io` the bytes to come.
-pub fn telling_tells<R: Read>(t: &Telling<R>)
-    ensures { ⟦<Telling<R> as io::Read>⟧.remaining t.now ≡ Some (bytes (R.events (telling_inner t.now))) }
+/// A `ToStdKnown` tells `std::io` the bytes to come.
+pub fn to_std_known_tells<R: Read>(t: &ToStdKnown<R>)
+    ensures { ⟦<ToStdKnown<R> as io::Read>⟧.remaining t.now ≡ Some (bytes (R.events (known_inner t.now))) }
 {}
 
 /// A `ToStd` tells `std::io` the bytes that its writer accepted.

@@ -17,7 +17,7 @@ use std::io::ErrorKind as StdKind;
 ///
 /// Each call is one call of the stream. In contracts of `std::io`, a writer has the bytes that it
 /// accepted, and nothing is known about what a reader will give. For a reader that tells its events
-/// there is [`Telling`](crate::Telling).
+/// there is [`ToStdKnown`](crate::ToStdKnown).
 ///
 /// # Errors
 /// A call returns the stream's error, with the kind of the same name and at most the first 80 bytes

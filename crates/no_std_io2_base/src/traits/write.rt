@@ -108,7 +108,7 @@ pub trait Write {
     /// bytes left in `rest` were then not accepted. Never returns `Interrupted`.
     ///
     /// ```rust
-    /// pub fn send_patiently<W: Write>(device: &mut W, rest: &mut &[u8]) -> Result<()>
+    /// pub fn send_with_one_retry<W: Write>(device: &mut W, rest: &mut &[u8]) -> Result<()>
     ///     ensures sends { Sends (W.told device.old) rest.old.now result (W.told device.new) rest.new.now }
     ///     ensures done { OnOk result (rest.new.now ≡ []) }
     /// {

@@ -42,7 +42,7 @@ fn send(to: &mut FrameWriter<Recorder, 4>, payload: &[u8], line: &mut Line) {
 fn send_by(to: &mut FrameWriter<Recorder, 4>, call: &Call<'_>, line: &mut Line) {
     match call.word {
         "send" => send(to, &call.bytes, line),
-        "retry" => line.done(&to.retry()),
+        "resume" => line.done(&to.resume()),
         "flush" => line.done(&to.flush()),
         _ => line.malformed("no such call"),
     }
@@ -153,7 +153,7 @@ fn log(to: &mut LineLog<Recorder, 4>, call: &Call<'_>, line: &mut Line) {
 fn log_by(to: &mut LineLog<Recorder, 4>, call: &Call<'_>, line: &mut Line) {
     match call.word {
         "log" | "log_text" | "log_broken" => log(to, call, line),
-        "retry" => line.done(&to.retry()),
+        "resume" => line.done(&to.resume()),
         "flush" => line.done(&to.flush()),
         _ => line.malformed("no such call"),
     }

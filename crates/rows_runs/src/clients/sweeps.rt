@@ -147,7 +147,7 @@ fn send(alloc: Global, device: Faulty<Vec<u8>>, payloads: &[Vec<u8>]) -> Outcome
 fn deliver(alloc: Global, device: Faulty<Vec<u8>>, payloads: &[Vec<u8>], tries: u32) -> bool {
     let mut w = Sender::new(alloc, device);
     let mut rest = payloads;
-    w.deliver(&mut rest, tries).is_ok() && rest.is_empty() && is_sent(&w)
+    w.send_all_with_retries(&mut rest, tries).is_ok() && rest.is_empty() && is_sent(&w)
 }
 
 type Log = LineLog<Faulty<Vec<u8>>, 4>;

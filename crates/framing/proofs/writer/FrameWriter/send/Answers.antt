@@ -4,6 +4,6 @@ use Rattle.framing.proofs.writer.FrameWriter.send.Goals as goal
 
 pub returns-clause-sends : goal.returns-clause-sends
 returns-clause-sends g c =
-    let retried = c.retry.ensures in
-    record_sent (RestLaw _) _ _ c.retry.result retried.law c.in_ok-stage.ensures.rest c.in_ok-stage.ensures.frame retried.done
-    retried.law.done retried.err
+    let resumed = c.resume.ensures in
+    record_sent (RestLaw _) _ _ c.resume.result resumed.law c.in_ok-stage.ensures.rest c.in_ok-stage.ensures.frame resumed.done
+    resumed.law.done resumed.err

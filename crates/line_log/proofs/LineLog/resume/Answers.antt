@@ -4,7 +4,7 @@ use Rattle.no_std_io2.specs.LineWriter.{line_inner}
 use Rattle.line_log.specs.Log.{log_told, log_left}
 use Rattle.pending.proofs.RecordLemmas.{rest_as, rest_none, all_none, none_of, some_of}
 use Rattle.line_log.proofs.LogLemmas.{line_sends, none_waits}
-use Rattle.line_log.proofs.LineLog.retry.Goals as goal
+use Rattle.line_log.proofs.LineLog.resume.Goals as goal
 
 pub returns-then-not-is_under_way-clause-calls : goal.returns-then-not-is_under_way-clause-calls
 returns-then-not-is_under_way-clause-calls g c =

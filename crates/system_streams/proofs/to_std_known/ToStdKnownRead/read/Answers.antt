@@ -1,6 +1,6 @@
 use Rattle.std.proofs.Math.Logic.{∥∥₁_map}
-use Rattle.system_streams.proofs.TellingLemmas.{consumes_bytes}
-use Rattle.system_streams.proofs.telling.TellingRead.read.Goals as goal
+use Rattle.system_streams.proofs.KnownLemmas.{consumes_bytes}
+use Rattle.system_streams.proofs.to_std_known.ToStdKnownRead.read.Goals as goal
 
 pub invariant_of-self : goal.invariant_of-self
 invariant_of-self g c = record {

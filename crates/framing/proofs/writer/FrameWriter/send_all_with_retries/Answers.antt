@@ -4,7 +4,7 @@ use Rattle.framing.specs.Frames.{IsPayloadRefusal}
 use Rattle.framing.proofs.DeliveryLemmas.{delivers_more, refusal_less}
 use Rattle.no_std_io2.proofs.RetryLemmas.{sends_none, spent_none, spent_more, spent_all}
 use Rattle.pending.proofs.RecordLemmas.{off_none, off_then, refuses_as}
-use Rattle.framing.proofs.writer.FrameWriter.deliver.Goals as goal
+use Rattle.framing.proofs.writer.FrameWriter.send_all_with_retries.Goals as goal
 
 pub tries-init : goal.tries-init
 tries-init g c = record { goes = sends_none _ _; off = off_none _; spent = spent_none _ _; room = omega arith }

@@ -4,7 +4,7 @@ use Rattle.framing.specs.Frames.{frames}
 use Rattle.framing.specs.Sending.{writer_tells, frame_room, still_to_go, TakesPayloads}
 use Rattle.no_std_io2.specs.Retries.{HasSpentTries}
 use Rattle.framing.specs.Delivering.{Delivers}
-use Rattle.framing.proofs.writer.FrameWriter.deliver.Given as goal
+use Rattle.framing.proofs.writer.FrameWriter.send_all_with_retries.Given as goal
 
 abbrev pub invariant-tries : goal.invariant-tries
 invariant-tries g l =

@@ -1,11 +1,11 @@
-//! [`send_patiently`], a caller over any device.
+//! [`send_with_one_retry`], a caller over any device.
 ghost use Rattle.std.specs.Prelude.{◌≡◌, [], OnOk};
 ghost use Rattle.no_std_io2.specs.Write.{Sends};
 
 use no_std_io2::io::{Result, Write};
 
 /// Sends the rest of a text, and tries once more if the first try fails. No byte goes out twice.
-pub fn send_patiently<W: Write>(device: &mut W, rest: &mut &[u8]) -> Result<()>
+pub fn send_with_one_retry<W: Write>(device: &mut W, rest: &mut &[u8]) -> Result<()>
     ensures sends { Sends (W.told device.old) rest.old.now result (W.told device.new) rest.new.now }
     ensures done { OnOk result (rest.new.now ≡ []) }
 {
