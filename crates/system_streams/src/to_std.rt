@@ -24,8 +24,8 @@ use std::io::ErrorKind as StdKind;
 /// of its text. The stream is then in the state that its own call promises.
 ///
 /// ```rust
-/// let lines = LineWriter::<Vec<u8>, 8>::new(Vec::new(rt.alloc()));
-/// let mut rows = Writer::from_writer(ToStd::new(lines));
+/// let mut r = ToStd::new(Patient::new(b"a".as_slice(), 1));
+/// let refusal = io::Read::read(&mut r, &mut [0u8; 1]).err().ok_or("read")?;
 /// ```
 #[derive(Drop)]
 pub struct ToStd<T> {
