@@ -223,7 +223,7 @@ HasNoRoom line len capacity e = IsUtf8 line × (capacity < len + length line) ×
 
 -- `read_line` read a line with the result `read`, and returned `reply`, with a text of this length and capacity. The text does not change
 -- if the line is not UTF-8, if the text could not grow for it, or if the reader's own error is `OutOfMemory`. After any other fault, the
--- fault is the result, and the bytes before it are appended if they are UTF-8.
+-- bytes before it are appended if they are UTF-8, and the fault is the result, unless the text could not grow.
 abbrev pub AnswersLine : List ℕ → Result ℕ Error → ℕ → ℕ → Result ℕ Error → List ℕ → List ℕ → Type 0
 AnswersLine line (Ok n) len capacity (Ok m) old new = Follows line old new × (m ≡ n)
 AnswersLine line (Ok n) len capacity (Err e) old new =
