@@ -38,6 +38,13 @@ impl<'j, T: Read + Drop> Stream for Singles<'j, T> {
     }
 }
 
+fn play_bytes<T: Read + Drop>(tower: T, devices: Devices<'_>, player: &mut Player<'_, '_>) {
+    player.play(&mut Singles {
+        bytes: tower.bytes(),
+        devices,
+    });
+}
+
 // Prints a piece or a line, and the columns after it.
 fn show_item(kind: &str, item: Option<Result<Vec<u8>>>, devices: Devices<'_>, line: &mut Line) {
     let mut capacity = None;
@@ -67,6 +74,18 @@ impl<'j, T: BufRead + Drop> Stream for Pieces<'j, T> {
     }
 }
 
+fn play_pieces<T: BufRead + Drop>(
+    tower: T,
+    delim: u8,
+    devices: Devices<'_>,
+    player: &mut Player<'_, '_>,
+) {
+    player.play(&mut Pieces {
+        pieces: tower.split(player.alloc, delim),
+        devices,
+    });
+}
+
 #[derive(Drop)]
 struct TextLines<'j, T: Drop> {
     lines: Lines<T>,
@@ -86,6 +105,13 @@ impl<'j, T: BufRead + Drop> Stream for TextLines<'j, T> {
     }
 }
 
+fn play_lines<T: BufRead + Drop>(tower: T, devices: Devices<'_>, player: &mut Player<'_, '_>) {
+    player.play(&mut TextLines {
+        lines: tower.lines(player.alloc),
+        devices,
+    });
+}
+
 pub fn lend_bytes(
     tower: &str,
     words: &str,
@@ -93,21 +119,13 @@ pub fn lend_bytes(
     player: &mut Player<'_, '_>,
 ) -> Made<()> {
     match tower {
-        "Device" => player.play(&mut Singles {
-            bytes: devices.first()?.bytes(),
+        "Device" => play_bytes(devices.first()?, devices, player),
+        "Chain" => play_bytes(
+            devices.first()?.chain(devices.recorder(Name::Second)?),
             devices,
-        }),
-        "Chain" => player.play(&mut Singles {
-            bytes: devices
-                .first()?
-                .chain(devices.recorder(Name::Second)?)
-                .bytes(),
-            devices,
-        }),
-        "Feed" => player.play(&mut Singles {
-            bytes: new_feed(player.alloc, words)?.bytes(),
-            devices,
-        }),
+            player,
+        ),
+        "Feed" => play_bytes(new_feed(player.alloc, words)?, devices, player),
         _ => return Err(NO_STREAM),
     }
     Ok(())
@@ -121,14 +139,8 @@ pub fn lend_pieces(
     player: &mut Player<'_, '_>,
 ) -> Made<()> {
     match tower {
-        "Device" => player.play(&mut Pieces {
-            pieces: devices.first()?.split(player.alloc, b','),
-            devices,
-        }),
-        "Cursor" => player.play(&mut Pieces {
-            pieces: new_text(player.alloc, words)?.split(player.alloc, b'3'),
-            devices,
-        }),
+        "Device" => play_pieces(devices.first()?, b',', devices, player),
+        "Cursor" => play_pieces(new_text(player.alloc, words)?, b'3', devices, player),
         _ => return Err(NO_STREAM),
     }
     Ok(())
@@ -141,20 +153,11 @@ pub fn lend_lines(
     player: &mut Player<'_, '_>,
 ) -> Made<()> {
     match tower {
-        "Device" => player.play(&mut TextLines {
-            lines: devices.first()?.lines(player.alloc),
-            devices,
-        }),
-        "Cursor" => player.play(&mut TextLines {
-            lines: new_text(player.alloc, words)?.lines(player.alloc),
-            devices,
-        }),
+        "Device" => play_lines(devices.first()?, devices, player),
+        "Cursor" => play_lines(new_text(player.alloc, words)?, devices, player),
         "BufReader 2 Feed" => {
             let reader = BufReader::<Feed, 2>::new(new_feed(player.alloc, words)?);
-            player.play(&mut TextLines {
-                lines: reader.lines(player.alloc),
-                devices,
-            });
+            play_lines(reader, devices, player);
         }
         "Chain &[u8] &[u8]" => lend_both(words, devices, player)?,
         _ => return Err(NO_STREAM),
@@ -168,9 +171,6 @@ fn lend_both(words: &str, devices: Devices<'_>, player: &mut Player<'_, '_>) -> 
     let first = unescape(player.alloc, first)?;
     let second = unescape(player.alloc, second)?;
     let both = first.as_slice().chain(second.as_slice());
-    player.play(&mut TextLines {
-        lines: both.lines(player.alloc),
-        devices,
-    });
+    play_lines(both, devices, player);
     Ok(())
 }

@@ -1,7 +1,7 @@
 // Readers over recorders.
 use crate::devices::{Devices, NO_STREAM};
 use crate::in_memory::scripts::new_text;
-use crate::streams::{Lending, Seeking};
+use crate::streams::{play_lending, play_seeking};
 use no_std_io2::io::{BufRead, BufReader, Chain, Read};
 use rows_play::fault::Made;
 use rows_play::player::Player;
@@ -10,23 +10,18 @@ use rows_play::recorder::{Name, Recorder};
 pub fn lend(tower: &str, devices: Devices<'_>, player: &mut Player<'_, '_>) -> Made<()> {
     let device = devices.first()?;
     match tower {
-        "Device" => player.play(&mut Lending {
-            tower: device,
-            devices,
-        }),
+        "Device" => play_lending(device, devices, player),
         "Box Device" => lend_box(device, devices, player)?,
         "Box dyn" => lend_object(device, devices, player)?,
         "BufReader 1" => lend_buffered::<1>(device, devices, player),
         "BufReader 4" => lend_buffered::<4>(device, devices, player),
         "BufReader 300" => lend_buffered::<300>(device, devices, player),
-        "Take" => player.play(&mut Lending {
-            tower: device.take(2),
+        "Take" => play_lending(device.take(2), devices, player),
+        "Take BufReader 1" => play_lending(
+            BufReader::<Recorder, 1>::new(device).take(2),
             devices,
-        }),
-        "Take BufReader 1" => player.play(&mut Lending {
-            tower: BufReader::<Recorder, 1>::new(device).take(2),
-            devices,
-        }),
+            player,
+        ),
         _ => lend_chain(tower, device, devices, player)?,
     }
     Ok(())
@@ -34,13 +29,13 @@ pub fn lend(tower: &str, devices: Devices<'_>, player: &mut Player<'_, '_>) -> M
 
 fn lend_box(device: Recorder, devices: Devices<'_>, player: &mut Player<'_, '_>) -> Made<()> {
     let tower = Box::new(player.alloc, device)?;
-    player.play(&mut Lending { tower, devices });
+    play_lending(tower, devices, player);
     Ok(())
 }
 
 fn lend_object(device: Recorder, devices: Devices<'_>, player: &mut Player<'_, '_>) -> Made<()> {
     let tower: Box<dyn BufRead + Drop> = Box::new(player.alloc, device)?;
-    player.play(&mut Lending { tower, devices });
+    play_lending(tower, devices, player);
     Ok(())
 }
 
@@ -52,7 +47,7 @@ fn lend_buffered<const S: usize>(
 ) {
     if S > 0 && S < 1 << 32 {
         let tower = BufReader::<Recorder, S>::new(device);
-        player.play(&mut Lending { tower, devices });
+        play_lending(tower, devices, player);
     }
 }
 
@@ -65,23 +60,18 @@ fn lend_chain(
 ) -> Made<()> {
     let second = devices.recorder(Name::Second)?;
     match tower {
-        "Chain" => player.play(&mut Lending {
-            tower: device.chain(second),
-            devices,
-        }),
-        "Chain Take" => player.play(&mut Lending {
-            tower: device.take(2).chain(second),
-            devices,
-        }),
+        "Chain" => play_lending(device.chain(second), devices, player),
+        "Chain Take" => play_lending(device.take(2).chain(second), devices, player),
         "BufReader 2 Chain" => lend_above::<2>(device.chain(second), devices, player),
         "BufReader 4 Chain" => lend_above::<4>(device.chain(second), devices, player),
         "Box Chain" => lend_both(device, second, devices, player)?,
         "Chain Chain" => lend_three(device, second, devices, player)?,
         // what reaches the text is no device's
-        "Chain Text" => player.play(&mut Lending {
-            tower: device.chain(new_text(player.alloc, "456789")?),
+        "Chain Text" => play_lending(
+            device.chain(new_text(player.alloc, "456789")?),
             devices,
-        }),
+            player,
+        ),
         _ => return Err(NO_STREAM),
     }
     Ok(())
@@ -95,7 +85,7 @@ fn lend_above<const S: usize>(
 ) {
     if S > 0 && S < 1 << 32 {
         let tower = BufReader::<Chain<Recorder, Recorder>, S>::new(pair);
-        player.play(&mut Lending { tower, devices });
+        play_lending(tower, devices, player);
     }
 }
 
@@ -107,7 +97,7 @@ fn lend_both(
 ) -> Made<()> {
     let both = Box::new(player.alloc, first)?.chain(second);
     let tower = Box::new(player.alloc, both)?;
-    player.play(&mut Lending { tower, devices });
+    play_lending(tower, devices, player);
     Ok(())
 }
 
@@ -119,16 +109,17 @@ fn lend_three(
 ) -> Made<()> {
     let third = devices.recorder(Name::Second)?;
     let tower = first.chain(second.chain(third));
-    player.play(&mut Lending { tower, devices });
+    play_lending(tower, devices, player);
     Ok(())
 }
 
 /// Lends a buffer of 4 bytes that also seeks.
 pub fn lend_seeker(devices: Devices<'_>, player: &mut Player<'_, '_>) -> Made<()> {
-    player.play(&mut Seeking {
-        tower: BufReader::<Recorder, 4>::new(devices.first()?),
-        lent: 0,
+    play_seeking(
+        BufReader::<Recorder, 4>::new(devices.first()?),
+        0,
         devices,
-    });
+        player,
+    );
     Ok(())
 }

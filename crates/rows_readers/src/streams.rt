@@ -5,7 +5,7 @@ use crate::levels::Levels;
 use no_std_io2::io::{BufRead, Read, Result, Seek};
 use rows_play::calls::{Call, make_seek};
 use rows_play::line::Line;
-use rows_play::player::Stream;
+use rows_play::player::{Player, Stream};
 use rows_play::reads::{make_lend, make_read};
 use std::alloc::Global;
 
@@ -20,9 +20,9 @@ pub fn show_byte(item: Option<Result<u8>>, line: &mut Line) {
 
 // A `Read`.
 #[derive(Drop)]
-pub struct Reading<'j, T: Drop> {
-    pub tower: T,
-    pub devices: Devices<'j>,
+struct Reading<'j, T: Drop> {
+    tower: T,
+    devices: Devices<'j>,
 }
 
 impl<'j, T: Read + Levels + Drop> Stream for Reading<'j, T> {
@@ -34,9 +34,9 @@ impl<'j, T: Read + Levels + Drop> Stream for Reading<'j, T> {
 
 // A `BufRead`. Besides its calls, `limit N` sets a limit, and `next` gives a single byte.
 #[derive(Drop)]
-pub struct Lending<'j, T: Drop> {
-    pub tower: T,
-    pub devices: Devices<'j>,
+struct Lending<'j, T: Drop> {
+    tower: T,
+    devices: Devices<'j>,
 }
 
 impl<'j, T: BufRead + Levels + Drop> Stream for Lending<'j, T> {
@@ -58,10 +58,10 @@ impl<'j, T: BufRead + Levels + Drop> Stream for Lending<'j, T> {
 
 // A `BufRead` that seeks. It is borrowed `lent` times for each call.
 #[derive(Drop)]
-pub struct Seeking<'j, T: Drop> {
-    pub tower: T,
-    pub lent: usize,
-    pub devices: Devices<'j>,
+struct Seeking<'j, T: Drop> {
+    tower: T,
+    lent: usize,
+    devices: Devices<'j>,
 }
 
 /// Makes the call of a row on a `BufRead` that seeks.
@@ -95,4 +95,36 @@ impl<'j, T: BufRead + Seek + Levels + Drop> Stream for Seeking<'j, T> {
         }
         self.devices.show(&self.tower, line);
     }
+}
+
+/// Plays the rows on a reader.
+pub fn play_reading<T: Read + Levels + Drop>(
+    tower: T,
+    devices: Devices<'_>,
+    player: &mut Player<'_, '_>,
+) {
+    player.play(&mut Reading { tower, devices });
+}
+
+/// Plays them on one that lends.
+pub fn play_lending<T: BufRead + Levels + Drop>(
+    tower: T,
+    devices: Devices<'_>,
+    player: &mut Player<'_, '_>,
+) {
+    player.play(&mut Lending { tower, devices });
+}
+
+/// Plays them on one that seeks too, and is borrowed `lent` times for each call.
+pub fn play_seeking<T: BufRead + Seek + Levels + Drop>(
+    tower: T,
+    lent: usize,
+    devices: Devices<'_>,
+    player: &mut Player<'_, '_>,
+) {
+    player.play(&mut Seeking {
+        tower,
+        lent,
+        devices,
+    });
 }

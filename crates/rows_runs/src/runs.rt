@@ -63,6 +63,18 @@ impl<T: Tower + Drop> Stream for Acting<T> {
     }
 }
 
+fn play_running<T: Tower + Drop>(
+    tower: T,
+    journal: &RefCell<Journal>,
+    player: &mut Player<'_, '_>,
+) {
+    player.play(&mut Running { tower, journal });
+}
+
+fn play_acting<T: Tower + Drop>(tower: T, player: &mut Player<'_, '_>) {
+    player.play(&mut Acting { tower });
+}
+
 pub fn lend(name: &str, words: &str, player: &mut Player<'_, '_>) -> Made<()> {
     let journal = new_journal(player.alloc, words)?;
     let device = Recorder::new(player.alloc, journal.clone()?, Name::Only);
@@ -76,18 +88,9 @@ fn lend_tower(
     player: &mut Player<'_, '_>,
 ) -> Made<()> {
     match name {
-        "Device" => player.play(&mut Running {
-            tower: device,
-            journal,
-        }),
-        "BufWriter 4" => player.play(&mut Running {
-            tower: BufWriter::<Recorder, 4>::new(device),
-            journal,
-        }),
-        "LineWriter 8" => player.play(&mut Running {
-            tower: LineWriter::<Recorder, 8>::new(device),
-            journal,
-        }),
+        "Device" => play_running(device, journal, player),
+        "BufWriter 4" => play_running(BufWriter::<Recorder, 4>::new(device), journal, player),
+        "LineWriter 8" => play_running(LineWriter::<Recorder, 8>::new(device), journal, player),
         _ => return lend_levels(name, device, journal, player),
     }
     Ok(())
@@ -104,12 +107,12 @@ fn lend_levels(
         "BufWriter 8 BufWriter 3" => {
             let inner = BufWriter::<Recorder, 3>::new(device);
             let tower = BufWriter::<BufWriter<Recorder, 3>, 8>::new(inner);
-            player.play(&mut Running { tower, journal });
+            play_running(tower, journal, player);
         }
         "LineWriter 8 BufWriter 8" => {
             let inner = BufWriter::<Recorder, 8>::new(device);
             let tower = LineWriter::<BufWriter<Recorder, 8>, 8>::new(inner);
-            player.play(&mut Running { tower, journal });
+            play_running(tower, journal, player);
         }
         _ => return Err(NO_STREAM),
     }
@@ -124,24 +127,16 @@ pub fn lend_acts(name: &str, words: &str, player: &mut Player<'_, '_>) -> Made<(
     match name {
         "LineWriter 8 Box dyn Sink" => {
             let object: Object = Box::new(player.alloc, Sink::new())?;
-            player.play(&mut Acting {
-                tower: LineWriter::<Object, 8>::new(object),
-            });
+            play_acting(LineWriter::<Object, 8>::new(object), player);
         }
         "LineWriter 8 BufWriter 8 Box dyn Device" => {
             let object: Object = Box::new(player.alloc, device)?;
             let inner = BufWriter::<Object, 8>::new(object);
-            player.play(&mut Acting {
-                tower: LineWriter::<BufWriter<Object, 8>, 8>::new(inner),
-            });
+            play_acting(LineWriter::<BufWriter<Object, 8>, 8>::new(inner), player);
         }
-        "Vec" => player.play(&mut Acting {
-            tower: Vec::<u8>::new(player.alloc),
-        }),
-        "Device" => player.play(&mut Acting { tower: device }),
-        "BufWriter 8" => player.play(&mut Acting {
-            tower: BufWriter::<Device, 8>::new(device),
-        }),
+        "Vec" => play_acting(Vec::<u8>::new(player.alloc), player),
+        "Device" => play_acting(device, player),
+        "BufWriter 8" => play_acting(BufWriter::<Device, 8>::new(device), player),
         _ => return Err(NO_STREAM),
     }
     Ok(())

@@ -2,7 +2,7 @@
 use super::scripts::{cut, new_text};
 use super::wrapped::{Held, Slice, slice_of};
 use crate::devices::{Devices, NO_STREAM};
-use crate::streams::{Lending, Reading};
+use crate::streams::{play_lending, play_reading};
 use no_std_io2::io::{BufRead, BufReader, Chain, Cursor, Read, Seek, Take};
 use rows_play::calls::{Call, make_seek};
 use rows_play::fault::Made;
@@ -48,13 +48,13 @@ fn new_box(alloc: Global, words: &str) -> Made<Box<Cursor<Vec<u8>>>> {
 
 fn lend_read(words: &str, devices: Devices<'_>, player: &mut Player<'_, '_>) -> Made<()> {
     let tower: Box<dyn Read + Drop> = new_box(player.alloc, words)?;
-    player.play(&mut Reading { tower, devices });
+    play_reading(tower, devices, player);
     Ok(())
 }
 
 fn lend_buf_read(words: &str, devices: Devices<'_>, player: &mut Player<'_, '_>) -> Made<()> {
     let tower: Box<dyn BufRead + Drop> = new_box(player.alloc, words)?;
-    player.play(&mut Lending { tower, devices });
+    play_lending(tower, devices, player);
     Ok(())
 }
 
@@ -69,17 +69,14 @@ fn lend_both(words: &str, devices: Devices<'_>, player: &mut Player<'_, '_>) -> 
     let first: Box<dyn Read + Drop> = new_box(player.alloc, first)?;
     let bytes = slice_of(second)?;
     let second: Box<dyn Read + Drop> = Box::new(player.alloc, Slice { bytes })?;
-    player.play(&mut Reading {
-        tower: first.chain(second),
-        devices,
-    });
+    play_reading(first.chain(second), devices, player);
     Ok(())
 }
 
 fn lend_held(words: &str, devices: Devices<'_>, player: &mut Player<'_, '_>) -> Made<()> {
     let reader = BufReader::new(Cursor::new(unescape(player.alloc, words)?));
     let tower: Box<dyn BufRead + Drop> = Box::new(player.alloc, Held { reader })?;
-    player.play(&mut Lending { tower, devices });
+    play_lending(tower, devices, player);
     Ok(())
 }
 
@@ -91,6 +88,6 @@ fn lend_tower(words: &str, devices: Devices<'_>, player: &mut Player<'_, '_>) ->
     let tower = BufReader::<Chain<Box<dyn Read + Drop>, &mut Take<Cursor<Vec<u8>>>>, 4>::new(
         first.chain(&mut second),
     );
-    player.play(&mut Lending { tower, devices });
+    play_lending(tower, devices, player);
     Ok(())
 }

@@ -1,7 +1,7 @@
 // Readers in memory, and over scripted events.
 use super::scripts::{cut, new_feed, new_text};
 use crate::devices::{Devices, NO_STREAM};
-use crate::streams::{Lending, Reading};
+use crate::streams::{play_lending, play_reading};
 use io_bench::{Feed, Tally};
 use no_std_io2::io::{BufReader, Chain, Read};
 use rows_play::fault::{Fault, Made};
@@ -38,26 +38,15 @@ fn lend_feed(
     };
     let feed = new_feed(player.alloc, words)?;
     match tower {
-        "" => player.play(&mut Reading {
-            tower: feed,
+        "" => play_reading(feed, devices, player),
+        "Take" => play_reading(feed.take(limit), devices, player),
+        "BufReader 2" => play_lending(BufReader::<Feed, 2>::new(feed), devices, player),
+        "BufReader 4" => play_lending(BufReader::<Feed, 4>::new(feed), devices, player),
+        "Take BufReader 1" => play_lending(
+            BufReader::<Feed, 1>::new(feed).take(limit),
             devices,
-        }),
-        "Take" => player.play(&mut Reading {
-            tower: feed.take(limit),
-            devices,
-        }),
-        "BufReader 2" => player.play(&mut Lending {
-            tower: BufReader::<Feed, 2>::new(feed),
-            devices,
-        }),
-        "BufReader 4" => player.play(&mut Lending {
-            tower: BufReader::<Feed, 4>::new(feed),
-            devices,
-        }),
-        "Take BufReader 1" => player.play(&mut Lending {
-            tower: BufReader::<Feed, 1>::new(feed).take(limit),
-            devices,
-        }),
+            player,
+        ),
         _ => return Err(NO_STREAM),
     }
     Ok(())
@@ -72,18 +61,13 @@ fn lend_text(
     let (first, second) = cut(words);
     let second = new_text(player.alloc, second)?;
     match tower {
-        "" => player.play(&mut Lending {
-            tower: second,
+        "" => play_lending(second, devices, player),
+        "Take" => play_lending(second.take(2), devices, player),
+        "Chain Cursor" => play_lending(
+            new_text(player.alloc, first)?.chain(second),
             devices,
-        }),
-        "Take" => player.play(&mut Lending {
-            tower: second.take(2),
-            devices,
-        }),
-        "Chain Cursor" => player.play(&mut Lending {
-            tower: new_text(player.alloc, first)?.chain(second),
-            devices,
-        }),
+            player,
+        ),
         _ => return Err(NO_STREAM),
     }
     Ok(())
@@ -99,22 +83,18 @@ fn lend_slice(
     let bytes = unescape(player.alloc, second)?;
     let slice = bytes.as_slice();
     match tower {
-        "" => player.play(&mut Lending {
-            tower: slice,
+        "" => play_lending(slice, devices, player),
+        "BufReader 4 Tally" => play_lending(
+            BufReader::<Tally<&[u8]>, 4>::new(Tally::new(slice)),
             devices,
-        }),
-        "BufReader 4 Tally" => player.play(&mut Lending {
-            tower: BufReader::<Tally<&[u8]>, 4>::new(Tally::new(slice)),
+            player,
+        ),
+        "Chain Feed" => play_reading(new_feed(player.alloc, first)?.chain(slice), devices, player),
+        "Chain &[u8]" => play_lending(
+            unescape(player.alloc, first)?.as_slice().chain(slice),
             devices,
-        }),
-        "Chain Feed" => player.play(&mut Reading {
-            tower: new_feed(player.alloc, first)?.chain(slice),
-            devices,
-        }),
-        "Chain &[u8]" => player.play(&mut Lending {
-            tower: unescape(player.alloc, first)?.as_slice().chain(slice),
-            devices,
-        }),
+            player,
+        ),
         _ => return Err(NO_STREAM),
     }
     Ok(())
@@ -137,14 +117,11 @@ fn lend_slices(
     player: &mut Player<'_, '_>,
 ) -> Made<()> {
     match tower {
-        "Chain of 3" => player.play(&mut Lending {
-            tower: three(words),
-            devices,
-        }),
+        "Chain of 3" => play_lending(three(words), devices, player),
         "Chain of 4" => {
             let (words, fourth) = cut(words);
             let tower = three(words).chain(fourth.as_bytes());
-            player.play(&mut Lending { tower, devices });
+            play_lending(tower, devices, player);
         }
         _ => return Err(NO_STREAM),
     }
