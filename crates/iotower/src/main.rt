@@ -22,15 +22,9 @@ use tower_play::{Fault, Shape, play};
 
 const USAGE: &str = "usage: iotower copy buf|line, iotower play buf|line|buf-buf|line-buf";
 
-#[derive(Clone, Copy)]
-enum Mode {
-    Buffered,
-    LineBuffered,
-}
-
 // The command that the arguments name.
 enum Command {
-    Copy(Mode),
+    Copy { line: bool },
     Play(Shape),
 }
 
@@ -69,8 +63,8 @@ fn command_of(verb: &str, mode: &str) -> Option<Command>
     ensures none { IfNone result ((command : Asked) → verb.now ≡ verb_of command → mode.now ≡ mode_of command → ⊥) }
 {
     match (verb, mode) {
-        ("copy", "buf") => Some(Command::Copy(Mode::Buffered)),
-        ("copy", "line") => Some(Command::Copy(Mode::LineBuffered)),
+        ("copy", "buf") => Some(Command::Copy { line: false }),
+        ("copy", "line") => Some(Command::Copy { line: true }),
         ("play", "buf") => Some(Command::Play(Shape::Buf)),
         ("play", "line") => Some(Command::Play(Shape::Line)),
         ("play", "buf-buf") => Some(Command::Play(Shape::BufBuf)),
@@ -90,8 +84,8 @@ fn run(rt: &HostRuntime, command: Command) -> Result<(), Fault> {
     let input = with_all_turns(rt.reader());
     let output = with_all_turns(io::writer(rt));
     match command {
-        Command::Copy(mode) => {
-            copy_through(input, output, matches!(mode, Mode::LineBuffered))?;
+        Command::Copy { line } => {
+            copy_through(input, output, line)?;
         }
         Command::Play(shape) => {
             play(rt.alloc(), input, output, shape)?;
