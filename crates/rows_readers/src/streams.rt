@@ -97,7 +97,7 @@ impl<'j, T: BufRead + Seek + Levels + Drop> Stream for Seeking<'j, T> {
     }
 }
 
-/// Plays the rows on a reader.
+/// Plays the rows on a `Read`.
 pub fn play_reading<T: Read + Levels + Drop>(
     tower: T,
     devices: Devices<'_>,
@@ -106,7 +106,7 @@ pub fn play_reading<T: Read + Levels + Drop>(
     player.play(&mut Reading { tower, devices });
 }
 
-/// Plays them on one that lends.
+/// Plays the rows on a `BufRead`.
 pub fn play_lending<T: BufRead + Levels + Drop>(
     tower: T,
     devices: Devices<'_>,
@@ -115,7 +115,7 @@ pub fn play_lending<T: BufRead + Levels + Drop>(
     player.play(&mut Lending { tower, devices });
 }
 
-/// Plays them on one that seeks too, and is borrowed `lent` times for each call.
+/// Plays the rows on a `BufRead` that seeks, borrowed `lent` times for each call.
 pub fn play_seeking<T: BufRead + Seek + Levels + Drop>(
     tower: T,
     lent: usize,
