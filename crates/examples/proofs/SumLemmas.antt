@@ -22,8 +22,9 @@ sums_join = record {
 pub reads_sum : {R : Type 0} → EachAdds {R = Summed R} ReadSums Sums
 reads_sum = record {
   joins = sums_join;
-  gave = λ a b room x call. call;
-  failed = λ a b room e call. call;
-  exactly = λ a b room x call. absurd call;
+  gave = λ a b room answer call. call;
+  exactly = λ a b room answer call. absurd call;
   all = λ a b x answer call. absurd call;
+  lent = λ a b answer call. absurd call;
+  took = λ a b c x n call next within. absurd call;
 }

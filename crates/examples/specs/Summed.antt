@@ -1,6 +1,6 @@
 -- What a stream with a checksum adds to its sum.
-use Rattle.std.specs.Prelude.{◌≡◌, ℕ, List, [], Ok, Err, ◌+◌, ◌%◌, ◌^◌, sum}
-use Rattle.no_std_io2.specs.Read.{ReadCall, Gave}
+use Rattle.std.specs.Prelude.{◌≡◌, ℕ, List, ◌+◌, ◌%◌, ◌^◌, sum}
+use Rattle.no_std_io2.specs.Read.{ReadCall, Gave, bytes_given}
 use Rattle.examples.specs.declared.summed.Summed.{Summed}
 
 -- the inner writer or reader
@@ -17,6 +17,5 @@ Sums old bytes new = summed_sum new % 2 ^ 64 ≡ (summed_sum old + sum bytes) % 
 
 -- A read adds the bytes that it gave, and none if it failed. No other call is made.
 abbrev pub ReadSums : {R : Type 0} → Summed R → ReadCall → Summed R → Type 0
-ReadSums old (Gave room (Ok x)) new = Sums old x new
-ReadSums old (Gave room (Err e)) new = Sums old [] new
+ReadSums old (Gave room answer) new = Sums old (bytes_given answer) new
 ReadSums old _ new = ⊥

@@ -101,9 +101,10 @@ impl<R: Read> Read for Summed<R> {
     ghost store_fits = { λ s h. absurd h };
 }
 
-/// Fills `buf` by the trait's loop. After `Ok` its bytes are in the sum.
+/// Fills `buf` by the trait's loop. The bytes that it took are in the sum, also after an error. After
+/// `Ok` they are all of `buf`.
 pub fn read_summed<R: Read>(r: &mut Summed<R>, buf: &mut [u8]) -> Result<()>
-    ensures { OnOk result (Sums r.old buf.new r.new) }
+    ensures { (x : List ℕ) × OnOk result (x ≡ buf.new) × Sums r.old x r.new }
 {
     r.read_exact(buf)
 }

@@ -12,7 +12,7 @@ use Rattle.no_std_io2_base.specs.Cursor.{HasMoved}
 use Rattle.no_std_io2_base.specs.Write.{IsFront, Made}
 use Rattle.no_std_io2_base.specs.Seek.{SeekCall, Sought, Measured, LenCalls}
 use Rattle.no_std_io2_base.specs.Read.{Event, events_of, fails, ReadsExact, bytes, bytes-events_of, Reader, ReadCall, Gave}
-use Rattle.no_std_io2_base.specs.Read.{GaveExactly, GaveAll, Filled, Consumed, gave_whole, ended, ExactMade, ToEndMade}
+use Rattle.no_std_io2_base.specs.Read.{GaveExactly, GaveAll, Filled, Consumed, gave_whole, ExactMade, Drains}
 use Rattle.no_std_io2.specs.contracts.buffered.buf_reader.BufReader.{the_row as reader-row}
 use Rattle.no_std_io2.specs.declared.buffered.buf_reader.BufReader.{BufReader}
 use Rattle.no_std_io2.specs.Buffer.{buffer_held, buffer_behind, IsSuffix, IsSound}
@@ -168,7 +168,7 @@ abbrev pub ReaderMay : {R : Type 0} {S : ℕ} → (R → ReadCall → R → Type
 ReaderMay may old (Gave room answer) new = ReadsBelow may old room answer new
 ReaderMay may old (GaveExactly room answer) new = (room ≤ length (reader_held old)) × (reader_inner new ≡ reader_inner old)
 ReaderMay may old (GaveAll x answer) new = (reader_inner new ≡ reader_inner old)
-    ⊎ ((reply : Result ℕ Error) × (ended reply ≡ answer) × ToEndMade may (reader_inner old) (reader_held old) reply x (reader_inner new))
+    ⊎ Drains may (reader_inner old) (reader_held old) answer x (reader_inner new)
 ReaderMay may old (Filled answer) new = FillsBelow may old answer new
 ReaderMay may old (Consumed amount) new = (reader_held new ≡ drop amount (reader_held old)) × (reader_inner new ≡ reader_inner old)
 

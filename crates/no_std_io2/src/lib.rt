@@ -37,8 +37,3 @@ pub mod io {
         pub use no_std_io2_base::traits::{BufRead, Read, Seek, Write};
     }
 }
-
-/// Functions that the crates of this repository share. They are no part of the public interface.
-pub mod internal {
-    pub use no_std_io2_base::internal::{LEAST_ROOM, failed_to_fill, open_room, reserve_room};
-}

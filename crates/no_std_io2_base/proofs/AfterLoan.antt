@@ -1,7 +1,7 @@
 -- An impl may say more of its value after a loan than its trait does.
 use mathlib.Core.Option.{Option}
 use seplogic.Ra.Ura.{Ura}
-use base.Logic.{ent, sep, ex_e, ex_i, mono_r, snd∗, via}
+use base.Logic.{ent, sep, ex_e, ex_i, mono_r}
 use base.Fml.{GName}
 use base.Stored.{Gv}
 use contract.Monad.{fact}
@@ -18,14 +18,6 @@ module _ {M : Type 1} {𝓤 : Ura M} (𝓛 : Logic 𝓤) (D E : Type 0) (c : D �
       (λ s. ex_i 𝓤
       (λ (y : (p : (E → D) × D) × ((z : E) → R z (p.0 z)) × Q p.1). sem 𝓛 (follows_by D E c d γ m y.0.0 y.0.1))
       (s.0, s.1, more _ s.2))
-
-  -- the clauses of a call that lends: the trait's law, and then one of its own
-  pub lends_more : (law mine : Type 0) → ((z : D) → P z → Q z)
-      → ent 𝓤 (sep 𝓤 (fact 𝓤 law) (sep 𝓤 (fact 𝓤 mine) (sem 𝓛 (such_by D E c d γ m R P))))
-      (sep 𝓤 (fact 𝓤 law) (sem 𝓛 (such_by D E c d γ m R Q)))
-  lends_more law mine more =
-      let after = sem 𝓛 (such_by D E c d γ m R P) in
-      mono_r 𝓤 (fact 𝓤 law) (via 𝓤 after (snd∗ 𝓤 (fact 𝓤 mine) after) (such_more more))
 
   -- a call that lends, with more known only after the borrow
   pub lends_on : (law : Type 0) → ((z : D) → P z → Q z)

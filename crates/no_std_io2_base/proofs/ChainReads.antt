@@ -1,5 +1,5 @@
 -- What a read of two readers in a row does.
-use Rattle.std.proofs.Common.{◌≡◌, ℕ, ◌+◌, ◌<◌, ◌≤◌, Bool, true, false, List, [], ◌∷◌, ◌++◌, Result, Ok, Err, OnOk}
+use Rattle.std.proofs.Common.{◌≡◌, ℕ, ◌+◌, ◌<◌, ◌≤◌, Bool, true, false, List, [], ◌∷◌, ◌++◌, Result, Ok, Err, OnOk, IsOkAnd}
 use Rattle.std.proofs.Common.{length, take, length-take-le, true≢false, length-append, if◌then◌else◌, refl, sym, ap}
 use Rattle.std.proofs.Common.{subst, ◌∙◌, arith, le_refl}
 use Rattle.std.proofs.Common.{Option, Some, append_assoc, inl, inr}
@@ -8,48 +8,54 @@ use Rattle.no_std_io2_base.specs.declared.error.Error.{Error}
 use Rattle.no_std_io2_base.specs.declared.traits.chain.Chain.{Chain}
 use Rattle.no_std_io2_base.specs.Errors.{error_kind, is_interruption}
 use Rattle.no_std_io2_base.specs.Read.{Event, byte, fails, events_of, bytes, HasNoFault, Reads, SpendsTurn}
-use Rattle.no_std_io2_base.specs.Read.{bytes_to_fault, first_fault, HasRoom}
-use Rattle.no_std_io2_base.specs.Chain.{chain_events, chain_tells, InTurn}
+use Rattle.std.specs.Borrow.{Bor}
+use Rattle.no_std_io2_base.specs.BufRead.{Lender, FillBufLaw, AfterLoan, IsNotEmpty, lent_bytes}
+use Rattle.no_std_io2_base.specs.Read.{bytes_to_fault, first_fault, HasRoom, Reader, Gave, Filled, bytes_given, ended, ToEndMade}
+use Rattle.no_std_io2_base.specs.Chain.{chain_events, InTurn, InParts, EndsFirst, ChainMay}
+use Rattle.no_std_io2_base.proofs.ReadCalls.{to_end_by, drains}
+use Rattle.no_std_io2_base.proofs.ReadsAdd.{EachAdds}
 use Rattle.no_std_io2_base.proofs.EventLemmas.{length-events_of}
 use Rattle.no_std_io2_base.proofs.GivenPieces.{bytes_to_fault-append}
 
--- the first reader is at its end: the second is read
-pub record PastFirst {T U : Type 0} (tells : T → Type 0) (tells_second : U → Type 0) (turns : T → ℕ) (events : T → List Event)
-    (events_second : U → List Event)
-    (was now : Chain T U) : Type 0 where
+-- the first reader is at its end, and this call met it if the mark is new: the second is read
+pub record PastFirst {T U : Type 0} (R : Reader T) (later : U → List Event) (room : ℕ) (was now : Chain T U) : Type 0 where
   pub done : now.done_first ≡ true
   pub second : now.second ≡ was.second
-  pub spent : turns now.first ≤ turns was.first
+  pub spent : R.turns now.first ≤ R.turns was.first
   pub same : was.done_first ≡ true → now.first ≡ was.first
-  pub left : chain_tells tells tells_second was → chain_events events events_second was ≡ events_second was.second
+  pub none : was.done_first ≡ false → R.tells was.first → R.events was.first ≡ []
+  pub left : (was.done_first ≡ false → R.tells was.first) → chain_events R.events later was ≡ later was.second
+  pub met : was.done_first ≡ false → (0 < room) × R.may was.first (Gave room (Ok [])) now.first
 
 -- it was so before
-pub past_done : {T U : Type 0} {tells : T → Type 0} {tells_second : U → Type 0} {turns : T → ℕ} {events : T
-    → List Event} {events_second : U → List Event}
-    {was now : Chain T U} → now ≡ was → was.done_first ≡ true → PastFirst tells tells_second turns events events_second was now
-past_done {tells} {tells_second} {turns} {events} {events_second} {was} same done =
-    subst (PastFirst tells tells_second turns events events_second was) (sym same) (record {
+pub past_done : {T U : Type 0} {R : Reader T} {later : U → List Event} {room : ℕ} {was now : Chain T U} → now ≡ was
+    → was.done_first ≡ true → PastFirst R later room was now
+past_done {R = R} {later} {room} {was} same done =
+    subst (PastFirst R later room was) (sym same) (record {
       done = done;
       second = refl;
       spent = le_refl _;
       same = λ _. refl;
-      left = λ t. ap (λ b. (if b then [] else events was.first) ++ events_second was.second) done;
+      none = λ going. absurd (true≢false (sym done ∙ going));
+      left = λ t. ap (λ b. (if b then [] else R.events was.first) ++ later was.second) done;
+      met = λ going. absurd (true≢false (sym done ∙ going));
     })
 
 -- or this call's read has found it
-pub past_read : {T U : Type 0} {tells : T → Type 0} {tells_second : U → Type 0} {turns : T → ℕ} {events : T
-    → List Event} {events_second : U → List Event}
-    {was now : Chain T U} {first : T} → now ≡ record { first = first; second = was.second; done_first = true } → was.done_first ≡ false
-    → turns first ≤ turns was.first → (tells was.first → events was.first ≡ [])
-    → PastFirst tells tells_second turns events events_second was now
-past_read {tells} {tells_second} {turns} {events} {events_second} {was} {first} is going spent none =
-    subst (PastFirst tells tells_second turns events events_second was) (sym is) (record {
+pub past_read : {T U : Type 0} {R : Reader T} {later : U → List Event} {room : ℕ} {was now : Chain T U} {first : T}
+    → now ≡ record { first = first; second = was.second; done_first = true } → was.done_first ≡ false
+    → R.turns first ≤ R.turns was.first → (R.tells was.first → R.events was.first ≡ []) → 0 < room
+    → R.may was.first (Gave room (Ok [])) first → PastFirst R later room was now
+past_read {R = R} {later} {room} {was} {first} is going spent none some call =
+    subst (PastFirst R later room was) (sym is) (record {
       done = refl;
       second = refl;
       spent = spent;
       same = λ h. absurd (true≢false (sym h ∙ going));
-      left = λ t. ap (λ b. (if b then [] else events was.first) ++ events_second was.second) going
-          ∙ ap (λ E. E ++ events_second was.second) (none (t.0 going));
+      none = λ _. none;
+      left = λ t. ap (λ b. (if b then [] else R.events was.first) ++ later was.second) going
+          ∙ ap (λ E. E ++ later was.second) (none (t going));
+      met = λ _. (some, call);
     })
 
 -- no call raises the turns of both
@@ -66,17 +72,6 @@ second_turn (Err e) second second' stays spent = omega (arith, stays, spent)
 pub first_turn : (n : ℕ) {first first' : ℕ} (second : ℕ)
     → (0 < n → first' < first) → 0 < n → first' + second < first + second
 first_turn n second spent some = let now = spent some in omega arith
-
--- so a call that went on with the second used one after the other
-pub turn_past : {T U : Type 0} {tells : T → Type 0} {tells_second : U → Type 0} {turns : T → ℕ} {events : T → List Event}
-    {events_second : U → List Event} {was : Chain T U} (mid now : Chain T U)
-    → PastFirst tells tells_second turns events events_second was mid
-    → now.done_first ≡ mid.done_first → now.first ≡ mid.first → InTurn was now
-turn_past mid now past marked same = record {
-  stays_done = λ _. marked ∙ past.done;
-  first_alone = λ h. same ∙ past.same h;
-  second_alone = λ h. absurd (true≢false (sym (marked ∙ past.done) ∙ h));
-}
 
 -- what a read gave stands first, whatever comes behind
 pub read_before : (n : ℕ) (buf : List ℕ) {E : List Event} (after F : List Event) → E ≡ events_of (take n buf) ++ after
@@ -144,30 +139,6 @@ pub after_ok : {A E : Type 0} {P : Type 0} (reply : Result A E) → P → OnOk r
 after_ok (Ok a) p = p
 after_ok (Err e) p = tt
 
--- the first reader was used alone
-pub turn_of_first : {T U : Type 0} (was now : Chain T U) → was.done_first ≡ false → now.second ≡ was.second → InTurn was now
-turn_of_first was now going same = record {
-  stays_done = λ done. absurd (true≢false (sym done ∙ going));
-  first_alone = λ done. absurd (true≢false (sym done ∙ going));
-  second_alone = λ _. same;
-}
-
--- the first reader has met its end, and the second was used
-pub turn_of_both : {T U : Type 0} (was now : Chain T U) → was.done_first ≡ false → now.done_first ≡ true → InTurn was now
-turn_of_both was now going done = record {
-  stays_done = λ _. done;
-  first_alone = λ h. absurd (true≢false (sym h ∙ going));
-  second_alone = λ h. absurd (true≢false (sym done ∙ h));
-}
-
--- the second reader was used alone
-pub turn_of_second : {T U : Type 0} (was now : Chain T U) → now.done_first ≡ true → now.first ≡ was.first → InTurn was now
-turn_of_second was now done same = record {
-  stays_done = λ _. done;
-  first_alone = λ _. same;
-  second_alone = λ h. absurd (true≢false (sym done ∙ h));
-}
-
 -- what is not done at the end was not done before
 still_going : (mid now : Bool) → (mid ≡ true → now ≡ true) → now ≡ false → mid ≡ false
 still_going true now stays going = absurd (true≢false (sym (stays refl) ∙ going))
@@ -181,6 +152,104 @@ in_turn_then {mid} {now} a b = record {
   second_alone = λ going.
       b.second_alone going ∙ a.second_alone (still_going mid.done_first now.done_first b.stays_done going);
 }
+
+-- One call after another: so `exact_adds (chain_each T U)` says it of a `read_exact`, and so on as for `take_each`.
+pub chain_each : {T U : Type 0} (first : Reader T) (second : Reader U) → EachAdds (ChainMay first second) (λ old x new. InTurn old new)
+chain_each first second = record {
+  joins = record {
+    none = λ a. record { stays_done = λ done. done; first_alone = λ done. refl; second_alone = λ going. refl };
+    more = λ a b c x y first next. in_turn_then first next;
+  };
+  gave = λ a b room answer call. call.1.in_turn;
+  exactly = λ a b room answer call. absurd call;
+  all = λ a b x answer call. call.2.in_turn;
+  lent = λ a b answer call. call.1.in_turn;
+  took = λ a b c x n lent took within. in_turn_then lent.1.in_turn took.in_turn;
+}
+
+module _ {T U : Type 0} {P Q : T → T → Type 0} {S : U → U → Type 0} {was now : Chain T U} where
+  -- a call of the first reader alone
+  pub by_first : was.done_first ≡ false → now.done_first ≡ was.done_first → now.second ≡ was.second → P was.first now.first
+      → InParts P Q S was now
+  by_first going kept same call = record {
+    in_turn = record {
+      stays_done = λ done. absurd (true≢false (sym done ∙ going));
+      first_alone = λ done. absurd (true≢false (sym done ∙ going));
+      second_alone = λ _. same;
+    };
+    first = λ _. call;
+    both = λ _ done. absurd (true≢false (sym done ∙ kept ∙ going));
+    second = λ done. absurd (true≢false (sym done ∙ going));
+  }
+
+  -- of the second, which this call or one before has come to
+  pub by_second : now.done_first ≡ true → (was.done_first ≡ true → now.first ≡ was.first)
+      → (was.done_first ≡ false → Q was.first now.first) → S was.second now.second → InParts P Q S was now
+  by_second done alone ends call = record {
+    in_turn = record {
+      stays_done = λ _. done;
+      first_alone = alone;
+      second_alone = λ going. absurd (true≢false (sym done ∙ going));
+    };
+    first = λ going. absurd (true≢false (sym done ∙ going));
+    both = λ going _. (ends going, call);
+    second = λ _. call;
+  }
+
+-- the mark of the first stays
+pub not_ended : {T U : Type 0} {R : Reader T} {was now : Chain T U} → now.done_first ≡ was.done_first
+    → (R.tells was.first → R.events was.first ≡ [] → ⊥) → EndsFirst R was now
+not_ended kept some = record {
+  ended = λ going tells. (λ done. absurd (true≢false (sym done ∙ kept ∙ going)), λ none. absurd (some tells none));
+}
+
+-- or is set where it ended
+pub is_ended : {T U : Type 0} {R : Reader T} {was now : Chain T U} → now.done_first ≡ true
+    → (was.done_first ≡ false → R.tells was.first → R.events was.first ≡ []) → EndsFirst R was now
+is_ended done none = record { ended = λ going tells. (λ _. none going tells, λ _. done) }
+
+-- what was lent is lent again: nothing changes, and there are some bytes
+pub lends_again : {T : Type 0} {R : Lender T} {was mid mid' now : T} {reply again : Result (Bor (List ℕ)) Error} {lent : Bor (List ℕ)}
+    → AfterLoan R was reply mid' → mid ≡ mid' → reply ≡ Ok lent → 0 < length lent.now → FillBufLaw R mid again
+    → AfterLoan R mid again now → R.may was (Filled (lent_bytes again)) now × (lent_bytes again ≡ Ok [] → ⊥)
+lends_again {R = R} {was} {mid} {mid'} {again = again} {lent} after at is some law last =
+    let first : AfterLoan R was (Ok lent) mid = subst (AfterLoan R was (Ok lent)) (sym at) (subst (λ r. AfterLoan R was r mid') is after) in
+    let held : IsNotEmpty (R.held mid) = omega (arith, some, ap length first.lends) in
+    let answer = lent_held again (law.held held) first.lends in (
+      subst (R.may was (Filled (lent_bytes again))) (sym (last.unchanged held))
+          (subst (λ a. R.may was (Filled a) mid) (sym answer) first.call),
+      λ none. omega (arith, some, ap (λ r. length (bytes_given r)) (sym answer ∙ none)),
+    )
+  where
+    lent_held : (again : Result (Bor (List ℕ)) Error) {held bs : List ℕ} → IsOkAnd again (λ s. s.now ≡ held) → held ≡ bs
+        → lent_bytes again ≡ Ok bs
+    lent_held (Ok s) is same = ap Ok (is ∙ same)
+    lent_held (Err e) is same = absurd is
+
+module _ {T U : Type 0} (first : Reader T) (second : Reader U) {was now : Chain T U} {buf v : List ℕ} where
+  -- a `read_to_end` of the first that failed
+  pub drains_first : {e : Error} → was.done_first ≡ false → now.done_first ≡ was.done_first → now.second ≡ was.second
+      → ToEndMade first.may was.first buf (Err e) v now.first → ToEndMade (ChainMay first second) was buf (Err e) v now
+  drains_first going kept same m = to_end_by m.given m.appended
+      ([], λ done. absurd (true≢false (sym done ∙ going)), by_first going kept same (refl, drains [] m refl))
+
+  -- one of the second alone
+  pub drains_second : {reply : Result ℕ Error} → was.done_first ≡ true → now.done_first ≡ was.done_first → now.first ≡ was.first
+      → ToEndMade second.may was.second buf reply v now.second → ToEndMade (ChainMay first second) was buf reply v now
+  drains_second done kept same m = to_end_by m.given m.appended
+      ([], λ _. refl, by_second (kept ∙ done) (λ _. same) (λ going. absurd (true≢false (sym done ∙ going))) (drains [] m refl))
+
+  -- one after the other
+  pub drains_both : {n : ℕ} {mid : List ℕ} {reply reply' : Result ℕ Error} → was.done_first ≡ false → now.done_first ≡ true
+      → ToEndMade first.may was.first buf (Ok n) mid now.first → ToEndMade second.may was.second mid reply v now.second
+      → ended reply ≡ ended reply' → ToEndMade (ChainMay first second) was buf reply' v now
+  drains_both going done m last same =
+      let x = last.appended ∙ ap (λ l. l ++ last.given) m.appended ∙ append_assoc buf m.given last.given in
+      to_end_by (m.given ++ last.given) x (
+        m.given,
+        λ was_done. absurd (true≢false (sym was_done ∙ going)),
+        by_second done (λ was_done. absurd (true≢false (sym was_done ∙ going))) (λ _. drains [] m refl) (drains m.given last same),
+      )
 
 -- of two calls in a row one appended a byte, and spent a turn
 pub spent_then : {len now first last : ℕ} (grown mid : ℕ) → (len < grown → mid < first) → (grown < now → last < mid) → mid ≤ first

@@ -62,6 +62,12 @@ pub part_room : (most k : ℕ) (buf part : List ℕ) → most ≡ min (length bu
 part_room most k buf part is same some room =
     omega (arith, is, same, some, room, length-append part (drop most buf), length-take most buf, length-drop most buf)
 
+-- it has as much room as the limit lets
+pub part_length : (most k : ℕ) (buf part : List ℕ) → most ≡ min (length buf) k → length part ≡ length (take most buf)
+    → length part ≡ min (length (part ++ drop most buf)) k
+part_length most k buf part is same =
+    omega (arith, is, same, length-append part (drop most buf), length-take most buf, length-drop most buf)
+
 -- what fits into the part fits into the buffer
 pub fits_whole : (n : ℕ) (part kept : List ℕ) → n ≤ length part → n ≤ length (part ++ kept)
 fits_whole n part kept fits = omega (arith, fits, length-append part kept)

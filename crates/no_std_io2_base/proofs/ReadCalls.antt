@@ -5,7 +5,7 @@ use Rattle.no_std_io2_base.specs.declared.error.Error.{Error}
 use Rattle.no_std_io2_base.specs.Write.{Made}
 use Rattle.no_std_io2_base.proofs.CallsLemmas.{made_then, made_map}
 use Rattle.no_std_io2_base.specs.Read.{ReadCall, Gave, GaveExactly, GaveAll, gave, gave_whole, ended, Gathers, no_read, and_gave, and_again}
-use Rattle.no_std_io2_base.specs.Read.{GathersUntil, IsSome, ToEndCalls, ExactMade, ToEndMade}
+use Rattle.no_std_io2_base.specs.Read.{GathersUntil, IsSome, ToEndCalls, ExactMade, ToEndMade, Drains}
 
 -- a read of no bytes
 pub gave_nothing : {S : Type 0} (may : S → ReadCall → S → Type 0) {old new : S} {reply : Result ℕ Error} {n : ℕ} (buf : List ℕ)
@@ -19,18 +19,24 @@ pub exact_own : {S : Type 0} {may : S → ReadCall → S → Type 0} {old new : 
 exact_own {new = new} own = record { calls = _; made = (new, own, refl); are = inl refl }
 
 -- and so may a `read_to_end` be
+pub to_end_by : {S : Type 0} {may : S → ReadCall → S → Type 0} {old new : S} {buf buf' : List ℕ} {reply : Result ℕ Error} (x : List ℕ)
+    → buf' ≡ buf ++ x → may old (GaveAll x (ended reply)) new → ToEndMade may old buf reply buf' new
+to_end_by {new = new} x grown own =
+    record { calls = _; given = x; made = (new, own, refl); appended = grown; are = inl ([], [], x, no_read, refl, refl) }
+
 pub to_end_own : {S A : Type 0} {may : S → ReadCall → S → Type 0} {old new : S} {buf' : List ℕ} {reply : Result ℕ Error} (buf : Vec ℕ A)
     → take (vec_len buf) buf' ≡ buf.items → may old (GaveAll (drop (vec_len buf) buf') (ended reply)) new
     → ToEndMade may old buf.items reply buf' new
-to_end_own {new = new} {buf' = buf'} buf front own =
+to_end_own {buf' = buf'} buf front own =
     let x = drop (vec_len buf) buf' in
-    record {
-      calls = _;
-      given = x;
-      made = (new, own, refl);
-      appended = sym (take-append-drop (vec_len buf) buf') ∙ ap (λ l. l ++ x) front;
-      are = inl ([], [], x, no_read, refl, refl);
-    }
+    to_end_by x (sym (take-append-drop (vec_len buf) buf') ∙ ap (λ l. l ++ x) front) own
+
+-- what it appended to one list it appends to another
+pub drains : {S : Type 0} {may : S → ReadCall → S → Type 0} {old new : S} {buf buf' : List ℕ} {reply : Result ℕ Error}
+    {answer : Result (Unit {0}) Error} (x : List ℕ) (m : ToEndMade may old buf reply buf' new) → ended reply ≡ answer
+    → Drains may old x answer (x ++ m.given) new
+drains {reply = reply} x m same =
+    (reply, same, record { calls = m.calls; given = m.given; made = m.made; appended = refl; are = m.are })
 
 -- the calls of a part are calls of the whole
 pub exact_map : {S T : Type 0} {may : S → ReadCall → S → Type 0} {may' : T → ReadCall → T → Type 0} {old new : S}

@@ -6,7 +6,7 @@ use Rattle.no_std_io2_base.specs.declared.error.Error.{Error}
 use Rattle.no_std_io2_base.specs.Errors.{IsUnexpectedEnd}
 use Rattle.no_std_io2_base.specs.Read.{Event, Reads, Fills, FallsShort}
 use Rattle.no_std_io2_base.proofs.ReadToEndTaken.{Taken, taken_fills, taken_short}
-use Rattle.no_std_io2_base.proofs.TakeToEnd.{nothing_read}
+use Rattle.no_std_io2_base.proofs.ReadToEndExits.{nothing_read}
 
 -- a buffer keeps its length if a part of it is written
 pub length_stays : (at : ℕ) (xs ys : List ℕ) → length ys ≡ length (take (length xs - at) (drop at xs))

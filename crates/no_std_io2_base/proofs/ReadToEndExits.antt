@@ -1,6 +1,6 @@
 -- What each exit of a loop of reads into a vector says of the vector and of the reader's store.
-use Rattle.std.proofs.Common.{◌≡◌, ℕ, ◌+◌, ◌-◌, ◌<◌, ◌≤◌, List, ◌++◌, Result, Ok, Err, append_assoc, length, take}
-use Rattle.std.proofs.Common.{sym, ap, subst, ◌∙◌, arith, take_all, length-take-le}
+use Rattle.std.proofs.Common.{◌≡◌, ℕ, ◌+◌, ◌-◌, ◌<◌, ◌≤◌, List, [], ◌∷◌, ◌++◌, Result, Ok, Err, append_assoc, length, take}
+use Rattle.std.proofs.Common.{refl, sym, ap, subst, ◌∙◌, arith, take_all, length-take-le}
 use lib.Seq.{take-take}
 use Rattle.no_std_io2_base.specs.declared.error.Error.{Error}
 use Rattle.no_std_io2_base.specs.Read.{Event, given, Reads, ReadsToEnd}
@@ -67,3 +67,16 @@ front_then {k} {n} mid new below first next = sym (take-take k n new below) ∙ 
 pub stopped_first : (E F : List Event) (old new : List ℕ) (after : List Event) (e : Error) → ReadsToEnd E (Err e) old new after
     → ReadsToEnd (E ++ F) (Err e) old new (after ++ F)
 stopped_first E F old new after e read = (read.0, ap (λ l. l ++ F) read.1 ∙ append_assoc read.0 after F, read.2, read.3)
+
+-- a read that gave nothing into some room: nothing was to come, and nothing is
+pub nothing_read : (E E' : List Event) (reply : Result ℕ Error) (n : ℕ) (buf : List ℕ) → Reads E reply buf E' → reply ≡ Ok n → n ≡ 0
+    → 0 < length buf → (E ≡ []) × (E' ≡ [])
+nothing_read E E' reply n buf read is none some =
+    let now : Reads E (Ok 0) buf E' = subst (λ r. Reads E r buf E') (is ∙ ap Ok none) read in
+    (now.1 refl some, sym now.0 ∙ now.1 refl some)
+
+-- all was gathered
+pub gathered_done : {E : List Event} {old new : List ℕ} {after rest : List Event} (k : ℕ)
+    → Gathered E old new after → after ≡ [] → rest ≡ [] → k ≡ length new - length old → ReadsToEnd E (Ok k) old new rest
+gathered_done {E} {old} {new} {after} {rest} k t none end count =
+    gathered_end E old new after rest 0 k (0 ∷ []) t (none ∙ sym end, λ zero some. none) refl (omega arith) count

@@ -189,76 +189,73 @@ module _ {S A : Type 0} {R : Reader S} {old now : S} {buf xs : Vec ℕ A} {fille
           );
     }
 
-    module _ {len : ℕ} {items : List ℕ} {v : Vec ℕ A} (w : Wrote filled len xs.items items part) (cut : v.items ≡ take filled items)
-        (grown : vec_capacity xs ≤ vec_capacity v) where
-      -- a read met the end
-      pub to_end_done : {reply : Result ℕ Error} {n start : ℕ} → ReadLaw R now room reply part new → reply ≡ Ok n → n ≡ 0 → filled < len
-          → start ≡ vec_len buf → ReadToEndLaw R old buf (Ok (filled - start)) v new
-      to_end_done {start = start} read is zero room from =
-          let same = cut ∙ w.kept in
-          let some : 0 < length part = omega (arith, room, w.fits) in
-          let within : filled ≤ length xs.items = omega (arith, before.within, xs.ok.0) in
-          let long = filled_length filled (vec_len v) v.items xs.items v.ok.0 same within in
-          let count = count_cut start filled v.items xs.items buf.items (from ∙ buf.ok.0) same within in
-          record {
-            told = λ t.
-                let so_far = before.told t in
-                let then = read.told so_far.0 in
-                (then.0, gathered_stops part (gathered_same so_far.1 same) then.1 is zero some count);
-            appends = front_cut _ filled xs.items before.grows same before.front;
-            count = len_cut start filled (vec_len v) _ v.items xs.items from before.grows v.ok.0 same within;
-            capacity = le_trans before.capacity grown;
-            room = λ t enough. tt;
-            never_interrupted = tt;
-            turns_never_rise = le_trans read.turns_never_rise before.turns;
-            spends_turn = λ more. let spent = before.turn (omega (arith, more, long)) in omega (arith, spent, read.turns_never_rise);
-            metered = λ m. (read.counts (before.metered m)).0;
-            filling = λ f. (read.fills (before.filling f)).0;
-            store = λ s.
-                let so_far = before.store s in
-                let then = read.store so_far.0 in
-                let tells = law now so_far.0 in
-                (then.0, then.1 ∙ so_far.1, stays_at_end _ _ part _ (read.told tells.0).1 is zero then.2 so_far.2);
-            calls =
-                let so_far = before.calls in
-                record {
-                  calls = so_far.0 ++ Gave (length part) (Ok []) ∷ [];
-                  given = so_far.1;
-                  made = made_more R.may so_far.0 old so_far.2 (gave_nothing R.may part read.call is zero);
-                  appended = same ∙ so_far.3;
-                  are = inr (so_far.0, length part, so_far.4, w.some, refl);
-                };
-          }
+    -- a read met the end
+    pub to_end_done : {v : Vec ℕ A} {reply : Result ℕ Error} {n start : ℕ} → ReadLaw R now room reply part new → reply ≡ Ok n → n ≡ 0
+        → 0 < length part → v.items ≡ take filled xs.items → vec_capacity xs ≤ vec_capacity v
+        → start ≡ vec_len buf → ReadToEndLaw R old buf (Ok (filled - start)) v new
+    to_end_done {v = v} {start = start} read is zero some same grown from =
+        let within : filled ≤ length xs.items = omega (arith, before.within, xs.ok.0) in
+        let long = filled_length filled (vec_len v) v.items xs.items v.ok.0 same within in
+        let count = count_cut start filled v.items xs.items buf.items (from ∙ buf.ok.0) same within in
+        record {
+          told = λ t.
+              let so_far = before.told t in
+              let then = read.told so_far.0 in
+              (then.0, gathered_stops part (gathered_same so_far.1 same) then.1 is zero some count);
+          appends = front_cut _ filled xs.items before.grows same before.front;
+          count = len_cut start filled (vec_len v) _ v.items xs.items from before.grows v.ok.0 same within;
+          capacity = le_trans before.capacity grown;
+          room = λ t enough. tt;
+          never_interrupted = tt;
+          turns_never_rise = le_trans read.turns_never_rise before.turns;
+          spends_turn = λ more. let spent = before.turn (omega (arith, more, long)) in omega (arith, spent, read.turns_never_rise);
+          metered = λ m. (read.counts (before.metered m)).0;
+          filling = λ f. (read.fills (before.filling f)).0;
+          store = λ s.
+              let so_far = before.store s in
+              let then = read.store so_far.0 in
+              let tells = law now so_far.0 in
+              (then.0, then.1 ∙ so_far.1, stays_at_end _ _ part _ (read.told tells.0).1 is zero then.2 so_far.2);
+          calls =
+              let so_far = before.calls in
+              record {
+                calls = so_far.0 ++ Gave (length part) (Ok []) ∷ [];
+                given = so_far.1;
+                made = made_more R.may so_far.0 old so_far.2 (gave_nothing R.may part read.call is zero);
+                appended = same ∙ so_far.3;
+                are = inr (so_far.0, length part, so_far.4, some, refl);
+              };
+        }
 
-      -- a read met a fault
-      pub to_end_fault : {e : Error} → ReadLaw R now room (Err e) part new → IsFault e → ReadToEndLaw R old buf (Err e) v new
-      to_end_fault {e} read fault =
-          let same = cut ∙ w.kept in
-          record {
-            told = λ t.
-                let so_far = before.told t in
-                let then = read.told so_far.0 in
-                (then.0, gathered_fault (gathered_same so_far.1 same) then.1 fault);
-            appends = front_cut _ filled xs.items before.grows same before.front;
-            count = tt;
-            capacity = le_trans before.capacity grown;
-            room = λ t enough. let so_far = before.told t in gathered_first_fault so_far.1 (read.told so_far.0).1 fault;
-            never_interrupted = fault;
-            turns_never_rise = le_trans read.turns_never_rise before.turns;
-            spends_turn = λ more. omega (arith, read.spends_turn, before.turns);
-            metered = λ m. (read.counts (before.metered m)).0;
-            filling = λ f. (read.fills (before.filling f)).0;
-            store = λ s.
-                let so_far = before.store s in
-                let tells = law now so_far.0 in
-                absurd (no_error _ tells.1 (read.told tells.0).1);
-            calls =
-                let so_far = before.calls in
-                record {
-                  calls = so_far.0 ++ Gave (length part) (Err e) ∷ [];
-                  given = so_far.1;
-                  made = made_more R.may so_far.0 old so_far.2 read.call;
-                  appended = same ∙ so_far.3;
-                  are = inr (inl (fault, (so_far.0, length part, so_far.4, w.some, refl)));
-                };
-          }
+    -- a read met a fault
+    pub to_end_fault : {v : Vec ℕ A} {e : Error} → ReadLaw R now room (Err e) part new → IsFault e → 0 < length part
+        → v.items ≡ take filled xs.items → vec_capacity xs ≤ vec_capacity v → ReadToEndLaw R old buf (Err e) v new
+    to_end_fault {e = e} read fault some same grown =
+        record {
+          told = λ t.
+              let so_far = before.told t in
+              let then = read.told so_far.0 in
+              (then.0, gathered_fault (gathered_same so_far.1 same) then.1 fault);
+          appends = front_cut _ filled xs.items before.grows same before.front;
+          count = tt;
+          capacity = le_trans before.capacity grown;
+          room = λ t enough. let so_far = before.told t in gathered_first_fault so_far.1 (read.told so_far.0).1 fault;
+          never_interrupted = fault;
+          turns_never_rise = le_trans read.turns_never_rise before.turns;
+          spends_turn = λ more. omega (arith, read.spends_turn, before.turns);
+          metered = λ m. (read.counts (before.metered m)).0;
+          filling = λ f. (read.fills (before.filling f)).0;
+          store = λ s.
+              let so_far = before.store s in
+              let tells = law now so_far.0 in
+              absurd (no_error _ tells.1 (read.told tells.0).1);
+          calls =
+              let so_far = before.calls in
+              record {
+                calls = so_far.0 ++ Gave (length part) (Err e) ∷ [];
+                given = so_far.1;
+                made = made_more R.may so_far.0 old so_far.2 read.call;
+                appended = same ∙ so_far.3;
+                are = inr (inl (fault, (so_far.0, length part, so_far.4, some, refl)));
+              };
+        }

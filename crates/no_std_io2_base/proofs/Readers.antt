@@ -4,13 +4,11 @@ use Rattle.std.specs.declared.dyn_box.DynBox.{DynBox}
 use Rattle.no_std_io2_base.specs.declared.traits.read.Read.{Ghosts as Reads}
 use Rattle.no_std_io2_base.specs.declared.traits.stored.Stored.{Ghosts as Stores}
 use Rattle.no_std_io2_base.specs.declared.traits.buf_read.BufRead.{Ghosts as BufReads}
-use Rattle.no_std_io2_base.specs.declared.traits.chain.Chain.{Chain}
 use Rattle.no_std_io2_base.specs.declared.traits.take.Take.{Take}
-use Rattle.no_std_io2_base.specs.Chain.{chain_tells, chain_events, chain_turns}
 use Rattle.no_std_io2_base.specs.Read.{Event, events_of, Reader, ReadCall}
 use Rattle.no_std_io2_base.specs.Write.{BoxMay}
 use Rattle.no_std_io2_base.specs.BufRead.{Lender}
-use Rattle.no_std_io2_base.specs.Take.{take_inner, take_events}
+use Rattle.no_std_io2_base.specs.Take.{take_inner, take_events, TakeMay}
 
 -- the members of a bound
 abbrev pub reader : {S : Type 0} → Stores S → Reads S → Reader S
@@ -28,24 +26,8 @@ reader stored read = record {
   may = read.may;
 }
 
--- a chain of two readers
-abbrev pub chain_reader : {T U : Type 0} → Reads T → Reads U → Reader (Chain T U)
-chain_reader first second = record {
-  has_store = λ _. ⊥;
-  content = λ _. [];
-  position = λ _. 0;
-  tells = chain_tells first.tells second.tells;
-  events = chain_events first.events second.events;
-  turns = chain_turns first.turns second.turns;
-  cost = λ _. 0;
-  is_metered = λ _. ⊥;
-  is_filling = λ _. ⊥;
-  may_take_none = λ _. ⊥;
-  may = λ _ _ _. Unit {0};
-}
-
 -- a reader that is cut
-abbrev pub take_reader : {T : Type 0} → Reads T → Reader (Take T)
+abbrev pub take_reader : {T : Type 0} → Reader T → Reader (Take T)
 take_reader inner = record {
   has_store = λ _. ⊥;
   content = λ _. [];
@@ -57,7 +39,7 @@ take_reader inner = record {
   is_metered = λ _. ⊥;
   is_filling = λ t. inner.is_filling (take_inner t);
   may_take_none = λ _. ⊥;
-  may = λ _ _ _. Unit {0};
+  may = TakeMay inner;
 }
 
 -- the ghost members of a boxed trait object, from those of the value in the box

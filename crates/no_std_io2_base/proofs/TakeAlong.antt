@@ -1,9 +1,16 @@
 -- What `Take` removes, its inner reader loses.
-use Rattle.std.proofs.Common.{◌≡◌, ℕ, zero, suc, ◌+◌, ◌-◌, ◌<◌, ◌≤◌, List, [], ◌∷◌, ◌++◌, Ok, length, take, sym, ap}
-use Rattle.std.proofs.Common.{◌∙◌, refl, subst, arith, append_assoc, length-append, length-take-le}
+use Rattle.std.proofs.Common.{◌≡◌, ℕ, zero, suc, ◌+◌, ◌-◌, ◌<◌, ◌≤◌, min, List, [], ◌∷◌, ◌++◌, Result, Ok, Err, length, take, sym, ap}
+use Rattle.std.proofs.Common.{◌∙◌, refl, subst, arith, append_assoc, length-append, length-take-le, le_refl, inl, inr}
 use Rattle.no_std_io2_base.specs.declared.error.Error.{Error}
-use Rattle.no_std_io2_base.specs.Read.{Event, fails, events_of, bytes, cut, Reads}
-use Rattle.no_std_io2_base.specs.Take.{TakesAlong}
+use Rattle.no_std_io2_base.specs.Read.{Event, fails, events_of, bytes, cut, Reads, Reader, ReadLaw, Gave, Filled, Consumed, given, gave}
+use Rattle.std.specs.Borrow.{Bor}
+use Rattle.std.proofs.lemmas.Bool.{cases_lt}
+use Rattle.std.proofs.lemmas.List.{take_all}
+use Rattle.no_std_io2_base.specs.BufRead.{LendsFrom, lent_bytes}
+use Rattle.no_std_io2_base.specs.declared.traits.take.Take.{Take}
+use Rattle.no_std_io2_base.specs.Take.{take_inner, take_limit, lent_within, TakesAlong, TakeGives, TakeMay}
+use Rattle.no_std_io2_base.proofs.Readers.{take_reader}
+use Rattle.no_std_io2_base.proofs.ReadsAdd.{EachAdds}
 use Rattle.no_std_io2_base.proofs.EventLemmas.{bytes-append, bytes-events_of, cut-bytes}
 
 -- where the limit and what is to come of the inner reader are as they were, nothing was removed
@@ -57,4 +64,138 @@ along_then {k''} {E''} first next = record {
         ap length (bytes-append first.removed next.removed),
         length-append (bytes first.removed) (bytes next.removed),
       );
+}
+
+-- a call that gave nothing, and then no more
+pub gives_none : {T : Type 0} {inner : Reader T} (t : Take T) → TakeGives inner t 0 t
+gives_none t = record { limit = omega arith; at_limit = λ zero. refl; along = λ tells. (tells, along_none refl refl) }
+
+-- one call after another
+gives_then : {T : Type 0} {inner : Reader T} {a b c : Take T} {m n : ℕ} → TakeGives inner a m b → TakeGives inner b n c
+    → TakeGives inner a (m + n) c
+gives_then first next = record {
+  limit = omega (arith, first.limit, next.limit);
+  at_limit = λ zero. next.at_limit (omega (arith, zero, first.limit)) ∙ first.at_limit zero;
+  along = λ t.
+      let mid = first.along t in
+      let end = next.along mid.0 in
+      (end.0, along_then mid.1 end.1);
+}
+
+-- a loan takes nothing but the error that it returned
+along_loan : {k k' : ℕ} {E E' : List Event} (reply : Result (Bor (List ℕ)) Error) → 0 < k → k' ≡ k → LendsFrom E reply E'
+    → TakesAlong k E k' E'
+along_loan (Ok s) some same lends = along_none same lends
+along_loan (Err e) some same lends = along_fault lends same (λ zero. omega (arith, some, zero))
+
+-- at the limit there is nothing to read
+reads_at_limit : {T : Type 0} {inner : Reader T} {t : Take T} (room : ℕ) → take_limit t ≡ 0 → TakeMay inner t (Gave room (Ok [])) t
+reads_at_limit {t = t} room at_limit = (gives_none t, λ none. refl, λ some. absurd (omega (arith, at_limit, some)))
+
+-- nor to lend
+pub fills_at_limit : {T : Type 0} {inner : Reader T} {t : Take T} → take_limit t ≡ 0 → TakeMay inner t (Filled (Ok [])) t
+fills_at_limit {t = t} at_limit = (gives_none t, λ none. refl, λ some. absurd (omega (arith, at_limit, some)))
+
+-- nor to consume
+pub consumes_at_limit : {T : Type 0} {inner : Reader T} {t : Take T} {n : ℕ} → take_limit t ≡ 0 → n ≡ 0 → TakeMay inner t (Consumed n) t
+consumes_at_limit {inner = inner} {t} at_limit none =
+    (subst (λ k. TakeGives inner t k t) (sym none) (gives_none t), λ some. absurd (omega (arith, at_limit, some)))
+
+-- so a read there is one that meets the end
+pub read_at_limit : {T : Type 0} {inner : Reader T} {t : Take T} (buf : List ℕ) → take_limit t ≡ 0
+    → ReadLaw (take_reader inner) t buf (Ok 0) buf t
+read_at_limit {inner = inner} {t} buf at_limit =
+    let E = inner.events (take_inner t) in
+    record {
+      bound = omega arith;
+      told = λ tells. (tells, (refl, λ none some. ap (λ k. cut k E) at_limit));
+      turns_never_rise = le_refl _;
+      spends_turn = λ some. absurd (omega (arith, some));
+      counts = λ m. absurd m;
+      fills = λ f. (f, omega (arith, ap (λ k. length (cut k E)) at_limit));
+      store = λ s. absurd s;
+      call = reads_at_limit _ at_limit;
+    }
+
+-- and above it one read of the inner reader is made, into a part of the buffer
+pub reads_inner : {T : Type 0} {inner : Reader T} {old new : Take T} {buf : List ℕ} (reply : Result ℕ Error) (whole part : List ℕ)
+    → 0 < take_limit old → ReadLaw inner (take_inner old) buf reply part (take_inner new)
+    → length part ≡ min (length whole) (take_limit old) → gave reply whole ≡ gave reply part
+    → take_limit new + given reply ≡ take_limit old → TakeMay inner old (Gave (length whole) (gave reply whole)) new
+reads_inner {inner = inner} {old} {new} (Ok n) whole part some read room same falls = (
+  record {
+    limit = omega (arith, length-take-le n whole (omega (arith, read.bound, room)), falls);
+    at_limit = λ zero. absurd (omega (arith, some, zero));
+    along = λ t. let now = read.told t in (now.0, along_read part now.1 read.bound falls);
+  },
+  λ zero. absurd (omega (arith, some, zero)),
+  λ _. subst (λ call. inner.may (take_inner old) call (take_inner new))
+      (ap (λ r. Gave r (gave (Ok n) part)) room ∙ ap (Gave (min (length whole) (take_limit old))) (sym same)) read.call,
+)
+reads_inner {inner = inner} {old} {new} (Err e) whole part some read room same falls = (
+  record {
+    limit = falls;
+    at_limit = λ zero. absurd (omega (arith, some, zero));
+    along = λ t. let now = read.told t in (now.0, along_fault now.1 (omega (arith, falls)) (λ zero. omega (arith, some, zero)));
+  },
+  λ zero. absurd (omega (arith, some, zero)),
+  λ _. subst (λ r. inner.may (take_inner old) (Gave r (Err e)) (take_inner new)) room read.call,
+)
+
+-- one `fill_buf` of it, of which a part is lent
+pub fills_inner : {T : Type 0} {inner : Reader T} {old new : Take T} (reply : Result (Bor (List ℕ)) Error) {answer : Result (List ℕ) Error}
+    → 0 < take_limit old → take_limit new ≡ take_limit old
+    → inner.may (take_inner old) (Filled (lent_bytes reply)) (take_inner new)
+    → (inner.tells (take_inner old)
+    → inner.tells (take_inner new) × LendsFrom (inner.events (take_inner old)) reply (inner.events (take_inner new)))
+    → answer ≡ lent_within (take_limit old) (lent_bytes reply) → TakeMay inner old (Filled answer) new
+fills_inner {old = old} reply some same call told is = (
+  record {
+    limit = omega (arith, same);
+    at_limit = λ zero. absurd (omega (arith, some, zero));
+    along = λ t. let now = told t in (now.0, along_loan reply some same now.1);
+  },
+  λ zero. absurd (omega (arith, some, zero)),
+  λ _. (lent_bytes reply, call, is),
+)
+
+-- at most so many bytes are as many as there are, or so many
+pub take_most : (most k : ℕ) (x : List ℕ) → most ≡ min (length x) k → take most x ≡ take k x
+take_most most k x is = elim (cases_lt k (length x)) [
+  | inl below ↦ ap (λ n. take n x) (omega (arith, is, below))
+  | inr above ↦ take_all most x (omega (arith, is, above)) ∙ sym (take_all k x above)
+]
+
+-- and one `consume`
+pub consumes_inner : {T : Type 0} {inner : Reader T} {old new : Take T} {n : ℕ} (held : List ℕ) → 0 < take_limit old → n ≤ length held
+    → (inner.tells (take_inner old) → inner.tells (take_inner new)
+    × (inner.events (take_inner old) ≡ events_of (take n held) ++ inner.events (take_inner new)))
+    → take_limit new + n ≡ take_limit old → inner.may (take_inner old) (Consumed n) (take_inner new) → TakeMay inner old (Consumed n) new
+consumes_inner {n = n} held some within told falls call = (
+  record {
+    limit = falls;
+    at_limit = λ zero. absurd (omega (arith, some, zero));
+    along = λ t.
+        let now = told t in
+        (now.0, along_bytes _ _ _ _ (take n held) now.1 (omega (arith, falls, length-take-le n held within)));
+  },
+  λ _. call,
+)
+
+-- What the calls of a `Take` give, they give together: so `exact_adds take_each` says it of a `read_exact`, `to_end_adds take_each` of a
+-- `read_to_end`, `piece_adds take_each` of a `read_until` and `line_adds take_each` of a `read_line`.
+pub take_each : {T : Type 0} {inner : Reader T} → EachAdds (TakeMay inner) (λ old x new. TakeGives inner old (length x) new)
+take_each {inner = inner} = record {
+  joins = record {
+    none = gives_none;
+    more = λ a b c x y first next.
+        subst (λ n. TakeGives inner a n c) (sym (length-append x y)) (gives_then first next);
+  };
+  gave = λ a b room answer call. call.0;
+  exactly = λ a b room answer call. absurd call;
+  all = λ a b x answer call. absurd call;
+  lent = λ a b answer call. call.0;
+  took = λ a b c x n lent took within.
+      let count : 0 + n ≡ length (take n x) = omega (arith, length-take-le n x within) in
+      subst (λ k. TakeGives inner a k c) count (gives_then lent.0 took.0);
 }

@@ -1,7 +1,7 @@
 -- What a clause reads of a `Chain`.
-use Rattle.std.specs.Prelude.{◌≡◌, ℕ, ◌+◌, true, false, Bool, List, [], ◌++◌, if◌then◌else◌}
+use Rattle.std.specs.Prelude.{◌≡◌, ℕ, ◌+◌, ◌<◌, true, false, Bool, List, [], ◌++◌, if◌then◌else◌, Ok, IsErr, ◌↔◌}
 use Rattle.no_std_io2_base.specs.declared.traits.chain.Chain.{Chain}
-use Rattle.no_std_io2_base.specs.Read.{Event}
+use Rattle.no_std_io2_base.specs.Read.{Event, Reader, ReadCall, Gave, GaveExactly, GaveAll, Filled, Consumed, Drains}
 
 -- `c.into_inner().0`
 abbrev pub chain_first : {T U : Type 0} → Chain T U → T
@@ -40,3 +40,32 @@ chain_turns first second c = first c.first + second c.second
 -- what the reader that is read now holds
 abbrev pub chain_held : {T U : Type 0} → (T → List ℕ) → (U → List ℕ) → Chain T U → List ℕ
 chain_held first second c = if c.done_first then second c.second else first c.first
+
+-- A call of a chain is one of the first reader, which may end it; then the same call is also one of the second, and each later one is one of
+-- the second alone.
+pub record InParts {T U : Type 0} (of_first ends_first : T → T → Type 0) (of_second : U → U → Type 0) (old new : Chain T U) : Type 0 where
+  pub in_turn : InTurn old new
+  pub first : chain_is_done new ≡ false → of_first (chain_first old) (chain_first new)
+  pub both : chain_is_done old ≡ false → chain_is_done new ≡ true
+      → ends_first (chain_first old) (chain_first new) × of_second (chain_second old) (chain_second new)
+  pub second : chain_is_done old ≡ true → of_second (chain_second old) (chain_second new)
+
+-- If the first was not done, it is done after this call if and only if it had nothing left.
+pub record EndsFirst {T U : Type 0} (first : Reader T) (old new : Chain T U) : Type 0 where
+  pub ended : chain_is_done old ≡ false → first.tells (chain_first old)
+      → (chain_is_done new ≡ true) ↔ (first.events (chain_first old) ≡ [])
+
+-- What a call may do to a chain. The first reader is ended by a `read` into some room that gives nothing, by a `fill_buf` that lends nothing,
+-- and by a `read_to_end`, to whose bytes y the second appends.
+abbrev pub ChainMay : {T U : Type 0} → Reader T → Reader U → Chain T U → ReadCall → Chain T U → Type 0
+ChainMay first second old (Gave room answer) new = (0 < room → EndsFirst first old new)
+    × InParts (λ a b. first.may a (Gave room answer) b × (0 < room → answer ≡ Ok [] → ⊥))
+    (λ a b. (0 < room) × first.may a (Gave room (Ok [])) b) (λ a b. second.may a (Gave room answer) b) old new
+ChainMay first second old (GaveAll x answer) new = (y : List ℕ) × (chain_is_done old ≡ true → y ≡ [])
+    × InParts (λ a b. IsErr answer × Drains first.may a [] answer x b) (λ a b. Drains first.may a [] (Ok tt) y b)
+    (λ a b. Drains second.may a y answer x b) old new
+ChainMay first second old (Filled answer) new = EndsFirst first old new
+    × InParts (λ a b. first.may a (Filled answer) b × (answer ≡ Ok [] → ⊥)) (λ a b. first.may a (Filled (Ok [])) b)
+    (λ a b. second.may a (Filled answer) b) old new
+ChainMay first second old (Consumed n) new = InParts (λ a b. first.may a (Consumed n) b) (λ a b. ⊥) (λ a b. second.may a (Consumed n) b) old new
+ChainMay first second old (GaveExactly room answer) new = ⊥

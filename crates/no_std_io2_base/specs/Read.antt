@@ -135,6 +135,11 @@ abbrev pub ended : Result ℕ Error → Result (Unit {0}) Error
 ended (Ok n) = Ok tt
 ended (Err e) = Err e
 
+-- the bytes of an answer: none if it is an error
+abbrev pub bytes_given : Result (List ℕ) Error → List ℕ
+bytes_given (Ok x) = x
+bytes_given (Err e) = []
+
 -- C are reads in a row that gave x: each gave some bytes, or was interrupted. `asks` says into how much room a read is made after that many
 -- bytes.
 pub data Gathers (asks : ℕ → ℕ → Type 0) : List ReadCall → List ℕ → Type 0 where
@@ -199,6 +204,10 @@ pub record ToEndMade {S : Type 0} (may : S → ReadCall → S → Type 0) (old :
   pub made : Made may old calls new
   pub appended : buf' ≡ buf ++ given
   pub are : ToEndCalls calls given reply
+
+-- a `read_to_end` made y of x, and ended with this answer
+abbrev pub Drains : {S : Type 0} → (S → ReadCall → S → Type 0) → S → List ℕ → Result (Unit {0}) Error → List ℕ → S → Type 0
+Drains may old x answer y new = (reply : Result ℕ Error) × (ended reply ≡ answer) × ToEndMade may old x reply y new
 
 -- the ghost members of a reader, as `⟦<R as Read>⟧` names them: those of its store, and its own
 abbrev pub Reader : Type 0 → Type 1

@@ -1,7 +1,8 @@
 -- What a clause reads of a `Take`, and what its calls do.
-use Rattle.std.specs.Prelude.{◌≡◌, ℕ, ◌+◌, List, ◌++◌, length, take}
+use Rattle.std.specs.Prelude.{◌≡◌, ℕ, ◌+◌, ◌<◌, min, List, [], ◌++◌, length, take, Result, Ok, Err}
+use Rattle.no_std_io2_base.specs.declared.error.Error.{Error}
 use Rattle.no_std_io2_base.specs.declared.traits.take.Take.{Take}
-use Rattle.no_std_io2_base.specs.Read.{Event, bytes, cut}
+use Rattle.no_std_io2_base.specs.Read.{Event, bytes, cut, Reader, ReadCall, Gave, Filled, Consumed, bytes_given}
 
 -- `t.limit()`
 abbrev pub take_limit : {T : Type 0} → Take T → ℕ
@@ -30,3 +31,29 @@ pub record TakesAlong (limit : ℕ) (E : List Event) (new_limit : ℕ) (after : 
   pub below : E ≡ removed ++ after
   pub here : cut limit E ≡ removed ++ cut new_limit after
   pub falls : new_limit + length (bytes removed) ≡ limit
+
+-- From old to new a `Take` gave n bytes: the limit fell by n, at limit 0 the inner reader was left alone, and what is gone from the events
+-- is gone from the inner reader's.
+pub record TakeGives {T : Type 0} (inner : Reader T) (old : Take T) (n : ℕ) (new : Take T) : Type 0 where
+  pub limit : take_limit new + n ≡ take_limit old
+  pub at_limit : take_limit old ≡ 0 → take_inner new ≡ take_inner old
+  pub along : inner.tells (take_inner old) → inner.tells (take_inner new)
+      × TakesAlong (take_limit old) (inner.events (take_inner old)) (take_limit new) (inner.events (take_inner new))
+
+-- at most the first k of the bytes that were lent, or the error
+abbrev pub lent_within : ℕ → Result (List ℕ) Error → Result (List ℕ) Error
+lent_within k (Ok x) = Ok (take k x)
+lent_within k (Err e) = Err e
+
+-- What a call may do to a `Take`: at limit 0 it gives nothing and makes no call. Above the limit a `read` is one of the inner reader, into as
+-- much of the room as the limit allows, a `fill_buf` lends as many of the bytes that the inner reader lends, and a `consume` is one of the
+-- inner reader.
+abbrev pub TakeMay : {T : Type 0} → Reader T → Take T → ReadCall → Take T → Type 0
+TakeMay inner old (Gave room answer) new = TakeGives inner old (length (bytes_given answer)) new × (take_limit old ≡ 0 → answer ≡ Ok [])
+    × (0 < take_limit old → inner.may (take_inner old) (Gave (min room (take_limit old)) answer) (take_inner new))
+TakeMay inner old (Filled answer) new = TakeGives inner old 0 new × (take_limit old ≡ 0 → answer ≡ Ok [])
+    × (0 < take_limit old → (lent : Result (List ℕ) Error) × inner.may (take_inner old) (Filled lent) (take_inner new)
+    × (answer ≡ lent_within (take_limit old) lent))
+TakeMay inner old (Consumed n) new = TakeGives inner old n new
+    × (0 < take_limit old → inner.may (take_inner old) (Consumed n) (take_inner new))
+TakeMay inner old _ new = ⊥

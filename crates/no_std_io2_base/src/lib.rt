@@ -2,6 +2,7 @@
 //! memory. Users name only the crate `no_std_io2`, which exports all of this under `io`.
 #![tactic(auto)]
 
+mod adaptor_pins;
 pub mod cursor;
 pub mod error;
 mod impls;

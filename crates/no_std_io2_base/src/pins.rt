@@ -5,17 +5,15 @@ ghost use Rattle.std.specs.Hash as fed;
 ghost use Rattle.std.specs.Prelude.{◌≡◌, ◌+◌, ◌-◌, ◌≤◌, ◌<◌, ◌++◌, ◌↔◌, length, take, drop, true, false, Ok, Some};
 ghost use Rattle.std.specs.Prelude.{IsTrue, IsOk, IsOkAnd, IfOk, IfErr, IfSome, OnSome};
 ghost use Rattle.std.specs.Box.{boxed_slice_items};
-ghost use Rattle.no_std_io2_base.specs.Chain.{chain_first, chain_second, chain_is_done};
 ghost use Rattle.no_std_io2_base.specs.Cursor.{cursor_inner, cursor_position, bytes_before};
 ghost use Rattle.no_std_io2_base.specs.Errors.{IsFault, error_display, kind_number};
-ghost use Rattle.no_std_io2_base.specs.Read.{events_of, cut, bytes_reader, NextByte, ReadCall};
+ghost use Rattle.no_std_io2_base.specs.Read.{events_of, bytes_reader, NextByte, ReadCall};
 ghost use Rattle.no_std_io2_base.specs.Seek.{SeekCall};
-ghost use Rattle.no_std_io2_base.specs.Take.{take_inner, take_limit};
 ghost use Rattle.no_std_io2_base.specs.Write.{told_out, WriteCall, BoxMay};
 
 use crate::cursor::{AsSlice, Cursor};
 use crate::error::{Error, ErrorKind, Result};
-use crate::traits::{BufRead, Bytes, Chain, Read, Seek, SeekFrom, Stored, Take, Write};
+use crate::traits::{BufRead, Bytes, Read, Seek, SeekFrom, Stored, Write};
 use std::alloc::{AllocError, Allocator};
 use std::boxed::BoxedSlice;
 use std::collections::VecDeque;
@@ -244,45 +242,6 @@ fn slice_lends<'a>(s: &&'a [u8])
     ensures held { ⟦<&'a [u8] as BufRead>⟧.held s.now ≡ s.now.now }
     ensures surely { ⟦<&'a [u8] as BufRead>⟧.lends_surely s.now }
     ensures length { ⟦<&'a [u8] as BufRead>⟧.lent_length s.now ≡ length s.now.now }
-{}
-
-// The events of a `Chain` are the first reader's and then the second's; once the first is done,
-// only the second's.
-fn chain_tells<T: Read, U: Read>(c: &Chain<T, U>)
-    ensures tells { T.tells (chain_first c.now) → U.tells (chain_second c.now) → ⟦<Chain<T, U> as Read>⟧.tells c.now }
-    ensures events { chain_is_done c.now ≡ false
-        → ⟦<Chain<T, U> as Read>⟧.events c.now ≡ T.events (chain_first c.now) ++ U.events (chain_second c.now) }
-    ensures tells_done { chain_is_done c.now ≡ true → U.tells (chain_second c.now) → ⟦<Chain<T, U> as Read>⟧.tells c.now }
-    ensures events_done { chain_is_done c.now ≡ true
-        → ⟦<Chain<T, U> as Read>⟧.events c.now ≡ U.events (chain_second c.now) }
-    ensures turns { ⟦<Chain<T, U> as Read>⟧.turns c.now ≡ T.turns (chain_first c.now) + U.turns (chain_second c.now) }
-    ensures metered { ⟦<Chain<T, U> as Read>⟧.is_metered c.now → ⊥ }
-    ensures filling { ⟦<Chain<T, U> as Read>⟧.is_filling c.now → ⊥ }
-    ensures takes_all { ⟦<Chain<T, U> as Read>⟧.may_take_none c.now → ⊥ }
-    ensures store { ⟦<Chain<T, U> as Stored>⟧.has_store c.now → ⊥ }
-{}
-
-// A `Chain` holds the bytes that the current reader holds.
-fn chain_lends<T: BufRead, U: BufRead>(c: &Chain<T, U>)
-    ensures held { chain_is_done c.now ≡ false → ⟦<Chain<T, U> as BufRead>⟧.held c.now ≡ T.held (chain_first c.now) }
-    ensures held_done { chain_is_done c.now ≡ true → ⟦<Chain<T, U> as BufRead>⟧.held c.now ≡ U.held (chain_second c.now) }
-{}
-
-// The events of a `Take` are the inner reader's, up to and including the byte at the limit.
-fn take_tells<T: Read>(t: &Take<T>)
-    ensures tells { T.tells (take_inner t.now) → ⟦<Take<T> as Read>⟧.tells t.now }
-    ensures events { ⟦<Take<T> as Read>⟧.events t.now ≡ cut (take_limit t.now) (T.events (take_inner t.now)) }
-    ensures turns { ⟦<Take<T> as Read>⟧.turns t.now ≡ T.turns (take_inner t.now) }
-    ensures cost { ⟦<Take<T> as Read>⟧.cost t.now ≡ T.cost (take_inner t.now) }
-    ensures metered { ⟦<Take<T> as Read>⟧.is_metered t.now → ⊥ }
-    ensures filling { T.is_filling (take_inner t.now) → ⟦<Take<T> as Read>⟧.is_filling t.now }
-    ensures takes_all { ⟦<Take<T> as Read>⟧.may_take_none t.now → ⊥ }
-    ensures store { ⟦<Take<T> as Stored>⟧.has_store t.now → ⊥ }
-{}
-
-// A `Take` holds as many of the inner reader's held bytes as the limit allows.
-fn take_lends<T: BufRead>(t: &Take<T>)
-    ensures { ⟦<Take<T> as BufRead>⟧.held t.now ≡ take (take_limit t.now) (T.held (take_inner t.now)) }
 {}
 
 // `next` yields the next byte or fault, and spends a turn for it.

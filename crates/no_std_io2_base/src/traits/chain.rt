@@ -1,17 +1,17 @@
-ghost use Rattle.std.specs.Prelude.{◌≡◌, ◌≤◌, ◌<◌, ◌↔◌, ◌++◌, true, false, [], length, take, drop, OnOk};
+ghost use Rattle.std.specs.Prelude.{◌≡◌, ◌≤◌, true, false, [], length, OnOk};
 ghost use types.Logic.{sem};
 ghost use Rattle.std.specs.Borrow.{LendsBoth};
 ghost use Rattle.no_std_io2_base.specs.contracts.traits.chain.Chain.{the_row as chain-row};
 ghost use Rattle.no_std_io2_base.specs.Chain.{chain_first, chain_second, chain_is_done, chain_with_readers};
-ghost use Rattle.no_std_io2_base.specs.Chain.{chain_tells, chain_events, chain_turns, chain_held, InTurn};
-ghost use Rattle.no_std_io2_base.specs.BufRead.{FillBufLaw, AfterLoan, ConsumeLaw, Rests, IsNotEmpty};
-ghost use Rattle.no_std_io2_base.specs.Read.{events_of, ReadLaw, ReadExactLaw, ReadToEndLaw};
+ghost use Rattle.no_std_io2_base.specs.Chain.{chain_tells, chain_events, chain_turns, chain_held, ChainMay};
+ghost use Rattle.no_std_io2_base.specs.BufRead.{ConsumeLaw};
+ghost use Rattle.no_std_io2_base.specs.Read.{ReadToEndLaw};
 
 use super::buf_read::BufRead;
 use super::read::Read;
 use super::room::rest_to_end;
 use super::stored::Stored;
-use crate::error::{Result, failed_to_fill};
+use crate::error::Result;
 use std::alloc::Allocator;
 
 /// Two readers, one after the other. Made by [`Read::chain`]; follows Rust's `std::io::Chain`.
@@ -107,17 +107,10 @@ impl<T: Read, U: Read> Read for Chain<T, U> {
 
     ghost may_take_none = { λ _. ⊥ };
 
-    #[inline]
-    fn read(&mut self, buf: &mut [u8]) -> Result<usize>
-        ensures law { ReadLaw ⟦<Self as Read>⟧ self.old buf.old result buf.new self.new }
+    ghost may = { ChainMay T.Read U.Read };
 
-        // It uses one reader after the other. The first is marked done if it had nothing left and
-        // `buf` is not empty.
-        ensures in_turn { InTurn self.old self.new }
-        ensures empty { length buf.old ≡ 0 → chain_is_done self.new ≡ chain_is_done self.old }
-        ensures ended { T.tells (chain_first self.old) → T.events (chain_first self.old) ≡ [] → 0 < length buf.old
-            → chain_is_done self.new ≡ true }
-    {
+    #[inline]
+    fn read(&mut self, buf: &mut [u8]) -> Result<usize> {
         if !self.done_first {
             match self.first.read(buf)? {
                 0 if !buf.is_empty() => self.done_first = true,
@@ -127,30 +120,11 @@ impl<T: Read, U: Read> Read for Chain<T, U> {
         self.second.read(buf)
     }
 
-    fn read_exact(&mut self, buf: &mut [u8]) -> Result<()>
-        ensures law { ReadExactLaw ⟦<Self as Read>⟧ self.old buf.old result buf.new self.new }
-
-        // One reader after the other.
-        ensures in_turn { InTurn self.old self.new }
-    {
-        let mut at = 0;
-        'reads: while at < buf.len() {
-            match self.read(&mut buf[at..]) {
-                Ok(0) => return Err(failed_to_fill()),
-                Ok(n) => at += n,
-                Err(e) if e.is_interrupted() => {}
-                Err(e) => return Err(e),
-            }
-        }
-        Ok(())
-    }
-
     // Each reader fills the vector in its own way, but for the room that the first has left.
     fn read_to_end<A: Allocator>(&mut self, buf: &mut Vec<u8, A>) -> Result<usize>
         ensures law { ReadToEndLaw ⟦<Self as Read>⟧ self.old buf.old result buf.new self.new }
 
-        // One reader after the other, to the end of both.
-        ensures in_turn { InTurn self.old self.new }
+        // To the end of both.
         ensures ended { OnOk result (chain_is_done self.new ≡ true) }
     {
         if self.done_first {
@@ -174,17 +148,7 @@ impl<T: BufRead, U: BufRead> BufRead for Chain<T, U> {
     ghost held = { chain_held T.held U.held };
 
     #[tactic(auto, using(crate::proofs::FillBufHeld::begins_append))]
-    fn fill_buf(&mut self) -> Result<&[u8]>
-        ensures law { FillBufLaw ⟦<Self as BufRead>⟧ self.old result }
-
-        // After the borrow it still has one reader after the other, and the first is done if it had nothing left.
-        ensures* after_borrow { sem 𝓛 (Rests (chain-row T.row U.row) self.entry (λ new. record {
-          law : AfterLoan ⟦<Self as BufRead>⟧ self.old result new;
-          in_turn : InTurn self.old new;
-          ended : chain_is_done self.old ≡ false → T.tells (chain_first self.old)
-              → (chain_is_done new ≡ true) ↔ (T.events (chain_first self.old) ≡ []);
-        })) }
-    {
+    fn fill_buf(&mut self) -> Result<&[u8]> {
         if !self.done_first {
             self.done_first = self.first.fill_buf()?.is_empty();
         }
@@ -198,10 +162,6 @@ impl<T: BufRead, U: BufRead> BufRead for Chain<T, U> {
     fn consume(&mut self, amount: usize)
         requires { amount ≤ length (chain_held T.held U.held self.old) }
         ensures law { ConsumeLaw ⟦<Self as BufRead>⟧ self.old amount self.new }
-
-        // Of the reader that is read now.
-        ensures in_turn { InTurn self.old self.new }
-        ensures mark { chain_is_done self.new ≡ chain_is_done self.old }
     {
         if self.done_first {
             self.second.consume(amount);

@@ -1,20 +1,17 @@
-ghost use Rattle.std.specs.Prelude.{◌≡◌, ◌≤◌, ◌<◌, ◌+◌, min, ◌++◌, length, take, drop, [], IfOk, IfErr, IsOkAnd};
-ghost use Rattle.std.specs.Prelude.{OnOk, Some, vec_len, vec_capacity};
+ghost use Rattle.std.specs.Prelude.{◌≡◌, ◌≤◌, min, length, [], Some, IfErr, vec_len, vec_capacity};
 ghost use types.Logic.{sem};
 ghost use Rattle.std.specs.Borrow.{Lends};
 ghost use Rattle.no_std_io2_base.specs.contracts.traits.take.Take.{the_row as take-row};
-ghost use Rattle.no_std_io2_base.specs.BufRead.{FillBufLaw, AfterLoan, ConsumeLaw, ReadUntilLaw, ReadLineLaw, Rests, LendsFrom};
-ghost use Rattle.no_std_io2_base.specs.Take.{take_with_inner, take_limit, take_inner, take_events, take_held, TakesAlong};
-ghost use Rattle.no_std_io2_base.specs.Read.{events_of, given, cut_alone, first_fault, HasRoom, ReadLaw, ReadExactLaw, ReadToEndLaw};
+ghost use Rattle.no_std_io2_base.specs.BufRead.{ConsumeLaw};
+ghost use Rattle.no_std_io2_base.specs.Take.{take_with_inner, take_limit, take_inner, take_events, take_held, TakeMay};
+ghost use Rattle.no_std_io2_base.specs.Read.{cut_alone, first_fault, HasRoom, ReadToEndLaw};
 
 use super::buf_read::BufRead;
-use super::pieces::{append_line, find_piece};
 use super::read::Read;
 use super::room::{LEAST_ROOM, open_room, reserve_room};
 use super::stored::Stored;
-use crate::error::{Result, failed_to_fill};
-use crate::impls::append;
-use std::alloc::{Allocator, Global};
+use crate::error::Result;
+use std::alloc::Allocator;
 
 /// A reader of at most `limit` bytes of another reader. Made by [`Read::take`]; follows Rust's
 /// `std::io::Take`.
@@ -108,9 +105,6 @@ impl<T: Read> Stored for Take<T> {
     ghost position = { λ _. 0 };
 }
 
-// Besides the trait's clauses, each call states the new limit, that the inner reader is not called
-// at limit 0, and that the events that are gone from this stream are gone from the inner reader
-// too.
 impl<T: Read> Read for Take<T> {
     ghost tells = { λ t. T.tells (take_inner t) };
 
@@ -124,17 +118,10 @@ impl<T: Read> Read for Take<T> {
 
     ghost may_take_none = { λ _. ⊥ };
 
-    #[inline(always)]
-    fn read(&mut self, buf: &mut [u8]) -> Result<usize>
-        ensures law { ReadLaw ⟦<Self as Read>⟧ self.old buf.old result buf.new self.new }
+    ghost may = { TakeMay T.Read };
 
-        // Its own.
-        ensures limit { take_limit self.new + given result ≡ take_limit self.old }
-        ensures at_limit { take_limit self.old ≡ 0
-            → IsOkAnd result (λ n. n ≡ 0) × (take_inner self.new ≡ take_inner self.old) }
-        ensures along { T.tells (take_inner self.old)
-            → TakesAlong (take_limit self.old) (T.events (take_inner self.old)) (take_limit self.new) (T.events (take_inner self.new)) }
-    {
+    #[inline(always)]
+    fn read(&mut self, buf: &mut [u8]) -> Result<usize> {
         // Far from the limit the buffer goes on as it is.
         if (buf.len() as u64) < self.limit {
             let given = self.inner.read(buf)?;
@@ -150,28 +137,6 @@ impl<T: Read> Read for Take<T> {
         Ok(n)
     }
 
-    fn read_exact(&mut self, buf: &mut [u8]) -> Result<()>
-        ensures law { ReadExactLaw ⟦<Self as Read>⟧ self.old buf.old result buf.new self.new }
-
-        // Its own.
-        ensures limit { OnOk result (take_limit self.new + length buf.old ≡ take_limit self.old) }
-        ensures falls { take_limit self.new ≤ take_limit self.old }
-        ensures at_limit { take_limit self.old ≡ 0 → take_inner self.new ≡ take_inner self.old }
-        ensures along { T.tells (take_inner self.old)
-            → TakesAlong (take_limit self.old) (T.events (take_inner self.old)) (take_limit self.new) (T.events (take_inner self.new)) }
-    {
-        let mut at = 0;
-        'reads: while at < buf.len() {
-            match self.read(&mut buf[at..]) {
-                Ok(0) => return Err(failed_to_fill()),
-                Ok(n) => at += n,
-                Err(e) if e.is_interrupted() => {}
-                Err(e) => return Err(e),
-            }
-        }
-        Ok(())
-    }
-
     // If fewer than 32 bytes are left under the limit, it makes room for no more than those.
     fn read_to_end<A: Allocator>(&mut self, buf: &mut Vec<u8, A>) -> Result<usize>
         ensures law { ReadToEndLaw ⟦<Self as Read>⟧ self.old buf.old result buf.new self.new }
@@ -180,11 +145,6 @@ impl<T: Read> Read for Take<T> {
         ensures small_room { T.tells (take_inner self.old)
             → HasRoom (min (take_limit self.old) 32) (take_events T.events self.old) (vec_len buf.old) (vec_capacity buf.old)
             → IfErr result (λ e. first_fault (take_events T.events self.old) ≡ Some e) }
-        ensures limit { take_limit self.new + vec_len buf.new ≡ take_limit self.old + vec_len buf.old }
-        ensures at_limit { take_limit self.old ≡ 0
-            → IsOkAnd result (λ n. n ≡ 0) × (take_inner self.new ≡ take_inner self.old) }
-        ensures along { T.tells (take_inner self.old)
-            → TakesAlong (take_limit self.old) (T.events (take_inner self.old)) (take_limit self.new) (T.events (take_inner self.new)) }
     {
         let start = buf.len();
         let mut filled = start;
@@ -218,18 +178,7 @@ impl<T: BufRead> BufRead for Take<T> {
     ghost held = { take_held T.held };
 
     #[tactic(auto, using(crate::proofs::FillBufHeld::begins_cut))]
-    fn fill_buf(&mut self) -> Result<&[u8]>
-        ensures law { FillBufLaw ⟦<Self as BufRead>⟧ self.old result }
-
-        // Its own, here and at the end of what stands after the loan.
-        ensures at_limit { take_limit self.old ≡ 0 → IsOkAnd result (λ s. s.now ≡ []) }
-        ensures* after_borrow { sem 𝓛 (Rests (take-row T.row) self.entry (λ new. record {
-          law : AfterLoan ⟦<Self as BufRead>⟧ self.old result new;
-          limit : take_limit new ≡ take_limit self.old;
-          left_alone : take_limit self.old ≡ 0 → take_inner new ≡ take_inner self.old;
-          along : T.tells (take_inner self.old) → LendsFrom (T.events (take_inner self.old)) result (T.events (take_inner new));
-        })) }
-    {
+    fn fill_buf(&mut self) -> Result<&[u8]> {
         if self.limit == 0 {
             return Ok(b"");
         }
@@ -242,61 +191,11 @@ impl<T: BufRead> BufRead for Take<T> {
     fn consume(&mut self, amount: usize)
         requires { amount ≤ length (take_held T.held self.old) }
         ensures law { ConsumeLaw ⟦<Self as BufRead>⟧ self.old amount self.new }
-
-        // Its own.
-        ensures limit { take_limit self.new + amount ≡ take_limit self.old }
-        ensures at_limit { take_limit self.old ≡ 0 → take_inner self.new ≡ take_inner self.old }
-        ensures along { T.tells (take_inner self.old)
-            → TakesAlong (take_limit self.old) (T.events (take_inner self.old)) (take_limit self.new) (T.events (take_inner self.new)) }
     {
         if self.limit == 0 {
             return;
         }
         self.limit -= amount as u64;
         self.inner.consume(amount);
-    }
-
-    // The trait's body.
-    fn read_until<A: Allocator>(&mut self, delim: u8, buf: &mut Vec<u8, A>) -> Result<usize>
-        ensures law { ReadUntilLaw ⟦<Self as BufRead>⟧ self.old delim buf.old result buf.new self.new }
-
-        // Its own.
-        ensures limit { take_limit self.new + vec_len buf.new ≡ take_limit self.old + vec_len buf.old }
-        ensures at_limit { take_limit self.old ≡ 0
-            → IsOkAnd result (λ n. n ≡ 0) × (take_inner self.new ≡ take_inner self.old) }
-        ensures along { T.tells (take_inner self.old)
-            → TakesAlong (take_limit self.old) (T.events (take_inner self.old)) (take_limit self.new) (T.events (take_inner self.new)) }
-    {
-        let start = buf.len();
-        'pieces: loop {
-            match self.fill_buf() {
-                Ok(lent) => {
-                    let (len, is_whole) = find_piece(lent, delim);
-                    append(buf, &lent[..len])?;
-                    self.consume(len);
-                    if is_whole {
-                        return Ok(buf.len() - start);
-                    }
-                }
-                Err(e) if e.is_interrupted() => {}
-                Err(e) => return Err(e),
-            }
-        }
-    }
-
-    // The trait's body. An error loses bytes that the limit has fallen by.
-    fn read_line(&mut self, alloc: Global, buf: &mut String) -> Result<usize>
-        ensures law { ReadLineLaw ⟦<Self as BufRead>⟧ self.old buf.old result buf.new self.new }
-
-        // Its own.
-        ensures limit { IfOk result (λ n. take_limit self.new + n ≡ take_limit self.old) }
-        ensures falls { take_limit self.new ≤ take_limit self.old }
-        ensures at_limit { take_limit self.old ≡ 0 → take_inner self.new ≡ take_inner self.old }
-        ensures along { T.tells (take_inner self.old)
-            → TakesAlong (take_limit self.old) (T.events (take_inner self.old)) (take_limit self.new) (T.events (take_inner self.new)) }
-    {
-        let mut line = Vec::new(alloc);
-        let read = self.read_until(b'\n', &mut line);
-        append_line(buf, &line, read)
     }
 }

@@ -6,7 +6,7 @@ use Rattle.no_std_io2_base.proofs.ReadCalls.{gave_nothing}
 use Rattle.no_std_io2_base.proofs.ReadToEndGathered.{gathered_same, gathered_room, gathered_failed, gathered_over}
 use Rattle.no_std_io2_base.proofs.ReadToEndExits.{front_cut, filled_length, whole_room, stays_at_end}
 use Rattle.no_std_io2_base.proofs.ReadToEndTaken.{no_error}
-use Rattle.no_std_io2_base.proofs.TakeToEnd.{nothing_read}
+use Rattle.no_std_io2_base.proofs.ReadToEndExits.{nothing_read}
 use Rattle.no_std_io2_base.proofs.ReadToEndLoop.{wrote, to_end_none, to_end_read, to_end_interruption}
 use Rattle.no_std_io2_base.proofs.traits.room.fill_room.Goals as goal
 

@@ -7,7 +7,7 @@ use Rattle.no_std_io2_base.proofs.GivenPieces.{first_fault-append}
 use Rattle.no_std_io2_base.proofs.ChainReads.{spent_then}
 use Rattle.no_std_io2_base.proofs.ReadToEndExits.{front_then}
 use Rattle.no_std_io2_base.proofs.ReadToEndGathered.{gathered_room_filled, gathered_all, gathered_stop, room_left, fault_of_room}
-use Rattle.no_std_io2_base.proofs.TakeToEnd.{gathered_done}
+use Rattle.no_std_io2_base.proofs.ReadToEndExits.{gathered_done}
 use Rattle.no_std_io2_base.proofs.traits.room.rest_to_end.Goals as goal
 
 pub returns-in_err-is_at_end : goal.returns-in_err-is_at_end

@@ -29,9 +29,8 @@ returns-in-Ok-eq0 g c =
     let w = wrote room.within c.open_room.new.buf.ok.0 c.deref_mut.ensures.value c.read.auto.buf room.front
     c.in_ok-open_room.ensures.room in
     record {
-      law = to_end_done c.reads.invariant (λ x told. absurd told) w c.truncate.ensures.items
-          (omega (arith, room.grows, c.truncate.ensures.capacity)) c.read.ensures.law c.in-Ok-eq0.is c.in-Ok-eq0.field-0-test
-          c.in_ok-open_room.ensures.room c.len-start.ensures;
+      law = to_end_done c.reads.invariant (λ x told. absurd told) c.read.ensures.law c.in-Ok-eq0.is c.in-Ok-eq0.field-0-test w.some
+          (c.truncate.ensures.items ∙ w.kept) (omega (arith, room.grows, c.truncate.ensures.capacity)) c.len-start.ensures;
     }
 
 pub returns-in-Err-2 : goal.returns-in-Err-2
@@ -40,9 +39,9 @@ returns-in-Err-2 g c =
     let w = wrote room.within c.open_room.new.buf.ok.0 c.deref_mut.ensures.value c.read.auto.buf room.front
     c.in_ok-open_room.ensures.room in
     record {
-      law = to_end_fault c.reads.invariant (λ x told. absurd told) w c.truncate-in-Err-2.ensures.items
-          (omega (arith, room.grows, c.truncate-in-Err-2.ensures.capacity)) c.in-Err.ensures.law
-          (sym c.is_interrupted.ensures ∙ c.if-is_interrupted.false);
+      law = to_end_fault c.reads.invariant (λ x told. absurd told) c.in-Err.ensures.law
+          (sym c.is_interrupted.ensures ∙ c.if-is_interrupted.false) w.some (c.truncate-in-Err-2.ensures.items ∙ w.kept)
+          (omega (arith, room.grows, c.truncate-in-Err-2.ensures.capacity));
     }
 
 pub reads-preserved-in-Ok : goal.reads-preserved-in-Ok

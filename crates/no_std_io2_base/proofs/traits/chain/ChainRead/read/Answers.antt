@@ -1,9 +1,11 @@
-use Rattle.std.proofs.Common.{◌≡◌, ◌≤◌, ◌<◌, ◌++◌, false, true≢false, length, refl, sym, ap, subst, ◌∙◌, arith, rules}
+use Rattle.std.proofs.Common.{◌≡◌, ◌≤◌, ◌<◌, ◌++◌, [], Ok, false, true≢false, length, length-take-le, refl, sym, ap, subst, ◌∙◌, arith, rules}
 use Rattle.std.proofs.lemmas.Result.{err_from_is_err_and}
-use Rattle.no_std_io2_base.specs.Read.{Reads, SpendsTurn}
+use Rattle.no_std_io2_base.specs.Read.{Reads, SpendsTurn, Gave, gave, bytes_given}
 use Rattle.no_std_io2_base.proofs.ChainReads.{PastFirst, past_done, past_read, both_turns, second_turn, first_turn}
-use Rattle.no_std_io2_base.proofs.ChainReads.{turn_of_first, turn_past, gave_none, failed_none, read_before}
-use Rattle.no_std_io2_base.proofs.TakeToEnd.{nothing_read}
+use Rattle.no_std_io2_base.proofs.ChainReads.{by_first, by_second, not_ended, is_ended, gave_none, failed_none, read_before}
+use Rattle.no_std_io2_base.proofs.ReadCalls.{gave_nothing}
+use Rattle.no_std_io2_base.proofs.Readers.{reader}
+use Rattle.no_std_io2_base.proofs.ReadToEndExits.{nothing_read}
 use Rattle.no_std_io2_base.proofs.WriteExits.{not_empty}
 use Rattle.no_std_io2_base.proofs.traits.chain.ChainRead.read.Goals as goal
 use Rattle.no_std_io2_base.proofs.traits.chain.ChainRead.read.Goals.{then-not-self+in_ok-n+in-0, else-not-self}
@@ -24,60 +26,63 @@ returns-in_err-n g c =
         counts = λ m. absurd m;
         fills = λ f. absurd f;
         store = λ s. absurd s;
-        call = tt;
+        call = (
+          λ some. not_ended refl (λ t. failed_none (read.told t).1),
+          by_first going refl refl (read.call, λ some is. let no : ⊥ = cc in no),
+        );
       };
-      in_turn = turn_of_first _ _ going refl;
-      empty = λ nothing. refl;
-      ended = λ t none some. absurd (failed_none (read.told t).1 none);
     })
 
 -- what the first gave: how it stood at its end is left to the search
-pub returns-in_default-clause-law : goal.returns-in_default-clause-law
-returns-in_default-clause-law g c =
+pub returns-in_default : goal.returns-in_default
+returns-in_default g c =
     let going : c.args.self.now.done_first ≡ false = c.if-not-self.true in
     let read = c.in_ok-n.ensures.law in
+    let gives : c.in_ok-n.n ≡ 0 → 0 < length c.read.new.buf → ⊥ = λ none some. search (rules, not_empty) in
     record {
-      bound = read.bound;
-      told = λ t.
-          let now = read.told (t.0 going) in (
-            (λ _. now.0, t.1),
-            rw going (
-              read_before c.in_ok-n.n c.read.new.buf (g.T.Read.events c.read.new.self) (g.U.Read.events c.args.self.now.second) now.1.0,
-              λ zero some. search (rules, not_empty),
-            ),
-          );
-      turns_never_rise = omega (arith, read.turns_never_rise);
-      spends_turn = first_turn c.in_ok-n.n _ read.spends_turn;
-      counts = λ m. absurd m;
-      fills = λ f. absurd f;
-      store = λ s. absurd s;
-      call = tt;
+      law = record {
+        bound = read.bound;
+        told = λ t.
+            let now = read.told (t.0 going) in (
+              (λ _. now.0, t.1),
+              rw going (
+                read_before c.in_ok-n.n c.read.new.buf (g.T.Read.events c.read.new.self) (g.U.Read.events c.args.self.now.second) now.1.0,
+                λ none some. absurd (gives none some),
+              ),
+            );
+        turns_never_rise = omega (arith, read.turns_never_rise);
+        spends_turn = first_turn c.in_ok-n.n _ read.spends_turn;
+        counts = λ m. absurd m;
+        fills = λ f. absurd f;
+        store = λ s. absurd s;
+        call = (
+          λ some. not_ended refl (λ t none. gives (gave_none _ _ (read.told t).1 read.bound none) some),
+          by_first going refl refl (
+            read.call,
+            λ some is.
+                let long = length-take-le c.in_ok-n.n c.read.new.buf read.bound in
+                gives (omega (arith, long, ap (λ r. length (bytes_given r)) is)) some,
+          ),
+        );
+      };
     }
-
-pub returns-in_default-clause-ended : goal.returns-in_default-clause-ended
-returns-in_default-clause-ended g c = λ t none some.
-    let read = c.in_ok-n.ensures.law in
-    let zero = gave_none _ _ (read.told t).1 read.bound none in
-    search (rules, not_empty)
 
 pub returns : goal.returns
 returns g c =
     let T = g.T.Read in
     let U = g.U.Read in
     let self = c.args.self.now in
-    let past : PastFirst T.tells U.tells T.turns T.events U.events self c.if-not-self.self = elim c.if-not-self.branch [
+    let room = length c.read-2.new.buf in
+    let past : PastFirst (reader g.T.Stored T) U.events room self c.if-not-self.self = elim c.if-not-self.branch [
       | then-not-self+in_ok-n+in-0 w ↦
-          let room : 0 < length w.read.new.buf = search (rules, not_empty) in
+          let some : 0 < length w.read.new.buf = search (rules, not_empty) in
           let read = w.read.ensures.law in
+          let long : length w.read.new.buf ≡ room = omega (arith, ap length w.buf-is, c.read-2.auto.buf) in
           past_read w.self-is w.if-not-self.true read.turns_never_rise
-          (λ t. (nothing_read _ _ _ _ _ (read.told t).1 w.in_ok-n.was w.in-0.is room).0)
+          (λ t. (nothing_read _ _ _ _ _ (read.told t).1 w.in_ok-n.was w.in-0.is some).0) (omega (arith, some, long))
+          (subst (λ k. T.may self.first (Gave k (Ok [])) w.read.new.self) long
+          (gave_nothing T.may w.read.new.buf read.call w.in_ok-n.was w.in-0.is))
       | else-not-self w ↦ past_done w.self-is w.if-not-self.false
-    ] in
-    let marked : length c.args.buf.now ≡ 0 → c.if-not-self.self.done_first ≡ self.done_first = elim c.if-not-self.branch [
-      | then-not-self+in_ok-n+in-0 w ↦ λ nothing.
-          let room : 0 < length w.read.new.buf = search (rules, not_empty) in
-          absurd (omega (arith, nothing, room, w.read.auto.buf))
-      | else-not-self w ↦ λ nothing. ap (λ s. s.done_first) w.self-is
     ] in
     let read = c.read-2.ensures.law in
     record {
@@ -85,7 +90,7 @@ returns g c =
         bound = read.bound;
         told = λ t.
             let now = read.told (subst U.tells (sym past.second) t.1) in
-            let left = past.left t ∙ ap U.events (sym past.second) in (
+            let left = past.left t.0 ∙ ap U.events (sym past.second) in (
               (λ going. absurd (true≢false (sym past.done ∙ going)), now.0),
               rw past.done (subst (λ E. Reads E c.read-2.result c.read-2.new.buf (U.events c.read-2.new.self)) (sym left) now.1),
             );
@@ -95,9 +100,10 @@ returns g c =
         counts = λ m. absurd m;
         fills = λ f. absurd f;
         store = λ s. absurd s;
-        call = tt;
+        call = (
+          λ some. is_ended past.done past.none,
+          by_second past.done past.same past.met
+              (subst (λ u. U.may u (Gave room (gave c.read-2.result c.read-2.new.buf)) c.read-2.new.self) past.second read.call),
+        );
       };
-      in_turn = turn_past c.if-not-self.self (record c.if-not-self.self { second = c.read-2.new.self }) past refl refl;
-      empty = marked;
-      ended = λ t none some. past.done;
     }

@@ -1,9 +1,9 @@
 use Rattle.std.proofs.Common.{◌≡◌, ◌+◌, ◌-◌, false, length, refl, ◌∙◌, arith, le_trans}
 use Rattle.std.proofs.lemmas.Result.{err_from_is_err_and}
 use Rattle.no_std_io2_base.proofs.ChainReads.{room_of_first, room_of_second, room_when_done, first_fault-first}
-use Rattle.no_std_io2_base.proofs.ChainReads.{room_while_going, after_ok, turn_of_first, turn_of_second, turn_of_both, spent_then}
+use Rattle.no_std_io2_base.proofs.ChainReads.{room_while_going, after_ok, drains_first, drains_second, drains_both, spent_then}
+use Rattle.no_std_io2_base.proofs.Readers.{reader}
 use Rattle.no_std_io2_base.proofs.ReadToEndGathered.{gathered_first, gathered_all, gathered_stop}
-use Rattle.no_std_io2_base.proofs.ReadCalls.{to_end_own}
 use Rattle.no_std_io2_base.proofs.GivenPieces.{first_fault-append}
 use Rattle.no_std_io2_base.proofs.ReadToEndExits.{front_then, stopped_first}
 use Rattle.no_std_io2_base.proofs.traits.chain.ChainRead.read_to_end.Goals as goal
@@ -26,9 +26,8 @@ returns-then-self g c =
         metered = λ m. m;
         filling = λ f. f;
         store = λ s. absurd s;
-        calls = to_end_own c.args.buf.now read.appends tt;
+        calls = drains_second (reader g.T.Stored g.T.Read) (reader g.U.Stored g.U.Read) c.if-self.true refl refl read.calls;
       };
-      in_turn = turn_of_second _ _ c.if-self.true refl;
       ended = after_ok c.read_to_end.result c.if-self.true;
     }
 
@@ -54,9 +53,8 @@ returns-in_err-read_to_end g c =
         metered = λ m. m;
         filling = λ f. f;
         store = λ s. absurd s;
-        calls = to_end_own c.args.buf.now first.appends tt;
+        calls = drains_first (reader g.T.Stored g.T.Read) (reader g.U.Stored g.U.Read) going refl refl first.calls;
       };
-      in_turn = turn_of_first _ _ going refl;
       ended = tt;
     })
 
@@ -90,9 +88,8 @@ returns-in_err-rest_to_end g c =
         metered = λ m. m;
         filling = λ f. f;
         store = λ s. absurd s;
-        calls = to_end_own c.args.buf.now (front_then _ _ (omega (arith, first.count)) first.appends second.appends) tt;
+        calls = drains_both (reader g.T.Stored g.T.Read) (reader g.U.Stored g.U.Read) going refl first.calls second.calls refl;
       };
-      in_turn = turn_of_both _ _ going refl;
       ended = tt;
     })
 
@@ -122,8 +119,7 @@ returns g c =
         metered = λ m. m;
         filling = λ f. f;
         store = λ s. absurd s;
-        calls = to_end_own c.args.buf.now (front_then _ _ (omega (arith, first.count)) first.appends second.appends) tt;
+        calls = drains_both (reader g.T.Stored g.T.Read) (reader g.U.Stored g.U.Read) going refl first.calls second.calls refl;
       };
-      in_turn = turn_of_both _ _ going refl;
       ended = refl;
     }

@@ -1,0 +1,133 @@
+-- What each read adds to a reader's own state, the calls of a `read_exact` or a `read_to_end` add together.
+use Rattle.std.proofs.Common.{◌≡◌, ℕ, List, [], ◌∷◌, ◌++◌, Result, Ok, Err, OnOk, IfOk, ◌≤◌, length, take, le_refl, refl, sym, subst, append-nil, inl, inr}
+use Rattle.std.proofs.lemmas.List.{take_all}
+use Rattle.no_std_io2_base.specs.declared.error.Error.{Error}
+use Rattle.no_std_io2_base.specs.Write.{Made}
+use Rattle.no_std_io2_base.specs.Read.{ReadCall, Gave, GaveExactly, GaveAll, Filled, Consumed, ended, Gathers, no_read, and_gave, and_again}
+use Rattle.no_std_io2_base.specs.Read.{bytes_given, gave_whole, FillCalls, GathersUntil, ExactMade, ToEndCalls, ToEndMade}
+use Rattle.no_std_io2_base.specs.Pieces.{PartCalls, no_part, and_part, and_waited, PieceMade, AnswersLine}
+use Rattle.no_std_io2_base.proofs.CallsLemmas.{made_split}
+use Rattle.no_std_io2_base.proofs.CallsAdd.{Joins}
+
+-- Each call adds the bytes that it gave. A `read_exact` of its own that fails may have taken some that it does not show.
+pub record EachAdds {R : Type 0} (may : R → ReadCall → R → Type 0) (Adds : R → List ℕ → R → Type 0) : Type 0 where
+  pub joins : Joins Adds
+  pub gave : (a b : R) (room : ℕ) (answer : Result (List ℕ) Error) → may a (Gave room answer) b → Adds a (bytes_given answer) b
+  pub exactly : (a b : R) (room : ℕ) (answer : Result (List ℕ) Error) → may a (GaveExactly room answer) b
+      → (x : List ℕ) × IfOk answer (λ all. x ≡ all) × Adds a x b
+  pub all : (a b : R) (x : List ℕ) (answer : Result (Unit {0}) Error) → may a (GaveAll x answer) b → Adds a x b
+  pub lent : (a b : R) (answer : Result (List ℕ) Error) → may a (Filled answer) b → Adds a [] b
+  pub took : (a b c : R) (x : List ℕ) (n : ℕ) → may a (Filled (Ok x)) b → may b (Consumed n) c → n ≤ length x → Adds a (take n x) c
+
+module _ {R : Type 0} {may : R → ReadCall → R → Type 0} {Adds : R → List ℕ → R → Type 0} (each : EachAdds may Adds) where
+  -- calls, and one more
+  and_last : (C : List ReadCall) {x y : List ℕ} (call : ReadCall) (a b : R) → ((mid : R) → Made may a C mid → Adds a x mid)
+      → ((c d : R) → may c call d → Adds c y d) → Made may a (C ++ call ∷ []) b → Adds a (x ++ y) b
+  and_last C {x} {y} call a b before adds made =
+      let parts = made_split may C a (call ∷ []) b made in
+      let last = parts.2 in
+      each.joins.more a parts.0 b x y (before parts.0 parts.1) (subst (Adds parts.0 y) (sym last.2) (adds parts.0 last.0 last.1))
+
+  -- calls, and the loan and the use of some bytes
+  then_took : (C : List ReadCall) {x : List ℕ} (lent : List ℕ) (n : ℕ) (a b : R) → ((mid : R) → Made may a C mid → Adds a x mid)
+      → n ≤ length lent → Made may a (C ++ Filled (Ok lent) ∷ Consumed n ∷ []) b → Adds a (x ++ take n lent) b
+  then_took C {x} lent n a b before within made =
+      let parts = made_split may C a (Filled (Ok lent) ∷ Consumed n ∷ []) b made in
+      let last = parts.2 in
+      let end : b ≡ last.2.0 = last.2.2 in
+      each.joins.more a parts.0 b x (take n lent) (before parts.0 parts.1)
+      (subst (Adds parts.0 (take n lent)) (sym end) (each.took parts.0 last.0 last.2.0 lent n last.1 last.2.1 within))
+
+  -- reads in a row
+  pub gathers_add : {asks : ℕ → ℕ → Type 0} {C : List ReadCall} {x : List ℕ} → Gathers asks C x → (a b : R) → Made may a C b → Adds a x b
+  gathers_add no_read a b made = subst (Adds a []) (sym made) (each.joins.none a)
+  gathers_add (and_gave C x y room before into some) a b made =
+      and_last C (Gave room (Ok y)) a b (λ mid m. gathers_add before a mid m) (λ c d call. each.gave c d room (Ok y) call) made
+  gathers_add (and_again C x room e before into interrupted) a b made =
+      subst (λ l. Adds a l b) (append-nil x)
+      (and_last C (Gave room (Err e)) a b (λ mid m. gathers_add before a mid m) (λ c d call. each.gave c d room (Err e) call) made)
+
+  -- and one that ended them, which gave nothing
+  until_add : {asks : ℕ → ℕ → Type 0} {C : List ReadCall} {x : List ℕ} (answer : Result (List ℕ) Error) → bytes_given answer ≡ []
+      → GathersUntil asks C x answer → (a b : R) → Made may a C b → Adds a x b
+  until_add {x = x} answer nothing until a b made =
+      subst (λ l. Adds a l b) (append-nil x)
+      (and_last until.0 (Gave until.1 answer) a b (λ mid m. gathers_add until.2 a mid m)
+      (λ c d call. subst (λ l. Adds c l d) nothing (each.gave c d until.1 answer call))
+      (subst (λ K. Made may a K b) until.4 made))
+
+  -- one `read_exact` that is no loop
+  exactly_adds : (buf : List ℕ) (reply : Result (Unit {0}) Error) (a b : R) → may a (GaveExactly (length buf) (gave_whole reply buf)) b
+      → (x : List ℕ) × OnOk reply (x ≡ buf) × Adds a x b
+  exactly_adds buf (Ok u) a b call = each.exactly a b (length buf) (Ok buf) call
+  exactly_adds buf (Err e) a b call = each.exactly a b (length buf) (Err e) call
+
+  -- the reads of a `read_exact`
+  fill_adds : (C : List ReadCall) (buf : List ℕ) (reply : Result (Unit {0}) Error) (a b : R) → FillCalls C reply buf → Made may a C b
+      → (x : List ℕ) × OnOk reply (x ≡ buf) × Adds a x b
+  fill_adds C buf (Ok u) a b reads made = (buf, refl, gathers_add reads a b made)
+  fill_adds C buf (Err e) a b (x, inl end) made = (x, tt, until_add (Ok []) refl end.1 a b made)
+  fill_adds C buf (Err e) a b (x, inr fault) made = (x, tt, until_add (Err e) refl fault.1 a b made)
+
+  -- those of a `read_exact`: all of the buffer at `Ok`, and at an error what was taken
+  pub exact_adds : {buf : List ℕ} (reply : Result (Unit {0}) Error) (a b : R) → ExactMade may a reply buf b
+      → (x : List ℕ) × OnOk reply (x ≡ buf) × Adds a x b
+  exact_adds {buf} reply a b m = elim (m.are) [
+    | inl own ↦
+        let one = subst (λ K. Made may a K b) own m.made in
+        exactly_adds buf reply a b (subst (λ s. may a (GaveExactly (length buf) (gave_whole reply buf)) s) (sym one.2) one.1)
+    | inr reads ↦ fill_adds m.calls buf reply a b reads m.made
+  ]
+
+  -- those of a `read_to_end`
+  calls_add : {C : List ReadCall} {x : List ℕ} (reply : Result ℕ Error) → ToEndCalls C x reply → (a b : R) → Made may a C b → Adds a x b
+  calls_add reply (inl own) a b made =
+      subst (λ l. Adds a l b) (sym own.4)
+      (and_last own.0 (GaveAll own.2 (ended reply)) a b (λ mid m. gathers_add own.3 a mid m) (λ c d call. each.all c d own.2 (ended reply) call)
+      (subst (λ K. Made may a K b) own.5 made))
+  calls_add (Ok n) (inr until) a b made = until_add (Ok []) refl until a b made
+  calls_add (Err e) (inr (inl fault)) a b made = until_add (Err e) refl fault.1 a b made
+  calls_add (Err e) (inr (inr refused)) a b made = gathers_add refused.1 a b made
+
+  -- after an error too: what was appended
+  pub to_end_adds : {buf buf' : List ℕ} (reply : Result ℕ Error) (a b : R) → ToEndMade may a buf reply buf' b
+      → (x : List ℕ) × (buf' ≡ buf ++ x) × Adds a x b
+  to_end_adds reply a b m = (m.given, m.appended, calls_add reply m.are a b m.made)
+
+  -- a loop that has found no end of its piece yet
+  parts_add : {d : ℕ} {C : List ReadCall} {x : List ℕ} → PartCalls d C x → (a b : R) → Made may a C b → Adds a x b
+  parts_add no_part a b made = subst (Adds a []) (sym made) (each.joins.none a)
+  parts_add (and_part C x lent before some lacks) a b made =
+      subst (λ l. Adds a (x ++ l) b) (take_all (length lent) lent (le_refl _))
+      (then_took C lent (length lent) a b (λ mid m. parts_add before a mid m) (le_refl _) made)
+  parts_add (and_waited C x e before waited) a b made =
+      subst (λ l. Adds a l b) (append-nil x)
+      (and_last C (Filled (Err e)) a b (λ mid m. parts_add before a mid m) (λ c d call. each.lent c d (Err e) call) made)
+
+  -- those of a `read_until` or a `skip_until`, also before an error: x was taken
+  pub piece_adds : {may_refuse : Type 0} {d : ℕ} {x : List ℕ} (reply : Result ℕ Error) (a b : R) → PieceMade may_refuse may a d reply x b
+      → Adds a x b
+  piece_adds (Ok n) a b m =
+      let are = m.are in
+      subst (λ l. Adds a l b) (sym are.6)
+      (then_took are.0 are.2 are.3 a b (λ mid c. parts_add are.4 a mid c) are.5.within (subst (λ K. Made may a K b) are.7 m.made))
+  piece_adds {x = x} (Err e) a b m =
+      let are = m.are in
+      let last : (answer : Result (List ℕ) Error) × (m.calls ≡ are.0 ++ Filled answer ∷ []) =
+      elim are.2 [ inl fault ↦ (Err e, fault.1) | inr refused ↦ (Ok refused.2, refused.3) ] in
+      subst (λ l. Adds a l b) (append-nil x)
+      (and_last are.0 (Filled last.0) a b (λ mid c. parts_add are.1 a mid c) (λ c d call. each.lent c d last.0 call)
+      (subst (λ K. Made may a K b) last.1 m.made))
+
+  -- those of a `read_line`, which appends the line at `Ok`
+  pub line_adds : {old old' : List ℕ} {len capacity : ℕ} (reply : Result ℕ Error) (a b : R) → (made : (line : List ℕ) × (read : Result ℕ Error)
+      × PieceMade (Unit {0}) may a 10 read line b × AnswersLine line read len capacity reply old old')
+      → (line : List ℕ) × OnOk reply (old' ≡ old ++ line) × Adds a line b
+  line_adds {old} {old'} {len} {capacity} reply a b (line, read, made, answers) =
+      (line, appended old old' line len capacity reply read answers, piece_adds read a b made)
+    where
+      appended : (old old' line : List ℕ) (len capacity : ℕ) (reply read : Result ℕ Error)
+          → AnswersLine line read len capacity reply old old' → OnOk reply (old' ≡ old ++ line)
+      appended old old' line len capacity (Ok m) (Ok n) answers = answers.0.1
+      appended old old' line len capacity (Ok m) (Err f) answers = absurd answers
+      appended old old' line len capacity (Err e) read answers = tt
