@@ -1,64 +1,142 @@
--- How many calls a loop of writes or of reads made.
-use Rattle.std.proofs.Common.{◌≡◌, ℕ, ◌+◌, ◌<◌, ◌≤◌, Ok, Err, min, arith, inl, inr}
+-- How many reads a `Tally` counts in the trait's loops.
+use Rattle.std.proofs.Common.{◌≡◌, ℕ, ◌+◌, ◌-◌, ◌<◌, ◌≤◌, List, [], ◌∷◌, ◌++◌, Result, Ok, Err, min, length, take, length-take-le, arith, refl, sym, subst, inl, inr}
+use Rattle.std.proofs.lemmas.Bool.{cases_lt}
 use Rattle.no_std_io2.specs.declared.io.Error.{Error}
-use Rattle.no_std_io2.specs.Errors.{IsOutOfMemory}
-use Rattle.io_bench.specs.Calls.{CountsLoop, CountsToEnd}
+use Rattle.no_std_io2.specs.Write.{Made}
+use Rattle.no_std_io2.specs.Read.{Reader, ReadCall, Gave, GaveExactly, GaveAll, gave, gave_whole, ended, ReadLaw, Gathers, no_read, and_gave, and_again}
+use Rattle.no_std_io2.specs.Read.{GathersUntil, IsRest, IsSome, FillCalls, ExactMade, ToEndCalls, ToEndMade}
+use Rattle.no_std_io2.proofs.CallsLemmas.{made_split}
+use Rattle.io_bench.specs.Calls.{stopped, CountsToEnd}
+use Rattle.io_bench.specs.declared.tally.Tally.{Tally}
+use Rattle.io_bench.specs.Tally.{tally_inner, tally_reads, tally_writes, turns_spent, ReadCounted, ReadsCounted}
 
--- what a loop has counted so far, with `left` still to do
-pub record CountedSoFar (wanted budget was left budget' now : ℕ) : Type 0 where
-  pub least : was + min 1 wanted ≤ now + min 1 left
-  pub most : now + budget' ≤ was + budget
+-- what one read does
+pub read_counts : {T : Type 0} {I : Reader T} {old new : Tally T} {buf buf' : List ℕ} (reply : Result ℕ Error)
+    → ReadLaw I (tally_inner old) buf reply buf' (tally_inner new) → length buf' ≡ length buf
+    → tally_reads new ≡ tally_reads old + min 1 (length buf) → tally_writes new ≡ tally_writes old
+    → ReadCounted I old (length buf') (gave reply buf') new
+read_counts {buf' = buf'} (Ok n) law long reads writes = record {
+  handed = law.call;
+  reads = omega (arith, reads, long);
+  writes = writes;
+  turns = elim (cases_lt 0 n) [
+    | inl some ↦ let spent = law.spends_turn some in omega (arith, spent)
+    | inr none ↦ omega (arith, none, law.turns_never_rise, length-take-le n buf' law.bound)
+  ];
+  cost = λ m. let now = law.counts m in (now.0, omega (arith, now.1, long));
+}
+read_counts (Err e) law long reads writes = record {
+  handed = law.call;
+  reads = omega (arith, reads, long);
+  writes = writes;
+  turns = omega (arith, law.spends_turn);
+  cost = λ m. let now = law.counts m in (now.0, omega (arith, now.1, long));
+}
 
--- at the start nothing is counted
-pub counted_none : {wanted budget was left : ℕ} → left ≡ wanted → CountedSoFar wanted budget was left budget was
-counted_none all = record { least = omega (arith, all); most = omega arith }
+-- Reads in a row: at least so many, and at most one for each turn that is gone and so many more.
+pub record Counted {T : Type 0} (I : Reader T) (fewest more : ℕ) (old new : Tally T) : Type 0 where
+  pub least : tally_reads old + fewest ≤ tally_reads new
+  pub most : tally_reads new + I.turns (tally_inner new) ≤ tally_reads old + I.turns (tally_inner old) + more
+  pub handed : I.is_metered (tally_inner old) → I.is_metered (tally_inner new)
+      × (I.cost (tally_inner new) + tally_reads old ≡ I.cost (tally_inner old) + tally_reads new)
+  pub writes : tally_writes new ≡ tally_writes old
 
--- a call stopped it
-pub counted_stop : {A : Type 0} {wanted budget was left budget' now budget'' now' : ℕ} {e : Error}
-    → CountedSoFar wanted budget was left budget' now → now' ≡ now + 1 → budget'' ≤ budget'
-    → CountsLoop {A = A} wanted budget was (Err e) budget'' now'
-counted_stop so_far one fewer =
-    record { least = omega (arith, so_far.least, one); most = omega (arith, so_far.most, one, fewer) }
+module _ {T : Type 0} (I : Reader T) where
+  -- reads, and one more
+  counted_more : {l l' m m' room : ℕ} {a b c : Tally T} (answer : Result (List ℕ) Error) → Counted I l m a b → ReadCounted I b room answer c
+      → 0 < room → l' ≤ l + 1 → m + (1 - turns_spent answer) ≤ m' → Counted I l' m' a c
+  counted_more answer so_far read some fewer slack = record {
+    least = omega (arith, so_far.least, read.reads, some, fewer);
+    most = omega (arith, so_far.most, read.reads, read.turns, some, slack);
+    handed = λ m.
+        let before = so_far.handed m in
+        let now = read.cost before.0 in
+        (now.0, omega (arith, before.1, now.1, read.reads));
+    writes = omega (arith, read.writes, so_far.writes);
+  }
 
--- nothing is left
-pub counted_done : {A : Type 0} {x : A} {wanted budget was left budget' now : ℕ} → CountedSoFar wanted budget was left budget' now
-    → left ≡ 0
-    → CountsLoop wanted budget was (Ok x) budget' now
-counted_done so_far none =
-    record { least = omega (arith, so_far.least, none); most = omega (arith, so_far.most) }
+  -- calls, and one more read
+  last_counts : (C : List ReadCall) {l l' m m' room : ℕ} (answer : Result (List ℕ) Error) (a b : Tally T)
+      → ((mid : Tally T) → Made (ReadsCounted I) a C mid → Counted I l m a mid) → 0 < room → l' ≤ l + 1
+      → m + (1 - turns_spent answer) ≤ m' → Made (ReadsCounted I) a (C ++ Gave room answer ∷ []) b → Counted I l' m' a b
+  last_counts C {room = room} answer a b before some fewer slack made =
+      let parts = made_split (ReadsCounted I) C a (Gave room answer ∷ []) b made in
+      let last = parts.2 in
+      counted_more answer (before parts.0 parts.1) (subst (ReadCounted I parts.0 room answer) (sym last.2) last.1) some fewer slack
 
--- one call more has spent some of the budget
-pub counted_more : {wanted budget was left budget' now left' budget'' now' : ℕ} → CountedSoFar wanted budget was left budget' now
-    → now' ≡ now + 1 → budget'' < budget' → CountedSoFar wanted budget was left' budget'' now'
-counted_more so_far one fewer =
-    record { least = omega (arith, so_far.least, one); most = omega (arith, so_far.most, one, fewer) }
+  -- no call is one of its own
+  no_other : (C : List ReadCall) (call : ReadCall) (a b : Tally T) → ((c d : Tally T) → ReadsCounted I c call d → ⊥)
+      → Made (ReadsCounted I) a (C ++ call ∷ []) b → ⊥
+  no_other C call a b none made =
+      let parts = made_split (ReadsCounted I) C a (call ∷ []) b made in none parts.0 parts.2.0 parts.2.1
 
--- a read into some room counts once
-pub one_read : {room : ℕ} (was : ℕ) {now : ℕ} → 0 < room → now ≡ was + min 1 room → now ≡ was + 1
-one_read was some counts = omega (arith, some, counts)
+  -- reads that gave x
+  gathers_count : {asks : ℕ → ℕ → Type 0} {C : List ReadCall} {x : List ℕ} → ((at room : ℕ) → asks at room → 0 < room) → Gathers asks C x
+      → (a b : Tally T) → Made (ReadsCounted I) a C b → Counted I (min 1 (length x)) 0 a b
+  gathers_count into no_read a b made =
+      subst (Counted I 0 0 a) (sym made)
+      (record { least = omega arith; most = omega arith; handed = λ m. (m, refl); writes = refl })
+  gathers_count into (and_gave C x y room before asked some) a b made =
+      last_counts C (Ok y) a b (λ mid m. gathers_count into before a mid m) (into _ _ asked) (omega arith) (omega (arith, some)) made
+  gathers_count into (and_again C x room e before asked interrupted) a b made =
+      last_counts C (Err e) a b (λ mid m. gathers_count into before a mid m) (into _ _ asked) (omega arith) (omega arith) made
 
--- the inner reader counted what is counted
-pub handed_once : {P Q : Type 0} (cost0 was cost now : ℕ) {cost' now' : ℕ} (room : ℕ) → P × (cost + was ≡ cost0 + now)
-    → Q × (cost' ≡ cost + min 1 room)
-    → now' ≡ now + min 1 room → Q × (cost' + was ≡ cost0 + now')
-handed_once cost0 was cost now room so_far read counts = (read.0, omega (arith, so_far.1, read.1, counts))
+  -- and one that ended them
+  until_counts : {asks : ℕ → ℕ → Type 0} {C : List ReadCall} {x : List ℕ} (answer : Result (List ℕ) Error)
+      → ((at room : ℕ) → asks at room → 0 < room) → GathersUntil asks C x answer → (a b : Tally T) → Made (ReadsCounted I) a C b
+      → Counted I 1 (1 - turns_spent answer) a b
+  until_counts answer into until a b made =
+      last_counts until.0 answer a b (λ mid m. gathers_count into until.2 a mid m) (into _ _ until.3) (omega arith) (omega arith)
+      (subst (λ K. Made (ReadsCounted I) a K b) until.4 made)
 
--- the end was met
-pub counted_end : {A : Type 0} {x : A} {budget was budget' now budget'' now' : ℕ}
-    → CountedSoFar 0 budget was 0 budget' now → now' ≡ now + 1 → budget'' ≤ budget'
-    → CountsToEnd was budget (Ok x) budget'' now'
-counted_end so_far one fewer =
-    record { least = omega (arith, so_far.least, one); asked = tt; most = omega (arith, so_far.most, one, fewer) }
+  -- less is so too
+  counted_less : {l l' m m' : ℕ} {a b : Tally T} → Counted I l m a b → l' ≤ l → m ≤ m' → Counted I l' m' a b
+  counted_less c fewer more = record {
+    least = omega (arith, c.least, fewer);
+    most = omega (arith, c.most, more);
+    handed = c.handed;
+    writes = c.writes;
+  }
 
--- a fault came
-pub counted_fault : {A : Type 0} {budget was budget' now budget'' now' : ℕ} {e : Error}
-    → CountedSoFar 0 budget was 0 budget' now → now' ≡ now + 1 → budget'' < budget'
-    → CountsToEnd {A = A} was budget (Err e) budget'' now'
-counted_fault so_far one fewer =
-    record { least = tt; asked = inr (omega (arith, so_far.least, one)); most = omega (arith, so_far.most, one, fewer) }
+  fill_counts : (C : List ReadCall) (buf : List ℕ) (reply : Result (Unit {0}) Error) (a b : Tally T) → FillCalls C reply buf
+      → Made (ReadsCounted I) a C b → Counted I (min 1 (length buf)) (stopped reply) a b
+  fill_counts C buf (Ok u) a b reads made = gathers_count (λ at room rest. rest.1) reads a b made
+  fill_counts C buf (Err e) a b (x, inl end) made =
+      counted_less (until_counts (Ok []) (λ at room rest. rest.1) end.1 a b made) (omega arith) (omega arith)
+  fill_counts C buf (Err e) a b (x, inr fault) made =
+      counted_less (until_counts (Err e) (λ at room rest. rest.1) fault.1 a b made) (omega arith) (omega arith)
 
--- an allocation failed
-pub counted_refused : {A : Type 0} {budget was budget' now : ℕ} {e : Error} → CountedSoFar 0 budget was 0 budget' now → IsOutOfMemory e
-    → CountsToEnd {A = A} was budget (Err e) budget' now
-counted_refused so_far refused =
-    record { least = tt; asked = inl refused; most = omega (arith, so_far.most) }
+  -- the reads of a `read_exact`
+  pub exact_counts : {buf : List ℕ} (reply : Result (Unit {0}) Error) (a b : Tally T) → ExactMade (ReadsCounted I) a reply buf b
+      → Counted I (min 1 (length buf)) (stopped reply) a b
+  exact_counts {buf} reply a b m = elim (m.are) [
+    | inl own ↦
+        absurd (no_other [] (GaveExactly (length buf) (gave_whole reply buf)) a b (λ c d no. no)
+        (subst (λ K. Made (ReadsCounted I) a K b) own m.made))
+    | inr reads ↦ fill_counts m.calls buf reply a b reads m.made
+  ]
+
+  -- how often a `read_to_end` reads, and what else the reads do
+  abbrev DrainCounts : Result ℕ Error → Tally T → Tally T → Type 0
+  DrainCounts reply a b =
+      CountsToEnd (tally_reads a) (I.turns (tally_inner a)) reply (I.turns (tally_inner b)) (tally_reads b)
+      × ((l m : ℕ) × Counted I l m a b)
+
+  drain_counts : (C : List ReadCall) (x : List ℕ) (reply : Result ℕ Error) (a b : Tally T) → ToEndCalls C x reply
+      → Made (ReadsCounted I) a C b → DrainCounts reply a b
+  drain_counts C x reply a b (inl own) made =
+      absurd (no_other own.0 (GaveAll own.2 (ended reply)) a b (λ c d no. no) (subst (λ K. Made (ReadsCounted I) a K b) own.5 made))
+  drain_counts C x (Ok n) a b (inr until) made =
+      let c = until_counts (Ok []) (λ at room some. some) until a b made in
+      (record { least = omega (arith, c.least); asked = tt; most = c.most }, (1, 1, c))
+  drain_counts C x (Err e) a b (inr (inl fault)) made =
+      let c = until_counts (Err e) (λ at room some. some) fault.1 a b made in
+      (record { least = tt; asked = inr (omega (arith, c.least)); most = omega (arith, c.most) }, (1, 0, c))
+  drain_counts C x (Err e) a b (inr (inr refused)) made =
+      let c = gathers_count (λ at room some. some) refused.1 a b made in
+      (record { least = tt; asked = inl refused.0; most = c.most }, (min 1 (length x), 0, c))
+
+  -- the reads of a `read_to_end`
+  pub to_end_counts : {buf buf' : List ℕ} (reply : Result ℕ Error) (a b : Tally T) → ToEndMade (ReadsCounted I) a buf reply buf' b
+      → DrainCounts reply a b
+  to_end_counts reply a b m = drain_counts m.calls m.given reply a b m.are m.made

@@ -1,16 +1,19 @@
 //! Functions that nothing calls. Their contracts fix what each type tells. A type whose ghost members say nothing would
 //! still be proved, but every promise about it would be empty.
-ghost use Rattle.std.specs.Prelude.{◌≡◌, [], ◌++◌};
+ghost use Rattle.std.specs.Prelude.{◌≡◌, ◌+◌, [], ◌++◌, length};
 ghost use Rattle.std.specs.Option.{option_map};
 ghost use Rattle.io_bench.specs.Feed.{feed_left, all_to_come};
+ghost use Rattle.no_std_io2.specs.Read.{ReadCall};
 ghost use Rattle.no_std_io2.specs.Write.{WriteCall};
-ghost use Rattle.io_bench.specs.Tally.{tally_inner, tally_writes, tally_reads, TallyMay};
+ghost use Rattle.io_bench.specs.Calls.{CountsLoop, CountsToEnd};
+ghost use Rattle.io_bench.specs.Tally.{tally_inner, tally_writes, tally_reads, TallyMay, ReadsCounted};
 ghost use Rattle.io_bench.specs.Faulty.{faulty_inner, acts_left, act_mishaps, FaultyMay};
 
 use crate::faulty::Faulty;
 use crate::feed::Feed;
 use crate::tally::Tally;
-use no_std_io2::io::{Read, Stored, Write};
+use no_std_io2::io::{Read, Result, Stored, Write};
+use std::alloc::Allocator;
 
 fn tally_tells<T: Write>(t: &Tally<T>)
     ensures told { ⟦<Tally<T> as Write>⟧.told t.now ≡ T.told (tally_inner t.now) }
@@ -51,6 +54,32 @@ fn feed_tells(f: &Feed)
     ensures takes { ¬ (⟦<Feed as Read>⟧.may_take_none f.now) }
     ensures store { ¬ (⟦<Feed as Stored>⟧.has_store f.now) }
 {}
+
+// A `Tally` passes each `read` on, and counts it if it has room for a byte.
+fn tally_reads_tell<T: Read>(old: &Tally<T>, new: &Tally<T>)
+    ensures { (call : ReadCall) → ⟦<Tally<T> as Read>⟧.may old.now call new.now → ReadsCounted T.Read old.now call new.now }
+{}
+
+// So each read of the trait's loops counts: at most one for each turn that is spent, and the one that ends the loop.
+fn tally_fills<T: Read>(t: &mut Tally<T>, buf: &mut [u8]) -> Result<()>
+    ensures counts { CountsLoop (length buf.old) (T.turns (tally_inner t.old)) (tally_reads t.old) result
+        (T.turns (tally_inner t.new)) (tally_reads t.new) }
+    ensures handed { T.is_metered (tally_inner t.old) → T.is_metered (tally_inner t.new)
+        × (T.cost (tally_inner t.new) + tally_reads t.old ≡ T.cost (tally_inner t.old) + tally_reads t.new) }
+    ensures writes { tally_writes t.new ≡ tally_writes t.old }
+{
+    t.read_exact(buf)
+}
+
+fn tally_drains<T: Read, A: Allocator>(t: &mut Tally<T>, buf: &mut Vec<u8, A>) -> Result<usize>
+    ensures counts { CountsToEnd (tally_reads t.old) (T.turns (tally_inner t.old)) result
+        (T.turns (tally_inner t.new)) (tally_reads t.new) }
+    ensures handed { T.is_metered (tally_inner t.old) → T.is_metered (tally_inner t.new)
+        × (T.cost (tally_inner t.new) + tally_reads t.old ≡ T.cost (tally_inner t.old) + tally_reads t.new) }
+    ensures writes { tally_writes t.new ≡ tally_writes t.old }
+{
+    t.read_to_end(buf)
+}
 
 fn tally_reader_tells<T: Read>(t: &Tally<T>)
     ensures tells { T.tells (tally_inner t.now) → ⟦<Tally<T> as Read>⟧.tells t.now }

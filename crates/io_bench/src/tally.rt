@@ -1,15 +1,10 @@
 // [`Tally`], a stream that counts its calls.
-ghost use Rattle.std.specs.Prelude.{◌≡◌, ◌+◌, ◌-◌, ◌^◌, ◌≤◌, [], Ok, IfOk, IfErr, OnOk, IsOk, IsOkAnd, ⊤, length, min};
-ghost use Rattle.std.specs.Prelude.{take, vec_len, vec_capacity};
-ghost use Rattle.no_std_io2.specs.Errors.{IsFault, IsNoInterruption};
-ghost use Rattle.no_std_io2.specs.Read.{ReadLaw, ReadExactLaw, ReadToEndLaw};
+ghost use Rattle.std.specs.Prelude.{◌≡◌, ◌+◌, ◌^◌, ◌-◌, ⊤, length, min};
+ghost use Rattle.no_std_io2.specs.Read.{ReadLaw};
 ghost use Rattle.no_std_io2.specs.Writers.{WriteOf};
-ghost use Rattle.io_bench.specs.Calls.{CountsLoop, CountsToEnd};
 
-use no_std_io2::internal::{LEAST_ROOM, failed_to_fill, open_room, reserve_room};
 use no_std_io2::io::{Read, Result, Stored, Write};
 use no_std_io2::trace::Trace;
-use std::alloc::Allocator;
 use std::fmt;
 
 /// Passes each call on to an inner stream, and counts each `write`, and each `read` into a buffer
@@ -140,9 +135,9 @@ impl<T: Stored> Stored for Tally<T> {
 }
 
 /// Tells what the inner reader tells, and is metered: its cost is the exact count. `read_exact` and `read_to_end`
-/// read through `read`, like the trait's bodies, so each of their reads counts.
+/// have the trait's bodies, so each of their reads counts.
 impl<T: Read> Read for Tally<T> {
-    ghost use Rattle.io_bench.specs.Tally.{tally_inner, tally_writes, tally_reads};
+    ghost use Rattle.io_bench.specs.Tally.{tally_inner, tally_writes, tally_reads, ReadsCounted};
 
     ghost tells = { λ t. T.tells (tally_inner t) };
 
@@ -158,8 +153,9 @@ impl<T: Read> Read for Tally<T> {
 
     ghost may_take_none = { λ _. ⊥ };
 
-    ghost may = { λ old call new. T.may (tally_inner old) call (tally_inner new) };
+    ghost may = { ReadsCounted T.Read };
 
+    #[tactic(auto, using(crate::proofs::CountLemmas::read_counts))]
     fn read(&mut self, buf: &mut [u8]) -> Result<usize>
         ensures law { ReadLaw ⟦<Self as Read>⟧ self.old buf.old result buf.new self.new }
 
@@ -172,62 +168,6 @@ impl<T: Read> Read for Tally<T> {
             self.count_read();
         }
         self.inner.read(buf)
-    }
-
-    fn read_exact(&mut self, buf: &mut [u8]) -> Result<()>
-        ensures law { ReadExactLaw ⟦<Self as Read>⟧ self.old buf.old result buf.new self.new }
-
-        // Each inner read counts, and no other call: at most one for each turn that is spent, and the one that
-        // ended it.
-        ensures counts { CountsLoop (length buf.old) (T.turns (tally_inner self.old)) (tally_reads self.old) result
-            (T.turns (tally_inner self.new)) (tally_reads self.new) }
-        ensures handed { T.is_metered (tally_inner self.old) → T.is_metered (tally_inner self.new)
-            × (T.cost (tally_inner self.new) + tally_reads self.old
-            ≡ T.cost (tally_inner self.old) + tally_reads self.new) }
-        ensures writes { tally_writes self.new ≡ tally_writes self.old }
-    {
-        let mut at = 0;
-        'reads: while at < buf.len() {
-            match self.read(&mut buf[at..]) {
-                Ok(0) => return Err(failed_to_fill()),
-                Ok(n) => at += n,
-                Err(e) if e.is_interrupted() => {}
-                Err(e) => return Err(e),
-            }
-        }
-        Ok(())
-    }
-
-    fn read_to_end<A: Allocator>(&mut self, buf: &mut Vec<u8, A>) -> Result<usize>
-        ensures law { ReadToEndLaw ⟦<Self as Read>⟧ self.old buf.old result buf.new self.new }
-
-        // Each inner read counts, and no other call: at most one for each turn that is spent, and the one that met
-        // the end.
-        ensures counts { CountsToEnd (tally_reads self.old) (T.turns (tally_inner self.old)) result
-            (T.turns (tally_inner self.new)) (tally_reads self.new) }
-        ensures handed { T.is_metered (tally_inner self.old) → T.is_metered (tally_inner self.new)
-            × (T.cost (tally_inner self.new) + tally_reads self.old
-            ≡ T.cost (tally_inner self.old) + tally_reads self.new) }
-        ensures writes { tally_writes self.new ≡ tally_writes self.old }
-    {
-        let start = buf.len();
-        let mut filled = start;
-        reserve_room(buf, LEAST_ROOM)?;
-        'reads: loop {
-            open_room(buf, filled, filled - start, LEAST_ROOM)?;
-            match self.read(&mut buf[filled..]) {
-                Ok(0) => {
-                    buf.truncate(filled);
-                    return Ok(filled - start);
-                }
-                Ok(n) => filled += n,
-                Err(e) if e.is_interrupted() => {}
-                Err(e) => {
-                    buf.truncate(filled);
-                    return Err(e);
-                }
-            }
-        }
     }
 
     ghost filling_tells = { λ t h. T.filling_tells (tally_inner t) h };
