@@ -1,4 +1,4 @@
--- What a read of two readers in a row does.
+-- What a read of two readers, one after the other, does.
 use Rattle.std.proofs.Common.{◌≡◌, ℕ, ◌+◌, ◌<◌, ◌≤◌, Bool, true, false, List, [], ◌∷◌, ◌++◌, Result, Ok, Err, OnOk, IsOkAnd}
 use Rattle.std.proofs.Common.{length, take, length-take-le, true≢false, length-append, if◌then◌else◌, refl, sym, ap}
 use Rattle.std.proofs.Common.{subst, ◌∙◌, arith, le_refl}
@@ -17,7 +17,7 @@ use Rattle.no_std_io2_base.proofs.ReadsAdd.{EachAdds}
 use Rattle.no_std_io2_base.proofs.EventLemmas.{length-events_of}
 use Rattle.no_std_io2_base.proofs.GivenPieces.{bytes_to_fault-append}
 
--- the first reader is at its end, and this call met it if the mark is new: the second is read
+-- The first reader is at its end, and if the mark is new, this call met the end. The second reader is read.
 pub record PastFirst {T U : Type 0} (R : Reader T) (later : U → List Event) (room : ℕ) (was now : Chain T U) : Type 0 where
   pub done : now.done_first ≡ true
   pub second : now.second ≡ was.second
@@ -27,7 +27,7 @@ pub record PastFirst {T U : Type 0} (R : Reader T) (later : U → List Event) (r
   pub left : (was.done_first ≡ false → R.tells was.first) → chain_events R.events later was ≡ later was.second
   pub met : was.done_first ≡ false → (0 < room) × R.may was.first (Gave room (Ok [])) now.first
 
--- it was so before
+-- the first reader was done before
 pub past_done : {T U : Type 0} {R : Reader T} {later : U → List Event} {room : ℕ} {was now : Chain T U} → now ≡ was
     → was.done_first ≡ true → PastFirst R later room was now
 past_done {R = R} {later} {room} {was} same done =
@@ -41,7 +41,7 @@ past_done {R = R} {later} {room} {was} same done =
       met = λ going. absurd (true≢false (sym done ∙ going));
     })
 
--- or this call's read has found it
+-- or the read of this call met its end
 pub past_read : {T U : Type 0} {R : Reader T} {later : U → List Event} {room : ℕ} {was now : Chain T U} {first : T}
     → now ≡ record { first = first; second = was.second; done_first = true } → was.done_first ≡ false
     → R.turns first ≤ R.turns was.first → (R.tells was.first → R.events was.first ≡ []) → 0 < room
@@ -58,22 +58,22 @@ past_read {R = R} {later} {room} {was} {first} is going spent none some call =
       met = λ _. (some, call);
     })
 
--- no call raises the turns of both
+-- no call raises the turns of both together
 pub both_turns : {first first' second second' : ℕ} → first' ≤ first → second' ≤ second → first' + second' ≤ first + second
 both_turns a b = omega (arith, a, b)
 
--- a turn of either is a turn of both
+-- a turn of the second is a turn of both together
 pub second_turn : (reply : Result ℕ Error) {first first' : ℕ} (second second' : ℕ) → first' ≤ first → SpendsTurn reply second second'
     → SpendsTurn reply (first + second) (first' + second')
 second_turn (Ok n) second second' stays spent = λ some. let now = spent some in omega (arith, stays, now)
 second_turn (Err e) second second' stays spent = omega (arith, stays, spent)
 
--- and one of the first too
+-- and so is a turn of the first
 pub first_turn : (n : ℕ) {first first' : ℕ} (second : ℕ)
     → (0 < n → first' < first) → 0 < n → first' + second < first + second
 first_turn n second spent some = let now = spent some in omega arith
 
--- what a read gave stands first, whatever comes behind
+-- a read takes the bytes that it gave from the front, also if more events follow
 pub read_before : (n : ℕ) (buf : List ℕ) {E : List Event} (after F : List Event) → E ≡ events_of (take n buf) ++ after
     → E ++ F ≡ events_of (take n buf) ++ (after ++ F)
 read_before n buf after F read = ap (λ l. l ++ F) read ∙ append_assoc (events_of (take n buf)) after F
@@ -93,7 +93,7 @@ chosen_le : (t : Bool) (xs ys : List ℕ) → length xs ≤ length ys → length
 chosen_le true xs ys below = below
 chosen_le false xs ys below = le_refl _
 
--- of the first there are no more bytes before a fault than of both
+-- the first reader has at most as many bytes before a fault as both together
 to_fault-first : (E F : List Event) → length (bytes_to_fault E) ≤ length (bytes_to_fault (E ++ F))
 to_fault-first [] F = omega arith
 to_fault-first (byte b ∷ E) F = let below = to_fault-first E F in omega (arith, below)
@@ -106,25 +106,25 @@ chosen_some : (t : Bool) (this that other : Option Error) {e : Error} → (this 
 chosen_some true this that other goes_on is = goes_on is
 chosen_some false this that other goes_on is = is
 
--- the first fault of the first is that of both
+-- the first fault of the first reader is the first fault of both
 pub first_fault-first : (E F : List Event) {e : Error} → first_fault E ≡ Some e → first_fault (E ++ F) ≡ Some e
 first_fault-first [] F is = cc
 first_fault-first (byte b ∷ E) F is = first_fault-first E F is
 first_fault-first (fails e ∷ E) F is = chosen_some (is_interruption (error_kind e)) (first_fault E) (first_fault (E ++ F)) (Some e)
     (first_fault-first E F) is
 
--- where there is room for both, there is room for the first
+-- if there is room for both, there is room for the first
 pub room_of_first : (E F : List Event) (len capacity : ℕ) → HasRoom 32 (E ++ F) len capacity → HasRoom 32 E len capacity
 room_of_first E F len capacity enough = let below = to_fault-first E F in omega (arith, enough, below)
 
--- and for the second behind it
+-- and for the second after it
 pub room_of_second : (E F : List Event) (len capacity n len' capacity' : ℕ) → HasRoom 32 (E ++ F) len capacity → HasNoFault E
     → n ≡ length (bytes E) → len' ≡ len + n → capacity ≤ capacity' → HasRoom 32 F len' capacity'
 room_of_second E F len capacity n len' capacity' enough clean all grown more =
     let both = ap length (bytes_to_fault-append E F clean) ∙ length-append (bytes E) (bytes_to_fault F) in
     omega (arith, enough, all, grown, more, both)
 
--- the second is all that is left of a chain whose first is done, and both are while it is not
+-- the rest of a chain is that of the second reader if the first is done, and that of both if it is not
 pub room_when_done : {done : Bool} (E F : List Event) (len : ℕ) {capacity : ℕ} → done ≡ true
     → HasRoom 32 ((if done then [] else E) ++ F) len capacity → HasRoom 32 F len capacity
 room_when_done E F len {capacity = capacity} is enough = subst (λ b. HasRoom 32 ((if b then [] else E) ++ F) len capacity) is enough
@@ -139,12 +139,12 @@ pub after_ok : {A E : Type 0} {P : Type 0} (reply : Result A E) → P → OnOk r
 after_ok (Ok a) p = p
 after_ok (Err e) p = tt
 
--- what is not done at the end was not done before
+-- a first reader that is not done at the end was not done before
 still_going : (mid now : Bool) → (mid ≡ true → now ≡ true) → now ≡ false → mid ≡ false
 still_going true now stays going = absurd (true≢false (sym (stays refl) ∙ going))
 still_going false now stays going = refl
 
--- two calls that use one after the other
+-- two calls in a row use one reader after the other
 pub in_turn_then : {T U : Type 0} {was mid now : Chain T U} → InTurn was mid → InTurn mid now → InTurn was now
 in_turn_then {mid} {now} a b = record {
   stays_done = λ done. b.stays_done (a.stays_done done);
@@ -153,7 +153,8 @@ in_turn_then {mid} {now} a b = record {
       b.second_alone going ∙ a.second_alone (still_going mid.done_first now.done_first b.stays_done going);
 }
 
--- One call after another: so `exact_adds (chain_each T U)` says it of a `read_exact`, and so on as for `take_each`.
+-- Each call uses one reader after the other. So `exact_adds (chain_each T U)` proves this for a `read_exact`, and the other calls are as
+-- for `take_each`.
 pub chain_each : {T U : Type 0} (first : Reader T) (second : Reader U) → EachAdds (ChainMay first second) (λ old x new. InTurn old new)
 chain_each first second = record {
   joins = record {
@@ -168,7 +169,7 @@ chain_each first second = record {
 }
 
 module _ {T U : Type 0} {P Q : T → T → Type 0} {S : U → U → Type 0} {was now : Chain T U} where
-  -- a call of the first reader alone
+  -- a call of only the first reader
   pub by_first : was.done_first ≡ false → now.done_first ≡ was.done_first → now.second ≡ was.second → P was.first now.first
       → InParts P Q S was now
   by_first going kept same call = record {
@@ -182,7 +183,7 @@ module _ {T U : Type 0} {P Q : T → T → Type 0} {S : U → U → Type 0} {was
     second = λ done. absurd (true≢false (sym done ∙ going));
   }
 
-  -- of the second, which this call or one before has come to
+  -- a call of the second, after this call or an earlier one met the end of the first
   pub by_second : now.done_first ≡ true → (was.done_first ≡ true → now.first ≡ was.first)
       → (was.done_first ≡ false → Q was.first now.first) → S was.second now.second → InParts P Q S was now
   by_second done alone ends call = record {
@@ -203,7 +204,7 @@ not_ended kept some = record {
   ended = λ going tells. (λ done. absurd (true≢false (sym done ∙ kept ∙ going)), λ none. absurd (some tells none));
 }
 
--- or is set where it ended
+-- or it is set if the first reader ended
 pub is_ended : {T U : Type 0} {R : Reader T} {was now : Chain T U} → now.done_first ≡ true
     → (was.done_first ≡ false → R.tells was.first → R.events was.first ≡ []) → EndsFirst R was now
 is_ended done none = record { ended = λ going tells. (λ _. none going tells, λ _. done) }
@@ -227,13 +228,13 @@ lends_again {R = R} {was} {mid} {mid'} {again = again} {lent} after at is some l
     lent_held (Err e) is same = absurd is
 
 module _ {T U : Type 0} (first : Reader T) (second : Reader U) {was now : Chain T U} {buf v : List ℕ} where
-  -- a `read_to_end` of the first that failed
+  -- a failed `read_to_end` of the first reader
   pub drains_first : {e : Error} → was.done_first ≡ false → now.done_first ≡ was.done_first → now.second ≡ was.second
       → ToEndMade first.may was.first buf (Err e) v now.first → ToEndMade (ChainMay first second) was buf (Err e) v now
   drains_first going kept same m = to_end_by m.given m.appended
       ([], λ done. absurd (true≢false (sym done ∙ going)), by_first going kept same (refl, drains [] m refl))
 
-  -- one of the second alone
+  -- one of only the second
   pub drains_second : {reply : Result ℕ Error} → was.done_first ≡ true → now.done_first ≡ was.done_first → now.first ≡ was.first
       → ToEndMade second.may was.second buf reply v now.second → ToEndMade (ChainMay first second) was buf reply v now
   drains_second done kept same m = to_end_by m.given m.appended
@@ -251,7 +252,7 @@ module _ {T U : Type 0} (first : Reader T) (second : Reader U) {was now : Chain 
         by_second done (λ was_done. absurd (true≢false (sym was_done ∙ going))) (λ _. drains [] m refl) (drains m.given last same),
       )
 
--- of two calls in a row one appended a byte, and spent a turn
+-- if two calls in a row appended a byte, one of them did, and spent a turn
 pub spent_then : {len now first last : ℕ} (grown mid : ℕ) → (len < grown → mid < first) → (grown < now → last < mid) → mid ≤ first
     → last ≤ mid → len < now → last < first
 spent_then {len} {now} {first} {last} grown mid one two stays stays' more = elim (cases_lt len grown) [

@@ -10,7 +10,7 @@ cut-none : (k : ℕ) → cut k [] ≡ []
 cut-none zero = refl
 cut-none (suc k) = refl
 
--- the cut loses what the inner reader loses
+-- the events that are gone from the inner reader are gone from the cut
 pub cut_reads_whole : {E : List Event} (E' : List Event) (k : ℕ) {n : ℕ} (buf : List ℕ) → n ≤ length buf → length buf ≤ k
     → Reads E (Ok n) buf E' → Reads (cut k E) (Ok n) buf (cut (k - n) E')
 cut_reads_whole E' k {n} buf fits within read =
@@ -20,7 +20,7 @@ cut_reads_whole E' k {n} buf fits within read =
       λ zero some. ap (cut k) (read.1 zero some) ∙ cut-none k,
     )
 
--- and if what was read is a part of the buffer
+-- the same, if a part of the buffer was read into
 pub cut_reads : {E : List Event} (E' : List Event) (k : ℕ) {n : ℕ} (part kept : List ℕ) → n ≤ length part → length part ≤ k
     → (0 < length (part ++ kept)
     → 0 < length part)
@@ -40,7 +40,7 @@ pub cut-length : (k : ℕ) (E : List Event) → E ≡ events_of (bytes E) → le
 cut-length k E h = ap (λ l. length (cut k l)) h ∙ cut-length_bytes k (bytes E)
     ∙ ap (min k) (sym (length-events_of (bytes E)) ∙ ap length (sym h))
 
--- bytes that are consumed go from the cut and from the limit
+-- bytes that are consumed are gone from the cut, and the limit falls by them
 pub cut_consumes : (E E' : List Event) (held : List ℕ) (n k : ℕ) → n ≤ k → n ≤ length held → E ≡ events_of (take n held) ++ E'
     → cut k E ≡ events_of (take n held) ++ cut (k - n) E'
 cut_consumes E E' held n k within fits is =
@@ -62,7 +62,7 @@ pub part_room : (most k : ℕ) (buf part : List ℕ) → most ≡ min (length bu
 part_room most k buf part is same some room =
     omega (arith, is, same, some, room, length-append part (drop most buf), length-take most buf, length-drop most buf)
 
--- it has as much room as the limit lets
+-- it has as much room as the limit allows
 pub part_length : (most k : ℕ) (buf part : List ℕ) → most ≡ min (length buf) k → length part ≡ length (take most buf)
     → length part ≡ min (length (part ++ drop most buf)) k
 part_length most k buf part is same =
@@ -72,6 +72,6 @@ part_length most k buf part is same =
 pub fits_whole : (n : ℕ) (part kept : List ℕ) → n ≤ length part → n ≤ length (part ++ kept)
 fits_whole n part kept fits = omega (arith, fits, length-append part kept)
 
--- the limit falls by what was given
+-- the limit falls by the number of given bytes
 pub limit_falls : (k n len : ℕ) → n ≤ len → len ≤ k → k - n + n ≡ k
 limit_falls k n len fits within = omega (arith, fits, within)

@@ -1,4 +1,4 @@
--- What each exit of a loop of reads into a vector says of the vector and of the reader's store.
+-- The vector and the reader's store at each exit of a loop of reads into a vector.
 use Rattle.std.proofs.Common.{◌≡◌, ℕ, ◌+◌, ◌-◌, ◌<◌, ◌≤◌, List, [], ◌∷◌, ◌++◌, Result, Ok, Err, append_assoc, length, take}
 use Rattle.std.proofs.Common.{refl, sym, ap, subst, ◌∙◌, arith, take_all, length-take-le}
 use lib.Seq.{take-take}
@@ -27,7 +27,7 @@ pub count_cut : (start filled : ℕ) (new mid old : List ℕ) → start ≡ leng
     → filled - start ≡ length new - length old
 count_cut start filled new mid old long is within = omega (arith, long, ap length is, length-take-le filled mid within)
 
--- and how long the vector is then
+-- and the length of the vector afterwards
 pub len_cut : (start filled len was : ℕ) (new mid : List ℕ) → start ≡ was → was ≤ filled → len ≡ length new → new ≡ take filled mid
     → filled ≤ length mid → len ≡ was + (filled - start)
 len_cut start filled len was new mid from grows long is within =
@@ -37,7 +37,7 @@ len_cut start filled len was new mid from grows long is within =
 pub filled_length : (filled len : ℕ) (new mid : List ℕ) → len ≡ length new → new ≡ take filled mid → filled ≤ length mid → len ≡ filled
 filled_length filled len new mid long is within = long ∙ ap length is ∙ length-take-le filled mid within
 
--- a vector that is full is what was filled
+-- in a full vector, all bytes were filled
 pub whole_room : (filled len : ℕ) (mid : List ℕ) → filled ≤ len → len ≡ length mid → len ≤ filled → take filled mid ≡ mid
 whole_room filled len mid within long full = take_all filled mid (omega (arith, within, long, full))
 
@@ -59,23 +59,23 @@ stays_at_end E E' {n} buf p read is none move whole =
     moved_read E' n buf p (omega (arith, none))
     (subst (λ r. Reads E r buf E') is read).0 (move ∙ ap (λ r. p + given r) is) whole
 
--- what the first of two calls appended stays at the front
+-- the bytes that the first of two calls appended stay at the front
 pub front_then : {k n : ℕ} {old : List ℕ} (mid new : List ℕ) → k ≤ n → take k mid ≡ old → take n new ≡ mid → take k new ≡ old
 front_then {k} {n} mid new below first next = sym (take-take k n new below) ∙ ap (take k) next ∙ first
 
--- an error of the first of two readers
+-- an error of the first of two readers stops both
 pub stopped_first : (E F : List Event) (old new : List ℕ) (after : List Event) (e : Error) → ReadsToEnd E (Err e) old new after
     → ReadsToEnd (E ++ F) (Err e) old new (after ++ F)
 stopped_first E F old new after e read = (read.0, ap (λ l. l ++ F) read.1 ∙ append_assoc read.0 after F, read.2, read.3)
 
--- a read that gave nothing into some room: nothing was to come, and nothing is
+-- a read into some room that gave nothing: nothing was to come, and nothing is
 pub nothing_read : (E E' : List Event) (reply : Result ℕ Error) (n : ℕ) (buf : List ℕ) → Reads E reply buf E' → reply ≡ Ok n → n ≡ 0
     → 0 < length buf → (E ≡ []) × (E' ≡ [])
 nothing_read E E' reply n buf read is none some =
     let now : Reads E (Ok 0) buf E' = subst (λ r. Reads E r buf E') (is ∙ ap Ok none) read in
     (now.1 refl some, sym now.0 ∙ now.1 refl some)
 
--- all was gathered
+-- all bytes were read
 pub gathered_done : {E : List Event} {old new : List ℕ} {after rest : List Event} (k : ℕ)
     → Gathered E old new after → after ≡ [] → rest ≡ [] → k ≡ length new - length old → ReadsToEnd E (Ok k) old new rest
 gathered_done {E} {old} {new} {after} {rest} k t none end count =

@@ -1,4 +1,4 @@
--- What each read adds to a reader's own state, the calls of a `read_exact` or a `read_to_end` add together.
+-- If each call adds something to a reader's own state, the calls of a loop add it together.
 use Rattle.std.proofs.Common.{◌≡◌, ℕ, List, [], ◌∷◌, ◌++◌, Result, Ok, Err, OnOk, IfOk, ◌≤◌, length, take, le_refl, refl, sym, subst, append-nil, inl, inr}
 use Rattle.std.proofs.lemmas.List.{take_all}
 use Rattle.no_std_io2_base.specs.declared.error.Error.{Error}
@@ -9,7 +9,8 @@ use Rattle.no_std_io2_base.specs.Pieces.{PartCalls, no_part, and_part, and_waite
 use Rattle.no_std_io2_base.proofs.CallsLemmas.{made_split}
 use Rattle.no_std_io2_base.proofs.CallsAdd.{Joins}
 
--- Each call adds the bytes that it gave. A `read_exact` of its own that fails may have taken some that it does not show.
+-- Each call adds the bytes that it gave. A failed `read_exact`, of a type with a body of its own for it, may have taken bytes that it does
+-- not show.
 pub record EachAdds {R : Type 0} (may : R → ReadCall → R → Type 0) (Adds : R → List ℕ → R → Type 0) : Type 0 where
   pub joins : Joins Adds
   pub gave : (a b : R) (room : ℕ) (answer : Result (List ℕ) Error) → may a (Gave room answer) b → Adds a (bytes_given answer) b
@@ -28,7 +29,7 @@ module _ {R : Type 0} {may : R → ReadCall → R → Type 0} {Adds : R → List
       let last = parts.2 in
       each.joins.more a parts.0 b x y (before parts.0 parts.1) (subst (Adds parts.0 y) (sym last.2) (adds parts.0 last.0 last.1))
 
-  -- calls, and the loan and the use of some bytes
+  -- calls, and then a `fill_buf` and a `consume`
   then_took : (C : List ReadCall) {x : List ℕ} (lent : List ℕ) (n : ℕ) (a b : R) → ((mid : R) → Made may a C mid → Adds a x mid)
       → n ≤ length lent → Made may a (C ++ Filled (Ok lent) ∷ Consumed n ∷ []) b → Adds a (x ++ take n lent) b
   then_took C {x} lent n a b before within made =
@@ -47,7 +48,7 @@ module _ {R : Type 0} {may : R → ReadCall → R → Type 0} {Adds : R → List
       subst (λ l. Adds a l b) (append-nil x)
       (and_last C (Gave room (Err e)) a b (λ mid m. gathers_add before a mid m) (λ c d call. each.gave c d room (Err e) call) made)
 
-  -- and one that ended them, which gave nothing
+  -- and a last one that ended them and gave nothing
   until_add : {asks : ℕ → ℕ → Type 0} {C : List ReadCall} {x : List ℕ} (answer : Result (List ℕ) Error) → bytes_given answer ≡ []
       → GathersUntil asks C x answer → (a b : R) → Made may a C b → Adds a x b
   until_add {x = x} answer nothing until a b made =
@@ -56,7 +57,7 @@ module _ {R : Type 0} {may : R → ReadCall → R → Type 0} {Adds : R → List
       (λ c d call. subst (λ l. Adds c l d) nothing (each.gave c d until.1 answer call))
       (subst (λ K. Made may a K b) until.4 made))
 
-  -- one `read_exact` that is no loop
+  -- one `read_exact` of a type with a body of its own for it
   exactly_adds : (buf : List ℕ) (reply : Result (Unit {0}) Error) (a b : R) → may a (GaveExactly (length buf) (gave_whole reply buf)) b
       → (x : List ℕ) × OnOk reply (x ≡ buf) × Adds a x b
   exactly_adds buf (Ok u) a b call = each.exactly a b (length buf) (Ok buf) call
@@ -69,7 +70,7 @@ module _ {R : Type 0} {may : R → ReadCall → R → Type 0} {Adds : R → List
   fill_adds C buf (Err e) a b (x, inl end) made = (x, tt, until_add (Ok []) refl end.1 a b made)
   fill_adds C buf (Err e) a b (x, inr fault) made = (x, tt, until_add (Err e) refl fault.1 a b made)
 
-  -- those of a `read_exact`: all of the buffer at `Ok`, and at an error what was taken
+  -- those of a `read_exact`: all of the buffer after `Ok`, and the bytes that were taken after an error
   pub exact_adds : {buf : List ℕ} (reply : Result (Unit {0}) Error) (a b : R) → ExactMade may a reply buf b
       → (x : List ℕ) × OnOk reply (x ≡ buf) × Adds a x b
   exact_adds {buf} reply a b m = elim (m.are) [
@@ -89,7 +90,7 @@ module _ {R : Type 0} {may : R → ReadCall → R → Type 0} {Adds : R → List
   calls_add (Err e) (inr (inl fault)) a b made = until_add (Err e) refl fault.1 a b made
   calls_add (Err e) (inr (inr refused)) a b made = gathers_add refused.1 a b made
 
-  -- after an error too: what was appended
+  -- those of a `read_to_end`, also before an error: the appended bytes
   pub to_end_adds : {buf buf' : List ℕ} (reply : Result ℕ Error) (a b : R) → ToEndMade may a buf reply buf' b
       → (x : List ℕ) × (buf' ≡ buf ++ x) × Adds a x b
   to_end_adds reply a b m = (m.given, m.appended, calls_add reply m.are a b m.made)
@@ -119,7 +120,7 @@ module _ {R : Type 0} {may : R → ReadCall → R → Type 0} {Adds : R → List
       (and_last are.0 (Filled last.0) a b (λ mid c. parts_add are.1 a mid c) (λ c d call. each.lent c d last.0 call)
       (subst (λ K. Made may a K b) last.1 m.made))
 
-  -- those of a `read_line`, which appends the line at `Ok`
+  -- those of a `read_line`, which appends the line after `Ok`
   pub line_adds : {old old' : List ℕ} {len capacity : ℕ} (reply : Result ℕ Error) (a b : R) → (made : (line : List ℕ) × (read : Result ℕ Error)
       × PieceMade (Unit {0}) may a 10 read line b × AnswersLine line read len capacity reply old old')
       → (line : List ℕ) × OnOk reply (old' ≡ old ++ line) × Adds a line b

@@ -1,4 +1,4 @@
--- What `Take` removes, its inner reader loses.
+-- The events that are gone from a `Take` are gone from its inner reader.
 use Rattle.std.proofs.Common.{◌≡◌, ℕ, zero, suc, ◌+◌, ◌-◌, ◌<◌, ◌≤◌, min, List, [], ◌∷◌, ◌++◌, Result, Ok, Err, length, take, sym, ap}
 use Rattle.std.proofs.Common.{◌∙◌, refl, subst, arith, append_assoc, length-append, length-take-le, le_refl, inl, inr}
 use Rattle.no_std_io2_base.specs.declared.error.Error.{Error}
@@ -13,7 +13,7 @@ use Rattle.no_std_io2_base.proofs.Readers.{take_reader}
 use Rattle.no_std_io2_base.proofs.ReadsAdd.{EachAdds}
 use Rattle.no_std_io2_base.proofs.EventLemmas.{bytes-append, bytes-events_of, cut-bytes}
 
--- where the limit and what is to come of the inner reader are as they were, nothing was removed
+-- if the limit and the inner events did not change, nothing was removed
 pub along_none : {k k' : ℕ} {E E' : List Event} → k' ≡ k → E' ≡ E → TakesAlong k E k' E'
 along_none {k} {E'} same is =
     record {
@@ -34,18 +34,18 @@ along_bytes k k' E E' bs is falls =
       falls = ap (λ l. k' + length l) (bytes-events_of bs) ∙ falls;
     }
 
--- a read of n bytes, which the limit falls by
+-- a read of n bytes, by which the limit falls
 pub along_read : {k k' : ℕ} {E E' : List Event} {n : ℕ} (buf : List ℕ) → Reads E (Ok n) buf E' → n ≤ length buf
     → k' + n ≡ k → TakesAlong k E k' E'
 along_read {k} {k'} {E} {E'} {n} buf read fits falls =
     along_bytes k k' E E' (take n buf) read.0 (ap (λ m. k' + m) (length-take-le n buf fits) ∙ falls)
 
--- an error, where the limit isn't 0
+-- an error, if the limit is not 0
 pub along_error : {k : ℕ} {E E' : List Event} {e : Error} → E ≡ fails e ∷ E' → 0 < k → TakesAlong k E k E'
 along_error {k = zero} is some = absurd (omega arith)
 along_error {k = suc k} {e} is some = record { removed = fails e ∷ []; below = is; here = ap (cut (suc k)) is; falls = omega arith }
 
--- an error, where the limit stays and isn't 0
+-- an error, if the limit stays and is not 0
 pub along_fault : {k k' : ℕ} {E E' : List Event} {e : Error} → E ≡ fails e ∷ E' → k' ≡ k → (k ≡ 0 → ⊥) → TakesAlong k E k' E'
 along_fault {k = zero} is same some = absurd (some refl)
 along_fault {k = suc k} {E} {E'} is same some = subst (λ n. TakesAlong (suc k) E n E') (sym same) (along_error is (omega arith))
@@ -82,13 +82,13 @@ gives_then first next = record {
       (end.0, along_then mid.1 end.1);
 }
 
--- a loan takes nothing but the error that it returned
+-- a `fill_buf` takes nothing except the error that it returned
 along_loan : {k k' : ℕ} {E E' : List Event} (reply : Result (Bor (List ℕ)) Error) → 0 < k → k' ≡ k → LendsFrom E reply E'
     → TakesAlong k E k' E'
 along_loan (Ok s) some same lends = along_none same lends
 along_loan (Err e) some same lends = along_fault lends same (λ zero. omega (arith, some, zero))
 
--- at the limit there is nothing to read
+-- at limit 0 there is nothing to read
 reads_at_limit : {T : Type 0} {inner : Reader T} {t : Take T} (room : ℕ) → take_limit t ≡ 0 → TakeMay inner t (Gave room (Ok [])) t
 reads_at_limit {t = t} room at_limit = (gives_none t, λ none. refl, λ some. absurd (omega (arith, at_limit, some)))
 
@@ -101,7 +101,7 @@ pub consumes_at_limit : {T : Type 0} {inner : Reader T} {t : Take T} {n : ℕ} �
 consumes_at_limit {inner = inner} {t} at_limit none =
     (subst (λ k. TakeGives inner t k t) (sym none) (gives_none t), λ some. absurd (omega (arith, at_limit, some)))
 
--- so a read there is one that meets the end
+-- so a read at limit 0 meets the end
 pub read_at_limit : {T : Type 0} {inner : Reader T} {t : Take T} (buf : List ℕ) → take_limit t ≡ 0
     → ReadLaw (take_reader inner) t buf (Ok 0) buf t
 read_at_limit {inner = inner} {t} buf at_limit =
@@ -117,7 +117,7 @@ read_at_limit {inner = inner} {t} buf at_limit =
       call = reads_at_limit _ at_limit;
     }
 
--- and above it one read of the inner reader is made, into a part of the buffer
+-- and above 0 one inner read is made, into a part of the buffer
 pub reads_inner : {T : Type 0} {inner : Reader T} {old new : Take T} {buf : List ℕ} (reply : Result ℕ Error) (whole part : List ℕ)
     → 0 < take_limit old → ReadLaw inner (take_inner old) buf reply part (take_inner new)
     → length part ≡ min (length whole) (take_limit old) → gave reply whole ≡ gave reply part
@@ -142,7 +142,7 @@ reads_inner {inner = inner} {old} {new} (Err e) whole part some read room same f
   λ _. subst (λ r. inner.may (take_inner old) (Gave r (Err e)) (take_inner new)) room read.call,
 )
 
--- one `fill_buf` of it, of which a part is lent
+-- one inner `fill_buf`, of whose bytes a part is lent
 pub fills_inner : {T : Type 0} {inner : Reader T} {old new : Take T} (reply : Result (Bor (List ℕ)) Error) {answer : Result (List ℕ) Error}
     → 0 < take_limit old → take_limit new ≡ take_limit old
     → inner.may (take_inner old) (Filled (lent_bytes reply)) (take_inner new)
@@ -159,14 +159,14 @@ fills_inner {old = old} reply some same call told is = (
   λ _. (lent_bytes reply, call, is),
 )
 
--- at most so many bytes are as many as there are, or so many
+-- the first k bytes are cut to as many as there are
 pub take_most : (most k : ℕ) (x : List ℕ) → most ≡ min (length x) k → take most x ≡ take k x
 take_most most k x is = elim (cases_lt k (length x)) [
   | inl below ↦ ap (λ n. take n x) (omega (arith, is, below))
   | inr above ↦ take_all most x (omega (arith, is, above)) ∙ sym (take_all k x above)
 ]
 
--- and one `consume`
+-- and one inner `consume`
 pub consumes_inner : {T : Type 0} {inner : Reader T} {old new : Take T} {n : ℕ} (held : List ℕ) → 0 < take_limit old → n ≤ length held
     → (inner.tells (take_inner old) → inner.tells (take_inner new)
     × (inner.events (take_inner old) ≡ events_of (take n held) ++ inner.events (take_inner new)))
@@ -182,8 +182,8 @@ consumes_inner {n = n} held some within told falls call = (
   λ _. call,
 )
 
--- What the calls of a `Take` give, they give together: so `exact_adds take_each` says it of a `read_exact`, `to_end_adds take_each` of a
--- `read_to_end`, `piece_adds take_each` of a `read_until` and `line_adds take_each` of a `read_line`.
+-- The gifts of calls in a row add up. So `exact_adds take_each` proves this for a `read_exact`, `to_end_adds take_each` of a `read_to_end`,
+-- `piece_adds take_each` of a `read_until` and `line_adds take_each` of a `read_line`.
 pub take_each : {T : Type 0} {inner : Reader T} → EachAdds (TakeMay inner) (λ old x new. TakeGives inner old (length x) new)
 take_each {inner = inner} = record {
   joins = record {

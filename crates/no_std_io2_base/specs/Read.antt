@@ -135,7 +135,7 @@ abbrev pub ended : Result ℕ Error → Result (Unit {0}) Error
 ended (Ok n) = Ok tt
 ended (Err e) = Err e
 
--- the bytes of an answer: none if it is an error
+-- the bytes of a result: none if it is an error
 abbrev pub bytes_given : Result (List ℕ) Error → List ℕ
 bytes_given (Ok x) = x
 bytes_given (Err e) = []
@@ -205,7 +205,7 @@ pub record ToEndMade {S : Type 0} (may : S → ReadCall → S → Type 0) (old :
   pub appended : buf' ≡ buf ++ given
   pub are : ToEndCalls calls given reply
 
--- a `read_to_end` made y of x, and ended with this answer
+-- a `read_to_end` made y of x, and ended with this result
 abbrev pub Drains : {S : Type 0} → (S → ReadCall → S → Type 0) → S → List ℕ → Result (Unit {0}) Error → List ℕ → S → Type 0
 Drains may old x answer y new = (reply : Result ℕ Error) × (ended reply ≡ answer) × ToEndMade may old x reply y new
 

@@ -1,4 +1,4 @@
--- What a clause reads of a `Take`, and what its calls do.
+-- The limit and the inner reader of a `Take`, and what its calls do.
 use Rattle.std.specs.Prelude.{◌≡◌, ℕ, ◌+◌, ◌<◌, min, List, [], ◌++◌, length, take, Result, Ok, Err}
 use Rattle.no_std_io2_base.specs.declared.error.Error.{Error}
 use Rattle.no_std_io2_base.specs.declared.traits.take.Take.{Take}
@@ -12,11 +12,11 @@ take_limit t = t.limit
 abbrev pub take_inner : {T : Type 0} → Take T → T
 take_inner t = t.inner
 
--- the inner's events, up to and with the byte at the limit
+-- the inner reader's events, up to and including the byte at the limit
 abbrev pub take_events : {T : Type 0} → (T → List Event) → Take T → List Event
 take_events events t = cut t.limit (events t.inner)
 
--- at most `limit` of the inner's held bytes
+-- at most `limit` of the inner reader's held bytes
 abbrev pub take_held : {T : Type 0} → (T → List ℕ) → Take T → List ℕ
 take_held held t = take t.limit (held t.inner)
 
@@ -32,22 +32,22 @@ pub record TakesAlong (limit : ℕ) (E : List Event) (new_limit : ℕ) (after : 
   pub here : cut limit E ≡ removed ++ cut new_limit after
   pub falls : new_limit + length (bytes removed) ≡ limit
 
--- From old to new a `Take` gave n bytes: the limit fell by n, at limit 0 the inner reader was left alone, and what is gone from the events
--- is gone from the inner reader's.
+-- From old to new a `Take` gave n bytes: the limit fell by n, at limit 0 no inner call was made, and the events that are gone from the
+-- `Take` are gone from the inner reader.
 pub record TakeGives {T : Type 0} (inner : Reader T) (old : Take T) (n : ℕ) (new : Take T) : Type 0 where
   pub limit : take_limit new + n ≡ take_limit old
   pub at_limit : take_limit old ≡ 0 → take_inner new ≡ take_inner old
   pub along : inner.tells (take_inner old) → inner.tells (take_inner new)
       × TakesAlong (take_limit old) (inner.events (take_inner old)) (take_limit new) (inner.events (take_inner new))
 
--- at most the first k of the bytes that were lent, or the error
+-- at most the first k of the lent bytes, or the error
 abbrev pub lent_within : ℕ → Result (List ℕ) Error → Result (List ℕ) Error
 lent_within k (Ok x) = Ok (take k x)
 lent_within k (Err e) = Err e
 
--- What a call may do to a `Take`: at limit 0 it gives nothing and makes no call. Above the limit a `read` is one of the inner reader, into as
--- much of the room as the limit allows, a `fill_buf` lends as many of the bytes that the inner reader lends, and a `consume` is one of the
--- inner reader.
+-- What a call may do to a `Take`: at limit 0 it gives nothing and makes no inner call. Above 0, a `read` is one inner read into as much of
+-- the room as the limit allows, a `fill_buf` lends as many as the limit allows of the bytes that the inner reader lends, and a `consume` is
+-- one inner `consume`.
 abbrev pub TakeMay : {T : Type 0} → Reader T → Take T → ReadCall → Take T → Type 0
 TakeMay inner old (Gave room answer) new = TakeGives inner old (length (bytes_given answer)) new × (take_limit old ≡ 0 → answer ≡ Ok [])
     × (0 < take_limit old → inner.may (take_inner old) (Gave (min room (take_limit old)) answer) (take_inner new))

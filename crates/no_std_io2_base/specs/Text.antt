@@ -41,7 +41,7 @@ pub record MovesText (old : Told) (output : Option (List ℕ)) (reply : Result (
   pub moves : MovesFront old text met new
   pub answers : AnswersText output text met reply
 
--- `write_fmt(text)`, where the text's output is this
+-- `write_fmt(text)`, for a text with this output
 pub record WriteFmtLaw {S : Type 0} (told : S → Told) (takes_all : S → Type 0) (cost : S → ℕ) (is_metered : S → Type 0)
     (may : S → WriteCall → S → Type 0)
     (old : S) (output : Option (List ℕ)) (reply : Result (Unit {0}) Error) (new : S) : Type 0 where

@@ -29,7 +29,7 @@ fn chain_calls<T: Read, U: Read>(old: &Chain<T, U>, new: &Chain<T, U>)
     ensures { (call : ReadCall) → ⟦<Chain<T, U> as Read>⟧.may old.now call new.now → ChainMay T.Read U.Read old.now call new.now }
 {}
 
-// So the trait's loops, and its `read_to_end`, use one reader after the other.
+// The trait's loops and the `read_to_end` of a `Chain` use one reader after the other.
 fn chain_fills<T: Read, U: Read>(c: &mut Chain<T, U>, buf: &mut [u8]) -> Result<()>
     ensures { InTurn c.old c.new }
 {
@@ -78,8 +78,8 @@ fn take_calls<T: Read>(old: &Take<T>, new: &Take<T>)
     ensures { (call : ReadCall) → ⟦<Take<T> as Read>⟧.may old.now call new.now → TakeMay T.Read old.now call new.now }
 {}
 
-// So the limit falls by the bytes that the trait's loops and its `read_to_end` took, also before an error, and the inner reader
-// loses what the `Take` loses.
+// The limit of a `Take` falls by the bytes that the trait's loops and its `read_to_end` took, also before an error, and the
+// events that are gone from the `Take` are gone from the inner reader.
 fn take_fills<T: Read>(t: &mut Take<T>, buf: &mut [u8]) -> Result<()>
     ensures { (x : List ℕ) × OnOk result (x ≡ buf.new) × TakeGives T.Read t.old (length x) t.new }
 {

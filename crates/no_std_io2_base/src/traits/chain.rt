@@ -120,11 +120,12 @@ impl<T: Read, U: Read> Read for Chain<T, U> {
         self.second.read(buf)
     }
 
-    // Each reader fills the vector in its own way, but for the room that the first has left.
+    // Each reader appends by its own `read_to_end`; the second first uses the room that the vector
+    // still has.
     fn read_to_end<A: Allocator>(&mut self, buf: &mut Vec<u8, A>) -> Result<usize>
         ensures law { ReadToEndLaw ⟦<Self as Read>⟧ self.old buf.old result buf.new self.new }
 
-        // To the end of both.
+        // After `Ok` both readers were read to their ends.
         ensures ended { OnOk result (chain_is_done self.new ≡ true) }
     {
         if self.done_first {

@@ -31,7 +31,7 @@ impl<T> Take<T> {
         Take { inner, limit }
     }
 
-    /// Returns how many more bytes it gives at most; the inner reader may end earlier. Follows
+    /// Returns how many more bytes this reader may give; the inner reader may end earlier. Follows
     /// `std::io::Take::limit`.
     ///
     /// ```rust
@@ -46,7 +46,7 @@ impl<T> Take<T> {
         self.limit
     }
 
-    /// Sets how many bytes it gives at most from here on, whatever it gave before. Follows
+    /// Sets how many more bytes this reader may give from now on, whatever it gave before. Follows
     /// `std::io::Take::set_limit`.
     pub fn set_limit(&mut self, limit: u64)
         ensures limit { take_limit self.new ≡ limit }
@@ -96,7 +96,7 @@ fn min_with_limit(n: usize, limit: u64) -> usize
     }
 }
 
-// A reader that is cut tells no store.
+// A `Take` tells no store.
 impl<T: Read> Stored for Take<T> {
     ghost has_store = { λ _. ⊥ };
 
@@ -122,7 +122,7 @@ impl<T: Read> Read for Take<T> {
 
     #[inline(always)]
     fn read(&mut self, buf: &mut [u8]) -> Result<usize> {
-        // Far from the limit the buffer goes on as it is.
+        // If the buffer is shorter than the limit, it is passed on whole.
         if (buf.len() as u64) < self.limit {
             let given = self.inner.read(buf)?;
             self.limit -= given as u64;
@@ -137,11 +137,11 @@ impl<T: Read> Read for Take<T> {
         Ok(n)
     }
 
-    // If fewer than 32 bytes are left under the limit, it makes room for no more than those.
+    // If the limit is below 32, it makes room only for the bytes up to the limit.
     fn read_to_end<A: Allocator>(&mut self, buf: &mut Vec<u8, A>) -> Result<usize>
         ensures law { ReadToEndLaw ⟦<Self as Read>⟧ self.old buf.old result buf.new self.new }
 
-        // Its own.
+        // If the vector has room for the bytes up to the limit, no allocation fails.
         ensures small_room { T.tells (take_inner self.old)
             → HasRoom (min (take_limit self.old) 32) (take_events T.events self.old) (vec_len buf.old) (vec_capacity buf.old)
             → IfErr result (λ e. first_fault (take_events T.events self.old) ≡ Some e) }
