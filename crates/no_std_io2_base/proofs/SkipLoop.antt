@@ -1,6 +1,6 @@
 -- The steps of a loop that skips one piece, for any reader that lends.
 use Rattle.std.proofs.Common.{◌≡◌, ℕ, ◌+◌, ◌-◌, ◌^◌, ◌<◌, ◌≤◌, Bool, true, false, List, [], ◌++◌, Result, Ok, Err, min, length, take, drop}
-use Rattle.std.proofs.Common.{refl, sym, arith, le_refl, le_trans, lt_of_le_of_lt, length-append, length-take-le}
+use Rattle.std.proofs.Common.{refl, arith, le_refl, le_trans, lt_of_le_of_lt, length-append, length-take-le}
 use Rattle.std.specs.Borrow.{Bor}
 use Rattle.no_std_io2_base.specs.declared.error.Error.{Error}
 use Rattle.no_std_io2_base.specs.Errors.{IsInterruption, IsFault}

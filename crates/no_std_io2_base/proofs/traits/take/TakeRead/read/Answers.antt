@@ -1,5 +1,5 @@
 -- Far from the limit the inner reader is read into the whole buffer, and else into a part of it.
-use Rattle.std.proofs.Common.{◌≡◌, ◌<◌, ◌≤◌, Ok, Err, length, refl, arith, ap, length-take-le}
+use Rattle.std.proofs.Common.{◌<◌, ◌≤◌, Ok, Err, length, refl, arith, ap, length-take-le}
 use lib.Seq.{take-append-le}
 use Rattle.std.proofs.lemmas.Result.{err_from_is_err_and}
 use Rattle.no_std_io2_base.proofs.TakeAlong.{read_at_limit, reads_inner}
