@@ -322,6 +322,20 @@ NextByte E None after = IsInterruptionsAlone E × (after ≡ [])
 NextByte E (Some (Ok b)) after = TakesFirst E (byte b) after
 NextByte E (Some (Err e)) after = TakesFirst E (fails e) after × IsFault e
 
+-- what the last read of a `next` returned, if `next` yields this
+abbrev pub last_read : Option (Result ℕ Error) → Result (List ℕ) Error
+last_read None = Ok []
+last_read (Some (Ok b)) = Ok (b ∷ [])
+last_read (Some (Err e)) = Err e
+
+-- there is room for one byte
+abbrev pub IsOne : ℕ → ℕ → Type 0
+IsOne at room = room ≡ 1
+
+-- The reads that a `next` made, each into room for one byte. All but the last were interrupted.
+abbrev pub NextReads : {S : Type 0} → (S → ReadCall → S → Type 0) → S → Option (Result ℕ Error) → S → Type 0
+NextReads may old result new = (C : List ReadCall) × Made may old C new × GathersUntil IsOne C [] (last_read result)
+
 -- bytes turned into events and back are the same bytes
 pub bytes-events_of : (bs : List ℕ) → bytes (events_of bs) ≡ bs
 bytes-events_of [] = refl
