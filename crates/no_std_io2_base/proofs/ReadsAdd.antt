@@ -1,5 +1,6 @@
 -- If each call adds something to a reader's own state, the calls of a loop add it together.
-use Rattle.std.proofs.Common.{◌≡◌, ℕ, List, [], ◌∷◌, ◌++◌, Result, Ok, Err, OnOk, IfOk, ◌≤◌, length, take, le_refl, refl, sym, subst, append-nil, inl, inr}
+use Rattle.std.proofs.Common.{◌≡◌, ℕ, List, [], ◌∷◌, ◌++◌, Result, Ok, Err, OnOk, IfOk, ◌≤◌, length, take, le_refl, refl, sym, subst}
+use Rattle.std.proofs.Common.{append-nil, inl, inr}
 use Rattle.std.proofs.lemmas.List.{take_all}
 use Rattle.no_std_io2_base.specs.declared.error.Error.{Error}
 use Rattle.no_std_io2_base.specs.Write.{Made}
@@ -84,7 +85,8 @@ module _ {R : Type 0} {may : R → ReadCall → R → Type 0} {Adds : R → List
   calls_add : {C : List ReadCall} {x : List ℕ} (reply : Result ℕ Error) → ToEndCalls C x reply → (a b : R) → Made may a C b → Adds a x b
   calls_add reply (inl own) a b made =
       subst (λ l. Adds a l b) (sym own.4)
-      (and_last own.0 (GaveAll own.2 (ended reply)) a b (λ mid m. gathers_add own.3 a mid m) (λ c d call. each.all c d own.2 (ended reply) call)
+      (and_last own.0 (GaveAll own.2 (ended reply)) a b (λ mid m. gathers_add own.3 a mid m)
+      (λ c d call. each.all c d own.2 (ended reply) call)
       (subst (λ K. Made may a K b) own.5 made))
   calls_add (Ok n) (inr until) a b made = until_add (Ok []) refl until a b made
   calls_add (Err e) (inr (inl fault)) a b made = until_add (Err e) refl fault.1 a b made
@@ -121,7 +123,8 @@ module _ {R : Type 0} {may : R → ReadCall → R → Type 0} {Adds : R → List
       (subst (λ K. Made may a K b) last.1 m.made))
 
   -- those of a `read_line`, which appends the line after `Ok`
-  pub line_adds : {old old' : List ℕ} {len capacity : ℕ} (reply : Result ℕ Error) (a b : R) → (made : (line : List ℕ) × (read : Result ℕ Error)
+  pub line_adds : {old old' : List ℕ} {len capacity : ℕ} (reply : Result ℕ Error) (a b : R)
+      → (made : (line : List ℕ) × (read : Result ℕ Error)
       × PieceMade (Unit {0}) may a 10 read line b × AnswersLine line read len capacity reply old old')
       → (line : List ℕ) × OnOk reply (old' ≡ old ++ line) × Adds a line b
   line_adds {old} {old'} {len} {capacity} reply a b (line, read, made, answers) =

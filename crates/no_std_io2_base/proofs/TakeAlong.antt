@@ -182,8 +182,8 @@ consumes_inner {n = n} held some within told falls call = (
   λ _. call,
 )
 
--- The bytes that calls of a `Take` in a row give add up. So `exact_adds take_each` proves this for a `read_exact`, `to_end_adds take_each` for
--- a `read_to_end`, `piece_adds take_each` for a `read_until` and `line_adds take_each` for a `read_line`.
+-- The bytes that calls of a `Take` in a row give add up. So `exact_adds take_each` proves this for a `read_exact`, `to_end_adds take_each`
+-- for a `read_to_end`, `piece_adds take_each` for a `read_until` and `line_adds take_each` for a `read_line`.
 pub take_each : {T : Type 0} {inner : Reader T} → EachAdds (TakeMay inner) (λ old x new. TakeGives inner old (length x) new)
 take_each {inner = inner} = record {
   joins = record {

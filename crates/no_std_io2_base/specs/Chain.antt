@@ -67,5 +67,6 @@ ChainMay first second old (GaveAll x answer) new = (y : List ℕ) × (chain_is_d
 ChainMay first second old (Filled answer) new = EndsFirst first old new
     × InParts (λ a b. first.may a (Filled answer) b × (answer ≡ Ok [] → ⊥)) (λ a b. first.may a (Filled (Ok [])) b)
     (λ a b. second.may a (Filled answer) b) old new
-ChainMay first second old (Consumed n) new = InParts (λ a b. first.may a (Consumed n) b) (λ a b. ⊥) (λ a b. second.may a (Consumed n) b) old new
+ChainMay first second old (Consumed n) new = InParts (λ a b. first.may a (Consumed n) b) (λ a b. ⊥) (λ a b. second.may a (Consumed n) b)
+    old new
 ChainMay first second old (GaveExactly room answer) new = ⊥

@@ -1,6 +1,7 @@
 -- The events that a reader is going to give, what its calls do to them, the law of each call of `Read`, and what `Bytes` yields.
-use Rattle.std.specs.Prelude.{◌≡◌, ℕ, zero, suc, ◌<◌, Bool, true, false, List, [], ◌∷◌, ◌++◌, length, take, ⊤, Ok, Err, Result, ◌⊎◌, ◌+◌, ◌≤◌}
-use Rattle.std.specs.Prelude.{min, Vec, vec_len, vec_capacity, Some, IfOk, IfErr, OnOk, IsOk, IsOkAnd, Option, None, refl, if◌then◌else◌}
+use Rattle.std.specs.Prelude.{◌≡◌, ℕ, zero, suc, ◌<◌, Bool, true, false, List, [], ◌∷◌, ◌++◌, length, take, ⊤, Ok, Err, Result, ◌⊎◌, ◌+◌}
+use Rattle.std.specs.Prelude.{◌≤◌, min, Vec, vec_len, vec_capacity, Some, IfOk, IfErr, OnOk, IsOk, IsOkAnd, Option, None, refl}
+use Rattle.std.specs.Prelude.{if◌then◌else◌}
 use Rattle.no_std_io2_base.specs.declared.error.Error.{Error}
 use Rattle.no_std_io2_base.specs.Errors.{IsInterruption, IsFault, IsUnexpectedEnd, IsOutOfMemory, IsNoInterruption, error_kind}
 use Rattle.no_std_io2_base.specs.Errors.{is_interruption}

@@ -1,4 +1,5 @@
-use Rattle.std.proofs.Common.{◌≡◌, ◌≤◌, ◌<◌, ◌++◌, [], Ok, false, true≢false, length, length-take-le, refl, sym, ap, subst, ◌∙◌, arith, rules}
+use Rattle.std.proofs.Common.{◌≡◌, ◌≤◌, ◌<◌, ◌++◌, [], Ok, false, true≢false, length, length-take-le, refl, sym, ap, subst, ◌∙◌, arith}
+use Rattle.std.proofs.Common.{rules}
 use Rattle.std.proofs.lemmas.Result.{err_from_is_err_and}
 use Rattle.no_std_io2_base.specs.Read.{Reads, SpendsTurn, Gave, gave, bytes_given}
 use Rattle.no_std_io2_base.proofs.ChainReads.{PastFirst, past_done, past_read, both_turns, second_turn, first_turn}

@@ -84,7 +84,8 @@ returns-in_err-rest_to_end g c =
         never_interrupted = second.never_interrupted;
         turns_never_rise = omega (arith, first.turns_never_rise, second.turns_never_rise);
         spends_turn = spent_then c.read_to_end-2.new.buf.len mid (λ more. let spent = first.spends_turn more in omega (arith, spent))
-            (λ more. let spent = second.spends_turn more in omega (arith, spent)) (omega (arith, first.turns_never_rise)) (omega (arith, second.turns_never_rise));
+            (λ more. let spent = second.spends_turn more in omega (arith, spent)) (omega (arith, first.turns_never_rise))
+            (omega (arith, second.turns_never_rise));
         metered = λ m. m;
         filling = λ f. f;
         store = λ s. absurd s;
@@ -115,7 +116,8 @@ returns g c =
         never_interrupted = tt;
         turns_never_rise = omega (arith, first.turns_never_rise, second.turns_never_rise);
         spends_turn = spent_then c.read_to_end-2.new.buf.len mid (λ more. let spent = first.spends_turn more in omega (arith, spent))
-            (λ more. let spent = second.spends_turn more in omega (arith, spent)) (omega (arith, first.turns_never_rise)) (omega (arith, second.turns_never_rise));
+            (λ more. let spent = second.spends_turn more in omega (arith, spent)) (omega (arith, first.turns_never_rise))
+            (omega (arith, second.turns_never_rise));
         metered = λ m. m;
         filling = λ f. f;
         store = λ s. absurd s;

@@ -12,7 +12,8 @@ returns-then-self-eq0 g c =
     let limit = c.args.self.now.limit in
     let held = take limit (g.T.BufRead.held c.args.self.now.inner) in
     let E = cut limit (g.T.Read.events c.args.self.now.inner) in
-    let none : c.args.amount ≡ 0 = omega (arith, c.requires, c.if-self-eq0.true, length-take limit (g.T.BufRead.held c.args.self.now.inner)) in
+    let none : c.args.amount ≡ 0 =
+    omega (arith, c.requires, c.if-self-eq0.true, length-take limit (g.T.BufRead.held c.args.self.now.inner)) in
     record {
       law = record {
         held = ap (λ k. drop k held) (sym none);

@@ -84,7 +84,8 @@ returns g c =
       | then-reads-test+in_ok-open_room+in-Ok-eq0 w ↦
           let room = w.open_room.ensures in
           ap (λ b. take filled b.items) w.buf-is
-          ∙ (wrote room.within w.open_room.new.buf.ok.0 w.deref_mut.ensures.value w.read.auto.buf room.front w.in_ok-open_room.ensures.room).kept
+          ∙ (wrote room.within w.open_room.new.buf.ok.0 w.deref_mut.ensures.value w.read.auto.buf room.front
+          w.in_ok-open_room.ensures.room).kept
     ] in
     let grown : vec_capacity c.reads.buf ≤ vec_capacity c.reads-test.buf = elim c.reads-test.branch [
       | else-reads-test w ↦ omega (arith, ap vec_capacity w.buf-is)
