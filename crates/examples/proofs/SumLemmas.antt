@@ -1,5 +1,5 @@
 -- A sum of no bytes is nothing, and a sum of bytes and then others is that of both.
-use Rattle.std.proofs.Common.{◌≡◌, ℕ, ◌+◌, ◌%◌, ◌^◌, List, [], ◌++◌, ap, refl, sym, arith, ◌∙◌}
+use Rattle.std.proofs.Common.{◌≡◌, ℕ, ◌+◌, ◌%◌, ◌^◌, ap, sym, arith, ◌∙◌}
 use Rattle.std.specs.List.{sum}
 use Rattle.std.proofs.lemmas.List.Sums.{sum_by-append}
 use Rattle.no_std_io2.proofs.CallsAdd.{Joins}

@@ -1,5 +1,5 @@
 -- What a look at a header of two bytes changes.
-use Rattle.std.specs.Prelude.{ℕ, negsuc, List, [], ◌∷◌, Result, Ok}
+use Rattle.std.specs.Prelude.{ℕ, negsuc, List, [], ◌∷◌, Ok}
 use Rattle.no_std_io2.specs.BufReader.{ReaderSeeks}
 use Rattle.no_std_io2.specs.Read.{Reader, ReadExactLaw}
 use Rattle.no_std_io2.specs.Seek.{SeekCall, WithoutPosition}

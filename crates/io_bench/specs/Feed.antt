@@ -1,6 +1,5 @@
 -- What a `Feed` tells.
 use Rattle.std.specs.Prelude.{ℕ, List, [], ◌∷◌, drop, length, min, Option, Some, None}
-use Rattle.no_std_io2.specs.declared.io.Error.{Error}
 use Rattle.no_std_io2.specs.declared.io.ErrorKind.{ErrorKind}
 use Rattle.no_std_io2.specs.Errors.{error_of}
 use Rattle.no_std_io2.specs.Read.{Event as ToCome, byte, fails}
