@@ -12,9 +12,9 @@ ghost use Rattle.no_std_io2.specs.BufReader.{reader_held, reader_behind, reader_
 ghost use Rattle.no_std_io2.specs.BufReader.{reader_lent_length, TakesHeld, TakesHeldLine};
 
 use super::BufReader;
-use super::pieces::find_piece;
+use super::pieces::{find_piece, put_line, take_memory};
 use no_std_io2_base::error::Result;
-use no_std_io2_base::internal::{append, append_line, append_text};
+use no_std_io2_base::internal::{append, append_text};
 use no_std_io2_base::traits::{BufRead, Read};
 use std::alloc::{Allocator, Global};
 
@@ -113,8 +113,8 @@ impl<R: Read, const S: usize> BufRead for BufReader<R, S> {
         }
     }
 
-    // Appends a line that is held whole straight to the string. Any other line goes through a
-    // vector, as in the trait's body.
+    // Appends a line that is held whole straight to the string. Any other line is gathered in a vector, as in the trait's body,
+    // which has the string's memory if that is empty.
     fn read_line(&mut self, alloc: Global, buf: &mut String) -> Result<usize>
         ensures law { ReadLineLaw ⟦<Self as BufRead>⟧ self.old buf.old result buf.new self.new }
 
@@ -134,9 +134,9 @@ impl<R: Read, const S: usize> BufRead for BufReader<R, S> {
         match self.take_line(buf) {
             Some(len) => Ok(len),
             None => {
-                let mut line = Vec::new(alloc);
+                let mut line = take_memory(alloc, buf);
                 let read = self.read_until(b'\n', &mut line);
-                append_line(buf, &line, read)
+                put_line(buf, line, read)
             }
         }
     }

@@ -1,5 +1,11 @@
 -- A line that is held whole goes straight to the text; else nothing has changed, and it is read into a vector first.
-use Rattle.std.proofs.Common.{string_len, string_capacity, string_bytes, arith, take, drop, sym, take-append-drop}
+use Rattle.std.proofs.Common.{◌≡◌, ◌⊎◌, ℕ, List, [], Result, Ok, Err, OnOk, OnErr, String, string_len, string_capacity, string_bytes}
+use Rattle.std.proofs.Common.{arith, take, ◌∙◌, ◌+◌, ◌++◌, ⊎_elim, inl, inr, length, vec_len, drop, sym, ap, subst, refl}
+use Rattle.std.proofs.Common.{take-append-drop}
+use Rattle.no_std_io2_base.specs.declared.error.Error.{Error}
+use Rattle.no_std_io2_base.specs.Pieces.{AnswersLine}
+use Rattle.no_std_io2_base.specs.Write.{IsFront}
+use Rattle.no_std_io2.specs.Buffer.{IsSuffix}
 use Rattle.no_std_io2_base.proofs.LineTaken.{line_at_once, line_gathered}
 use Rattle.no_std_io2.specs.BufReader.{reader_held, reader_behind}
 use Rattle.no_std_io2.proofs.BufReaderLends.{buf_tells}
@@ -30,30 +36,78 @@ returns-in-Some-clause-behind g c =
     trail_given (string_bytes text) (take c.in-Some.len held) (reader_behind c.args.self.now) (omega (arith, text.bytes.ok.0))
     given.text.0.1 given.behind
 
+-- a string whose memory was taken has the bytes that it had, so the answer is as by that string
+by_string : {A : Type 0} (line : List ℕ) (read reply : Result ℕ Error) (text taken : String A) (new : List ℕ)
+    → string_bytes taken ≡ string_bytes text → string_len taken ≡ string_len text
+    → (string_bytes text ≡ []) ⊎ (string_capacity taken ≡ string_capacity text)
+    → ((capacity : ℕ) → (string_bytes taken ≡ []) ⊎ (string_capacity taken ≡ capacity)
+    → AnswersLine line read (string_len taken) capacity reply (string_bytes taken) new)
+    → AnswersLine line read (string_len text) (string_capacity text) reply (string_bytes text) new
+by_string line read reply text taken new bytes len room answers =
+    subst (λ l. AnswersLine line read (string_len text) (string_capacity text) reply l new) bytes
+    (subst (λ n. AnswersLine line read n (string_capacity text) reply (string_bytes taken) new) len
+    (answers (string_capacity text) (⊎_elim (λ none. inl (bytes ∙ none)) inr room)))
+
+-- where it failed
+on_err : {X : Type 0} (reply : Result ℕ Error) → X → OnErr reply X
+on_err (Ok n) x = tt
+on_err (Err e) x = x
+
 pub returns-in-None-clause-law : goal.returns-in-None-clause-law
 returns-in-None-clause-law g c =
     let same = c.in-None.ensures.none in
-    let answered = c.append_line.ensures in
+    let memory = c.take_memory-line.ensures in
+    let put = c.put_line.ensures in
+    let line = c.read_until-read.new.buf in
     rw (sym same.0, sym same.1)
-    (line_gathered c.new-line.result c.read_until-read.new.buf c.read_until-read.result c.append_line.result c.new-line.ensures.items
-    c.deref.ensures.value c.read_until-read.ensures.law answered.answers answered.appends answered.read answered.count answered.fault)
+    (line_gathered c.take_memory-line.result line c.read_until-read.result c.put_line.result memory.items refl
+    c.read_until-read.ensures.law
+    (by_string line.items c.read_until-read.result c.put_line.result c.take_line.new.buf c.take_memory-line.new.buf _ memory.bytes
+    memory.len memory.capacity put.answers)
+    (subst (λ l. IsFront l (string_bytes c.put_line.new.buf)) memory.bytes put.appends) put.read
+    (subst (λ n. OnOk c.put_line.result (string_len c.put_line.new.buf ≡ n + length line.items)) memory.len put.count) put.fault)
 
 pub returns-in-None-clause-behind : goal.returns-in-None-clause-behind
 returns-in-None-clause-behind g c =
     let same = c.in-None.ensures.none in
+    let memory = c.take_memory-line.ensures in
     let text = c.take_line.new.buf in
+    let line = c.read_until-read.new.buf in
     rw (sym same.0, sym same.1)
-    (trail_line (reader_behind c.take_line.new.self) c.read_until-read.new.buf.items c.deref.result.now c.read_until-read.result
-    c.append_line.result (string_len text) (string_capacity text) (string_bytes text) (string_bytes c.append_line.new.buf)
-    c.new-line.ensures.len (omega (arith, text.bytes.ok.0)) c.deref.ensures.value c.append_line.ensures.answers
+    (trail_line (reader_behind c.take_line.new.self) line.items line.items c.read_until-read.result
+    c.put_line.result (string_len text) (string_capacity text) (string_bytes text) (string_bytes c.put_line.new.buf)
+    (omega (arith, c.take_memory-line.result.ok.0, ap length memory.items)) (omega (arith, text.bytes.ok.0)) refl
+    (by_string line.items c.read_until-read.result c.put_line.result text c.take_memory-line.new.buf _ memory.bytes
+    memory.len memory.capacity c.put_line.ensures.answers)
     c.read_until-read.ensures.behind)
 
 pub returns-in-None-clause-held : goal.returns-in-None-clause-held
 returns-in-None-clause-held g c =
     let same = c.in-None.ensures.none in
+    let memory = c.take_memory-line.ensures in
     let text = c.take_line.new.buf in
+    let all = c.read_until-read.new.buf.items in
     rw (sym same.0, sym same.1)
-    (λ line rest is ends. line_held line rest c.new-line.result.items c.read_until-read.new.buf.items c.deref.result.now
-    c.take_line.new.self c.read_until-read.new.self c.read_until-read.result c.append_line.result (string_len text)
-    (string_capacity text) (string_bytes text) (string_bytes c.append_line.new.buf) c.new-line.ensures.items c.deref.ensures.value
-    (c.read_until-read.ensures.held line rest is ends) c.append_line.ensures.answers)
+    (λ line rest is ends. line_held line rest c.take_memory-line.result.items all all
+    c.take_line.new.self c.read_until-read.new.self c.read_until-read.result c.put_line.result (string_len text)
+    (string_capacity text) (string_bytes text) (string_bytes c.put_line.new.buf) memory.items refl
+    (c.read_until-read.ensures.held line rest is ends)
+    (by_string all c.read_until-read.result c.put_line.result text c.take_memory-line.new.buf _ memory.bytes
+    memory.len memory.capacity c.put_line.ensures.answers))
+
+pub returns-in-None-clause-lost : goal.returns-in-None-clause-lost
+returns-in-None-clause-lost g c =
+    let same = c.in-None.ensures.none in
+    let memory = c.take_memory-line.ensures in
+    let text = c.take_line.new.buf in
+    let all = c.read_until-read.new.buf.items in
+    let front = reader_behind c.take_line.new.self in
+    let none : vec_len c.take_memory-line.result ≡ 0 = omega (arith, c.take_memory-line.result.ok.0, ap length memory.items) in
+    rw (sym same.0, sym same.1)
+    (on_err c.put_line.result (
+      all,
+      c.read_until-read.result,
+      by_string all c.read_until-read.result c.put_line.result text c.take_memory-line.new.buf _ memory.bytes memory.len memory.capacity
+          c.put_line.ensures.answers,
+      subst (λ k. IsSuffix (front ++ drop k all) (reader_behind c.read_until-read.new.self)) none c.read_until-read.ensures.behind,
+    ))
