@@ -63,7 +63,17 @@ fn frames_out(mut output: impl Write) -> Result<u64> {
     output.flush().map(|()| 0)
 }
 
+// Standard output is a `LineWriter`.
 fn log(mut output: impl Write) -> Result<u64> {
+    for at in 0..RECORDS {
+        let mut line = format!("{at} a line of a log, of some sixty bytes, with its number in front");
+        line.push('\n');
+        output.write_all(line.as_bytes())?;
+    }
+    output.flush().map(|()| 0)
+}
+
+fn log_text(mut output: impl Write) -> Result<u64> {
     for at in 0..RECORDS {
         writeln!(output, "{at} a line of a log, of some sixty bytes, with its number in front")?;
     }
@@ -129,7 +139,8 @@ fn main() -> Result<()> {
         "read_until" => read_until(input)?,
         "frames_in" => frames_in(input)?,
         "frames_out" => frames_out(stdout())?,
-        "log" => log(stdout())?,
+        "log" => log(io::stdout().lock())?,
+        "log_text" => log_text(io::stdout().lock())?,
         "list" => list(input, stdout(), None)?,
         "extract" => list(input, stdout(), words.get(2).map(String::as_str))?,
         _ => return Err(Error::new(ErrorKind::InvalidInput, "no such program")),
