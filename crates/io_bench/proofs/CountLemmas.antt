@@ -1,10 +1,11 @@
 -- How many reads a `Tally` counts in the trait's loops.
-use Rattle.std.proofs.Common.{◌≡◌, ℕ, ◌+◌, ◌-◌, ◌<◌, ◌≤◌, List, [], ◌∷◌, ◌++◌, Result, Ok, Err, min, length, length-take-le, arith, refl, sym, subst, inl, inr}
+use Rattle.std.proofs.Common.{◌≡◌, ℕ, ◌+◌, ◌-◌, ◌<◌, ◌≤◌, List, [], ◌∷◌, ◌++◌, Result, Ok, Err, min, length, length-take-le, arith}
+use Rattle.std.proofs.Common.{refl, sym, subst, inl, inr}
 use Rattle.std.proofs.lemmas.Bool.{cases_lt}
 use Rattle.no_std_io2.specs.declared.io.Error.{Error}
 use Rattle.no_std_io2.specs.Write.{Made}
-use Rattle.no_std_io2.specs.Read.{Reader, ReadCall, Gave, GaveExactly, GaveAll, gave, gave_whole, ended, ReadLaw, Gathers, no_read, and_gave, and_again}
-use Rattle.no_std_io2.specs.Read.{GathersUntil, FillCalls, ExactMade, ToEndCalls, ToEndMade}
+use Rattle.no_std_io2.specs.Read.{Reader, ReadCall, Gave, GaveExactly, GaveAll, gave, gave_whole, ended, ReadLaw, Gathers, no_read}
+use Rattle.no_std_io2.specs.Read.{and_gave, and_again, GathersUntil, FillCalls, ExactMade, ToEndCalls, ToEndMade}
 use Rattle.no_std_io2.proofs.CallsLemmas.{made_split}
 use Rattle.io_bench.specs.Calls.{stopped, CountsToEnd}
 use Rattle.io_bench.specs.declared.tally.Tally.{Tally}
