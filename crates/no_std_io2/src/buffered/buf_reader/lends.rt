@@ -113,8 +113,8 @@ impl<R: Read, const S: usize> BufRead for BufReader<R, S> {
         }
     }
 
-    // Appends a line that is held whole straight to the string. Any other line is gathered in a vector, as in the trait's body,
-    // which has the string's memory if that is empty.
+    // Appends a line that is held whole straight to the string. Any other line is first read into a vector, as in the trait's
+    // body; if the string is empty, the vector has the string's memory.
     fn read_line(&mut self, alloc: Global, buf: &mut String) -> Result<usize>
         ensures law { ReadLineLaw ⟦<Self as BufRead>⟧ self.old buf.old result buf.new self.new }
 

@@ -1,4 +1,4 @@
-// The search for the end of a piece in lent bytes, by the crate `memchr`, and lines that are gathered in a string's own memory.
+// The search for the end of a piece in lent bytes, by the crate `memchr`, and lines that are read into a string's own memory.
 ghost use Rattle.std.specs.Prelude.{◌≡◌, ◌≢◌, ◌<◌, ◌+◌, ◌⊎◌, ℕ, [], All, length, take, slice_index, IfSome, IfNone};
 ghost use Rattle.std.specs.Prelude.{OnOk, IfErr, IsOk, string_bytes, string_len, string_capacity};
 ghost use Rattle.no_std_io2_base.specs.Errors.{IsFault};
@@ -31,7 +31,7 @@ pub(super) fn find_piece(lent: &[u8], delim: u8) -> (usize, bool)
     }
 }
 
-// Returns an empty vector: with the memory of the string if that is empty, and with none if it is not.
+// Returns an empty vector. It has the memory of the string if the string is empty, and else none.
 #[inline(always)]
 pub(super) fn take_memory(alloc: Global, buf: &mut String) -> Vec<u8>
     ensures items { result.items ≡ [] }
@@ -45,8 +45,8 @@ pub(super) fn take_memory(alloc: Global, buf: &mut String) -> Vec<u8>
     Vec::new(alloc)
 }
 
-// Appends a line's bytes to the string as `append_line` does. If the string is empty, the line becomes the string, and nothing is
-// copied and no memory asked for.
+// Appends the bytes of a line to the string, like `append_line`. If the string is empty, the line becomes the string, without a
+// copy and without an allocation.
 pub(super) fn put_line(buf: &mut String, line: Vec<u8>, read: Result<usize>) -> Result<usize>
     ensures answers { (capacity : ℕ) → (string_bytes buf.old ≡ []) ⊎ (string_capacity buf.old ≡ capacity)
         → AnswersLine line.items read (string_len buf.old) capacity result (string_bytes buf.old) (string_bytes buf.new) }

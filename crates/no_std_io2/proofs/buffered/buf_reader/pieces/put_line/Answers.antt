@@ -1,4 +1,4 @@
--- A line became the string, or was no text.
+-- A line became the string, or it is not UTF-8.
 use Rattle.std.proofs.Common.{◌≡◌, ℕ, List, ◌++◌, [], Result, Ok, Err, IfErr, IsUtf8, ⊎_elim, inl, inr, refl, sym, ap, ◌∙◌, string_bytes}
 use Rattle.std.proofs.Common.{string_len, string_capacity, subst, rules, arith, true≢false}
 use Rattle.no_std_io2_base.specs.declared.error.Error.{Error}
@@ -9,13 +9,13 @@ use Rattle.std.proofs.lemmas.Str.{IsUtf8-string_bytes}
 use Rattle.no_std_io2.proofs.BufReaderExact.{no_bytes}
 use Rattle.no_std_io2.proofs.buffered.buf_reader.pieces.put_line.Goals as goal
 
--- an empty string became a line that is text
+-- an empty string became a line that is UTF-8
 became : (line : List ℕ) (read : Result ℕ Error) (len capacity : ℕ) {old new : List ℕ} → IsUtf8 line → old ≡ [] → new ≡ line
     → IfErr read (λ e. error_kind e ≡ OutOfMemory → ⊥) → AnswersLine line read len capacity read old new
 became line (Ok n) len capacity text none is other = ((text, is ∙ ap (λ l. l ++ line) (sym none)), refl)
 became line (Err f) len capacity text none is other = inr (other, inl ((text, is ∙ ap (λ l. l ++ line) (sym none)), refl))
 
--- for a line that is no text, the capacity of the string does not matter
+-- for a line that is not UTF-8, the capacity of the string does not matter
 refused : (line : List ℕ) (read reply : Result ℕ Error) (len room capacity : ℕ) (old new : List ℕ) → (IsUtf8 line → ⊥)
     → AnswersLine line read len room reply old new → AnswersLine line read len capacity reply old new
 refused line (Ok n) (Ok m) len room capacity old new bad given = given

@@ -36,7 +36,7 @@ returns-in-Some-clause-behind g c =
     trail_given (string_bytes text) (take c.in-Some.len held) (reader_behind c.args.self.now) (omega (arith, text.bytes.ok.0))
     given.text.0.1 given.behind
 
--- a string whose memory was taken has the bytes that it had, so the answer is as by that string
+-- a string whose memory was taken has the same bytes as before, so the result is the same as for that string
 by_string : {A : Type 0} (line : List ℕ) (read reply : Result ℕ Error) (text taken : String A) (new : List ℕ)
     → string_bytes taken ≡ string_bytes text → string_len taken ≡ string_len text
     → (string_bytes text ≡ []) ⊎ (string_capacity taken ≡ string_capacity text)
@@ -48,7 +48,7 @@ by_string line read reply text taken new bytes len room answers =
     (subst (λ n. AnswersLine line read n (string_capacity text) reply (string_bytes taken) new) len
     (answers (string_capacity text) (⊎_elim (λ none. inl (bytes ∙ none)) inr room)))
 
--- where it failed
+-- what holds, holds after an error
 on_err : {X : Type 0} (reply : Result ℕ Error) → X → OnErr reply X
 on_err (Ok n) x = tt
 on_err (Err e) x = x
