@@ -5,7 +5,7 @@ use Rattle.no_std_io2_base.specs.declared.error.Error.{Error}
 use Rattle.no_std_io2_base.specs.Write.{Made}
 use Rattle.no_std_io2_base.proofs.CallsLemmas.{made_then, made_map}
 use Rattle.no_std_io2_base.specs.Read.{ReadCall, Gave, GaveExactly, GaveAll, gave, gave_whole, ended, Gathers, no_read, and_gave, and_again}
-use Rattle.no_std_io2_base.specs.Read.{GathersUntil, IsSome, ToEndCalls, ExactMade, ToEndMade, Drains}
+use Rattle.no_std_io2_base.specs.Read.{GathersUntil, IsRoom, ToEndCalls, ExactMade, ToEndMade, Drains}
 
 -- a read of no bytes
 pub gave_nothing : {S : Type 0} (may : S → ReadCall → S → Type 0) {old new : S} {reply : Result ℕ Error} {n : ℕ} (buf : List ℕ)
@@ -59,20 +59,20 @@ to_end_map {may = may} {may' = may'} put each m = record {
 }
 
 -- reads and then others
-pub gathers_then : {C D : List ReadCall} {x y : List ℕ} → Gathers IsSome C x → Gathers IsSome D y → Gathers IsSome (C ++ D) (x ++ y)
+pub gathers_then : {C D : List ReadCall} {x y : List ℕ} → Gathers IsRoom C x → Gathers IsRoom D y → Gathers IsRoom (C ++ D) (x ++ y)
 gathers_then {C} {x = x} first no_read =
-    subst (Gathers IsSome (C ++ [])) (sym (append-nil x)) (subst (λ c. Gathers IsSome c x) (sym (append-nil C)) first)
+    subst (Gathers IsRoom (C ++ [])) (sym (append-nil x)) (subst (λ c. Gathers IsRoom c x) (sym (append-nil C)) first)
 gathers_then {C} {x = x} first (and_gave D y z room second some gives) =
-    subst (Gathers IsSome (C ++ (D ++ Gave room (Ok z) ∷ []))) (append_assoc x y z)
-    (subst (λ c. Gathers IsSome c ((x ++ y) ++ z)) (append_assoc C D (Gave room (Ok z) ∷ []))
+    subst (Gathers IsRoom (C ++ (D ++ Gave room (Ok z) ∷ []))) (append_assoc x y z)
+    (subst (λ c. Gathers IsRoom c ((x ++ y) ++ z)) (append_assoc C D (Gave room (Ok z) ∷ []))
     (and_gave (C ++ D) (x ++ y) z room (gathers_then first second) some gives))
 gathers_then {C} {x = x} first (and_again D y room e second some interrupted) =
-    subst (λ c. Gathers IsSome c (x ++ y)) (append_assoc C D (Gave room (Err e) ∷ []))
+    subst (λ c. Gathers IsRoom c (x ++ y)) (append_assoc C D (Gave room (Err e) ∷ []))
     (and_again (C ++ D) (x ++ y) room e (gathers_then first second) some interrupted)
 
 -- and until one ends them
-pub until_then : {C D : List ReadCall} {x y : List ℕ} {answer : Result (List ℕ) Error} → Gathers IsSome C x → GathersUntil IsSome D y answer
-    → GathersUntil IsSome (C ++ D) (x ++ y) answer
+pub until_then : {C D : List ReadCall} {x y : List ℕ} {answer : Result (List ℕ) Error} → Gathers IsRoom C x → GathersUntil IsRoom D y answer
+    → GathersUntil IsRoom (C ++ D) (x ++ y) answer
 until_then {C} {answer = answer} first then = (
   C ++ then.0,
   then.1,
@@ -82,7 +82,7 @@ until_then {C} {answer = answer} first then = (
 )
 
 -- reads, and then a `read_to_end` whose result counts only the bytes that it appended itself
-pub to_end_then : {C D : List ReadCall} {x y : List ℕ} (reply reply' : Result ℕ Error) → ended reply ≡ ended reply' → Gathers IsSome C x
+pub to_end_then : {C D : List ReadCall} {x y : List ℕ} (reply reply' : Result ℕ Error) → ended reply ≡ ended reply' → Gathers IsRoom C x
     → ToEndCalls D y reply → ToEndCalls (C ++ D) (x ++ y) reply'
 to_end_then {C} {x = x} reply reply' same first (inl own) = inl (
   C ++ own.0,
@@ -105,7 +105,7 @@ to_end_then {C} {D} {x} {y} (Err e) (Err f) same first (inr (inr refused)) =
 
 -- what they made of the reader and of the vector
 pub to_end_after : {S : Type 0} (may : S → ReadCall → S → Type 0) {old mid new : S} {buf v v' : List ℕ} {reply reply' : Result ℕ Error}
-    (C : List ReadCall) (x : List ℕ) → Made may old C mid → v ≡ buf ++ x → Gathers IsSome C x
+    (C : List ReadCall) (x : List ℕ) → Made may old C mid → v ≡ buf ++ x → Gathers IsRoom C x
     → ToEndMade may mid v reply v' new → ended reply ≡ ended reply' → ToEndMade may old buf reply' v' new
 to_end_after may {old} {mid} {new} {buf} {reply = reply} {reply' = reply'} C x made is first last same = record {
   calls = C ++ last.calls;

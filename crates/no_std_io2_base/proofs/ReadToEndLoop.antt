@@ -4,7 +4,7 @@ use Rattle.std.proofs.Common.{arith, le_refl, le_trans, length-take, length-take
 use Rattle.std.proofs.Common.{append_assoc, append-nil}
 use Rattle.no_std_io2_base.specs.declared.error.Error.{Error}
 use Rattle.no_std_io2_base.specs.Errors.{IsInterruption, IsFault, IsOutOfMemory}
-use Rattle.no_std_io2_base.specs.Read.{Reader, GoesOn, ReadLaw, ReadToEndLaw, ReadCall, Gave, Gathers, no_read, and_gave, and_again, IsSome}
+use Rattle.no_std_io2_base.specs.Read.{Reader, GoesOn, ReadLaw, ReadToEndLaw, ReadCall, Gave, Gathers, no_read, and_gave, and_again, IsRoom}
 use Rattle.no_std_io2_base.specs.Write.{Made}
 use Rattle.no_std_io2_base.proofs.CallsLemmas.{made_more}
 use Rattle.no_std_io2_base.proofs.ReadCalls.{gave_nothing}
@@ -30,7 +30,7 @@ pub record ToEndSoFar {S A : Type 0} (R : Reader S) (old : S) (buf : Vec ℕ A) 
   pub metered : R.is_metered old → R.is_metered now
   pub filling : R.is_filling old → R.is_filling now
   pub store : GoesOn R old now
-  pub calls : (C : List ReadCall) × (x : List ℕ) × Made R.may old C now × (take filled buf'.items ≡ buf.items ++ x) × Gathers IsSome C x
+  pub calls : (C : List ReadCall) × (x : List ℕ) × Made R.may old C now × (take filled buf'.items ≡ buf.items ++ x) × Gathers IsRoom C x
 
 -- Zeros were added after the filled bytes, and a read wrote `part` over them.
 pub record Wrote (filled len : ℕ) (was now part : List ℕ) : Type 0 where

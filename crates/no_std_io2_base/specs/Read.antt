@@ -159,8 +159,8 @@ abbrev pub IsRest : ℕ → ℕ → ℕ → Type 0
 IsRest size at room = (at + room ≡ size) × (0 < room)
 
 -- there is some room
-abbrev pub IsSome : ℕ → ℕ → Type 0
-IsSome at room = 0 < room
+abbrev pub IsRoom : ℕ → ℕ → Type 0
+IsRoom at room = 0 < room
 
 -- C are the reads of a `read_exact(buf)`: they fill buf, unless the end or a fault comes first
 abbrev pub FillCalls : List ReadCall → Result (Unit {0}) Error → List ℕ → Type 0
@@ -174,21 +174,21 @@ ExactCalls C reply buf = (C ≡ GaveExactly (length buf) (gave_whole reply buf) 
 
 -- C are the reads of a `read_to_end` that appends x: up to the end, a fault, or a failed allocation
 abbrev pub DrainCalls : List ReadCall → List ℕ → Result ℕ Error → Type 0
-DrainCalls C x (Ok n) = GathersUntil IsSome C x (Ok [])
-DrainCalls C x (Err e) = (IsFault e × GathersUntil IsSome C x (Err e)) ⊎ (IsOutOfMemory e × Gathers IsSome C x)
+DrainCalls C x (Ok n) = GathersUntil IsRoom C x (Ok [])
+DrainCalls C x (Err e) = (IsFault e × GathersUntil IsRoom C x (Err e)) ⊎ (IsOutOfMemory e × Gathers IsRoom C x)
 
 -- C are the calls of a `read_to_end` that appends x: these reads, or some reads and then the `read_to_end` of a type that has a body of its
 -- own for it
 abbrev pub ToEndCalls : List ReadCall → List ℕ → Result ℕ Error → Type 0
-ToEndCalls C x reply = ((D : List ReadCall) × (y : List ℕ) × (z : List ℕ) × Gathers IsSome D y × (x ≡ y ++ z)
+ToEndCalls C x reply = ((D : List ReadCall) × (y : List ℕ) × (z : List ℕ) × Gathers IsRoom D y × (x ≡ y ++ z)
     × (C ≡ D ++ GaveAll z (ended reply) ∷ [])) ⊎ DrainCalls C x reply
 
 -- C are the reads into the room that a vector has, and x the bytes that they gave: up to the end if the result is that it was met, up to a
 -- full vector, or up to a fault
 abbrev pub RoomCalls : List ReadCall → List ℕ → Result Bool Error → Type 0
-RoomCalls C x (Ok true) = GathersUntil IsSome C x (Ok [])
-RoomCalls C x (Ok false) = Gathers IsSome C x
-RoomCalls C x (Err e) = IsFault e × GathersUntil IsSome C x (Err e)
+RoomCalls C x (Ok true) = GathersUntil IsRoom C x (Ok [])
+RoomCalls C x (Ok false) = Gathers IsRoom C x
+RoomCalls C x (Err e) = IsFault e × GathersUntil IsRoom C x (Err e)
 
 -- The calls that a `read_exact(buf)` made, and that they are what `ExactCalls` allows.
 pub record ExactMade {S : Type 0} (may : S → ReadCall → S → Type 0) (old : S) (reply : Result (Unit {0}) Error) (buf : List ℕ) (new : S)

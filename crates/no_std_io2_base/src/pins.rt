@@ -44,7 +44,7 @@ fn error_prints(error: &Error)
 {}
 
 // Two targets of a seek are equal if they are the same.
-fn place_is(a: SeekFrom, b: SeekFrom) -> bool
+fn seek_from_is(a: SeekFrom, b: SeekFrom) -> bool
     ensures { IsTrue result ↔ (a ≡ b) }
 {
     a == b
@@ -81,7 +81,7 @@ fn kind_clone(kind: &ErrorKind) -> std::result::Result<ErrorKind, AllocError>
     kind.clone()
 }
 
-fn place_clone(place: &SeekFrom) -> std::result::Result<SeekFrom, AllocError>
+fn seek_from_clone(place: &SeekFrom) -> std::result::Result<SeekFrom, AllocError>
     ensures { result ≡ Ok place.now }
 {
     place.clone()
