@@ -1,8 +1,8 @@
-ghost use Rattle.std.specs.Prelude.{◌≡◌, ◌≤◌, min, length, [], Some, IfErr, vec_len, vec_capacity};
+ghost use Rattle.std.specs.Prelude.{◌≡◌, ◌≤◌, min, length, [], Some, IfErr, IsOkAnd, vec_len, vec_capacity};
 ghost use types.Logic.{sem};
 ghost use Rattle.std.specs.Borrow.{Lends};
 ghost use Rattle.no_std_io2_base.specs.contracts.traits.take.Take.{the_row as take-row};
-ghost use Rattle.no_std_io2_base.specs.BufRead.{ConsumeLaw};
+ghost use Rattle.no_std_io2_base.specs.BufRead.{FillBufLaw, AfterLoan, ConsumeLaw, Rests};
 ghost use Rattle.no_std_io2_base.specs.Take.{take_with_inner, take_limit, take_inner, take_events, take_held, TakeMay};
 ghost use Rattle.no_std_io2_base.specs.Read.{cut_alone, first_fault, HasRoom, ReadToEndLaw};
 
@@ -178,7 +178,12 @@ impl<T: BufRead> BufRead for Take<T> {
     ghost held = { take_held T.held };
 
     #[tactic(auto, using(crate::proofs::FillBufHeld::begins_cut))]
-    fn fill_buf(&mut self) -> Result<&[u8]> {
+    fn fill_buf(&mut self) -> Result<&[u8]>
+        ensures law { FillBufLaw ⟦<Self as BufRead>⟧ self.old result }
+        // At limit 0 it lends nothing.
+        ensures at_limit { take_limit self.old ≡ 0 → IsOkAnd result (λ s. s.now ≡ []) }
+        ensures* after_borrow { sem 𝓛 (Rests (take-row T.row) self.entry (λ new. AfterLoan ⟦<Self as BufRead>⟧ self.old result new)) }
+    {
         if self.limit == 0 {
             return Ok(b"");
         }

@@ -31,7 +31,7 @@ returns-in_err-available g c =
               (ap lent_bytes (p.1 ∙ ap Err p.2) ∙ sym (ap (λ r. lent_within limit (lent_bytes r)) c.in_err-available.was));
         },
       ),
-      record { law = search (rules, begins_cut); after_borrow = tt },
+      record { law = search (rules, begins_cut); at_limit = λ z. absurd (search rules); after_borrow = tt },
     )
 
 pub returns : goal.returns
@@ -65,6 +65,7 @@ returns g c =
           end = grind (arith, common_steps);
           lends_surely = λ n. absurd n;
         };
+        at_limit = λ z. absurd (search rules);
         after_borrow = tt;
       },
     )
