@@ -4,7 +4,7 @@ use Rattle.std.specs.Int.{div_ceil}
 use Rattle.std.specs.List.{concat}
 use Rattle.no_std_io2_base.specs.declared.error.Error.{Error}
 use Rattle.no_std_io2_base.specs.Errors.{error_kind}
-use Rattle.no_std_io2_base.specs.Read.{Event, bytes, HasNoFault, EndsInFault, Reader}
+use Rattle.no_std_io2_base.specs.Read.{Event, bytes, HasNoFault, EndsInFault, Reader, ReadCall, Gave, Gathers}
 use Rattle.no_std_io2_base.specs.Write.{Told, Moves, IsFront, WriteCall, Made, AllCalls}
 use Rattle.no_std_io2_base.specs.declared.traits.write.Write.{Ghosts as Writer}
 use Rattle.no_std_io2.specs.BufWriter.{CallOf}
@@ -51,20 +51,31 @@ pub data Handed (S : ℕ) : List (List ℕ) → List WriteCall → Result (Unit 
   refused : {x : List ℕ} {C : List WriteCall} {e : Error} → 0 < length x → length x ≤ S → AllCalls C x (Err e)
       → Handed S (x ∷ []) C (Err e)
 
--- The bytes that a reader gave were passed on to a writer, piece by piece.
-pub record HandsOn {R W : Type 0} (K : Reader R) (I : Writer W) (S : ℕ) (from : R) (old : W) (reply : Result (Unit {0}) Error)
-    (from' : R) (new : W) : Type 0 where
+-- there is room for exactly S bytes
+abbrev pub IsExactly : ℕ → ℕ → ℕ → Type 0
+IsExactly S at room = room ≡ S
+
+-- The bytes that a reader gave were passed on to a writer, piece by piece. After them the reader got the calls `last`.
+pub record HandsOn {R W : Type 0} (K : Reader R) (I : Writer W) (S : ℕ) (last : List ReadCall) (from : R) (old : W)
+    (reply : Result (Unit {0}) Error) (from' : R) (new : W) : Type 0 where
   pub pieces : List (List ℕ)
   pub calls : List WriteCall
   pub handed : Handed S pieces calls reply
   -- the writer got no other call
   pub made : Made (CallOf I) old calls new
+  pub reads : List ReadCall
+  -- each was into the whole buffer; joined, the pieces are what they gave
+  pub gathered : Gathers (IsExactly S) reads (concat pieces)
+  -- the reader got no other call
+  pub asked : Made K.may from (reads ++ last) from'
   -- each piece is what one read gave: each piece spent a turn
   pub turns : K.turns from' + length pieces ≤ K.turns from
   -- joined, they are the bytes that are gone from the reader
   pub bytes : K.tells from → bytes (K.events from) ≡ concat pieces ++ bytes (K.events from')
 
--- a copy with this result passed on all that it read, or all up to the piece whose `write_all` failed with this error
+-- a copy with this result passed on all that it read, up to the read that met the end or returned this error, or up to the piece whose
+-- `write_all` failed with it
 abbrev pub CopyHands : {R W : Type 0} → Reader R → Writer W → ℕ → R → W → Result ℕ Error → R → W → Type 0
-CopyHands K I S from old (Ok n) from' new = HandsOn K I S from old (Ok tt) from' new
-CopyHands K I S from old (Err e) from' new = HandsOn K I S from old (Ok tt) from' new ⊎ HandsOn K I S from old (Err e) from' new
+CopyHands K I S from old (Ok n) from' new = HandsOn K I S (Gave S (Ok []) ∷ []) from old (Ok tt) from' new
+CopyHands K I S from old (Err e) from' new =
+    HandsOn K I S (Gave S (Err e) ∷ []) from old (Ok tt) from' new ⊎ HandsOn K I S [] from old (Err e) from' new

@@ -47,7 +47,8 @@ pub fn copy<R: Read, W: Write, const S: usize>(reader: &mut R, writer: &mut W) -
         × Copies S (R.events reader.old) result (R.events reader.new)
         (W.told writer.old) (W.told writer.new) }
     ensures moves { CopyMoves result (W.told writer.old) (W.told writer.new) }
-    // It makes one `write_all` for the bytes of each read, none after a fault, and no other call.
+    // Each read is into the whole buffer. It makes one `write_all` for the bytes of each read, none after a fault,
+    // and no other call.
     ensures calls { CopyHands R.Read W.Write S reader.old writer.old result reader.new writer.new }
     ensures unchanged { S ≡ 0 → writer.new ≡ writer.old }
     ensures all { W.takes_all writer.old → W.takes_all writer.new }

@@ -13,7 +13,7 @@ use Rattle.no_std_io2.specs.BufWriter.{with_buffer}
 use Rattle.no_std_io2.proofs.BufWriterLemmas.{Moves-bare}
 use Rattle.no_std_io2.specs.Copy.{Copies, CopyEnds}
 use Rattle.no_std_io2.specs.declared.io.Write.{Ghosts as Writer}
-use Rattle.no_std_io2.specs.Read.{Reader}
+use Rattle.no_std_io2.specs.Read.{Reader, ReadCall}
 use Rattle.no_std_io2.specs.Write.{FlushLaw, WriteCall, Flushed, Made}
 use Rattle.no_std_io2.specs.BufWriter.{CallOf}
 use Rattle.no_std_io2.specs.Copy.{Handed, HandsOn}
@@ -90,8 +90,8 @@ comes_apart held buffer none back =
     let same = back (nil_from_length buffer (omega (arith, ap length none, length-append held buffer))) in cc
 
 -- a flush after a copy
-pub flushed_behind : {R W : Type 0} {K : Reader R} {I : Writer W} {from from' : R} {old mid new : W}
-    → HandsOn K I 64 from old (Ok tt) from' mid → FlushLaw I.told I.takes_all I.cost I.is_metered I.may mid (Ok tt) new
+pub flushed_behind : {R W : Type 0} {K : Reader R} {I : Writer W} {last : List ReadCall} {from from' : R} {old mid new : W}
+    → HandsOn K I 64 last from old (Ok tt) from' mid → FlushLaw I.told I.takes_all I.cost I.is_metered I.may mid (Ok tt) new
     → HandsAndFlushes I old new
 flushed_behind {I = I} {old = old} hands flushed = record {
   pieces = hands.pieces;

@@ -1,10 +1,11 @@
-use Rattle.std.proofs.Common.{rules, ◌∙◌, le_trans, inl, inr, ap, arith, length-take-le, take, Ok, Err}
+use Rattle.std.proofs.Common.{rules, ◌∙◌, le_trans, inl, inr, ap, arith, length-take-le, [], take, Ok, Err}
 use Rattle.std.proofs.lemmas.Grind.{common_steps}
 use Rattle.std.proofs.lemmas.Result.{err_from_is_err_and}
+use Rattle.no_std_io2_base.proofs.ReadCalls.{gave_nothing}
 use Rattle.no_std_io2_base.proofs.ReadToEndTaken.{moved_read, no_error}
 use Rattle.no_std_io2.proofs.CopyReads.{read_length, one_read, last_read}
 use Rattle.no_std_io2_base.specs.Read.{bytes}
-use Rattle.no_std_io2.proofs.CopyHands.{hands_none, hands_same, hands_more, gave, gave_none}
+use Rattle.no_std_io2.proofs.CopyHands.{hands_none, hands_last, hands_again, hands_more, gave, gave_none}
 use Rattle.no_std_io2.proofs.CopyLemmas.{written_more, copied_more, copied_interruption, copied_end, copied_fault}
 use Rattle.no_std_io2.proofs.CopyLemmas.{copied_refused, written_refused}
 use Rattle.no_std_io2.proofs.util.copy.Goals as goal
@@ -35,7 +36,9 @@ reads-preserved g c =
           let so_far = before.told t in
           let now = read.told so_far.0 in
           (now.0, copied_interruption so_far.1 now.1 (search rules));
-      hands = hands_same before.hands read.turns_never_rise (λ t. ap bytes (read.told (before.told t).0).1);
+      hands =
+          hands_again before.hands (search rules) c.in-Err.e (search rules) read.turns_never_rise
+          (λ t. ap bytes (read.told (before.told t).0).1) read.call;
       same = before.same;
       all = before.all;
       turns = le_trans read.turns_never_rise before.turns;
@@ -61,8 +64,8 @@ reads-preserved-in-Ok g c =
           (now.0, copied_more c.in-Ok.n c.read.new.buf so_far.1 now.1 wrote.moves read.bound (search rules));
       hands =
           let len = length-take-le c.in-Ok.n c.read.new.buf read.bound in
-          hands_more before.hands (take c.in-Ok.n c.read.new.buf) (Ok tt) (search rules) (search rules) (search rules)
-          (λ t. gave c.in-Ok.n _ c.read.new.buf (read.told (before.told t).0).1) wrote.calls;
+          hands_more before.hands (search rules) (take c.in-Ok.n c.read.new.buf) (Ok tt) (search rules) (search rules) (search rules)
+          (λ t. gave c.in-Ok.n _ c.read.new.buf (read.told (before.told t).0).1) read.call wrote.calls;
       same = λ z. absurd (search rules);
       all = λ t. wrote.all (before.all t);
       turns = le_trans read.turns_never_rise before.turns;
@@ -95,8 +98,9 @@ pub returns-in-Ok-eq0-clause-calls : goal.returns-in-Ok-eq0-clause-calls
 returns-in-Ok-eq0-clause-calls g c =
     let before = c.reads.invariant in
     let read = c.read.ensures.law in
-    hands_same before.hands read.turns_never_rise
+    hands_last before.hands (search rules) (Ok []) read.turns_never_rise
     (λ t. gave_none c.in-Ok-eq0.field-0 _ c.read.new.buf (rw c.in-Ok-eq0.is at (read.told (before.told t).0).1) c.in-Ok-eq0.field-0-test)
+    (gave_nothing g.R.Read.may c.read.new.buf read.call c.in-Ok-eq0.is c.in-Ok-eq0.field-0-test)
 
 pub returns-in-Ok-eq0-clause-reads : goal.returns-in-Ok-eq0-clause-reads
 returns-in-Ok-eq0-clause-reads g c = λ some m f.
@@ -162,15 +166,16 @@ returns-in_err-write_all-in-Ok-clause-calls g c =
     let e = c.in_err-write_all-in-Ok.field-0.0 in
     let len = length-take-le c.in-Ok.n c.read.new.buf read.bound in
     rw (p.1, p.2)
-    (inr (hands_more before.hands (take c.in-Ok.n c.read.new.buf) (Err e) (search rules) (search rules) (search rules)
-    (λ t. gave c.in-Ok.n _ c.read.new.buf (read.told (before.told t).0).1) c.in_err-write_all-in-Ok.ensures.law.calls))
+    (inr (hands_more before.hands (search rules) (take c.in-Ok.n c.read.new.buf) (Err e) (search rules) (search rules) (search rules)
+    (λ t. gave c.in-Ok.n _ c.read.new.buf (read.told (before.told t).0).1) read.call c.in_err-write_all-in-Ok.ensures.law.calls))
 
 -- the reader's fault
 pub returns-in-Err-2-clause-calls : goal.returns-in-Err-2-clause-calls
 returns-in-Err-2-clause-calls g c =
     let before = c.reads.invariant in
     let read = c.in-Err.ensures.law in
-    inl (hands_same before.hands read.turns_never_rise (λ t. ap bytes (read.told (before.told t).0).1))
+    inl (hands_last before.hands (search rules) (Err c.in-Err.e) read.turns_never_rise
+    (λ t. ap bytes (read.told (before.told t).0).1) read.call)
 
 pub returns-in-Err-2-clause-moves : goal.returns-in-Err-2-clause-moves
 returns-in-Err-2-clause-moves g c = let so_far = c.reads.invariant.written in (so_far.accepted, inl so_far.moves)

@@ -1,5 +1,5 @@
 -- `copy` ends with its reader's turns, and the writer accepted the bytes that the reader lost.
-use Rattle.std.proofs.Common.{◌≡◌, ◌≤◌, ◌<◌, ◌+◌, length, Ok}
+use Rattle.std.proofs.Common.{◌≡◌, ◌≤◌, ◌<◌, ◌+◌, [], length, Ok}
 use Rattle.std.specs.Int.{div_ceil}
 use Rattle.no_std_io2_base.proofs.Readers.{reader}
 use Rattle.no_std_io2.specs.Copy.{HandsOn}
@@ -15,7 +15,7 @@ invariant-reads g l =
           → g.R.Read.tells l.reader
           × Copied (g.R.Read.events l.initial.reader) (g.W.Write.told l.initial.writer) (g.W.Write.told l.writer)
           l.copied (g.R.Read.events l.reader);
-      hands : HandsOn (reader g.R.Stored g.R.Read) g.W.Write g.row.S l.initial.reader l.initial.writer (Ok tt) l.reader l.writer;
+      hands : HandsOn (reader g.R.Stored g.R.Read) g.W.Write g.row.S [] l.initial.reader l.initial.writer (Ok tt) l.reader l.writer;
       same : g.row.S ≡ 0 → (l.writer ≡ l.initial.writer) × (l.copied ≡ 0);
       all : g.W.Write.takes_all l.initial.writer → g.W.Write.takes_all l.writer;
       turns : g.R.Read.turns l.reader ≤ g.R.Read.turns l.initial.reader;
