@@ -5,11 +5,13 @@ use Rattle.no_std_io2.specs.declared.io.Error.{Error}
 use Rattle.no_std_io2.specs.declared.io.ErrorKind.TheVariants.{UnexpectedEof}
 use Rattle.no_std_io2.specs.Errors.{error_kind}
 use Rattle.no_std_io2.specs.Read.{Event, fails, events_of, Reader, Reads, Fills, FallsShort, StopsAtFault}
+use Rattle.no_std_io2.specs.Read.{ReadCall, Gave, Filled, Consumed, ExactCalls}
+use Rattle.no_std_io2.specs.Write.{Made}
 use Rattle.no_std_io2.specs.BufRead.{BeginsWith}
 use Rattle.no_std_io2.specs.declared.buffered.buf_reader.BufReader.{BufReader}
-use Rattle.no_std_io2.specs.BufReader.{reader_held, reader_inner, reader_events, filled_length, exact_reads, exact_left}
+use Rattle.no_std_io2.specs.BufReader.{reader_held, reader_inner, reader_events, filled_length, exact_reads, exact_left, ReaderMay}
 use Rattle.io_bench.specs.declared.tally.Tally.{Tally}
-use Rattle.io_bench.specs.Tally.{tally_inner, tally_reads}
+use Rattle.io_bench.specs.Tally.{tally_inner, tally_reads, ReadsCounted}
 use Rattle.io_bench.specs.declared.asks.Ask.{Ask}
 use Rattle.io_bench.specs.declared.asks.Ask.TheVariants.{Read, Exact, Fill}
 
@@ -105,6 +107,18 @@ asked_reader r = tally_inner (reader_inner r)
 abbrev pub asked_events : {R : Type 0} {S : ℕ} → (R → List Event) → BufReader (Tally R) S → List Event
 asked_events events r = reader_events (λ t. events (tally_inner t)) r
 
+-- C are the calls of one ask. An error of the ask is that of its call.
+abbrev pub AskCalls : Ask → List ReadCall → Result Bool Error → Type 0
+AskCalls (Read len) C (Ok is_end) = (x : List ℕ) × (C ≡ Gave len (Ok x) ∷ [])
+AskCalls (Read len) C (Err e) = C ≡ Gave len (Err e) ∷ []
+AskCalls (Exact len) C (Ok false) = (buf : List ℕ) × (length buf ≡ len) × ExactCalls C (Ok tt) buf
+AskCalls (Exact len) C (Ok true) =
+    (buf : List ℕ) × (e : Error) × (length buf ≡ len) × (error_kind e ≡ UnexpectedEof) × ExactCalls C (Err e) buf
+AskCalls (Exact len) C (Err e) = (buf : List ℕ) × (length buf ≡ len) × ExactCalls C (Err e) buf
+AskCalls (Fill most) C (Ok is_end) =
+    (lent : List ℕ) × (C ≡ Filled (Ok lent) ∷ Consumed (min most (length lent)) ∷ []) × (is_end ≡ nat_eq (length lent) 0)
+AskCalls (Fill most) C (Err e) = C ≡ Filled (Err e) ∷ []
+
 -- one ask and its result, from old to new
 pub record Answered {R : Type 0} {S : ℕ} (inner : Reader R) (ask : Ask) (old : BufReader (Tally R) S) (answer : Result Bool Error)
     (new : BufReader (Tally R) S) : Type 0 where
@@ -115,6 +129,8 @@ pub record Answered {R : Type 0} {S : ℕ} (inner : Reader R) (ask : Ask) (old :
   pub filling : inner.is_filling (asked_reader old) → inner.is_filling (asked_reader new) × IsOkAnd answer (λ is_end. Asked S ask
       (length (reader_held old)) (tally_reads (reader_inner old)) (asked_events inner.events old)
       is_end (length (reader_held new)) (tally_reads (reader_inner new)) (asked_events inner.events new))
+  -- which calls of the buffered reader it made
+  pub calls : (C : List ReadCall) × Made (ReaderMay (ReadsCounted inner)) old C new × AskCalls ask C answer
 
 -- an ask that met the end
 abbrev pub met_end : Result Bool Error → Bool

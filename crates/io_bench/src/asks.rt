@@ -81,10 +81,11 @@ fn make_ask<R: Read, const S: usize>(
 /// Makes the calls of `asks` on a buffered reader, in order, and returns their totals. Each reads
 /// into the front of `buf`, which has room for the longest of them. A failed ask does not stop it.
 ///
-/// The totals count the results of all asks. If the reader tells its events, each ask takes some
-/// from the front, as its call does. If the reader is filling, as slices and cursors are, no ask
-/// fails and the number of inner reads is bounded: if nothing was held before and N bytes are
-/// taken, the tally counts at most `N / S + 1 + at_end` more.
+/// It makes exactly the calls of the asks, in order, and no others. The totals count the results of
+/// all asks. If the reader tells its events, each ask takes some from the front, as its call does.
+/// If the reader is filling, as slices and cursors are, no ask fails and the number of inner reads
+/// is bounded: if nothing was held before and N bytes are taken, the tally counts at most
+/// `N / S + 1 + at_end` more.
 pub fn run_reads<R: Read, const S: usize>(
     r: &mut BufReader<Tally<R>, S>,
     asks: &[Ask],

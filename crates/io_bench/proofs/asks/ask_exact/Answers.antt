@@ -17,6 +17,7 @@ returns-in-Ok g c =
           let left = done.leaves.left f in
           let filled = done.law.told (g.met.R.Read.filling_tells _ f).0 in
           (left.0, exact_filled g.row.S _ buf same filled.1 left.2 (done.leaves.asks tt f).1 left.1);
+      calls = (_, done.law.calls.made, (buf, same, done.law.calls.are));
     }
 
 pub returns-in-UnexpectedEof : goal.returns-in-UnexpectedEof
@@ -33,11 +34,13 @@ returns-in-UnexpectedEof g c =
           let short = falls_short _ e _ (bytes_behind (reader_held c.args.r.now) _ _ tells.1) (failed.law.told tells.0).1 in
           let few = subst (λ n. length (asked_events g.R.Read.events c.args.r.now) < n) c.read_exact.auto.buf short.1 in
           (left.0, exact_short g.row.S _ few short.2 left.2 (failed.leaves.asks tt f).1 left.1);
+      calls = (_, failed.law.calls.made, (_, e, c.read_exact.auto.buf, sym c.kind.ensures ∙ c.in-UnexpectedEof.is, failed.law.calls.are));
     }
 
 pub returns-in_default : goal.returns-in_default
 returns-in_default g c =
-    let failed = c.in-Err.ensures.law.told in
+    let law = c.in-Err.ensures.law in
+    let failed = law.told in
     let e = c.in-Err.e in
     let other = λ (is : error_kind e ≡ UnexpectedEof). c.in_default.not-UnexpectedEof (c.kind.ensures ∙ is) in
     record {
@@ -45,4 +48,5 @@ returns-in_default g c =
       filling = λ f.
           let tells = g.met.R.Read.filling_tells _ f in
           absurd (other (falls_short _ e _ (bytes_behind (reader_held c.args.r.now) _ _ tells.1) (failed tells.0).1).0);
+      calls = (_, law.calls.made, (_, c.read_exact.auto.buf, law.calls.are));
     }

@@ -1,5 +1,6 @@
-use Rattle.std.proofs.Common.{length, take, arith, refl, sym, ap, ◌∙◌, length-take-le, length-drop}
-use Rattle.no_std_io2.specs.Read.{events_of}
+use Rattle.std.proofs.Common.{◌≡◌, min, length, take, Ok, [], ◌∷◌, arith, refl, sym, ap, ◌∙◌, length-take-le, length-drop}
+use Rattle.no_std_io2.specs.Read.{events_of, Filled, Consumed}
+use Rattle.no_std_io2.specs.BufRead.{lent_bytes}
 use Rattle.std.proofs.lemmas.Result.{err_from_is_err_and}
 use Rattle.no_std_io2.specs.BufReader.{reader_held, reader_inner}
 use Rattle.no_std_io2.proofs.BufReaderRoom.{some_room}
@@ -16,6 +17,12 @@ returns-in_err-lent g c =
     rw (p.1, p.2) (record {
       told = λ t. let after = c.fill_buf.follows.holds-at-none.law.told t in (after.0, lent_error _ c.in_err-lent.was after.1);
       filling = λ f. absurd (c.in_err-lent.ensures.law.lends_surely f);
+      calls =
+          let reply = c.fill_buf.result in (
+            Filled (lent_bytes reply) ∷ [],
+            (_, c.fill_buf.follows.holds-at-none.law.call, refl),
+            ap (λ r. Filled (lent_bytes r) ∷ []) c.in_err-lent.was,
+          );
     })
 
 pub returns : goal.returns
@@ -49,5 +56,16 @@ returns g c =
                 (length lent) (some_room r) (events_of (take n (reader_held mid)), sym same ∙ rest.1)
                 (omega (arith, ap length same, gone, within, c.min.ensures)) (length-events (reader_held r) inner)
                 (law.lends_surely f) (omega (arith, left, ap length held, c.min.ensures)) ((dropped.counts counted.0).1 ∙ counted.1) refl,
+          );
+      calls =
+          let all : n ≡ min c.args.most (length lent) = omega (arith, c.min.ensures) in (
+            Filled (lent_bytes c.fill_buf.result) ∷ Consumed n ∷ [],
+            (mid, after.call, (new, dropped.call, refl)),
+            (
+              lent,
+              ap (λ r. Filled (lent_bytes r) ∷ Consumed n ∷ []) c.in_ok-lent.was
+                  ∙ ap (λ k. Filled (Ok lent) ∷ Consumed k ∷ []) all,
+              refl,
+            ),
           );
     }

@@ -1,7 +1,8 @@
-use Rattle.std.proofs.Common.{◌≡◌, ◌&&◌, nat_eq, length, arith, ap}
+use Rattle.std.proofs.Common.{◌≡◌, ◌&&◌, nat_eq, length, take, Ok, Err, [], ◌∷◌, arith, ap, ◌∙◌, refl}
 use Rattle.std.proofs.lemmas.Bool.Decides.{nat_tests}
 use Rattle.std.proofs.lemmas.Result.{err_from_is_err_and}
 use Rattle.no_std_io2.specs.BufReader.{reader_held}
+use Rattle.no_std_io2.specs.Read.{Gave, gave}
 use Rattle.no_std_io2.proofs.BufReaderRoom.{some_room}
 use Rattle.io_bench.specs.Asks.{asked_reader}
 use Rattle.io_bench.proofs.AskLemmas.{read_asked}
@@ -12,7 +13,17 @@ pub returns-in_err-n : goal.returns-in_err-n
 returns-in_err-n g c =
     let read = c.in_err-n.ensures in
     let p = err_from_is_err_and c.from_residual.result c.from_residual.ensures.1 in
-    rw (p.1, p.2) (record { told = read.law.told; filling = λ f. absurd (read.gives f).1 })
+    let buf = c.read.new.buf in
+    rw (p.1, p.2) (record {
+      told = read.law.told;
+      filling = λ f. absurd (read.gives f).1;
+      calls = (
+        Gave (length buf) (gave c.read.result buf) ∷ [],
+        (_, c.read.ensures.law.call, refl),
+        ap (λ r. Gave (length buf) (gave r buf) ∷ []) c.in_err-n.was
+            ∙ ap (λ room. Gave room (Err c.in_err-n.field-0.0) ∷ []) c.read.auto.buf,
+      );
+    })
 
 pub returns : goal.returns
 returns g c =
@@ -36,4 +47,9 @@ returns g c =
             read_asked g.row.S n (reader_held r) (reader_held new) buf (g.R.Read.events (asked_reader r)) (some_room r)
                 told.1 read.law.bound given.1 (λ h. (read.held h).2) (read.direct f) (read.filled f) counted.1 ends,
           );
+      calls = (
+        Gave (length buf) (Ok (take n buf)) ∷ [],
+        (_, read.law.call, refl),
+        (take n buf, ap (λ room. Gave room (Ok (take n buf)) ∷ []) same),
+      );
     }
