@@ -1,8 +1,8 @@
 -- How a record is skipped.
 use Rattle.std.proofs.Common.{◌≡◌, ℕ, ◌+◌, ◌<◌, List, [], ◌∷◌, ◌++◌, length, get_or, sym, ap, ◌∙◌, subst, arith}
 use Rattle.no_std_io2.specs.Read.{Event, byte, fails, events_of, bytes}
-use Rattle.no_std_io2.specs.Passing.{Passes, PassesOver}
-use Rattle.no_std_io2.proofs.EventLemmas.{Passes-then}
+use Rattle.no_std_io2.specs.Passing.{TakesBytes, SkipsBytes}
+use Rattle.no_std_io2.proofs.EventLemmas.{TakesBytes-then}
 use Rattle.examples.specs.Lengths.{AreRecords, more}
 
 -- if some bytes are gone from the front, the first event was the first of these bytes
@@ -13,8 +13,8 @@ first_gone (fails e ∷ P) after rest b is some = absurd (cc)
 
 -- one more record was skipped; its length was lent before
 pub record_more : {E mid after : List Event} {xs : List ℕ} (lent : List ℕ) (rest : List Event) {len left : ℕ} → AreRecords xs
-    → Passes E xs mid → 0 < length lent → mid ≡ events_of lent ++ rest → len ≡ get_or lent 0 0 → PassesOver (len + 1) mid left after
-    → left ≡ 0 → (ys : List ℕ) × AreRecords ys × Passes E ys after
+    → TakesBytes E xs mid → 0 < length lent → mid ≡ events_of lent ++ rest → len ≡ get_or lent 0 0 → SkipsBytes (len + 1) mid left after
+    → left ≡ 0 → (ys : List ℕ) × AreRecords ys × TakesBytes E ys after
 record_more [] rest a p some is told over done = absurd (omega arith)
 record_more {E} {mid} {after} {xs} (b ∷ bs) rest {len} a p some is told over done =
     let is_len : len ≡ b = told in
@@ -23,4 +23,4 @@ record_more {E} {mid} {after} {xs} (b ∷ bs) rest {len} a p some is told over d
     let first = first_gone gone.front after (events_of bs ++ rest) b (sym gone.split ∙ is) long in
     let whole : over.over ≡ b ∷ first.0 = sym gone.gave ∙ first.1 in
     let body : length first.0 ≡ b = omega (arith, ap length whole, over.count, done, is_len) in
-    (xs ++ b ∷ first.0, more xs first.0 b a body, subst (λ l. Passes E (xs ++ l) after) whole (Passes-then p gone))
+    (xs ++ b ∷ first.0, more xs first.0 b a body, subst (λ l. TakesBytes E (xs ++ l) after) whole (TakesBytes-then p gone))

@@ -1,8 +1,8 @@
 // [`Serial`], a device that does not store the bytes that it takes: a serial line.
 ghost use Rattle.no_std_io2.specs.Write.{told_out};
 
+use no_std_io2::ghost_bytes::GhostBytes;
 use no_std_io2::io::{Error, ErrorKind, Result, Write};
-use no_std_io2::trace::Trace;
 
 /// The sending half of a port.
 pub trait Port {
@@ -16,7 +16,7 @@ pub struct Serial<P> {
     /// The port to which the bytes go.
     pub port: P,
     /// The bytes that the port took.
-    pub taken: Trace,
+    pub taken: GhostBytes,
 }
 
 impl<P: Port> Write for Serial<P> {

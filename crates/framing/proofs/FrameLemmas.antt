@@ -8,9 +8,9 @@ use Rattle.no_std_io2.specs.declared.io.ErrorKind.TheVariants.{InvalidData, Unex
 use Rattle.no_std_io2.specs.Errors.{SaysError}
 use Rattle.no_std_io2.specs.Read.{Event, events_of, bytes}
 use Rattle.framing.specs.Frames.{frame, told_length, IsPart}
-use Rattle.no_std_io2.specs.Passing.{Passes, Gathered}
+use Rattle.no_std_io2.specs.Passing.{TakesBytes, Gathered}
 use Rattle.framing.specs.Taking.{GathersPart, TakesNone}
-use Rattle.no_std_io2.proofs.EventLemmas.{bytes-behind, Passes-all}
+use Rattle.no_std_io2.proofs.EventLemmas.{bytes-behind, TakesBytes-all}
 use Rattle.no_std_io2.proofs.EventLemmas.{Gathered-then, Gathered-passes}
 
 -- a payload after the header does not change the length that the header says
@@ -53,7 +53,7 @@ pub ended : (less lacks : Type 0) (limit want : ℕ) {I mid : List Event} (after
 ended less lacks limit want {I = I} after new true e is g h short some says = let no : ⊥ = cc in absurd no
 ended less lacks limit want {I = I} after {was = was} {part = part} new false e is g h short some says = inl (inr (record {
   seen = new;
-  passes = subst (λ l. Passes (events_of was ++ I) new l) h.2 (Gathered-passes (Gathered-then g h.0));
+  passes = subst (λ l. TakesBytes (events_of was ++ I) new l) h.2 (Gathered-passes (Gathered-then g h.0));
   kept = ap (λ l. events_of new ++ l) h.2 ∙ append-nil (events_of new);
   some = some;
   part = short h.1;
@@ -63,9 +63,9 @@ ended less lacks limit want {I = I} after {was = was} {part = part} new false e 
 -- no byte of a frame came, and none will
 pub no_frame : (less : Type 0) (want : ℕ) (I : List Event) {after : List Event} (was : List ℕ) {new : List ℕ} (b : Bool) → b ≡ false
     → GathersPart want less I (Ok b) was new after → new ≡ []
-    → Passes (events_of was ++ I) [] after × (after ≡ []) × (new ≡ [])
+    → TakesBytes (events_of was ++ I) [] after × (after ≡ []) × (new ≡ [])
 no_frame less want I was true is h none = let no : ⊥ = cc in absurd no
-no_frame less want I {after} was false is h none = (subst (λ l. Passes (events_of was ++ I) l after) none (Gathered-passes h.0), h.2, none)
+no_frame less want I {after} was false is h none = (subst (λ l. TakesBytes (events_of was ++ I) l after) none (Gathered-passes h.0), h.2, none)
 
 -- the wanted part is there
 pub whole_part : (less : Type 0) (want : ℕ) {I after : List Event} {was new : List ℕ} (b : Bool) → b ≡ true
@@ -86,21 +86,21 @@ pub frame_whole : (len : ℕ) (header payload : List ℕ) → to_le_bytes w32 le
 frame_whole len header payload is long = ap (λ l. l ++ payload) (sym is ∙ ap (to_le_bytes w32) (sym long))
 
 -- the same bytes under another name
-pub passes_as : {E after : List Event} {x y : List ℕ} → Passes E x after → x ≡ y → Passes E y after
-passes_as {E} {after} p is = subst (λ l. Passes E l after) is p
+pub passes_as : {E after : List Event} {x y : List ℕ} → TakesBytes E x after → x ≡ y → TakesBytes E y after
+passes_as {E} {after} p is = subst (λ l. TakesBytes E l after) is p
 
 -- the end came, and nothing of a frame was read
-pub end_taken : (E I : List Event) (part : List ℕ) → Passes E [] I × (I ≡ []) × (part ≡ [])
-    → Passes E [] (events_of part ++ I) × (events_of part ++ I ≡ [])
-end_taken E I part h = subst (λ p. Passes E [] (events_of p ++ I) × (events_of p ++ I ≡ [])) (sym h.2) (h.0, h.1)
+pub end_taken : (E I : List Event) (part : List ℕ) → TakesBytes E [] I × (I ≡ []) × (part ≡ [])
+    → TakesBytes E [] (events_of part ++ I) × (events_of part ++ I ≡ [])
+end_taken E I part h = subst (λ p. TakesBytes E [] (events_of p ++ I) × (events_of p ++ I ≡ [])) (sym h.2) (h.0, h.1)
 
 -- a frame was taken, and nothing after it was read
 pub frame_taken : (limit : ℕ) (E I : List Event) (payload items part : List ℕ)
-    → Passes E (frame payload) I × (length payload ≤ limit) → items ≡ payload → part ≡ []
-    → Passes E (frame items) (events_of part ++ I) × (length items ≤ limit)
+    → TakesBytes E (frame payload) I × (length payload ≤ limit) → items ≡ payload → part ≡ []
+    → TakesBytes E (frame items) (events_of part ++ I) × (length items ≤ limit)
 frame_taken limit E I payload items part h is none =
-    subst (λ l. Passes E (frame l) (events_of part ++ I) × (length l ≤ limit)) (sym is)
-    (subst (λ p. Passes E (frame payload) (events_of p ++ I)) (sym none) h.0, h.1)
+    subst (λ l. TakesBytes E (frame l) (events_of part ++ I) × (length l ≤ limit)) (sym is)
+    (subst (λ p. TakesBytes E (frame payload) (events_of p ++ I)) (sym none) h.0, h.1)
 
 -- fewer bytes than the frame has
 pub part_short : (header payload : List ℕ) (len : ℕ) → length header ≡ 4 → len ≡ from_le_bytes w32 header
@@ -130,8 +130,8 @@ none_as short lacks limit why (inr (inr h)) = inr (inr (record {
 -- an error loses no byte
 pub none_lost : (short : Type 0) (limit : ℕ) (E : List Event) (e : Error) (after : List Event) → TakesNone limit short E e after
     → bytes after ≡ bytes E
-none_lost short limit E e after (inl (inl h)) = ap bytes h.kept ∙ bytes-behind h.seen h.rest ∙ sym (Passes-all h.passes)
+none_lost short limit E e after (inl (inl h)) = ap bytes h.kept ∙ bytes-behind h.seen h.rest ∙ sym (TakesBytes-all h.passes)
 none_lost short limit E e after (inl (inr h)) =
-    ap bytes (h.kept ∙ sym (append-nil (events_of h.seen))) ∙ bytes-behind h.seen [] ∙ sym (Passes-all h.passes)
-none_lost short limit E e after (inr (inl h)) = ap bytes h.kept ∙ bytes-behind h.seen h.rest ∙ sym (Passes-all h.passes)
-none_lost short limit E e after (inr (inr h)) = ap bytes h.kept ∙ bytes-behind h.seen h.rest ∙ sym (Passes-all h.passes)
+    ap bytes (h.kept ∙ sym (append-nil (events_of h.seen))) ∙ bytes-behind h.seen [] ∙ sym (TakesBytes-all h.passes)
+none_lost short limit E e after (inr (inl h)) = ap bytes h.kept ∙ bytes-behind h.seen h.rest ∙ sym (TakesBytes-all h.passes)
+none_lost short limit E e after (inr (inr h)) = ap bytes h.kept ∙ bytes-behind h.seen h.rest ∙ sym (TakesBytes-all h.passes)

@@ -12,7 +12,7 @@ use Rattle.no_std_io2.specs.Errors.{IsOutOfMemory}
 use Rattle.no_std_io2.specs.Read.{Event, bytes}
 use Rattle.framing.specs.Frames.{frame, frames, told_length, IsPart}
 use Rattle.framing.specs.Taking.{TakesNone, TakesFrames, ComesBack, IsFirstFault}
-use Rattle.no_std_io2.proofs.EventLemmas.{Passes-all, Passes-then}
+use Rattle.no_std_io2.proofs.EventLemmas.{TakesBytes-all, TakesBytes-then}
 use Rattle.framing.proofs.FrameLemmas.{none_lost}
 
 -- a frame begins with its length
@@ -109,7 +109,7 @@ pub comes_back : (short : Type 0) (limit : ℕ) (sent : List (List ℕ)) {E : Li
     → bytes E ≡ frames sent → All (λ p. length p ≤ limit) sent → ComesBack short sent E reply given (bytes after)
 comes_back short limit sent {E = E} (Ok u) {given = given} after small h is within =
     let m =
-    front_frames given sent (bytes after) (sym is ∙ Passes-all h.0.passes)
+    front_frames given sent (bytes after) (sym is ∙ TakesBytes-all h.0.passes)
     (all_within limit (2 ^ 32) small sent within) (all_within limit (2 ^ 32) small given h.0.each) in
     record { more = m.0; split = m.1; rest = m.2; ok = no_frames m.0 (sym m.2 ∙ ap bytes h.1); err = tt }
   where
@@ -118,7 +118,7 @@ comes_back short limit sent {E = E} (Ok u) {given = given} after small h is with
     no_frames (p ∷ ps) e = absurd (omega (arith, ap length e, long_frame p (frames ps)))
 comes_back short limit sent {E = E} (Err e) {given = given} after small (mid, run, none) is within =
     let m =
-    front_frames given sent (bytes mid) (sym is ∙ Passes-all run.passes)
+    front_frames given sent (bytes mid) (sym is ∙ TakesBytes-all run.passes)
     (all_within limit (2 ^ 32) small sent within) (all_within limit (2 ^ 32) small given run.each) in
     let others : All (λ p. length p ≤ limit) m.0 =
     All-right (λ p. length p ≤ limit) given m.0 (subst (All (λ p. length p ≤ limit)) m.1 within) in
@@ -129,11 +129,11 @@ comes_back short limit sent {E = E} (Err e) {given = given} after small (mid, ru
     why more left fit (inl (inl t)) =
         inl
         (record
-        { seen = frames given ++ t.seen; rest = t.rest; passes = Passes-then run.passes t.passes; fault = t.fault })
+        { seen = frames given ++ t.seen; rest = t.rest; passes = TakesBytes-then run.passes t.passes; fault = t.fault })
     why more left fit (inl (inr t)) =
         absurd
-        (no_part t.seen more (sym (Passes-all t.passes) ∙ left) (all_within limit (2 ^ 32) small more fit) t.some
+        (no_part t.seen more (sym (TakesBytes-all t.passes) ∙ left) (all_within limit (2 ^ 32) small more fit) t.some
         t.part)
     why more left fit (inr (inl t)) =
-        absurd (no_long limit t.seen (bytes t.rest) more small (sym (Passes-all t.passes) ∙ left) fit t.header t.above)
+        absurd (no_long limit t.seen (bytes t.rest) more small (sym (TakesBytes-all t.passes) ∙ left) fit t.header t.above)
     why more left fit (inr (inr t)) = inr (t.memory, t.short)

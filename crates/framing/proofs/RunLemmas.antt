@@ -9,12 +9,12 @@ use Rattle.std.proofs.lemmas.List.Elements.{All-push}
 use Rattle.no_std_io2.specs.declared.io.Error.{Error}
 use Rattle.no_std_io2.specs.Errors.{IsOutOfMemory}
 use Rattle.no_std_io2.specs.Read.{Event}
-use Rattle.no_std_io2.specs.Passing.{Passes}
+use Rattle.no_std_io2.specs.Passing.{TakesBytes}
 use Rattle.framing.specs.Frames.{frame, frames}
 use Rattle.no_std_io2.specs.Appended.{appended}
 use Rattle.no_std_io2.proofs.AppendedLemmas.{appended-one}
 use Rattle.framing.specs.Taking.{PassesFrames, TakesNone, TakesFrames}
-use Rattle.no_std_io2.proofs.EventLemmas.{Passes-none, Passes-then}
+use Rattle.no_std_io2.proofs.EventLemmas.{TakesBytes-none, TakesBytes-then}
 use Rattle.framing.proofs.FrameLemmas.{passes_as, none_as}
 
 -- one payload more
@@ -25,13 +25,13 @@ frames_push ps p =
 -- one frame more
 pub run_more : {X : Type 0} (f : X → List ℕ) (limit : ℕ) {E mid after : List Event} (old had new : List X) (x : X)
     → had ≡ old ++ appended old had → new ≡ had ++ x ∷ []
-    → PassesFrames limit E (map f (appended old had)) mid → Passes mid (frame (f x)) after × (length (f x) ≤ limit)
+    → PassesFrames limit E (map f (appended old had)) mid → TakesBytes mid (frame (f x)) after × (length (f x) ≤ limit)
     → PassesFrames limit E (map f (appended old new)) after
 run_more f limit {E = E} {after = after} old had new x e is run h =
     let all : map f (appended old new) ≡ map f (appended old had) ++ f x ∷ [] =
     ap (map f) (appended-one old had new x e is) ∙ map-append f (appended old had) (x ∷ []) in
     subst (λ ps. PassesFrames limit E ps after) (sym all) (record {
-      passes = passes_as (Passes-then run.passes h.0) (sym (frames_push (map f (appended old had)) (f x)));
+      passes = passes_as (TakesBytes-then run.passes h.0) (sym (frames_push (map f (appended old had)) (f x)));
       each = All-push (λ p. length p ≤ limit) (map f (appended old had)) (f x) run.each h.1;
     })
 
@@ -43,9 +43,9 @@ run_same f {limit} {E} {after} old new run is = subst (λ l. PassesFrames limit 
 
 -- the end after the frames
 pub run_ends : (short : Type 0) (limit : ℕ) {E mid after : List Event} {ps : List (List ℕ)} → PassesFrames limit E ps mid
-    → Passes mid [] after × (after ≡ []) → TakesFrames limit short E (Ok tt) ps after
+    → TakesBytes mid [] after × (after ≡ []) → TakesFrames limit short E (Ok tt) ps after
 run_ends short limit {E = E} {ps = ps} run h =
-    (record { passes = passes_as (Passes-then run.passes h.0) (append-nil (frames ps)); each = run.each }, h.1)
+    (record { passes = passes_as (TakesBytes-then run.passes h.0) (append-nil (frames ps)); each = run.each }, h.1)
 
 -- an allocation failed after these frames
 pub run_refused : (short : Type 0) (limit : ℕ) {E after : List Event} {ps : List (List ℕ)} (e : Error) → PassesFrames limit E ps after
@@ -53,7 +53,7 @@ pub run_refused : (short : Type 0) (limit : ℕ) {E after : List Event} {ps : Li
 run_refused short limit {E = E} {after = after} e run memory full = (
   after,
   run,
-  inr (inr (record { seen = []; rest = after; passes = Passes-none after; kept = refl; memory = memory; short = full })),
+  inr (inr (record { seen = []; rest = after; passes = TakesBytes-none after; kept = refl; memory = memory; short = full })),
 )
 
 -- no frame after the frames
@@ -65,5 +65,5 @@ run_stops lacks short limit most why {mid} {after} e run same none =
 
 -- a frame within the limit
 pub frame_within : {limit : ℕ} (most : ℕ) {mid after : List Event} (p : List ℕ) → most ≡ limit
-    → Passes mid (frame p) after × (length p ≤ most) → Passes mid (frame p) after × (length p ≤ limit)
-frame_within most {mid = mid} {after = after} p same h = subst (λ n. Passes mid (frame p) after × (length p ≤ n)) same h
+    → TakesBytes mid (frame p) after × (length p ≤ most) → TakesBytes mid (frame p) after × (length p ≤ limit)
+frame_within most {mid = mid} {after = after} p same h = subst (λ n. TakesBytes mid (frame p) after × (length p ≤ n)) same h

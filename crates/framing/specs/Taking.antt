@@ -4,7 +4,7 @@ use Rattle.std.specs.Global.{Vec}
 use Rattle.std.specs.Prelude.{Bool, true, false, Option, Some, None, Result, Ok, Err, OnOk, IfErr}
 use Rattle.no_std_io2.specs.Errors.{IsFault, IsOutOfMemory, SaysError}
 use Rattle.no_std_io2.specs.Read.{Event, fails, events_of}
-use Rattle.no_std_io2.specs.Passing.{Passes, Gathered}
+use Rattle.no_std_io2.specs.Passing.{TakesBytes, Gathered}
 use Rattle.no_std_io2.specs.declared.io.Error.{Error}
 use Rattle.no_std_io2.specs.declared.io.ErrorKind.TheVariants.{InvalidData, UnexpectedEof}
 use Rattle.framing.specs.Frames.{frame, frames, told_length, IsPart}
@@ -20,7 +20,7 @@ GathersPart want short E (Err e) old new after =
 pub record Stops (limit : ℕ) (E : List Event) (e : Error) (after : List Event) : Type 0 where
   pub seen : List ℕ
   pub rest : List Event
-  pub passes : Passes E seen (fails e ∷ rest)
+  pub passes : TakesBytes E seen (fails e ∷ rest)
   pub kept : after ≡ events_of seen ++ rest
   pub part : IsPart seen
   pub fault : IsFault e
@@ -28,7 +28,7 @@ pub record Stops (limit : ℕ) (E : List Event) (e : Error) (after : List Event)
 -- The bytes end inside a frame. They are still to come.
 pub record EndsInside (E : List Event) (e : Error) (after : List Event) : Type 0 where
   pub seen : List ℕ
-  pub passes : Passes E seen []
+  pub passes : TakesBytes E seen []
   pub kept : after ≡ events_of seen
   pub some : 0 < length seen
   pub part : IsPart seen
@@ -38,7 +38,7 @@ pub record EndsInside (E : List Event) (e : Error) (after : List Event) : Type 0
 pub record IsTooLong (limit : ℕ) (E : List Event) (e : Error) (after : List Event) : Type 0 where
   pub seen : List ℕ
   pub rest : List Event
-  pub passes : Passes E seen rest
+  pub passes : TakesBytes E seen rest
   pub kept : after ≡ events_of seen ++ rest
   pub header : 4 ≤ length seen
   pub above : limit < told_length seen
@@ -48,7 +48,7 @@ pub record IsTooLong (limit : ℕ) (E : List Event) (e : Error) (after : List Ev
 pub record KeepsFrame (lacks : Type 0) (E : List Event) (e : Error) (after : List Event) : Type 0 where
   pub seen : List ℕ
   pub rest : List Event
-  pub passes : Passes E seen rest
+  pub passes : TakesBytes E seen rest
   pub kept : after ≡ events_of seen ++ rest
   pub memory : IsOutOfMemory e
   pub short : lacks
@@ -60,19 +60,19 @@ TakesNone limit short E e after =
 
 -- The next frame was read whole, with this payload; or there is none; or an error came.
 abbrev pub GathersFrame : ℕ → Type 0 → List Event → Result Bool Error → List ℕ → List ℕ → List Event → Type 0
-GathersFrame limit short E (Ok true) part payload after = Passes E (frame payload) after × (length payload ≤ limit)
-GathersFrame limit short E (Ok false) part payload after = Passes E [] after × (after ≡ []) × (part ≡ [])
+GathersFrame limit short E (Ok true) part payload after = TakesBytes E (frame payload) after × (length payload ≤ limit)
+GathersFrame limit short E (Ok false) part payload after = TakesBytes E [] after × (after ≡ []) × (part ≡ [])
 GathersFrame limit short E (Err e) part payload after = TakesNone limit short E e (events_of part ++ after)
 
 -- `next` returned a payload; or the end; or an error
 abbrev pub TakesFrame : {X : Type 0} → (X → List ℕ) → ℕ → Type 0 → List Event → Result (Option X) Error → List Event → Type 0
-TakesFrame items limit short E (Ok (Some x)) after = Passes E (frame (items x)) after × (length (items x) ≤ limit)
-TakesFrame items limit short E (Ok None) after = Passes E [] after × (after ≡ [])
+TakesFrame items limit short E (Ok (Some x)) after = TakesBytes E (frame (items x)) after × (length (items x) ≤ limit)
+TakesFrame items limit short E (Ok None) after = TakesBytes E [] after × (after ≡ [])
 TakesFrame items limit short E (Err e) after = TakesNone limit short E e after
 
 -- the frames of these payloads are gone from the front of E, and each payload is within the limit
 pub record PassesFrames (limit : ℕ) (E : List Event) (payloads : List (List ℕ)) (after : List Event) : Type 0 where
-  pub passes : Passes E (frames payloads) after
+  pub passes : TakesBytes E (frames payloads) after
   pub each : All (λ p. length p ≤ limit) payloads
 
 -- `read_all` appended these payloads, up to the end or an error
@@ -85,7 +85,7 @@ TakesFrames limit short E (Err e) payloads after =
 pub record IsFirstFault (E : List Event) (e : Error) : Type 0 where
   pub seen : List ℕ
   pub rest : List Event
-  pub passes : Passes E seen (fails e ∷ rest)
+  pub passes : TakesBytes E seen (fails e ∷ rest)
   pub fault : IsFault e
 
 -- If the frames of `sent` were to come, these payloads were given, and the others are still to come: none after `Ok`. An error is the first

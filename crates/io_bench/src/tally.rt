@@ -3,8 +3,8 @@ ghost use Rattle.std.specs.Prelude.{◌≡◌, ◌+◌, ◌^◌, ◌-◌, ⊤, l
 ghost use Rattle.no_std_io2.specs.Read.{ReadLaw};
 ghost use Rattle.no_std_io2.specs.Writers.{WriteOf};
 
+use no_std_io2::ghost_bytes::GhostBytes;
 use no_std_io2::io::{Read, Result, Stored, Write};
-use no_std_io2::trace::Trace;
 use std::fmt;
 
 /// Passes each call on to an inner stream, and counts each `write`, and each `read` into a buffer
@@ -15,8 +15,8 @@ use std::fmt;
 #[derive(Drop)]
 pub struct Tally<T> {
     inner: T,
-    write_calls: Trace,
-    read_calls: Trace,
+    write_calls: GhostBytes,
+    read_calls: GhostBytes,
     writes: u64,
     reads: u64,
     ghost writes_counted: { writes ≡ min (length write_calls.bytes) (2 ^ 64 - 1) },
@@ -34,8 +34,8 @@ impl<T> Tally<T> {
     {
         Tally {
             inner,
-            write_calls: Trace::new(),
-            read_calls: Trace::new(),
+            write_calls: GhostBytes::new(),
+            read_calls: GhostBytes::new(),
             writes: 0,
             reads: 0,
         }

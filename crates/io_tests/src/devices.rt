@@ -3,10 +3,10 @@ ghost use Rattle.std.specs.Prelude.{[]};
 
 use examples::{Broken, Inbox, Narrow, Port, Serial, Source};
 use io_bench::Tally;
+use no_std_io2::ghost_bytes::GhostBytes;
 use no_std_io2::io::{
     BufWriter, Error, ErrorKind, Read, Result as IoResult, Seek, SeekFrom, Stored, Write,
 };
-use no_std_io2::trace::Trace;
 use std::test::Fail;
 
 // Returns the kind of an error.
@@ -72,7 +72,7 @@ fn a_serial_line_gets_each_byte_once(rt: HostRuntime) -> Result<(), Fail> {
             sent: Vec::new(rt.alloc()),
             left: 2,
         },
-        taken: Trace::new(),
+        taken: GhostBytes::new(),
     };
     let mut w = BufWriter::<Serial<Shy>, 8>::new(device);
     w.write_all(b"abcdefg")?;

@@ -1,6 +1,6 @@
 // The examples in the comments of errors and cursors.
+use no_std_io2::ghost_bytes::GhostBytes;
 use no_std_io2::io::{AsSlice, Cursor, Error, ErrorKind, Read, Write};
-use no_std_io2::trace::Trace;
 use std::test::Fail;
 
 #[test]
@@ -76,7 +76,7 @@ fn a_content_lends_itself(rt: HostRuntime) -> Result<(), Fail> {
 
 #[test]
 fn a_trace_is_seen_by_contracts_alone(_rt: HostRuntime) -> Result<(), Fail> {
-    let mut taken = Trace::new();
+    let mut taken = GhostBytes::new();
     taken.add(b"ab"); // for contracts `taken.bytes` is `ab` now
     Ok(())
 }

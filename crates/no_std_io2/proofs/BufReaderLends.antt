@@ -29,9 +29,9 @@ buf_reader stored read = record {
 abbrev pub buf_lender : {R : Type 0} {S : ℕ} → Stores R → Reads R → Lender (BufReader R S)
 buf_lender stored read = lends_as (buf_reader stored read) (record {
   held = reader_held;
-  counts_fills = λ r. read.is_metered (reader_inner r);
+  is_fill_metered = λ r. read.is_metered (reader_inner r);
   fills = λ r. read.cost (reader_inner r);
-  lends_surely = λ r. read.is_filling (reader_inner r);
+  knows_lent_length = λ r. read.is_filling (reader_inner r);
   lent_length = reader_lent_length read.events;
 })
 

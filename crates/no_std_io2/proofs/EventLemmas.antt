@@ -12,7 +12,7 @@ pub use Rattle.no_std_io2_base.proofs.EventLemmas.{cut-bytes, bytes-cut, length-
 use Rattle.no_std_io2_base.proofs.PieceLemmas as pieces
 pub use Rattle.no_std_io2_base.proofs.PieceLemmas.{front_more}
 use Rattle.no_std_io2_base.proofs.WriteExits as exits
-use Rattle.no_std_io2.specs.Passing.{Passes, PassesOver, Gathered, StopsThere}
+use Rattle.no_std_io2.specs.Passing.{TakesBytes, SkipsBytes, Gathered, StopsThere}
 
 -- the bytes of P and then Q are the bytes of P, and then those of Q
 pub bytes-append : (P Q : List Event) → bytes (P ++ Q) ≡ bytes P ++ bytes Q
@@ -39,25 +39,25 @@ pub bytes-behind : (bs : List ℕ) (E : List Event) → bytes (events_of bs ++ E
 bytes-behind bs E = bytes-append (events_of bs) E ∙ ap (λ l. l ++ bytes E) (bytes-events_of bs)
 
 -- if nothing is gone, no byte was taken
-pub Passes-none : (E : List Event) → Passes E [] E
-Passes-none E = record { front = []; split = refl; no_fault = tt; gave = refl }
+pub TakesBytes-none : (E : List Event) → TakesBytes E [] E
+TakesBytes-none E = record { front = []; split = refl; no_fault = tt; gave = refl }
 
 -- if E begins with these bytes, they are taken
-pub Passes-bytes : {E : List Event} (more : List ℕ) (after : List Event) → E ≡ events_of more ++ after → Passes E more after
-Passes-bytes more after is =
+pub TakesBytes-bytes : {E : List Event} (more : List ℕ) (after : List Event) → E ≡ events_of more ++ after → TakesBytes E more after
+TakesBytes-bytes more after is =
     record { front = events_of more; split = is; no_fault = HasNoFault-events_of more; gave = bytes-events_of more }
 
 -- if E begins with an interruption, it is taken
-pub Passes-interruption : {E : List Event} {e : Error} {after : List Event} → E ≡ fails e ∷ after → IsInterruption e → Passes E [] after
-Passes-interruption {e} is again = record { front = fails e ∷ []; split = is; no_fault = (again, tt); gave = refl }
+pub TakesBytes-interruption : {E : List Event} {e : Error} {after : List Event} → E ≡ fails e ∷ after → IsInterruption e → TakesBytes E [] after
+TakesBytes-interruption {e} is again = record { front = fails e ∷ []; split = is; no_fault = (again, tt); gave = refl }
 
 -- a buffer was filled
-pub Passes-fills : {E : List Event} {buf : List ℕ} {after : List Event} → Fills E buf after → Passes E buf after
-Passes-fills {E} {buf} f = record { front = cut (length buf) E; split = f.split; no_fault = f.no_fault; gave = f.filled }
+pub TakesBytes-fills : {E : List Event} {buf : List ℕ} {after : List Event} → Fills E buf after → TakesBytes E buf after
+TakesBytes-fills {E} {buf} f = record { front = cut (length buf) E; split = f.split; no_fault = f.no_fault; gave = f.filled }
 
 -- a `read_exact` that failed left this: bytes are gone and an error came after them, or the reader took none
 abbrev Failed : Type 0 → List Event → Error → List Event → Type 0
-Failed may_take_none E e after = ((taken : List ℕ) × (mid : List Event) × Passes E taken mid × StopsThere mid e after)
+Failed may_take_none E e after = ((taken : List ℕ) × (mid : List Event) × TakesBytes E taken mid × StopsThere mid e after)
     ⊎ (may_take_none × (after ≡ E) × IsUnexpectedEnd e)
 
 -- a reader that fell short
@@ -86,15 +86,15 @@ failed {e} {after} (inl s) =
 failed (inr f) = fell_short f f.left
 
 -- a `read_exact` failed
-pub Passes-fails : {may_take_none : Type 0} {E after : List Event} {reply : Result (Unit {0}) Error} {e : Error} (buf : List ℕ)
+pub TakesBytes-fails : {may_take_none : Type 0} {E after : List Event} {reply : Result (Unit {0}) Error} {e : Error} (buf : List ℕ)
     → reply ≡ Err e → ReadsExact may_take_none E reply buf after
-    → ((taken : List ℕ) × (mid : List Event) × Passes E taken mid × StopsThere mid e after)
+    → ((taken : List ℕ) × (mid : List Event) × TakesBytes E taken mid × StopsThere mid e after)
     ⊎ (may_take_none × (after ≡ E) × IsUnexpectedEnd e)
-Passes-fails {may_take_none} {E} {after} buf is f = failed (subst (λ r. ReadsExact may_take_none E r buf after) is f)
+TakesBytes-fails {may_take_none} {E} {after} buf is f = failed (subst (λ r. ReadsExact may_take_none E r buf after) is f)
 
 -- one after another
-pub Passes-then : {E mid after : List Event} {x y : List ℕ} → Passes E x mid → Passes mid y after → Passes E (x ++ y) after
-Passes-then {E} {mid} {after} {x} {y} p q = record {
+pub TakesBytes-then : {E mid after : List Event} {x y : List ℕ} → TakesBytes E x mid → TakesBytes mid y after → TakesBytes E (x ++ y) after
+TakesBytes-then {E} {mid} {after} {x} {y} p q = record {
   front = p.front ++ q.front;
   split = p.split ∙ ap (λ l. p.front ++ l) q.split ∙ sym (append_assoc p.front q.front after);
   no_fault = HasNoFault-append p.front q.front p.no_fault q.no_fault;
@@ -102,45 +102,45 @@ Passes-then {E} {mid} {after} {x} {y} p q = record {
 }
 
 -- if nothing more is taken, the same bytes are taken
-pub Passes-still : {E mid after : List Event} {x : List ℕ} → Passes E x mid → Passes mid [] after → Passes E x after
-Passes-still {E} {after = after} {x = x} p q = subst (λ l. Passes E l after) (append-nil x) (Passes-then p q)
+pub TakesBytes-still : {E mid after : List Event} {x : List ℕ} → TakesBytes E x mid → TakesBytes mid [] after → TakesBytes E x after
+TakesBytes-still {E} {after = after} {x = x} p q = subst (λ l. TakesBytes E l after) (append-nil x) (TakesBytes-then p q)
 
 -- the bytes that are to come are those that are gone, and then those that still are
-pub Passes-all : {E after : List Event} {x : List ℕ} → Passes E x after → bytes E ≡ x ++ bytes after
-Passes-all {E} {after} p = ap bytes p.split ∙ bytes-append p.front after ∙ ap (λ l. l ++ bytes after) p.gave
+pub TakesBytes-all : {E after : List Event} {x : List ℕ} → TakesBytes E x after → bytes E ≡ x ++ bytes after
+TakesBytes-all {E} {after} p = ap bytes p.split ∙ bytes-append p.front after ∙ ap (λ l. l ++ bytes after) p.gave
 
 -- these more bytes were skipped
-pub PassesOver-more : {n k left : ℕ} {E mid : List Event} (more : List ℕ) (after : List Event)
-    → PassesOver n E k mid → mid ≡ events_of more ++ after → length more + left ≡ k → PassesOver n E left after
-PassesOver-more more after p is count = record {
+pub SkipsBytes-more : {n k left : ℕ} {E mid : List Event} (more : List ℕ) (after : List Event)
+    → SkipsBytes n E k mid → mid ≡ events_of more ++ after → length more + left ≡ k → SkipsBytes n E left after
+SkipsBytes-more more after p is count = record {
   over = p.over ++ more;
   count = omega (arith, p.count, count, length-append p.over more);
-  passes = Passes-then p.passes (Passes-bytes more after is);
+  passes = TakesBytes-then p.passes (TakesBytes-bytes more after is);
 }
 
 -- nothing more was
-pub PassesOver-still : {n left : ℕ} {E mid after : List Event} → PassesOver n E left mid → Passes mid [] after → PassesOver n E left after
-PassesOver-still p q = record { over = p.over; count = p.count; passes = Passes-still p.passes q }
+pub SkipsBytes-still : {n left : ℕ} {E mid after : List Event} → SkipsBytes n E left mid → TakesBytes mid [] after → SkipsBytes n E left after
+SkipsBytes-still p q = record { over = p.over; count = p.count; passes = TakesBytes-still p.passes q }
 
 -- if nothing is gone and the part is unchanged, nothing more was gathered
 pub Gathered-none : (E : List Event) (part : List ℕ) → Gathered E part part E
-Gathered-none E part = record { more = []; is = sym (append-nil part); passes = Passes-none E }
+Gathered-none E part = record { more = []; is = sym (append-nil part); passes = TakesBytes-none E }
 
 -- more of the part
 pub Gathered-then : {E mid after : List Event} {a b c : List ℕ} → Gathered E a b mid → Gathered mid b c after → Gathered E a c after
 Gathered-then {a = a} g h = record {
   more = g.more ++ h.more;
   is = h.is ∙ ap (λ l. l ++ h.more) g.is ∙ append_assoc a g.more h.more;
-  passes = Passes-then g.passes h.passes;
+  passes = TakesBytes-then g.passes h.passes;
 }
 
 -- some bytes more
 pub Gathered-more : {E mid : List Event} {old part : List ℕ} (more new : List ℕ) (after : List Event)
     → Gathered E old part mid → mid ≡ events_of more ++ after → new ≡ part ++ more → Gathered E old new after
-Gathered-more more new after g read is = Gathered-then g (record { more = more; is = is; passes = Passes-bytes more after read })
+Gathered-more more new after g read is = Gathered-then g (record { more = more; is = is; passes = TakesBytes-bytes more after read })
 
 -- nothing more
-pub Gathered-still : {E mid after : List Event} {old part : List ℕ} → Gathered E old part mid → Passes mid [] after
+pub Gathered-still : {E mid after : List Event} {old part : List ℕ} → Gathered E old part mid → TakesBytes mid [] after
     → Gathered E old part after
 Gathered-still {part = part} g p = Gathered-then g (record { more = []; is = sym (append-nil part); passes = p })
 
@@ -149,9 +149,9 @@ pub Gathered-at : {E mid after : List Event} {old new : List ℕ} → Gathered E
 Gathered-at {E} {old = old} {new = new} g same = subst (λ l. Gathered E old new l) same g
 
 -- what was gathered before is taken too
-pub Gathered-passes : {E after : List Event} {old new : List ℕ} → Gathered E old new after → Passes (events_of old ++ E) new after
+pub Gathered-passes : {E after : List Event} {old new : List ℕ} → Gathered E old new after → TakesBytes (events_of old ++ E) new after
 Gathered-passes {E} {after} {old} {new} g =
-    subst (λ l. Passes (events_of old ++ E) l after) (sym g.is) (Passes-then (Passes-bytes old E refl) g.passes)
+    subst (λ l. TakesBytes (events_of old ++ E) l after) (sym g.is) (TakesBytes-then (TakesBytes-bytes old E refl) g.passes)
 
 -- what was lent, and then dropped, is gone
 pub part_taken : {reply : Result (Bor (List ℕ)) Error} (s : Bor (List ℕ)) (held : List ℕ) {E E' : List Event} (rest : List Event) (n : ℕ)

@@ -8,12 +8,13 @@
 //! [`io::Cursor`] makes bytes in memory a stream; a slice is a reader, and a vector a writer, without
 //! it. [`io::copy`] copies all bytes of a reader to a writer. A device of your own implements
 //! [`io::Write`], or [`io::Stored`] and [`io::Read`]. If it does not keep the bytes that it takes, it
-//! tells them by a [`trace::Trace`]. The words of all contracts are under `Rattle.no_std_io2.specs`.
+//! tells them by [`ghost_bytes::GhostBytes`]. The words of all contracts are under
+//! `Rattle.no_std_io2.specs`.
 #![tactic(auto)]
 
 pub mod buffered;
+pub mod ghost_bytes;
 mod pins;
-pub mod trace;
 pub mod util;
 
 /// Re-exports the standard trait of errors.

@@ -113,9 +113,9 @@ fn reader_is_sound_where<R: Stored, const S: usize>(r: &BufReader<R, S>)
 fn reader_lends<R: Read, const S: usize>(r: &BufReader<R, S>)
     ensures held { ⟦<BufReader<R, S> as BufRead>⟧.held r.now ≡ reader_held r.now }
     ensures front { BeginsWith (⟦<BufReader<R, S> as Read>⟧.events r.now) (⟦<BufReader<R, S> as BufRead>⟧.held r.now) }
-    ensures counts { R.is_metered (reader_inner r.now) → ⟦<BufReader<R, S> as BufRead>⟧.counts_fills r.now }
+    ensures counts { R.is_metered (reader_inner r.now) → ⟦<BufReader<R, S> as BufRead>⟧.is_fill_metered r.now }
     ensures fills { ⟦<BufReader<R, S> as BufRead>⟧.fills r.now ≡ R.cost (reader_inner r.now) }
-    ensures surely { R.is_filling (reader_inner r.now) → ⟦<BufReader<R, S> as BufRead>⟧.lends_surely r.now }
+    ensures surely { R.is_filling (reader_inner r.now) → ⟦<BufReader<R, S> as BufRead>⟧.knows_lent_length r.now }
     ensures length { ⟦<BufReader<R, S> as BufRead>⟧.lent_length r.now
         ≡ (if nat_lt 0 (length (reader_held r.now)) then length (reader_held r.now)
         else min S (length (R.events (reader_inner r.now)))) }

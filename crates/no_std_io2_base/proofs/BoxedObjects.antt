@@ -83,7 +83,7 @@ module _ {I A : Type 0} {V : I → Type 0} (tells : ((x : I) × V x) → Type 0)
     cost = λ m. absurd m;
     counts = λ c. absurd c;
     filling = λ f. f;
-    lends_surely = λ l. l;
+    knows_lent_length = λ l. l;
     store = λ s. absurd s;
     call = (new, refl, call);
   })

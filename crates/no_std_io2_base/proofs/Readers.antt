@@ -67,9 +67,9 @@ StoreTells {S} R = (x : S) → R.has_store x → R.tells x × (R.events x ≡ ev
 abbrev pub holds_alone : {S : Type 0} → (S → List ℕ) → BufReads S
 holds_alone held = record {
   held = held;
-  counts_fills = λ _. ⊥;
+  is_fill_metered = λ _. ⊥;
   fills = λ _. 0;
-  lends_surely = λ _. ⊥;
+  knows_lent_length = λ _. ⊥;
   lent_length = λ _. 0;
 }
 
@@ -88,8 +88,8 @@ lends_as read lends = record {
   may_take_none = read.may_take_none;
   may = read.may;
   held = lends.held;
-  counts_fills = lends.counts_fills;
+  is_fill_metered = lends.is_fill_metered;
   fills = lends.fills;
-  lends_surely = lends.lends_surely;
+  knows_lent_length = lends.knows_lent_length;
   lent_length = lends.lent_length;
 }

@@ -61,9 +61,9 @@ Lender X = record {
   may_take_none : X → Type 0;
   may : X → ReadCall → X → Type 0;
   held : X → List ℕ;
-  counts_fills : X → Type 0;
+  is_fill_metered : X → Type 0;
   fills : X → ℕ;
-  lends_surely : X → Type 0;
+  knows_lent_length : X → Type 0;
   lent_length : X → ℕ;
 }
 
@@ -76,7 +76,7 @@ pub record FillBufLaw {X : Type 0} (R : Lender X) (old : X) (reply : Result (Bor
   -- an empty slice is lent only at the end
   pub end : R.tells old → IfOk reply (λ s. s.now ≡ [] → R.events old ≡ [])
   -- if it is known how many bytes it lends, it lends that many
-  pub lends_surely : R.lends_surely old → IsOkAnd reply (λ s. length s.now ≡ R.lent_length old)
+  pub knows_lent_length : R.knows_lent_length old → IsOkAnd reply (λ s. length s.now ≡ R.lent_length old)
 
 -- `fill_buf()`: the state once the borrow has ended
 abbrev pub AfterLoan : {X : Type 0} → Lender X → X → Result (Bor (List ℕ)) Error → X → Type 0
@@ -91,9 +91,9 @@ AfterLoan R old reply new = record {
   -- if bytes were held, nothing has changed
   unchanged : IsNotEmpty (R.held old) → new ≡ old;
   -- if none were held, one read was made
-  counts : R.counts_fills old → R.counts_fills new × (R.fills new ≡ R.fills old + reads_needed (R.held old));
+  counts : R.is_fill_metered old → R.is_fill_metered new × (R.fills new ≡ R.fills old + reads_needed (R.held old));
   -- what the reader claims about itself still holds
-  stays_sure : R.lends_surely old → R.lends_surely new;
+  stays_sure : R.knows_lent_length old → R.knows_lent_length new;
   metered : R.is_metered old → R.is_metered new;
   filling : R.is_filling old → R.is_filling new;
   -- a told store does not change
@@ -114,10 +114,10 @@ pub record ConsumeLaw {X : Type 0} (R : Lender X) (old : X) (amount : ℕ) (new 
   pub spends_turn : 0 < amount → R.turns new < R.turns old
   -- no read was made
   pub cost : R.is_metered old → R.is_metered new × (R.cost new ≡ R.cost old)
-  pub counts : R.counts_fills old → R.counts_fills new × (R.fills new ≡ R.fills old)
+  pub counts : R.is_fill_metered old → R.is_fill_metered new × (R.fills new ≡ R.fills old)
   -- what the reader claims about itself still holds
   pub filling : R.is_filling old → R.is_filling new
-  pub lends_surely : R.lends_surely old → R.lends_surely new
+  pub knows_lent_length : R.knows_lent_length old → R.knows_lent_length new
   -- a told store keeps its content, and its position moves by the number of dropped bytes
   pub store : R.has_store old → R.has_store new × (R.content new ≡ R.content old) × (R.position new ≡ R.position old + amount)
   -- it is one call

@@ -196,17 +196,17 @@ fn boxed_reader_tells<R: Read>(r: &Box<R>)
 
 fn lent_lender_tells<'a, R: BufRead>(r: &&'a mut R)
     ensures held { ⟦<&'a mut R as BufRead>⟧.held r.now ≡ R.held r.now.now }
-    ensures counts { R.counts_fills r.now.now → ⟦<&'a mut R as BufRead>⟧.counts_fills r.now }
+    ensures counts { R.is_fill_metered r.now.now → ⟦<&'a mut R as BufRead>⟧.is_fill_metered r.now }
     ensures fills { ⟦<&'a mut R as BufRead>⟧.fills r.now ≡ R.fills r.now.now }
-    ensures surely { R.lends_surely r.now.now → ⟦<&'a mut R as BufRead>⟧.lends_surely r.now }
+    ensures surely { R.knows_lent_length r.now.now → ⟦<&'a mut R as BufRead>⟧.knows_lent_length r.now }
     ensures length { ⟦<&'a mut R as BufRead>⟧.lent_length r.now ≡ R.lent_length r.now.now }
 {}
 
 fn boxed_lender_tells<R: BufRead>(r: &Box<R>)
     ensures held { ⟦<Box<R> as BufRead>⟧.held r.now ≡ R.held r.now.value }
-    ensures counts { R.counts_fills r.now.value → ⟦<Box<R> as BufRead>⟧.counts_fills r.now }
+    ensures counts { R.is_fill_metered r.now.value → ⟦<Box<R> as BufRead>⟧.is_fill_metered r.now }
     ensures fills { ⟦<Box<R> as BufRead>⟧.fills r.now ≡ R.fills r.now.value }
-    ensures surely { R.lends_surely r.now.value → ⟦<Box<R> as BufRead>⟧.lends_surely r.now }
+    ensures surely { R.knows_lent_length r.now.value → ⟦<Box<R> as BufRead>⟧.knows_lent_length r.now }
     ensures length { ⟦<Box<R> as BufRead>⟧.lent_length r.now ≡ R.lent_length r.now.value }
 {}
 
@@ -240,7 +240,7 @@ fn slice_tells<'a>(s: &&'a [u8])
 // A slice holds all of its bytes, and lends them at once.
 fn slice_lends<'a>(s: &&'a [u8])
     ensures held { ⟦<&'a [u8] as BufRead>⟧.held s.now ≡ s.now.now }
-    ensures surely { ⟦<&'a [u8] as BufRead>⟧.lends_surely s.now }
+    ensures surely { ⟦<&'a [u8] as BufRead>⟧.knows_lent_length s.now }
     ensures length { ⟦<&'a [u8] as BufRead>⟧.lent_length s.now ≡ length s.now.now }
 {}
 
@@ -293,7 +293,7 @@ fn cursor_reads<T: AsSlice<u8>>(c: &Cursor<T>)
 
 fn cursor_lends<T: AsSlice<u8>>(c: &Cursor<T>)
     ensures held { ⟦<Cursor<T> as BufRead>⟧.held c.now ≡ drop (cursor_position c.now) (T.slice (cursor_inner c.now)) }
-    ensures lends_surely { ⟦<Cursor<T> as BufRead>⟧.lends_surely c.now }
+    ensures knows_lent_length { ⟦<Cursor<T> as BufRead>⟧.knows_lent_length c.now }
     ensures lent_length { ⟦<Cursor<T> as BufRead>⟧.lent_length c.now
         ≡ length (T.slice (cursor_inner c.now)) - cursor_position c.now }
 {}

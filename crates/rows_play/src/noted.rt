@@ -118,11 +118,11 @@ impl<T: Read> Read for Noted<T> {
 impl<T: BufRead> BufRead for Noted<T> {
     ghost held = { λ n. T.held n.inner };
 
-    ghost counts_fills = { λ n. T.counts_fills n.inner };
+    ghost is_fill_metered = { λ n. T.is_fill_metered n.inner };
 
     ghost fills = { λ n. T.fills n.inner };
 
-    ghost lends_surely = { λ n. T.lends_surely n.inner };
+    ghost knows_lent_length = { λ n. T.knows_lent_length n.inner };
 
     ghost lent_length = { λ n. T.lent_length n.inner };
 

@@ -5,8 +5,8 @@ ghost use Rattle.no_std_io2.specs.Errors.{IsFault};
 
 use super::journal::Journal;
 use super::lent::Lent;
+use no_std_io2::ghost_bytes::GhostBytes;
 use no_std_io2::io::{BufRead, Error, Read, Result, Seek, SeekFrom, Stored, Write};
-use no_std_io2::trace::Trace;
 use std::alloc::Global;
 use std::cell::RefCell;
 use std::rc::Rc;
@@ -22,7 +22,7 @@ pub struct Recorder {
     journal: Rc<RefCell<Journal>>,
     // Which of several readers it is.
     name: Name,
-    taken: Trace,
+    taken: GhostBytes,
     // The bytes that it lends.
     lent: Lent,
     turns: usize,
@@ -64,7 +64,7 @@ impl Recorder {
         Recorder {
             journal,
             name,
-            taken: Trace::new(),
+            taken: GhostBytes::new(),
             lent: Lent::none(alloc),
             turns: TURNS,
         }
@@ -185,11 +185,11 @@ impl Read for Recorder {
 impl BufRead for Recorder {
     ghost held = { λ r. drop r.lent.at r.lent.bytes.items };
 
-    ghost counts_fills = { λ _. ⊥ };
+    ghost is_fill_metered = { λ _. ⊥ };
 
     ghost fills = { λ _. 0 };
 
-    ghost lends_surely = { λ _. ⊥ };
+    ghost knows_lent_length = { λ _. ⊥ };
 
     ghost lent_length = { λ _. 0 };
 

@@ -9,8 +9,8 @@ ghost use Rattle.system_streams.specs.Turns.{IsOutOfTurns, IsPlainInterruption, 
 ghost use Rattle.system_streams.specs.Turns.{GivesOn, Becomes, EndsReads, Got};
 
 use crate::system::{SystemRead, SystemWrite};
+use no_std_io2::ghost_bytes::GhostBytes;
 use no_std_io2::io::{Error, ErrorKind, Read, Result, Stored, Write};
-use no_std_io2::trace::Trace;
 use std::io::ErrorKind as SystemKind;
 
 /// Makes a reader or writer of Rust's `std::io` a stream of this library.
@@ -36,7 +36,7 @@ use std::io::ErrorKind as SystemKind;
 pub struct Patient<D> {
     device: D,
     turns: u64,
-    taken: Trace,
+    taken: GhostBytes,
 }
 
 impl<D> Patient<D> {
@@ -52,7 +52,7 @@ impl<D> Patient<D> {
         Patient {
             device,
             turns,
-            taken: Trace::new(),
+            taken: GhostBytes::new(),
         }
     }
 

@@ -2,7 +2,7 @@
 ghost use Rattle.std.specs.Prelude.{◌≡◌, [], ⊤};
 ghost use Rattle.no_std_io2.specs.Sink.{sink_taken};
 
-use crate::trace::Trace;
+use crate::ghost_bytes::GhostBytes;
 use no_std_io2_base::error::Result;
 use no_std_io2_base::traits::Write;
 use std::fmt;
@@ -11,7 +11,7 @@ use std::fmt;
 /// bytes. Follows `std::io::Sink`.
 #[derive(Drop)]
 pub struct Sink {
-    taken: Trace,
+    taken: GhostBytes,
 }
 
 impl Sink {
@@ -20,7 +20,7 @@ impl Sink {
         ensures { sink_taken result ≡ [] }
     {
         Sink {
-            taken: Trace::new(),
+            taken: GhostBytes::new(),
         }
     }
 }

@@ -94,7 +94,7 @@ impl<T: AsSlice<u8>> Read for Cursor<T> {
 impl<T: AsSlice<u8>> BufRead for Cursor<T> {
     ghost held = { cursor_left T.slice };
 
-    ghost lends_surely = { λ _. Unit {0} };
+    ghost knows_lent_length = { λ _. Unit {0} };
 
     ghost lent_length = { λ c. length (cursor_left T.slice c) };
 

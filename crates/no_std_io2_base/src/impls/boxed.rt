@@ -81,11 +81,11 @@ impl<T: Read, A: Allocator> Read for Box<T, A> {
 impl<T: BufRead, A: Allocator> BufRead for Box<T, A> {
     ghost held = { λ b. T.held b.value };
 
-    ghost counts_fills = { λ b. T.counts_fills b.value };
+    ghost is_fill_metered = { λ b. T.is_fill_metered b.value };
 
     ghost fills = { λ b. T.fills b.value };
 
-    ghost lends_surely = { λ b. T.lends_surely b.value };
+    ghost knows_lent_length = { λ b. T.knows_lent_length b.value };
 
     ghost lent_length = { λ b. T.lent_length b.value };
 

@@ -81,11 +81,11 @@ impl<T: Read> Read for &mut T {
 impl<T: BufRead> BufRead for &mut T {
     ghost held = { λ r. T.held r.now };
 
-    ghost counts_fills = { λ r. T.counts_fills r.now };
+    ghost is_fill_metered = { λ r. T.is_fill_metered r.now };
 
     ghost fills = { λ r. T.fills r.now };
 
-    ghost lends_surely = { λ r. T.lends_surely r.now };
+    ghost knows_lent_length = { λ r. T.knows_lent_length r.now };
 
     ghost lent_length = { λ r. T.lent_length r.now };
 

@@ -109,7 +109,7 @@ impl Read for &[u8] {
 impl BufRead for &[u8] {
     ghost held = { λ s. s.now };
 
-    ghost lends_surely = { λ _. Unit {0} };
+    ghost knows_lent_length = { λ _. Unit {0} };
 
     ghost lent_length = { λ s. length s.now };
 

@@ -25,13 +25,13 @@ pub trait BufRead: Read {
 
     // Whether the inner reads that `fill_buf` makes are counted, and how many were made. By default they are
     // not.
-    ghost counts_fills: { Self → Type 0 } = { λ _. ⊥ };
+    ghost is_fill_metered: { Self → Type 0 } = { λ _. ⊥ };
 
     ghost fills: { Self → ℕ } = { λ _. 0 };
 
     // Whether it is known how many bytes the next `fill_buf` lends, and that number. By default it
     // is not known.
-    ghost lends_surely: { Self → Type 0 } = { λ _. ⊥ };
+    ghost knows_lent_length: { Self → Type 0 } = { λ _. ⊥ };
 
     ghost lent_length: { Self → ℕ } = { λ _. 0 };
 

@@ -78,11 +78,11 @@ impl Read for Held {
 impl BufRead for Held {
     ghost held = { λ h. ⟦<BufReader<Cursor<Vec<u8>>, 4> as BufRead>⟧.held h.reader };
 
-    ghost counts_fills = { λ _. ⊥ };
+    ghost is_fill_metered = { λ _. ⊥ };
 
     ghost fills = { λ _. 0 };
 
-    ghost lends_surely = { λ _. ⊥ };
+    ghost knows_lent_length = { λ _. ⊥ };
 
     ghost lent_length = { λ _. 0 };
 

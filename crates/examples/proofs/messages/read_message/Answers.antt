@@ -1,8 +1,8 @@
 use Rattle.std.proofs.Common.{◌++◌, length, take, drop, sym, ap, ◌∙◌, subst}
 use Rattle.std.proofs.Math.Seq.{take-append_seam}
 use Rattle.std.specs.Int.{w16, to_be_bytes}
-use Rattle.no_std_io2.specs.Passing.{Passes}
-use Rattle.no_std_io2.proofs.EventLemmas.{Passes-then, Passes-fills}
+use Rattle.no_std_io2.specs.Passing.{TakesBytes}
+use Rattle.no_std_io2.proofs.EventLemmas.{TakesBytes-then, TakesBytes-fills}
 use Rattle.examples.specs.Messages.{message}
 use Rattle.examples.proofs.messages.read_message.Goals as goal
 
@@ -18,7 +18,7 @@ returns g c =
           let one = c.in_ok-read_exact.ensures.law.told t in
           let two = c.in_ok-read_exact-2.ensures.law.told one.0 in (
             two.0,
-            subst (λ l. Passes (g.R.Read.events c.args.r.now) l (g.R.Read.events c.read_exact-2.new.self)) whole
-                (Passes-then (Passes-fills one.1) (Passes-fills two.1)),
+            subst (λ l. TakesBytes (g.R.Read.events c.args.r.now) l (g.R.Read.events c.read_exact-2.new.self)) whole
+                (TakesBytes-then (TakesBytes-fills one.1) (TakesBytes-fills two.1)),
           );
     }

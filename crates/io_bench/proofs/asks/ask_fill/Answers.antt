@@ -16,7 +16,7 @@ returns-in_err-lent g c =
     let p = err_from_is_err_and c.from_residual.result c.from_residual.ensures.1 in
     rw (p.1, p.2) (record {
       told = λ t. let after = c.fill_buf.follows.holds-at-none.law.told t in (after.0, lent_error _ c.in_err-lent.was after.1);
-      filling = λ f. absurd (c.in_err-lent.ensures.law.lends_surely f);
+      filling = λ f. absurd (c.in_err-lent.ensures.law.knows_lent_length f);
       calls =
           let reply = c.fill_buf.result in (
             Filled (lent_bytes reply) ∷ [],
@@ -51,11 +51,11 @@ returns g c =
           let gone = ap length rest.1 ∙ length-events (take n (reader_held mid)) (asked_events g.R.Read.events new) in
           let left = ap length dropped.held ∙ length-drop n (reader_held mid) in
           let inner = g.R.Read.events (asked_reader r) in (
-            dropped.lends_surely (after.stays_sure f),
+            dropped.knows_lent_length (after.stays_sure f),
             fill_asked g.row.S c.args.most (length (reader_held r)) (length inner) (tally_reads (reader_inner r)) (length (reader_held new))
                 (length lent) (some_room r) (events_of (take n (reader_held mid)), sym same ∙ rest.1)
                 (omega (arith, ap length same, gone, within, c.min.ensures)) (length-events (reader_held r) inner)
-                (law.lends_surely f) (omega (arith, left, ap length held, c.min.ensures)) ((dropped.counts counted.0).1 ∙ counted.1) refl,
+                (law.knows_lent_length f) (omega (arith, left, ap length held, c.min.ensures)) ((dropped.counts counted.0).1 ∙ counted.1) refl,
           );
       calls =
           let all : n ≡ min c.args.most (length lent) = omega (arith, c.min.ensures) in (

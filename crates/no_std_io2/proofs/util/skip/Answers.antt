@@ -1,5 +1,5 @@
 use Rattle.std.proofs.Common.{◌≡◌, ◌<◌, ◌≤◌, length, take, sym, ◌∙◌, arith, inl, inr, length-take-le}
-use Rattle.no_std_io2.proofs.EventLemmas.{PassesOver-more, PassesOver-still, Passes-interruption}
+use Rattle.no_std_io2.proofs.EventLemmas.{SkipsBytes-more, SkipsBytes-still, TakesBytes-interruption}
 use Rattle.no_std_io2.proofs.EventLemmas.{part_taken, none_taken, error_taken, is_empty, not_empty}
 use Rattle.no_std_io2.proofs.util.skip.Goals as goal
 
@@ -38,7 +38,7 @@ pieces-preserved-in-Ok g c =
           let rest = dropped.told loan.0 in
           let after = g.B.Read.events c.consume.new.self in
           let part = part_taken c.in-Ok.lent _ after len c.in-Ok.is filled.lends loan.1 rest.1 in
-          (rest.0, PassesOver-more (take len lent) after so_far.1 part (omega (arith, is, many)));
+          (rest.0, SkipsBytes-more (take len lent) after so_far.1 part (omega (arith, is, many)));
       left = omega (arith, before.left, many);
       none = λ z. absurd (omega (arith, before.left, c.pieces-test.true));
       turns = omega (arith, dropped.turns_never_rise, filled.turns_never_rise, before.turns);
@@ -61,7 +61,7 @@ pieces-preserved g c =
           let so_far = before.told t in
           let loan = filled.told so_far.0 in
           let again = sym c.is_interrupted.ensures ∙ c.if-is_interrupted.true in
-          (loan.0, PassesOver-still so_far.1 (Passes-interruption (error_taken c.in-Err.is loan.1) again));
+          (loan.0, SkipsBytes-still so_far.1 (TakesBytes-interruption (error_taken c.in-Err.is loan.1) again));
       left = before.left;
       none = λ z. absurd (omega (arith, before.left, c.pieces-test.true));
       turns = omega (arith, filled.turns_never_rise, before.turns);

@@ -46,11 +46,11 @@ impl<R: Read, const S: usize> BufReader<R, S> {
 impl<R: Read, const S: usize> BufRead for BufReader<R, S> {
     ghost held = { reader_held };
 
-    ghost counts_fills = { λ r. R.is_metered (reader_inner r) };
+    ghost is_fill_metered = { λ r. R.is_metered (reader_inner r) };
 
     ghost fills = { λ r. R.cost (reader_inner r) };
 
-    ghost lends_surely = { λ r. R.is_filling (reader_inner r) };
+    ghost knows_lent_length = { λ r. R.is_filling (reader_inner r) };
 
     ghost lent_length = { reader_lent_length R.events };
 

@@ -46,7 +46,7 @@ impl<R: Read, const S: usize> BufReader<R, S> {
     // Continues an exact read of more than the held bytes, as the trait's body does.
     #[cold]
     #[inline(never)]
-    fn read_rest(&mut self, buf: &mut [u8]) -> Result<()>
+    fn read_exact_cold(&mut self, buf: &mut [u8]) -> Result<()>
         requires { length (reader_held self.old) < length buf.old }
         ensures { ReadsOn R.Read self.old (length buf.old) result buf.new self.new }
     {
@@ -62,13 +62,13 @@ impl<R: Read, const S: usize> BufReader<R, S> {
         Ok(())
     }
 
-    // Calls `read_rest`, for the reason that `sender.rt` gives.
+    // Calls `read_exact_cold`, for the reason that `sender.rt` gives.
     #[inline(always)]
-    fn read_out_of_line(&mut self, buf: &mut [u8]) -> Result<()>
+    fn read_exact_out_of_line(&mut self, buf: &mut [u8]) -> Result<()>
         requires { length (reader_held self.old) < length buf.old }
         ensures { ReadsOn R.Read self.old (length buf.old) result buf.new self.new }
     {
-        self.read_rest(buf)
+        self.read_exact_cold(buf)
     }
 }
 
@@ -140,7 +140,7 @@ impl<R: Read, const S: usize> Read for BufReader<R, S> {
         ensures leaves { LeavesExact R.Read self.old (length buf.old) result buf.new self.new }
     {
         if buf.len() > self.buffer.len() {
-            return self.read_out_of_line(buf);
+            return self.read_exact_out_of_line(buf);
         }
         self.buffer.give_whole(buf);
         Ok(())

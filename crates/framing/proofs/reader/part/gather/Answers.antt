@@ -1,5 +1,5 @@
 use Rattle.std.proofs.Common.{◌≡◌, ◌<◌, ◌≤◌, ◌+◌, length, vec_len, take, sym, ◌∙◌, arith, le_trans, length-take-le}
-use Rattle.no_std_io2.proofs.EventLemmas.{part_taken, error_taken, not_empty, Gathered-more, Gathered-still, Passes-interruption}
+use Rattle.no_std_io2.proofs.EventLemmas.{part_taken, error_taken, not_empty, Gathered-more, Gathered-still, TakesBytes-interruption}
 use Rattle.framing.proofs.reader.part.gather.Goals as goal
 
 pub pieces-preserved-in-Ok : goal.pieces-preserved-in-Ok
@@ -46,7 +46,7 @@ pieces-preserved g c =
           let loan = filled.told so_far.0 in (
             loan.0,
             Gathered-still so_far.1
-                (Passes-interruption (error_taken c.in-Err.is loan.1) (sym c.is_interrupted.ensures ∙ c.if-is_interrupted.true)),
+                (TakesBytes-interruption (error_taken c.in-Err.is loan.1) (sym c.is_interrupted.ensures ∙ c.if-is_interrupted.true)),
           );
       grows = before.grows;
       len = before.len;

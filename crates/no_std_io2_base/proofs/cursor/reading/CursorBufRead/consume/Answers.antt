@@ -20,7 +20,7 @@ returns-clause-law g c =
       cost = λ no. absurd no;
       counts = λ no. absurd no;
       filling = λ fills. fills;
-      lends_surely = λ sure. sure;
+      knows_lent_length = λ sure. sure;
       store = λ fits. (
         (fits.0, omega (arith, c.requires, fits.0, fits.1, length-drop here.pos (g.T.AsSlice.slice here.inner))),
         refl,

@@ -31,7 +31,7 @@ returns g c =
         },
       ),
       record {
-        law = record { held = box.0.0; front = box.0.1; end = box.0.2; lends_surely = λ no. absurd no };
+        law = record { held = box.0.0; front = box.0.1; end = box.0.2; knows_lent_length = λ no. absurd no };
         after_borrow = tt;
       },
     )

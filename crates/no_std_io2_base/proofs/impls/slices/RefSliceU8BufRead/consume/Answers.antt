@@ -18,7 +18,7 @@ returns c =
         cost = λ no. absurd no;
         counts = λ no. absurd no;
         filling = λ fills. fills;
-        lends_surely = λ sure. sure;
+        knows_lent_length = λ sure. sure;
         store = λ no. absurd no;
         call = tt;
       };

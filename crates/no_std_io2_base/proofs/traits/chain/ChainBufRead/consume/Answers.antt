@@ -17,7 +17,7 @@ returns-then-self g c =
         cost = λ no. absurd no;
         counts = λ no. absurd no;
         filling = λ no. absurd no;
-        lends_surely = λ no. absurd no;
+        knows_lent_length = λ no. absurd no;
         store = λ no. absurd no;
         call = by_second done (λ _. refl) (λ going. absurd (true≢false (sym done ∙ going))) dropped.call;
       };
@@ -44,7 +44,7 @@ returns-else-self g c =
         cost = λ no. absurd no;
         counts = λ no. absurd no;
         filling = λ no. absurd no;
-        lends_surely = λ no. absurd no;
+        knows_lent_length = λ no. absurd no;
         store = λ no. absurd no;
         call = by_first going refl refl dropped.call;
       };

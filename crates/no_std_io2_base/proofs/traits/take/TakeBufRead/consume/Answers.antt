@@ -23,7 +23,7 @@ returns-then-self-eq0 g c =
         cost = λ no. absurd no;
         counts = λ no. absurd no;
         filling = λ f. f;
-        lends_surely = λ no. absurd no;
+        knows_lent_length = λ no. absurd no;
         store = λ no. absurd no;
         call = consumes_at_limit c.if-self-eq0.true none;
       };
@@ -50,7 +50,7 @@ returns g c =
         cost = λ no. absurd no;
         counts = λ no. absurd no;
         filling = dropped.filling;
-        lends_surely = λ no. absurd no;
+        knows_lent_length = λ no. absurd no;
         store = λ no. absurd no;
         call = consumes_inner held (some_bytes _ c.if-self-eq0.false) (omega (arith, c.requires, most)) dropped.told
             (omega (arith, c.requires, most)) dropped.call;

@@ -63,7 +63,7 @@ returns g c =
           held = grind (arith, common_steps);
           front = λ t. begins_cut _ _ (omega arith) (c.in_ok-available.ensures.law.front t);
           end = grind (arith, common_steps);
-          lends_surely = λ n. absurd n;
+          knows_lent_length = λ n. absurd n;
         };
         at_limit = λ z. absurd (search rules);
         after_borrow = tt;

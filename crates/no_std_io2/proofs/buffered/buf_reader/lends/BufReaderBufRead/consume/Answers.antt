@@ -18,7 +18,7 @@ returns-clause-law g c =
       cost = λ no. absurd no;
       counts = λ m. (m, refl);
       filling = λ no. absurd no;
-      lends_surely = λ f. f;
+      knows_lent_length = λ f. f;
       store = λ s. let sound = give_sound held now _ _ c.args.amount is c.requires s.1 in ((s.0, sound.0), refl, sound.1);
       call = (is, refl);
     }

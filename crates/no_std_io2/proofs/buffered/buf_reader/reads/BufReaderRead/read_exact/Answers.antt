@@ -12,7 +12,7 @@ use Rattle.no_std_io2.proofs.buffered.buf_reader.reads.BufReaderRead.read_exact.
 
 pub returns-then-buf-len : goal.returns-then-buf-len
 returns-then-buf-len g c =
-    let read = c.read_out_of_line.ensures in
+    let read = c.read_exact_out_of_line.ensures in
     let more : length (reader_held c.args.self.now) < length c.args.buf.now = omega arith in
     record {
       law = record {

@@ -8,28 +8,28 @@ use std::marker::{Model, PhantomData};
 /// A list of bytes that only contracts see. It takes no memory, and its calls do nothing when they run.
 ///
 /// A device that does not store the bytes that it takes, such as a port, a socket or a sink, uses a
-/// `Trace` to tell its `out`.
+/// `GhostBytes` to tell its `out`.
 #[derive(Drop)]
-pub struct Trace {
+pub struct GhostBytes {
     marker: PhantomData<u8>,
     pub ghost bytes: { List ℕ },
 }
 
-impl Model for Trace {
+impl Model for GhostBytes {
     ghost also_owns = { λ _. ftrue };
 }
 
-impl Trace {
+impl GhostBytes {
     /// Makes an empty list.
     ///
     /// ```rust
-    /// let mut taken = Trace::new();
+    /// let mut taken = GhostBytes::new();
     /// taken.add(b"ab"); // for contracts `taken.bytes` is `ab` now
     /// ```
-    pub fn new() -> Trace
+    pub fn new() -> GhostBytes
         ensures { result.bytes ≡ [] }
     {
-        Trace {
+        GhostBytes {
             marker: PhantomData,
         }
     }

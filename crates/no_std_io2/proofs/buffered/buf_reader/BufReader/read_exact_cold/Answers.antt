@@ -11,7 +11,7 @@ use Rattle.no_std_io2.proofs.BufReaderExact.{moved_length, read_ends, read_behin
 use Rattle.no_std_io2.proofs.BufReaderCalls.{gives_first}
 use Rattle.no_std_io2.proofs.BufReaderLends.{buf_tells}
 use Rattle.no_std_io2.proofs.BufWriterLemmas.{IsSuffix-none}
-use Rattle.no_std_io2.proofs.buffered.buf_reader.BufReader.read_rest.Goals as goal
+use Rattle.no_std_io2.proofs.buffered.buf_reader.BufReader.read_exact_cold.Goals as goal
 
 pub reads-init : goal.reads-init
 reads-init g c =

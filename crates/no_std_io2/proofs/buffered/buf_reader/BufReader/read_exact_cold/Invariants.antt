@@ -6,7 +6,7 @@ use Rattle.no_std_io2.specs.BufReader.{StaysSound}
 use Rattle.no_std_io2.specs.Buffer.{IsSuffix}
 use Rattle.no_std_io2.proofs.BufReaderExact.{Exact, behind_so_far}
 use Rattle.no_std_io2.proofs.BufReaderLends.{buf_reader}
-use Rattle.no_std_io2.proofs.buffered.buf_reader.BufReader.read_rest.Given as goal
+use Rattle.no_std_io2.proofs.buffered.buf_reader.BufReader.read_exact_cold.Given as goal
 
 abbrev pub invariant-reads : goal.invariant-reads
 invariant-reads g l =

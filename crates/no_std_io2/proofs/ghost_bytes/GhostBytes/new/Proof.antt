@@ -21,17 +21,17 @@ use denote.Triple.Entry.{on_entry}
 use denote.Triple.Spec.{Meets, triple_of}
 use denote.Triple.Table.{entered}
 use denote.Triple.Walked.{says, ends_at, walked, walk_Meets}
-use Rattle.no_std_io2.specs.declared.trace.Trace.{Trace}
-use Rattle.no_std_io2.specs.contracts.trace.Trace as T
-use Rattle.no_std_io2.specs.contracts.trace.Trace.new.Key.{name as #it}
-use Rattle.no_std_io2.specs.contracts.trace.Trace.new as it
-use Rattle.no_std_io2.proofs.trace.Trace.new.Statement as stated
-use Rattle.no_std_io2.proofs.trace.Trace.new.Code as code
+use Rattle.no_std_io2.specs.declared.ghost_bytes.GhostBytes.{GhostBytes}
+use Rattle.no_std_io2.specs.contracts.ghost_bytes.GhostBytes as T
+use Rattle.no_std_io2.specs.contracts.ghost_bytes.GhostBytes.new.Key.{name as #it}
+use Rattle.no_std_io2.specs.contracts.ghost_bytes.GhostBytes.new as it
+use Rattle.no_std_io2.proofs.ghost_bytes.GhostBytes.new.Statement as stated
+use Rattle.no_std_io2.proofs.ghost_bytes.GhostBytes.new.Code as code
 
 abbrev v : Val
 v = vstruct (vcons (vstruct vnil) vnil)
 
-abbrev r : Trace
+abbrev r : GhostBytes
 r = record { marker = record {}; bytes = [] }
 
 meets : {M : Type 1} {𝓤 : Ura M} (𝓛 : Logic 𝓤) → (at_mem : Memory → SProp 𝓤) (run : Routine → Fun 𝓤) (𝓣 : Tables 𝓤 𝓛.H)
