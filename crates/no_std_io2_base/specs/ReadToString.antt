@@ -2,7 +2,7 @@
 use Rattle.std.specs.Prelude.{◌≡◌, ℕ, ◌+◌, ◌≤◌, List, [], Result, IfOk, String, string_len, string_capacity, string_bytes}
 use Rattle.no_std_io2_base.specs.declared.error.Error.{Error}
 use Rattle.no_std_io2_base.specs.Errors.{IsNoInterruption}
-use Rattle.no_std_io2_base.specs.Read.{Event, Reader, ReadsToEnd, GoesOn}
+use Rattle.no_std_io2_base.specs.Read.{Event, Reader, ReadsToEnd, GoesOn, ToEndMade}
 use Rattle.no_std_io2_base.specs.Write.{IsFront}
 use Rattle.no_std_io2_base.specs.Pieces.{AnswersLine}
 
@@ -32,3 +32,6 @@ pub record ReadToStringLaw {S A : Type 0} (R : Reader S) (old : S) (buf : String
   pub filling : R.is_filling old → R.is_filling new
   -- a told store keeps its content, and the position moves by the number of bytes that were taken
   pub store : GoesOn R old new
+  -- which calls it made: those of a `read_to_end`, which gave the text
+  pub calls : (text : List ℕ) × (read : Result ℕ Error) × ToEndMade R.may old [] read text new
+      × AnswersLine text read (string_len buf) (string_capacity buf) reply (string_bytes buf) (string_bytes buf')
