@@ -1,7 +1,7 @@
 // [`run_split`] and [`run_lines`], which take all items of a `split` and of a `lines`.
 ghost use Rattle.std.specs.Prelude.{◌≡◌, ◌+◌, ◌<◌, ◌++◌, map, false, OnOk, OnErr, IfErr, vec_items, vec_len, vec_capacity, string_bytes};
 ghost use Rattle.no_std_io2.specs.Errors.{IsFault, IsOutOfMemory};
-ghost use Rattle.no_std_io2.specs.Pieces.{line_text, without};
+ghost use Rattle.no_std_io2.specs.Pieces.{newline, line_text, without};
 ghost use Rattle.no_std_io2.specs.Pieces.{split_reader, split_delim, split_is_ended, lines_reader, lines_is_ended, RefusesLine};
 ghost use Rattle.no_std_io2.specs.Write.{IsFront};
 ghost use Rattle.io_bench.specs.PieceRuns.{GathersPieces};
@@ -59,7 +59,7 @@ pub fn run_split<R: BufRead + Drop>(mut split: Split<R>, items: &mut Vec<Vec<u8>
 /// the next line had no room for a byte.
 pub fn run_lines<R: BufRead + Drop>(mut lines: Lines<R>, items: &mut Vec<String>) -> Result<()>
     ensures told { lines_is_ended lines ≡ false → R.tells (lines_reader lines)
-        → GathersPieces line_text RefusesLine (vec_capacity items.new < vec_len items.new + 1) 10
+        → GathersPieces line_text RefusesLine (vec_capacity items.new < vec_len items.new + 1) newline
         (R.events (lines_reader lines)) result (map string_bytes (appended items.old.items items.new.items)) }
     ensures appends { items.new.items ≡ items.old.items ++ appended items.old.items items.new.items }
     ensures never_interrupted { IfErr result IsFault }

@@ -3,12 +3,13 @@ use Rattle.std.specs.Prelude.{◌⊎◌, ℕ, ◌+◌, ◌<◌, List, [], ◌∷
 use Rattle.std.specs.List.{concat}
 use Rattle.no_std_io2.specs.Errors.{IsOutOfMemory, SaysError}
 use Rattle.no_std_io2.specs.Lines.{HasNoNewline, HasNewline}
+use Rattle.no_std_io2.specs.Pieces.{newline}
 use Rattle.no_std_io2.specs.declared.io.Error.{Error}
 use Rattle.no_std_io2.specs.declared.io.ErrorKind.TheVariants.{InvalidInput}
 
 -- the bytes of a line: its text and a newline
 abbrev pub line_of : List ℕ → List ℕ
-line_of text = text ++ 10 ∷ []
+line_of text = text ++ newline ∷ []
 
 -- the bytes of these lines, one after another
 abbrev pub lines_out : List (List ℕ) → List ℕ

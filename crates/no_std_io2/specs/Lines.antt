@@ -2,27 +2,28 @@
 use Rattle.std.specs.Prelude.{◌≡◌, ◌≢◌, ℕ, ◌-◌, ◌<◌, List, length, slice_index, ◌≤◌, ◌==◌, [], take, drop, nat_lt, nat_le}
 use Rattle.std.specs.Prelude.{if◌then◌else◌}
 use Rattle.std.specs.List.{after_last, Contains}
+use Rattle.no_std_io2_base.specs.Pieces.{newline}
 
 -- no byte is a newline
 abbrev pub HasNoNewline : List ℕ → Type 0
-HasNoNewline xs = (k : ℕ) → k < length xs → slice_index xs k ≢ 10
+HasNoNewline xs = (k : ℕ) → k < length xs → slice_index xs k ≢ newline
 
 -- There is no newline, or one at the end: if any byte is a newline, the last one is.
 abbrev pub IsLineState : List ℕ → Type 0
-IsLineState xs = (k : ℕ) → k < length xs → slice_index xs k ≡ 10 → slice_index xs (length xs - 1) ≡ 10
+IsLineState xs = (k : ℕ) → k < length xs → slice_index xs k ≡ newline → slice_index xs (length xs - 1) ≡ newline
 
 -- some byte is a newline
 abbrev pub HasNewline : List ℕ → Type 0
-HasNewline xs = Contains xs 10
+HasNewline xs = Contains xs newline
 
 -- the bytes after the last newline, or all bytes if there is none
 abbrev pub unfinished_line : List ℕ → List ℕ
-unfinished_line xs = after_last (λ b. b == 10) xs
+unfinished_line xs = after_last (λ b. b == newline) xs
 
 -- the lines of xs are its first n bytes: they end in the last newline; n is 0 if there is no newline
 pub record IsLinesLen (xs : List ℕ) (n : ℕ) : Type 0 where
   pub within : n ≤ length xs
-  pub ends : 0 < n → slice_index xs (n - 1) ≡ 10
+  pub ends : 0 < n → slice_index xs (n - 1) ≡ newline
   pub none_after : HasNoNewline (drop n xs)
 
 -- the number of bytes up to and including the last newline, or 0 if there is none

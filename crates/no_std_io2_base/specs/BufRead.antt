@@ -6,7 +6,7 @@ use Rattle.std.specs.Borrow.{follows_so, Fml, RattleType, MutBor, Bor}
 use Rattle.no_std_io2_base.specs.declared.error.Error.{Error}
 use Rattle.no_std_io2_base.specs.Read.{Event, events_of, fails, first_fault, ReadCall, Filled, Consumed}
 use Rattle.no_std_io2_base.specs.Errors.{IsNoInterruption}
-use Rattle.no_std_io2_base.specs.Pieces.{TakesLine, TakesPiece, HasPieceRoom, SkipsPiece, AnswersLine, PieceMade}
+use Rattle.no_std_io2_base.specs.Pieces.{newline, TakesLine, TakesPiece, HasPieceRoom, SkipsPiece, AnswersLine, PieceMade}
 use Rattle.no_std_io2_base.specs.Write.{IsFront}
 
 -- P holds for the value behind the `&mut` s after the borrow of it by the result has ended
@@ -194,5 +194,5 @@ pub record ReadLineLaw {X A : Type 0} (R : Lender X) (old : X) (buf : String A) 
   pub store : R.has_store old → R.has_store new × (R.content new ≡ R.content old)
       × (R.position new + length (R.events new) ≡ R.position old + length (R.events old))
   -- which calls it made: they took the line
-  pub calls : (line : List ℕ) × (read : Result ℕ Error) × PieceMade (Unit {0}) R.may old 10 read line new
+  pub calls : (line : List ℕ) × (read : Result ℕ Error) × PieceMade (Unit {0}) R.may old newline read line new
       × AnswersLine line read (string_len buf) (string_capacity buf) reply (string_bytes buf) (string_bytes buf')

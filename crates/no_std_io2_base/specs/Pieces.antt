@@ -31,9 +31,16 @@ but_last (x ∷ y ∷ xs) = x ∷ but_last (y ∷ xs)
 abbrev pub without : ℕ → List ℕ → List ℕ
 without d bs = if ends_in d bs then but_last bs else bs
 
+-- the bytes that end a line
+abbrev pub newline : ℕ
+newline = 10
+
+abbrev pub carriage_return : ℕ
+carriage_return = 13
+
 -- a line's text: without its newline, and without one carriage return right before that newline
 abbrev pub line_text : List ℕ → List ℕ
-line_text bs = if ends_in 10 bs then without 13 (without 10 bs) else bs
+line_text bs = if ends_in newline bs then without carriage_return (without newline bs) else bs
 
 -- the pieces with b put in front of the first one; if there is no piece, b alone is the first
 abbrev pub in_front : ℕ → List (List ℕ) → List (List ℕ)
@@ -241,5 +248,5 @@ pub record TakesLine (E : List Event) (len capacity : ℕ) (result : Result ℕ 
     : Type 0 where
   pub line : List ℕ
   pub read : Result ℕ Error
-  pub takes : TakesPiece 10 E read [] line after
+  pub takes : TakesPiece newline E read [] line after
   pub answers : AnswersLine line read len capacity result old new

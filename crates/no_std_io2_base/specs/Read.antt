@@ -231,6 +231,10 @@ abbrev pub GoesOn : {S : Type 0} → Reader S → S → S → Type 0
 GoesOn R old new = R.has_store old → R.has_store new × (R.content new ≡ R.content old)
     × (R.position new + length (R.events new) ≡ R.position old + length (R.events old))
 
+-- the least room into which a read to the end reads
+abbrev pub least_room : ℕ
+least_room = 32
+
 -- a vector of this length and capacity has room for the bytes before the first fault of E, and for `more` bytes
 abbrev pub HasRoom : ℕ → List Event → ℕ → ℕ → Type 0
 HasRoom more E len capacity = len + length (bytes_to_fault E) + more ≤ capacity
@@ -288,7 +292,7 @@ pub record ReadToEndLaw {S A : Type 0} (R : Reader S) (old : S) (buf : Vec ℕ A
   -- the capacity never shrinks
   pub capacity : vec_capacity buf ≤ vec_capacity buf'
   -- if the vector has room enough, an error is the first fault of E, and not a failed allocation
-  pub room : R.tells old → HasRoom 32 (R.events old) (vec_len buf) (vec_capacity buf)
+  pub room : R.tells old → HasRoom least_room (R.events old) (vec_len buf) (vec_capacity buf)
       → IfErr reply (λ e. first_fault (R.events old) ≡ Some e)
   -- the result is never an interruption
   pub never_interrupted : IsNoInterruption reply

@@ -4,7 +4,7 @@ ghost use Rattle.std.specs.Prelude.{vec_len, vec_capacity};
 ghost use Rattle.std.specs.Bool.{OnTrue, OnFalse};
 ghost use Rattle.no_std_io2_base.specs.Errors.{IsOutOfMemory};
 ghost use Rattle.no_std_io2_base.specs.Cursor.{HasMoved};
-ghost use Rattle.no_std_io2_base.specs.Read.{Gave, gave_whole};
+ghost use Rattle.no_std_io2_base.specs.Read.{Gave, gave_whole, least_room};
 
 use no_std_io2_base::error::Result;
 use no_std_io2_base::internal::{append_rest, copy_bytes};
@@ -150,7 +150,7 @@ impl<const S: usize> Buffer<S> {
             (buffer_behind self.new ++ buffer_held self.new ≡ buffer_behind self.old ++ buffer_held self.old) }
         ensures grows { vec_capacity buf.old ≤ vec_capacity buf.new }
         ensures refused { IfErr result IsOutOfMemory }
-        ensures full { OnErr result (vec_capacity buf.old < vec_len buf.old + length (buffer_held self.old) + 32) }
+        ensures full { OnErr result (vec_capacity buf.old < vec_len buf.old + length (buffer_held self.old) + least_room) }
     {
         let mut rest = self.as_slice();
         let appended = append_rest(&mut rest, buf);

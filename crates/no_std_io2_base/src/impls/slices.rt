@@ -1,6 +1,6 @@
 ghost use Rattle.std.specs.Prelude.{◌≡◌, ◌≤◌, ◌<◌, ◌+◌, ◌++◌, length, [], IfErr, OnOk, OnErr, vec_len, vec_capacity};
 ghost use Rattle.no_std_io2_base.specs.Errors.{IsOutOfMemory};
-ghost use Rattle.no_std_io2_base.specs.Read.{events_of, bytes_alone, ReadExactLaw};
+ghost use Rattle.no_std_io2_base.specs.Read.{events_of, bytes_alone, least_room, ReadExactLaw};
 ghost use Rattle.no_std_io2_base.specs.Cursor.{HasMoved};
 
 use super::copying::copy_prefix;
@@ -32,7 +32,7 @@ pub fn append_rest<A: Allocator>(rest: &mut &[u8], buf: &mut Vec<u8, A>) -> Resu
     ensures done { OnOk result (rest.new.now ≡ []) }
     ensures grows { vec_capacity buf.old ≤ vec_capacity buf.new }
     ensures refused { IfErr result IsOutOfMemory }
-    ensures full { OnErr result (vec_capacity buf.old < vec_len buf.old + length rest.old.now + 32) }
+    ensures full { OnErr result (vec_capacity buf.old < vec_len buf.old + length rest.old.now + least_room) }
 {
     reserve_ahead(buf, rest.len());
     reserve_room(buf, LEAST_ROOM)?;

@@ -2,7 +2,7 @@
 ghost use Rattle.std.specs.Prelude.{◌≡◌, ◌≤◌, ◌<◌, true, false, None, IfSome, IfErr, OnSome, string_bytes};
 ghost use Rattle.std.specs.Iterator.{at_most};
 ghost use Rattle.no_std_io2_base.specs.Errors.{IsFault};
-ghost use Rattle.no_std_io2_base.specs.Pieces.{line_text, lines_reader, lines_is_ended, RefusesLine};
+ghost use Rattle.no_std_io2_base.specs.Pieces.{newline, line_text, lines_reader, lines_is_ended, RefusesLine};
 ghost use Rattle.no_std_io2_base.specs.Pieces.{YieldsPiece, NextMade, ends_at, items_left};
 
 use super::buf_read::BufRead;
@@ -40,8 +40,8 @@ impl<R> Lines<R> {
 #[tactic(auto, using(crate::proofs::PieceLoop::whole_made))]
 fn next_line<R: BufRead>(reader: &mut R, alloc: Global) -> Option<Result<String>>
     ensures told { R.tells reader.old → R.tells reader.new
-        × YieldsPiece string_bytes line_text RefusesLine 10 (R.events reader.old) result (R.events reader.new) }
-    ensures calls { NextMade R.may reader.old string_bytes line_text RefusesLine 10 result reader.new }
+        × YieldsPiece string_bytes line_text RefusesLine newline (R.events reader.old) result (R.events reader.new) }
+    ensures calls { NextMade R.may reader.old string_bytes line_text RefusesLine newline result reader.new }
     ensures never_interrupted { IfSome result (λ item. IfErr item IsFault) }
     ensures turns_never_rise { R.turns reader.new ≤ R.turns reader.old }
     ensures spends_turn { ends_at result ≡ false → OnSome result (R.turns reader.new < R.turns reader.old) }
@@ -67,9 +67,9 @@ where
         (lines_is_ended s ≡ true → (r ≡ None) × (t ≡ s))
         × (lines_is_ended s ≡ false → (lines_is_ended t ≡ ends_at r)
         × (R.tells (lines_reader s) → R.tells (lines_reader t)
-        × YieldsPiece string_bytes line_text RefusesLine 10
+        × YieldsPiece string_bytes line_text RefusesLine newline
         (R.events (lines_reader s)) r (R.events (lines_reader t)))
-        × NextMade R.may (lines_reader s) string_bytes line_text RefusesLine 10 r (lines_reader t))
+        × NextMade R.may (lines_reader s) string_bytes line_text RefusesLine newline r (lines_reader t))
         × IfSome r (λ item. IfErr item IsFault)
         × OnSome r (items_left (lines_is_ended t) (R.turns (lines_reader t))
         < items_left (lines_is_ended s) (R.turns (lines_reader s))) };

@@ -4,7 +4,7 @@ ghost use Rattle.std.specs.Borrow.{Lends};
 ghost use Rattle.no_std_io2_base.specs.contracts.traits.take.Take.{the_row as take-row};
 ghost use Rattle.no_std_io2_base.specs.BufRead.{FillBufLaw, AfterLoan, ConsumeLaw, Rests};
 ghost use Rattle.no_std_io2_base.specs.Take.{take_with_inner, take_limit, take_inner, take_events, take_held, TakeMay};
-ghost use Rattle.no_std_io2_base.specs.Read.{cut_alone, first_fault, HasRoom, ReadToEndLaw};
+ghost use Rattle.no_std_io2_base.specs.Read.{cut_alone, first_fault, least_room, HasRoom, ReadToEndLaw};
 
 use super::buf_read::BufRead;
 use super::read::Read;
@@ -143,7 +143,7 @@ impl<T: Read> Read for Take<T> {
 
         // If the vector has room for the bytes up to the limit, no allocation fails.
         ensures small_room { T.tells (take_inner self.old)
-            → HasRoom (min (take_limit self.old) 32) (take_events T.events self.old) (vec_len buf.old) (vec_capacity buf.old)
+            → HasRoom (min (take_limit self.old) least_room) (take_events T.events self.old) (vec_len buf.old) (vec_capacity buf.old)
             → IfErr result (λ e. first_fault (take_events T.events self.old) ≡ Some e) }
     {
         let start = buf.len();
