@@ -36,24 +36,22 @@ fn copy_few(from: &[u8], to: &mut [u8])
     }
 }
 
-// Copies a slice of more than 32 bytes, in place up to 128. It is not inlined: LLVM does not know that the slices cannot overlap,
+// Copies a slice of more than 64 bytes, in place up to 128. It is not inlined: LLVM does not know that the slices cannot overlap,
 // and compiles a copy to a test, a call and loops.
 #[inline(never)]
 fn copy_long(to: &mut [u8], from: &[u8])
     requires same { length to.old ≡ length from.now }
-    requires long { 32 < length from.now }
+    requires long { 64 < length from.now }
     ensures { to.new ≡ from.now }
 {
     if from.len() > 128 {
         to.copy_from_slice(from);
-    } else if from.len() > 64 {
-        copy_ends::<64>(from, to);
     } else {
-        copy_ends::<32>(from, to);
+        copy_ends::<64>(from, to);
     }
 }
 
-/// Copies bytes over as many others. Up to 128 bytes are moved without a call of `memcpy`, and up to 32 without any, since most pieces
+/// Copies bytes over as many others. Up to 128 bytes are moved without a call of `memcpy`, and up to 64 without any, since most pieces
 /// that go through a stream are short. Follows `copy_from_slice` of std's slices.
 #[inline(always)]
 pub fn copy_bytes(from: &[u8], to: &mut [u8])
@@ -61,7 +59,11 @@ pub fn copy_bytes(from: &[u8], to: &mut [u8])
     ensures { to.new ≡ from.now }
 {
     if from.len() > 32 {
-        copy_long(to, from);
+        if from.len() > 64 {
+            copy_long(to, from);
+        } else {
+            copy_ends::<32>(from, to);
+        }
     } else if from.len() >= 16 {
         copy_ends::<16>(from, to);
     } else if from.len() >= 8 {

@@ -131,7 +131,7 @@ impl<R: Read, const S: usize> Read for BufReader<R, S> {
         Ok(self.give(buf))
     }
 
-    #[inline]
+    #[inline(always)]
     fn read_exact(&mut self, buf: &mut [u8]) -> Result<()>
         // If the bytes end too early, all of them are taken.
         ensures law { ReadExactLaw ⟦<Self as Read>⟧ self.old buf.old result buf.new self.new }
