@@ -3,6 +3,8 @@ use Rattle.std.proofs.Common.{◌≡◌, ℕ, ◌<◌, ◌≤◌, List, [], ◌+
 use Rattle.std.specs.Borrow.{Bor}
 use Rattle.std.specs.declared.dyn_box.DynBox.{DynBox}
 use Rattle.no_std_io2_base.specs.declared.error.Error.{Error}
+use Rattle.no_std_io2_base.specs.declared.traits.read.Read.{Ghosts as ReaderGhosts}
+use Rattle.no_std_io2_base.specs.declared.traits.write.Write.{Ghosts as WriterGhosts}
 use Rattle.no_std_io2_base.specs.Errors.{IsNoInterruption}
 use Rattle.no_std_io2_base.specs.Read.{Event, events_of, Reads, ReadsExact, SpendsTurn, ReadLaw, ReadExactLaw, ReadCall, Gave, gave}
 use Rattle.no_std_io2_base.specs.Read.{ExactMade, Filled, Consumed}
@@ -13,9 +15,7 @@ use Rattle.no_std_io2_base.proofs.CallsLemmas.{made_map}
 use Rattle.no_std_io2_base.specs.Write.{Told, WriteCall, Wrote, WroteAll, WroteRest, Flushed, Made, CallLaw, BoxMay}
 use Rattle.no_std_io2_base.specs.Write.{WriteAllLaw, WriteRestLaw}
 
-module _ {I A : Type 0} {V : I → Type 0} (tells : ((x : I) × V x) → Type 0) (events : ((x : I) × V x) → List Event)
-    (turns : ((x : I) × V x) → ℕ) (may_take_none : ((x : I) × V x) → Type 0) (may : (i : I) → V i → ReadCall → V i → Type 0)
-    (box : DynBox I A V) where
+module _ {I A : Type 0} {V : I → Type 0} (o : (p : (x : I) × V x) → ReaderGhosts (V p.0)) (box : DynBox I A V) where
   -- the box with another value
   abbrev read_box : (i : I) → V i → DynBox I A V
   read_box i new = record { ptr = box.ptr; vtable = i; alloc = box.alloc; value = new }
@@ -23,19 +23,20 @@ module _ {I A : Type 0} {V : I → Type 0} (tells : ((x : I) × V x) → Type 0)
   -- what a `read` did to the value that was lent, it did to the box
   abbrev pub ReadIn : List ℕ → List ℕ → Result ℕ Error → ((x : I) × V x) → Type 0
   ReadIn buf buf' reply lent = (new : V lent.0) → IfOk reply (λ n. n ≤ length buf')
-      → (tells lent → tells (lent.0, new) × Reads (events lent) reply buf' (events (lent.0, new)))
-      → turns (lent.0, new) ≤ turns lent → SpendsTurn reply (turns lent) (turns (lent.0, new))
-      → may lent.0 lent.1 (Gave (length buf') (gave reply buf')) new
-      → ReadLaw (box_reader tells events turns may_take_none may) box buf reply buf' (read_box lent.0 new)
+      → ((o lent).tells lent.1 → (o (lent.0, new)).tells new × Reads ((o lent).events lent.1) reply buf' ((o (lent.0, new)).events new))
+      → (o (lent.0, new)).turns new ≤ (o lent).turns lent.1 → SpendsTurn reply ((o lent).turns lent.1) ((o (lent.0, new)).turns new)
+      → (o lent).may lent.1 (Gave (length buf') (gave reply buf')) new
+      → ReadLaw (box_reader o) box buf reply buf' (read_box lent.0 new)
 
   -- and a `read_exact`
   abbrev pub Exact : List ℕ → List ℕ → Result (Unit {0}) Error → ((x : I) × V x) → Type 0
   Exact buf buf' reply lent = (new : V lent.0)
-      → (tells lent → tells (lent.0, new) × ReadsExact (may_take_none lent) (events lent) reply buf' (events (lent.0, new)))
-      → IsNoInterruption reply → (length buf ≡ 0 → IsOk reply × (new ≡ lent.1)) → turns (lent.0, new) ≤ turns lent
-      → (0 < length buf → OnOk reply (turns (lent.0, new) < turns lent))
-      → ExactMade (may lent.0) lent.1 reply buf' new
-      → ReadExactLaw (box_reader tells events turns may_take_none may) box buf reply buf' (read_box lent.0 new)
+      → ((o lent).tells lent.1 → (o (lent.0, new)).tells new
+      × ReadsExact ((o lent).may_take_none lent.1) ((o lent).events lent.1) reply buf' ((o (lent.0, new)).events new))
+      → IsNoInterruption reply → (length buf ≡ 0 → IsOk reply × (new ≡ lent.1)) → (o (lent.0, new)).turns new ≤ (o lent).turns lent.1
+      → (0 < length buf → OnOk reply ((o (lent.0, new)).turns new < (o lent).turns lent.1))
+      → ExactMade (λ v. (o (lent.0, v)).may v) lent.1 reply buf' new
+      → ReadExactLaw (box_reader o) box buf reply buf' (read_box lent.0 new)
 
   -- the value that was lent is that in the box
   pub call_in_box : (buf buf' : List ℕ) (reply : Result ℕ Error) (lent : (x : I) × V x) → lent ≡ (box.vtable, box.value)
@@ -68,9 +69,11 @@ module _ {I A : Type 0} {V : I → Type 0} (tells : ((x : I) × V x) → Type 0)
   -- a `consume` of the value that was lent, and of the box
   abbrev pub ConsumeIn : (((x : I) × V x) → List ℕ) → ℕ → ((x : I) × V x) → Type 0
   ConsumeIn held amount lent = (new : V lent.0) → held (lent.0, new) ≡ drop amount (held lent)
-      → (tells lent → tells (lent.0, new) × (events lent ≡ events_of (take amount (held lent)) ++ events (lent.0, new)))
-      → turns (lent.0, new) ≤ turns lent → (0 < amount → turns (lent.0, new) < turns lent) → may lent.0 lent.1 (Consumed amount) new
-      → ConsumeLaw (lends_as (box_reader tells events turns may_take_none may) (holds_alone (λ b. held (b.vtable, b.value)))) box amount
+      → ((o lent).tells lent.1 → (o (lent.0, new)).tells new
+      × ((o lent).events lent.1 ≡ events_of (take amount (held lent)) ++ (o (lent.0, new)).events new))
+      → (o (lent.0, new)).turns new ≤ (o lent).turns lent.1 → (0 < amount → (o (lent.0, new)).turns new < (o lent).turns lent.1)
+      → (o lent).may lent.1 (Consumed amount) new
+      → ConsumeLaw (lends_as (box_reader o) (holds_alone (λ b. held (b.vtable, b.value)))) box amount
       (read_box lent.0 new)
 
   pub consume_box : (held : ((x : I) × V x) → List ℕ) (amount : ℕ) (lent : (x : I) × V x) → lent ≡ (box.vtable, box.value)
@@ -88,29 +91,30 @@ module _ {I A : Type 0} {V : I → Type 0} (tells : ((x : I) × V x) → Type 0)
     call = (new, refl, call);
   })
 
-module _ {I A : Type 0} {V : I → Type 0} (tells : ((x : I) × V x) → Type 0) (events : ((x : I) × V x) → List Event)
-    (turns : ((x : I) × V x) → ℕ) (may : (i : I) → V i → ReadCall → V i → Type 0) (held : ((x : I) × V x) → List ℕ)
+module _ {I A : Type 0} {V : I → Type 0} (o : (p : (x : I) × V x) → ReaderGhosts (V p.0)) (held : ((x : I) × V x) → List ℕ)
     (box : DynBox I A V) (reply : Result (Bor (List ℕ)) Error) where
   -- what a `fill_buf` of a value says
   abbrev pub Lent : ((x : I) × V x) → Type 0
   Lent old = (IsNotEmpty (held old) → IsOkAnd reply (λ s. s.now ≡ held old))
-      × (tells old → IfOk reply (λ s. BeginsWith (events old) s.now))
-      × (tells old → IfOk reply (λ s. s.now ≡ [] → events old ≡ []))
+      × ((o old).tells old.1 → IfOk reply (λ s. BeginsWith ((o old).events old.1) s.now))
+      × ((o old).tells old.1 → IfOk reply (λ s. s.now ≡ [] → (o old).events old.1 ≡ []))
 
   -- what it did to the value that was lent, it did to the box
   abbrev pub Loan : ((x : I) × V x) → Type 0
   Loan lent = (new : V lent.0) → Lent lent
-      → (tells lent → tells (lent.0, new) × LendsFrom (events lent) reply (events (lent.0, new))) → turns (lent.0, new) ≤ turns lent
-      → LendingTurn reply (turns lent) (turns (lent.0, new)) → (IsNotEmpty (held lent) → new ≡ lent.1)
-      → may lent.0 lent.1 (Filled (lent_bytes reply)) new
+      → ((o lent).tells lent.1 → (o (lent.0, new)).tells new × LendsFrom ((o lent).events lent.1) reply ((o (lent.0, new)).events new))
+      → (o (lent.0, new)).turns new ≤ (o lent).turns lent.1
+      → LendingTurn reply ((o lent).turns lent.1) ((o (lent.0, new)).turns new) → (IsNotEmpty (held lent) → new ≡ lent.1)
+      → (o lent).may lent.1 (Filled (lent_bytes reply)) new
       → Lent (box.vtable, box.value)
-      × (tells (box.vtable, box.value) → tells (lent.0, new)
-      × LendsFrom (events (box.vtable, box.value)) reply (events (lent.0, new)))
-      × (turns (lent.0, new) ≤ turns (box.vtable, box.value))
-      × LendingTurn reply (turns (box.vtable, box.value)) (turns (lent.0, new))
+      × ((o (box.vtable, box.value)).tells box.value → (o (lent.0, new)).tells new
+      × LendsFrom ((o (box.vtable, box.value)).events box.value) reply ((o (lent.0, new)).events new))
+      × ((o (lent.0, new)).turns new ≤ (o (box.vtable, box.value)).turns box.value)
+      × LendingTurn reply ((o (box.vtable, box.value)).turns box.value) ((o (lent.0, new)).turns new)
       × (IsNotEmpty (held (box.vtable, box.value))
       → record { ptr = box.ptr; vtable = lent.0; alloc = box.alloc; value = new } ≡ box)
-      × BoxMay box (may box.vtable) (Filled (lent_bytes reply)) (record { ptr = box.ptr; vtable = lent.0; alloc = box.alloc; value = new })
+      × BoxMay box (λ v. (o (box.vtable, v)).may v) (Filled (lent_bytes reply))
+      (record { ptr = box.ptr; vtable = lent.0; alloc = box.alloc; value = new })
 
   -- the value that was lent is that in the box
   pub loan_box : (lent : (x : I) × V x) → lent ≡ (box.vtable, box.value) → Loan lent
@@ -123,16 +127,21 @@ module _ {I A : Type 0} {V : I → Type 0} (tells : ((x : I) × V x) → Type 0)
     (new, refl, call),
   ))
 
-module _ {I A : Type 0} {V : I → Type 0} (told : (i : I) → V i → Told) (takes_all : (i : I) → V i → Type 0)
-    (cost : (i : I) → V i → ℕ) (is_metered : (i : I) → V i → Type 0) (may : (i : I) → V i → WriteCall → V i → Type 0)
-    (box : DynBox I A V) where
+module _ {I A : Type 0} {V : I → Type 0} (o : (p : (x : I) × V x) → WriterGhosts (V p.0)) (box : DynBox I A V) where
+  -- what a value tells, and what its calls may do
+  abbrev told : (i : I) → V i → Told
+  told i v = (o (i, v)).told v
+
+  abbrev may : (i : I) → V i → WriteCall → V i → Type 0
+  may i v = (o (i, v)).may v
+
   -- the box with another value
   abbrev other_box : (i : I) → V i → DynBox I A V
   other_box i new = record { ptr = box.ptr; vtable = i; alloc = box.alloc; value = new }
 
   -- a call of a value, and one of the box
   abbrev ValueCall : (i : I) → V i → WriteCall → V i → Type 0
-  ValueCall i = CallLaw (told i) (takes_all i) (cost i) (is_metered i) (may i)
+  ValueCall i = CallLaw (told i) (λ v. (o (i, v)).takes_all v) (λ v. (o (i, v)).cost v) (λ v. (o (i, v)).is_metered v) (may i)
 
   abbrev BoxCall : DynBox I A V → WriteCall → DynBox I A V → Type 0
   BoxCall = CallLaw (λ b. told b.vtable b.value) (λ _. ⊥) (λ _. 0) (λ _. ⊥) (λ b. BoxMay b (may b.vtable))
@@ -171,13 +180,15 @@ module _ {I A : Type 0} {V : I → Type 0} (told : (i : I) → V i → Told) (ta
   -- what a `write_all` of a value did, and what it did to the box
   abbrev pub WriteAllOf : List ℕ → Result (Unit {0}) Error → ((i : I) × V i) → Type 0
   WriteAllOf x reply lent = (new : V lent.0)
-      → WriteAllLaw (told lent.0) (takes_all lent.0) (cost lent.0) (is_metered lent.0) (may lent.0) lent.1 x reply new
+      → WriteAllLaw (told lent.0) (λ v. (o (lent.0, v)).takes_all v) (λ v. (o (lent.0, v)).cost v)
+      (λ v. (o (lent.0, v)).is_metered v) (may lent.0) lent.1 x reply new
       → WriteAllLaw (λ b. told b.vtable b.value) (λ _. ⊥) (λ _. 0) (λ _. ⊥) (λ b. BoxMay b (may b.vtable)) box x reply
       (other_box lent.0 new)
 
   abbrev pub WriteRestOf : List ℕ → Result (Unit {0}) Error → List ℕ → ((i : I) × V i) → Type 0
   WriteRestOf x reply left lent = (new : V lent.0)
-      → WriteRestLaw (told lent.0) (takes_all lent.0) (cost lent.0) (is_metered lent.0) (may lent.0) lent.1 x reply new left
+      → WriteRestLaw (told lent.0) (λ v. (o (lent.0, v)).takes_all v) (λ v. (o (lent.0, v)).cost v)
+      (λ v. (o (lent.0, v)).is_metered v) (may lent.0) lent.1 x reply new left
       → WriteRestLaw (λ b. told b.vtable b.value) (λ _. ⊥) (λ _. 0) (λ _. ⊥) (λ b. BoxMay b (may b.vtable)) box x reply
       (other_box lent.0 new) left
 

@@ -53,6 +53,19 @@ law_of_part told takes_all cost is_metered may get old new (Flushed reply) law =
 law_of_part told takes_all cost is_metered may get old new (WroteAll x reply) law = law
 law_of_part told takes_all cost is_metered may get old new (WroteRest x reply left) law = law
 
+-- and so do many
+pub calls_of_part : {W V : Type 0} (told : W → Told) (takes_all : W → Type 0) (cost : W → ℕ) (is_metered : W → Type 0)
+    (may : W → WriteCall → W → Type 0) (get : V → W) (put : W → V) → ((a : W) → get (put a) ≡ a) → {P : List WriteCall → Type 0} {a b : W}
+    → (C : List WriteCall) × Made (CallLaw told takes_all cost is_metered may) a C b × P C
+    → (C : List WriteCall) × Made (CallLaw (λ v. told (get v)) (λ v. takes_all (get v)) (λ v. cost (get v)) (λ v. is_metered (get v))
+    (λ a c b. may (get a) c (get b))) (put a) C (put b) × P C
+calls_of_part {W} told takes_all cost is_metered may get put back {a = a} {b = b} calls =
+    let each = λ (a b : W) (call : WriteCall) (law : CallLaw told takes_all cost is_metered may a call b).
+    law_of_part told takes_all cost is_metered may get (put a) (put b) call
+    (subst (λ v. CallLaw told takes_all cost is_metered may (get (put a)) call v) (sym (back b))
+    (subst (λ v. CallLaw told takes_all cost is_metered may v call b) (sym (back a)) law)) in
+    (calls.0, made_map _ _ put each calls.0 a b calls.1, calls.2)
+
 -- a call as its law says is one that the writer may make
 pub law_may : {S : Type 0} (told : S → Told) (takes_all : S → Type 0) (cost : S → ℕ) (is_metered : S → Type 0)
     (may : S → WriteCall → S → Type 0) (old new : S) (call : WriteCall)

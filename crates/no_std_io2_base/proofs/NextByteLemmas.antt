@@ -1,5 +1,5 @@
 -- One byte or fault after interruptions.
-use Rattle.std.proofs.Common.{◌≡◌, ℕ, List, [], ◌∷◌, ◌++◌, refl, sym, ap, subst, ◌∙◌, append_assoc, append-nil, Option, Result, Ok, Err}
+use Rattle.std.proofs.Common.{◌≡◌, ℕ, List, [], ◌∷◌, ◌++◌, refl, sym, ap, subst, ◌∙◌, append_assoc, append-nil, Option, Result, Err}
 use Rattle.no_std_io2_base.specs.declared.error.Error.{Error}
 use Rattle.no_std_io2_base.specs.Errors.{IsInterruption}
 use Rattle.no_std_io2_base.specs.Read.{Event, fails, bytes, IsInterruptionsAlone, ReadCall, Gave, Gathers, no_read, and_again, IsOne}

@@ -11,17 +11,16 @@ use Rattle.no_std_io2_base.specs.declared.error.Error.{Error}
 use Rattle.no_std_io2_base.specs.BufRead.{BeginsWith, Lends, LendsFrom, LendingTurn}
 use Rattle.no_std_io2_base.specs.Write.{IsFront}
 use Rattle.no_std_io2_base.specs.Errors.{is_interruption, IsInterruption, IsFault, IsOutOfMemory}
-use Rattle.no_std_io2_base.specs.Read.{Event, byte, fails, events_of, bytes, HasNoFault, EndsInFault}
+use Rattle.no_std_io2_base.specs.Read.{Event, byte, fails, events_of, bytes, EndsInFault}
 use Rattle.no_std_io2_base.specs.Pieces.{Lacks, EndsPiece, FindsPiece, GivesPiece, IsByteNext, StopsInPiece}
-use Rattle.no_std_io2_base.proofs.EventLemmas.{bytes-append, bytes-events_of, events_of-append, HasNoFault-append, HasNoFault-events_of}
+use Rattle.no_std_io2_base.proofs.EventLemmas.{bytes-append, bytes-events_of, events_of-append}
+use Rattle.no_std_io2_base.proofs.ReadToEndGathered.{Gathered, gathered_none, gathered_more, gathered_interruption}
 
--- `front`, which has neither a fault nor a d, is gone from E, and its bytes were appended
+-- some front without a fault is gone from E, its bytes were appended, and none of these is d
 pub record PieceSoFar (d : ℕ) (E : List Event) (old new : List ℕ) (after : List Event) : Type 0 where
-  pub front : List Event
-  pub split : E ≡ front ++ after
-  pub no_fault : HasNoFault front
-  pub gave : new ≡ old ++ bytes front
-  pub no_end : Lacks d (bytes front)
+  pub gathered : Gathered E old new after
+  pub open gathered use *
+  pub no_end : Lacks d (bytes gathered.front)
 
 -- if two lists of bytes have no d, both joined have none
 pub Lacks-append : (d : ℕ) (bs cs : List ℕ) → Lacks d bs → Lacks d cs → Lacks d (bs ++ cs)
@@ -30,22 +29,15 @@ Lacks-append d (b ∷ bs) cs h k = (h.0, Lacks-append d bs cs h.1 k)
 
 -- at the start nothing is gone of E, and nothing was appended
 pub piece_none : {d : ℕ} {E : List Event} {old new : List ℕ} → new ≡ old → PieceSoFar d E old new E
-piece_none {old} is = record { front = []; split = refl; no_fault = tt; gave = is ∙ sym (append-nil old); no_end = tt }
-
--- the bytes of a front, and some more
-gave_more : (front : List Event) (old mid new part : List ℕ) → mid ≡ old ++ bytes front → new ≡ mid ++ part
-    → new ≡ old ++ bytes (front ++ events_of part)
-gave_more front old mid new part gave is = is ∙ ap (λ l. l ++ part) gave ∙ append_assoc old (bytes front) part
-    ∙ ap (λ l. old ++ l) (sym (bytes-append front (events_of part) ∙ ap (λ l. bytes front ++ l) (bytes-events_of part)))
+unfolding gathered_none
+piece_none is = record { gathered = gathered_none is; no_end = tt }
 
 -- some bytes without a d
 pub piece_more : {d : ℕ} {E : List Event} {old mid new : List ℕ} {after rest : List Event} (part : List ℕ)
     → PieceSoFar d E old mid after → after ≡ events_of part ++ rest → Lacks d part → new ≡ mid ++ part → PieceSoFar d E old new rest
-piece_more {d} {old} {mid} {new} {rest} part t read none is = record {
-  front = t.front ++ events_of part;
-  split = t.split ∙ ap (λ l. t.front ++ l) read ∙ sym (append_assoc t.front (events_of part) rest);
-  no_fault = HasNoFault-append t.front (events_of part) t.no_fault (HasNoFault-events_of part);
-  gave = gave_more t.front old mid new part t.gave is;
+unfolding gathered_more
+piece_more {d} part t read none is = record {
+  gathered = gathered_more part t.gathered read is;
   no_end =
       subst (Lacks d) (sym (bytes-append t.front (events_of part) ∙ ap (λ l. bytes t.front ++ l) (bytes-events_of part)))
       (Lacks-append d (bytes t.front) part t.no_end none);
@@ -54,15 +46,11 @@ piece_more {d} {old} {mid} {new} {rest} part t read none is = record {
 -- an interruption that comes next is ignored: it is taken too, and nothing more is appended
 pub piece_interruption : {d : ℕ} {E : List Event} {old new : List ℕ} {after : List Event} {e : Error} {rest : List Event}
     → PieceSoFar d E old new after → after ≡ fails e ∷ rest → IsInterruption e → PieceSoFar d E old new rest
-piece_interruption {d} {old} {e} {rest} t read again =
-    let same = bytes-append t.front (fails e ∷ []) ∙ append-nil (bytes t.front) in
-    record {
-      front = t.front ++ fails e ∷ [];
-      split = t.split ∙ ap (λ l. t.front ++ l) read ∙ sym (append_assoc t.front (fails e ∷ []) rest);
-      no_fault = HasNoFault-append t.front (fails e ∷ []) t.no_fault (again, tt);
-      gave = t.gave ∙ ap (λ l. old ++ l) (sym same);
-      no_end = subst (Lacks d) (sym same) t.no_end;
-    }
+unfolding gathered_interruption
+piece_interruption {d} {e = e} t read again = record {
+  gathered = gathered_interruption t.gathered read again;
+  no_end = subst (Lacks d) (sym (bytes-append t.front (fails e ∷ []) ∙ append-nil (bytes t.front))) t.no_end;
+}
 
 -- how many bytes were appended
 counted : (k : ℕ) (old new bs : List ℕ) → new ≡ old ++ bs → k ≡ length new - length old → k ≡ length bs
@@ -73,14 +61,15 @@ pub piece_ended : {d : ℕ} {E : List Event} {old mid new : List ℕ} {after res
     → PieceSoFar d E old mid after → after ≡ events_of part ++ rest → EndsPiece d part ⊎ ((part ≡ []) × (after ≡ []))
     → new ≡ mid ++ part → k ≡ length new - length old
     → GivesPiece d E k old new rest
-piece_ended {d} {old} {mid} {new} {rest} {part} {k} t read (inl end) is count =
-    let gave = gave_more t.front old mid new part t.gave is in
+unfolding gathered_more
+piece_ended {d} {old} {new = new} {part = part} {k} t read (inl end) is count =
+    let whole = gathered_more part t.gathered read is in
     record {
-      taken = t.front ++ events_of part;
-      split = t.split ∙ ap (λ l. t.front ++ l) read ∙ sym (append_assoc t.front (events_of part) rest);
-      appended = gave;
-      count = counted k old new _ gave count;
-      no_fault = HasNoFault-append t.front (events_of part) t.no_fault (HasNoFault-events_of part);
+      taken = whole.front;
+      split = whole.split;
+      appended = whole.gave;
+      count = counted k old new _ whole.gave count;
+      no_fault = whole.no_fault;
       ends = inl (
         t.front ++ events_of end.0,
         ap (λ l. t.front ++ events_of l) end.1 ∙ ap (λ l. t.front ++ l) (events_of-append end.0 (d ∷ []))

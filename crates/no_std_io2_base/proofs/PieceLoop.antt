@@ -13,7 +13,8 @@ use Rattle.no_std_io2_base.specs.Write.{IsFront, Made}
 use Rattle.no_std_io2_base.proofs.PieceLemmas.{PieceSoFar, piece_none, piece_more, piece_interruption, piece_ended, piece_fault}
 use Rattle.no_std_io2_base.proofs.PieceLemmas.{byte_next, piece_memory, part_taken, none_taken, error_taken}
 use Rattle.no_std_io2_base.proofs.PieceLemmas.{whole_part, front_more, front_same, spent_more, part_fits, memory_fault}
-use Rattle.no_std_io2_base.proofs.PieceRoom.{part_has_room, fault_is_first}
+use Rattle.no_std_io2_base.proofs.PieceRoom.{part_has_room}
+use Rattle.no_std_io2_base.proofs.ReadToEndGathered.{gathered_first_fault}
 use Rattle.no_std_io2_base.proofs.ReadToEndTaken.{moved_read, no_error}
 use Rattle.no_std_io2_base.proofs.CallsLemmas.{made_more, made_then, made_map}
 
@@ -186,7 +187,7 @@ module _ {X A : Type 0} {R : Lender X} {d : ℕ} {old now after : X} {buf xs : V
       count = tt;
       capacity = before.capacity;
       room = λ t enough.
-          let so_far = before.told t in fault_is_first so_far.1 (error_taken is (filled.told so_far.0).1) fault;
+          let so_far = before.told t in gathered_first_fault so_far.1.gathered (error_taken is (filled.told so_far.0).1) fault;
       never_interrupted = fault;
       turns_never_rise = le_trans filled.turns_never_rise before.turns;
       spends_turn = tt;

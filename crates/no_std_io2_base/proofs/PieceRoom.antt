@@ -1,14 +1,12 @@
 -- A piece is refused for lack of memory only if the vector has too little room for it.
-use Rattle.std.proofs.Common.{◌≡◌, ℕ, ◌+◌, ◌<◌, ◌≤◌, ◌⊎◌, true, false, Bool, if◌then◌else◌, Some, List, [], ◌∷◌, ◌++◌}
+use Rattle.std.proofs.Common.{◌≡◌, ℕ, ◌+◌, ◌<◌, ◌≤◌, ◌⊎◌, true, false, Bool, if◌then◌else◌, List, [], ◌∷◌, ◌++◌}
 use Rattle.std.proofs.Common.{length, take, drop, refl, sym, ap, ◌∙◌, arith, append_assoc, take-append-drop}
 use Rattle.std.proofs.Common.{length-append, length-take-le, eq-eqb, ne_eqb, inl, inr}
-use Rattle.no_std_io2_base.specs.declared.error.Error.{Error}
-use Rattle.no_std_io2_base.specs.Errors.{IsFault}
-use Rattle.no_std_io2_base.specs.Read.{Event, fails, events_of, bytes, bytes_to_fault, first_fault}
+use Rattle.no_std_io2_base.specs.Read.{Event, events_of, bytes, bytes_to_fault}
 use Rattle.no_std_io2_base.specs.BufRead.{BeginsWith}
 use Rattle.no_std_io2_base.specs.Pieces.{Lacks, EndsPiece, FindsPiece, HasPieceRoom, up_to}
 use Rattle.no_std_io2_base.proofs.EventLemmas.{bytes-events_of, HasNoFault-events_of}
-use Rattle.no_std_io2_base.proofs.GivenPieces.{first_fault-append, bytes_to_fault-append}
+use Rattle.no_std_io2_base.proofs.GivenPieces.{bytes_to_fault-append}
 use Rattle.no_std_io2_base.proofs.PieceLemmas.{PieceSoFar}
 
 -- bytes without a d belong to the piece
@@ -67,10 +65,3 @@ part_has_room {d} {old} {after} {lent} {n} {is_whole} t begins found room grown 
       ap length t.gave,
       length-append old (bytes t.front),
     )
-
--- the fault that stops it is the first
-pub fault_is_first : {d : ℕ} {E : List Event} {old new : List ℕ} {after : List Event} {e : Error} {rest : List Event}
-    → PieceSoFar d E old new after → after ≡ fails e ∷ rest → IsFault e → first_fault E ≡ Some e
-fault_is_first {after} {e} {rest} t read fault =
-    ap first_fault t.split ∙ first_fault-append t.front after t.no_fault ∙ ap first_fault read
-    ∙ ap (λ s. if s then first_fault rest else Some e) fault

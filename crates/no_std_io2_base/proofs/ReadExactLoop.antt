@@ -1,21 +1,21 @@
 -- What a loop that fills a buffer by reads has done so far, and what it has done at each of its ends.
 use Rattle.std.proofs.Common.{◌≡◌, ℕ, ◌+◌, ◌-◌, ◌<◌, ◌≤◌, List, [], ◌∷◌, ◌++◌, Result, Ok, Err, length, take, drop, refl, sym, ap, subst}
-use Rattle.std.proofs.Common.{◌∙◌, arith, le_refl, le_trans, inl, inr, length-take-le, length-take, length-drop, take_all}
+use Rattle.std.proofs.Common.{◌∙◌, arith, le_refl, inl, inr, length-take-le, length-take, length-drop, take_all}
 use Rattle.std.proofs.lemmas.Slice.{take-put_mid_below}
 use borrow.Rule.Slice.PartMut.{put_mid}
 use Rattle.no_std_io2_base.specs.declared.error.Error.{Error}
 use Rattle.no_std_io2_base.specs.Errors.{is_interruption, IsInterruption, IsFault, IsUnexpectedEnd}
-use Rattle.no_std_io2_base.specs.Read.{Reader, GoesOn, ReadLaw, ReadExactLaw, ReadCall, Gave, Gathers, no_read, and_gave, and_again}
+use Rattle.no_std_io2_base.specs.Read.{Reader, ReadLaw, ReadExactLaw, ReadCall, Gave, Gathers, no_read, and_gave, and_again}
 use Rattle.no_std_io2_base.specs.Read.{GathersUntil, IsRest}
 use Rattle.no_std_io2_base.specs.Write.{Made}
 use Rattle.no_std_io2_base.proofs.CallsLemmas.{made_more}
 use Rattle.no_std_io2_base.proofs.ReadCalls.{gave_nothing}
 use Rattle.no_std_io2_base.proofs.ReadParts.{take-put_mid}
-use Rattle.no_std_io2_base.proofs.ReadExactExits.{length_stays, short_before, some_part, some_bytes, within_part}
-use Rattle.no_std_io2_base.proofs.ReadExactExits.{le_same, exact_short, exact_done}
+use Rattle.no_std_io2_base.proofs.ReadExactExits.{length_stays, short_before, some_part, some_bytes}
+use Rattle.no_std_io2_base.proofs.ReadToEndExits.{nothing_read}
 use Rattle.no_std_io2_base.proofs.Readers.{StoreTells}
-use Rattle.no_std_io2_base.proofs.ReadToEndExits.{stays_at_end}
-use Rattle.no_std_io2_base.proofs.ReadToEndTaken.{Taken, taken_none, taken_read, taken_interruption, taken_fault, moved_read, no_error}
+use Rattle.no_std_io2_base.proofs.ReadToEndTaken.{Taken, taken_none, taken_more, taken_interruption, taken_fault, taken_fills, taken_short}
+use Rattle.no_std_io2_base.proofs.ReadsKept.{Kept, kept_none, kept_read}
 
 -- `at` bytes of the buffer are filled, and they are what was taken
 pub record ExactSoFar {S : Type 0} (R : Reader S) (old : S) (buf : List ℕ) (at : ℕ) (buf' : List ℕ) (now : S) : Type 0 where
@@ -23,11 +23,9 @@ pub record ExactSoFar {S : Type 0} (R : Reader S) (old : S) (buf : List ℕ) (at
   pub within : at ≤ length buf'
   pub untouched : length buf ≡ 0 → now ≡ old
   pub told : R.tells old → R.tells now × Taken (R.events old) (length buf) (take at buf') (R.events now)
-  pub turns : R.turns now ≤ R.turns old
+  pub kept : Kept R old now
+  pub open kept use *
   pub turn : 0 < at → R.turns now < R.turns old
-  pub metered : R.is_metered old → R.is_metered now
-  pub filling : R.is_filling old → R.is_filling now
-  pub store : GoesOn R old now
   pub calls : (C : List ReadCall) × Made R.may old C now × Gathers (IsRest (length buf)) C (take at buf')
 
 -- before the first read nothing is filled
@@ -37,11 +35,8 @@ exact_none = record {
   within = omega arith;
   untouched = λ none. refl;
   told = λ t. (t, taken_none _ _);
-  turns = le_refl _;
+  kept = kept_none;
   turn = λ some. absurd (omega (arith, some));
-  metered = λ m. m;
-  filling = λ f. f;
-  store = λ s. (s, refl, refl);
   calls = ([], refl, no_read);
 }
 
@@ -70,24 +65,18 @@ module _ {S : Type 0} {R : Reader S} {old now new : S} {buf xs part ys : List �
       let spent = read.spends_turn (some_bytes n some) in
       record {
         long = stays ∙ before.long;
-        within = within_part at n xs ys _ before.within read.bound room stays;
+        within =
+            omega (arith, before.within, read.bound, room, stays, length-take (length xs - at) (drop at xs), length-drop at xs);
         untouched = λ none. absurd (omega (arith, none, before.long, below));
         told = λ t.
             let so_far = before.told t in
             let then = read.told so_far.0 in (
               then.0,
-              taken_read ys so_far.1 then.1 read.bound (some_bytes n some)
+              taken_more (take n ys) so_far.1 then.1.0 (omega (arith, length-take-le n ys read.bound, some_bytes n some))
                   (take-put_mid at (length xs - at) n xs ys before.within read.bound),
             );
-        turns = le_trans read.turns_never_rise before.turns;
+        kept = kept_read before.kept law read;
         turn = λ more. omega (arith, spent, before.turns);
-        metered = λ m. (read.counts (before.metered m)).0;
-        filling = λ f. (read.fills (before.filling f)).0;
-        store = λ s.
-            let so_far = before.store s in
-            let then = read.store so_far.0 in
-            let tells = law now so_far.0 in
-            (then.0, then.1 ∙ so_far.1, moved_read _ n ys _ read.bound (read.told tells.0).1.0 then.2 so_far.2);
         calls =
             let so_far = before.calls in
             let some : 0 < length (take n ys) = omega (arith, length-take-le n ys read.bound, some_bytes n some) in (
@@ -106,21 +95,15 @@ module _ {S : Type 0} {R : Reader S} {old now new : S} {buf xs part ys : List �
       let stays = length_stays at xs ys room in
       record {
         long = stays ∙ before.long;
-        within = le_same at _ _ before.within stays;
+        within = omega (arith, before.within, stays);
         untouched = λ none. absurd (omega (arith, none, before.long, below));
         told = λ t.
             let so_far = before.told t in
             let then = read.told so_far.0 in
             let short = short_before at _ xs below (sym before.long) in
             (then.0, taken_interruption so_far.1 then.1 interrupted short (take-put_mid_below _ _ _ _ _ (le_refl _) before.within));
-        turns = le_trans read.turns_never_rise before.turns;
+        kept = kept_read before.kept law read;
         turn = λ more. omega (arith, read.spends_turn, before.turns);
-        metered = λ m. (read.counts (before.metered m)).0;
-        filling = λ f. (read.fills (before.filling f)).0;
-        store = λ s.
-            let so_far = before.store s in
-            let tells = law now so_far.0 in
-            absurd (no_error _ tells.1 (read.told tells.0).1);
         calls =
             let so_far = before.calls in (
               so_far.0 ++ Gave (length ys) (Err e) ∷ [],
@@ -136,25 +119,20 @@ module _ {S : Type 0} {R : Reader S} {old now new : S} {buf xs part ys : List �
       → IsUnexpectedEnd e → ReadExactLaw R old buf (Err e) (put_mid at (length xs - at) xs ys) new
   exact_end read is zero kind =
       let stays = length_stays at xs ys room in
+      let kept = kept_read before.kept law read in
       record {
         told = λ t.
             let so_far = before.told t in
-            let then = read.told so_far.0 in (
-              then.0,
-              inr (exact_short ys so_far.1 then.1 is zero (some_part at xs ys below room) kind (sym before.long ∙ sym stays)
-                  (short_before at _ xs below stays)),
-            );
+            let then = read.told so_far.0 in
+            let left = nothing_read _ _ _ _ ys then.1 is zero (some_part at xs ys below room) in
+            (then.0, inr (taken_short so_far.1 left.0 left.1 kind (short_before at _ xs below stays)));
         never_interrupted = ap is_interruption kind.0;
         empty = λ nothing. absurd (omega (arith, nothing, before.long, below));
-        turns_never_rise = le_trans read.turns_never_rise before.turns;
+        turns_never_rise = kept.turns;
         spends_turn = λ some. tt;
-        metered = λ m. (read.counts (before.metered m)).0;
-        filling = λ f. (read.fills (before.filling f)).0;
-        store = λ s.
-            let so_far = before.store s in
-            let then = read.store so_far.0 in
-            let tells = law now so_far.0 in
-            (then.0, then.1 ∙ so_far.1, stays_at_end _ _ ys _ (read.told tells.0).1 is zero then.2 so_far.2);
+        metered = kept.metered;
+        filling = kept.filling;
+        store = kept.store;
         calls = record {
           calls = before.calls.0 ++ Gave (length ys) (Ok []) ∷ [];
           made = made_more R.may before.calls.0 old before.calls.1 (gave_nothing R.may ys read.call is zero);
@@ -165,40 +143,39 @@ module _ {S : Type 0} {R : Reader S} {old now new : S} {buf xs part ys : List �
   -- a fault came first
   pub exact_fault : {e : Error} → ReadLaw R now part (Err e) ys new → IsFault e
       → ReadExactLaw R old buf (Err e) (put_mid at (length xs - at) xs ys) new
-  exact_fault {e} read fault = record {
-    told = λ t.
-        let so_far = before.told t in
-        let then = read.told so_far.0 in
-        (then.0, inl (taken_fault so_far.1 then.1 fault (short_before at _ xs below (length_stays at xs ys room))));
-    never_interrupted = fault;
-    empty = λ nothing. absurd (omega (arith, nothing, before.long, below));
-    turns_never_rise = le_trans read.turns_never_rise before.turns;
-    spends_turn = λ some. tt;
-    metered = λ m. (read.counts (before.metered m)).0;
-    filling = λ f. (read.fills (before.filling f)).0;
-    store = λ s.
-        let so_far = before.store s in
-        let tells = law now so_far.0 in
-        absurd (no_error _ tells.1 (read.told tells.0).1);
-    calls = record {
-      calls = before.calls.0 ++ Gave (length ys) (Err e) ∷ [];
-      made = made_more R.may before.calls.0 old before.calls.1 read.call;
-      are = inr (
-        take at xs,
-        inr (
-          fault,
-          last before.calls.2 (rest at _ xs ys below before.long room)
-              (length_stays at xs ys room ∙ before.long),
-        ),
-      );
-    };
-  }
+  exact_fault {e} read fault =
+      let kept = kept_read before.kept law read in
+      record {
+        told = λ t.
+            let so_far = before.told t in
+            let then = read.told so_far.0 in
+            (then.0, inl (taken_fault so_far.1 then.1 fault (short_before at _ xs below (length_stays at xs ys room))));
+        never_interrupted = fault;
+        empty = λ nothing. absurd (omega (arith, nothing, before.long, below));
+        turns_never_rise = kept.turns;
+        spends_turn = λ some. tt;
+        metered = kept.metered;
+        filling = kept.filling;
+        store = kept.store;
+        calls = record {
+          calls = before.calls.0 ++ Gave (length ys) (Err e) ∷ [];
+          made = made_more R.may before.calls.0 old before.calls.1 read.call;
+          are = inr (
+            take at xs,
+            inr (
+              fault,
+              last before.calls.2 (rest at _ xs ys below before.long room)
+                  (length_stays at xs ys room ∙ before.long),
+            ),
+          );
+        };
+      }
 
 -- all of it is filled
 pub exact_all : {S : Type 0} {R : Reader S} {old now : S} {buf xs : List ℕ} {at : ℕ} {done : Unit {0}} → ExactSoFar R old buf at xs now
     → length xs ≤ at → ReadExactLaw R old buf (Ok done) xs now
 exact_all {R = R} {old = old} {now = now} {buf = buf} {xs = xs} {at = at} before past = record {
-  told = λ t. let so_far = before.told t in (so_far.0, exact_done so_far.1 before.long past);
+  told = λ t. let so_far = before.told t in (so_far.0, taken_fills so_far.1 before.long past);
   never_interrupted = tt;
   empty = λ none. (refl, before.untouched none);
   turns_never_rise = before.turns;

@@ -1,10 +1,9 @@
 -- What a loop of reads has appended so far.
-use Rattle.std.proofs.Common.{◌≡◌, ℕ, ◌-◌, ◌<◌, ◌≤◌, Bool, true, if◌then◌else◌, Some, List, [], ◌∷◌, ◌++◌, length, take}
-use Rattle.std.proofs.Common.{refl, sym, ap, ◌∙◌, subst, arith, Ok, Err, append_assoc, append-nil, inl, inr}
-use Rattle.std.proofs.Common.{length-append}
+use Rattle.std.proofs.Common.{◌≡◌, ℕ, ◌-◌, ◌<◌, ◌≤◌, if◌then◌else◌, Some, List, [], ◌∷◌, ◌++◌, length}
+use Rattle.std.proofs.Common.{refl, sym, ap, ◌∙◌, subst, arith, Ok, Err, Result, OnOk, append_assoc, append-nil, inl, inr, length-append}
 use Rattle.no_std_io2_base.specs.declared.error.Error.{Error}
 use Rattle.no_std_io2_base.specs.Errors.{IsInterruption, IsFault, IsOutOfMemory}
-use Rattle.no_std_io2_base.specs.Read.{Event, fails, events_of, bytes, HasNoFault, FillsRoom, Reads, ReadsToEnd}
+use Rattle.no_std_io2_base.specs.Read.{Event, fails, events_of, bytes, HasNoFault, ReadsToEnd}
 use Rattle.no_std_io2_base.specs.Read.{bytes_to_fault, first_fault, HasRoom}
 use Rattle.no_std_io2_base.proofs.EventLemmas.{bytes-append, bytes-events_of, HasNoFault-append, HasNoFault-events_of}
 use Rattle.no_std_io2_base.proofs.GivenPieces.{first_fault-append, bytes_to_fault-append}
@@ -17,7 +16,7 @@ pub record Gathered (E : List Event) (old new : List ℕ) (after : List Event) :
   pub gave : new ≡ old ++ bytes front
 
 -- before the first read nothing is gone, and nothing was appended
-pub gathered_none : {E : List Event} {old new : List ℕ} → new ≡ old → Gathered E old new E
+unfoldable pub gathered_none : {E : List Event} {old new : List ℕ} → new ≡ old → Gathered E old new E
 gathered_none {E = E} {old = old} is = record { front = []; split = refl; no_fault = tt; gave = is ∙ sym (append-nil old) }
 
 -- the same was gathered if the new list is replaced by an equal one
@@ -25,22 +24,19 @@ pub gathered_same : {E : List Event} {old new shown : List ℕ} {after : List Ev
     → shown ≡ new → Gathered E old shown after
 gathered_same {E} {old} {after} t is = subst (λ l. Gathered E old l after) (sym is) t
 
--- a read gave n bytes more, and they were appended
-pub gathered_read : {E : List Event} {old new shown : List ℕ} {after rest : List Event} {n : ℕ} (buf : List ℕ)
-    → Gathered E old new after → Reads after (Ok n) buf rest → shown ≡ new ++ take n buf → Gathered E old shown rest
-gathered_read {old} {rest} {n} buf t read is = record {
-  front = t.front ++ events_of (take n buf);
-  split = t.split ∙ ap (λ l. t.front ++ l) read.0 ∙ sym (append_assoc t.front (events_of (take n buf)) rest);
-  no_fault = HasNoFault-append t.front (events_of (take n buf)) t.no_fault (HasNoFault-events_of (take n buf));
-  gave = is ∙ ap (λ l. l ++ take n buf) t.gave ∙ append_assoc old (bytes t.front) (take n buf)
-      ∙ ap (λ l. old ++ l)
-      (sym
-      (bytes-append t.front (events_of (take n buf))
-      ∙ ap (λ l. bytes t.front ++ l) (bytes-events_of (take n buf))));
+-- some bytes more were given, and they were appended
+unfoldable pub gathered_more : {E : List Event} {old new shown : List ℕ} {after rest : List Event} (part : List ℕ)
+    → Gathered E old new after → after ≡ events_of part ++ rest → shown ≡ new ++ part → Gathered E old shown rest
+gathered_more {old = old} {rest = rest} part t read is = record {
+  front = t.front ++ events_of part;
+  split = t.split ∙ ap (λ l. t.front ++ l) read ∙ sym (append_assoc t.front (events_of part) rest);
+  no_fault = HasNoFault-append t.front (events_of part) t.no_fault (HasNoFault-events_of part);
+  gave = is ∙ ap (λ l. l ++ part) t.gave ∙ append_assoc old (bytes t.front) part
+      ∙ ap (λ l. old ++ l) (sym (bytes-append t.front (events_of part) ∙ ap (λ l. bytes t.front ++ l) (bytes-events_of part)));
 }
 
 -- an interruption is gone too, and nothing was appended for it
-pub gathered_interruption : {E : List Event} {old new : List ℕ} {after : List Event} {e : Error} {rest : List Event}
+unfoldable pub gathered_interruption : {E : List Event} {old new : List ℕ} {after : List Event} {e : Error} {rest : List Event}
     → Gathered E old new after → after ≡ fails e ∷ rest → IsInterruption e → Gathered E old new rest
 gathered_interruption {E = E} {old = old} {e = e} {rest = rest} t read again = record {
   front = t.front ++ fails e ∷ [];
@@ -49,19 +45,16 @@ gathered_interruption {E = E} {old = old} {e = e} {rest = rest} t read again = r
   gave = t.gave ∙ ap (λ l. old ++ l) (sym (bytes-append t.front (fails e ∷ []) ∙ append-nil (bytes t.front)));
 }
 
--- if a read met the end, all bytes were appended, and the count is their number
-pub gathered_end : (E : List Event) (old new : List ℕ) (after rest : List Event) (n k : ℕ) (buf : List ℕ)
-    → Gathered E old new after → Reads after (Ok n) buf rest → n ≡ 0 → 0 < length buf → k ≡ length new - length old
-    → ReadsToEnd E (Ok k) old new rest
-gathered_end E old new after rest n k buf t read zero some is =
-    let none : after ≡ [] = read.1 zero some in
-    let same : after ≡ rest = read.0 ∙ ap (λ m. events_of (take m buf) ++ rest) zero in
+-- if the end was met, all bytes were appended, and the count is their number
+pub gathered_end : {E : List Event} {old new : List ℕ} {after rest : List Event} (k : ℕ)
+    → Gathered E old new after → after ≡ [] → rest ≡ [] → k ≡ length new - length old → ReadsToEnd E (Ok k) old new rest
+gathered_end {E} {old} k t none end is =
     let long = ap length t.gave ∙ length-append old (bytes t.front) in
     let whole : E ≡ t.front = t.split ∙ ap (λ l. t.front ++ l) none ∙ append-nil t.front in (
       subst HasNoFault (sym whole) t.no_fault,
       t.gave ∙ ap (λ l. old ++ bytes l) (sym whole),
       omega (arith, ap (λ l. length (bytes l)) whole),
-      sym same ∙ none,
+      end,
     )
 
 -- if a read met a fault, the bytes before it were appended, and the fault is taken
@@ -78,31 +71,6 @@ gathered_fault {old} {e} {rest} t read fault = (
 pub gathered_memory : {E : List Event} {old new : List ℕ} {after : List Event} {e : Error}
     → Gathered E old new after → IsOutOfMemory e → ReadsToEnd E (Err e) old new after
 gathered_memory t kind = (t.front, t.split, t.gave, inr (t.no_fault, kind))
-
--- an empty read leaves the events as they are
-pub gathered_over : {E : List Event} {old new : List ℕ} {after rest : List Event} → Gathered E old new after → after ≡ rest
-    → Gathered E old new rest
-gathered_over {E} {old} {new} t same = subst (Gathered E old new) same t
-
--- what was read when the room was full, or the end was met
-pub gathered_room : {E : List Event} {old new : List ℕ} {after : List Event} (at_end : Bool)
-    → Gathered E old new after → (at_end ≡ true → after ≡ []) → FillsRoom E (Ok at_end) old new after
-gathered_room at_end t end = (t.front, t.split, t.no_fault, t.gave, end)
-
--- or when a fault came
-pub gathered_failed : {E : List Event} {old new : List ℕ} {after : List Event} {e : Error} {rest : List Event}
-    → Gathered E old new after → after ≡ fails e ∷ rest → IsFault e → FillsRoom E (Err e) old new rest
-gathered_failed {old} {e} {rest} t read fault = (
-  t.front ++ fails e ∷ [],
-  t.split ∙ ap (λ l. t.front ++ l) read ∙ sym (append_assoc t.front (fails e ∷ []) rest),
-  t.gave ∙ ap (λ l. old ++ l) (sym (bytes-append t.front (fails e ∷ []) ∙ append-nil (bytes t.front))),
-  (t.front, refl, t.no_fault, fault),
-)
-
--- the bytes in the room were read
-pub gathered_room_filled : {E : List Event} {old new : List ℕ} {after : List Event} {at_end : Bool}
-    → FillsRoom E (Ok at_end) old new after → Gathered E old new after
-gathered_room_filled read = record { front = read.0; split = read.1; no_fault = read.2; gave = read.3 }
 
 -- if there is room for all bytes before the first fault and for more, the loop has not filled it
 pub gathered_fits : {E : List Event} {old new : List ℕ} {after : List Event} {more len room now : ℕ}
@@ -155,20 +123,24 @@ gathered_stop {old} e {rest} t read = (
   ],
 )
 
--- room for all is room for what a part has left
-pub room_left : {E after : List Event} (old : List ℕ) {new : List ℕ} {len capacity len' capacity' : ℕ} {at_end : Bool}
-    → FillsRoom E (Ok at_end) old new after → HasRoom 32 E len capacity → len ≡ length old → len' ≡ length new → capacity ≤ capacity'
-    → HasRoom 32 after len' capacity'
-room_left {after} old read enough was is more =
-    let all = ap (λ l. length (bytes_to_fault l)) read.1 ∙ ap length (bytes_to_fault-append read.0 after read.2)
-    ∙ length-append (bytes read.0) (bytes_to_fault after) in
-    let gave = ap length read.3 ∙ length-append old (bytes read.0) in
-    omega (arith, enough, was, is, more, all, gave)
+-- the result with another count
+abbrev pub recount : Result ℕ Error → ℕ → Result ℕ Error
+recount (Ok n) k = Ok k
+recount (Err e) k = Err e
 
--- the fault that stops such a part is the first
-pub fault_of_room : {E : List Event} (old : List ℕ) {new : List ℕ} {after : List Event} {e : Error} → FillsRoom E (Err e) old new after
-    → first_fault E ≡ Some e
-fault_of_room old {after} {e} stop =
-    let f = stop.3 in
-    ap first_fault (stop.1 ∙ ap (λ l. l ++ after) f.1 ∙ append_assoc f.0 (fails e ∷ []) after)
-    ∙ first_fault-append f.0 (fails e ∷ after) f.2 ∙ ap (λ t. if t then first_fault after else Some e) f.3
+-- or to either
+pub gathered_then : {E : List Event} {old mid : List ℕ} (new : List ℕ) {after : List Event} (rest : List Event) (reply : Result ℕ Error)
+    (k : ℕ)
+    → Gathered E old mid after → ReadsToEnd after reply mid new rest → OnOk reply (k ≡ length new - length old)
+    → ReadsToEnd E (recount reply k) old new rest
+gathered_then new rest (Ok n) k t read is = gathered_all n k t read is
+gathered_then new rest (Err e) k t read is = gathered_stop e t read
+
+-- room for all is room for what a part has left
+pub room_left : {E after : List Event} {old new : List ℕ} {len capacity len' capacity' : ℕ} → Gathered E old new after
+    → HasRoom 32 E len capacity → len ≡ length old → len' ≡ length new → capacity ≤ capacity' → HasRoom 32 after len' capacity'
+room_left {after = after} {old = old} t enough was is more =
+    let all = ap (λ l. length (bytes_to_fault l)) t.split ∙ ap length (bytes_to_fault-append t.front after t.no_fault)
+    ∙ length-append (bytes t.front) (bytes_to_fault after) in
+    let gave = ap length t.gave ∙ length-append old (bytes t.front) in
+    omega (arith, enough, was, is, more, all, gave)

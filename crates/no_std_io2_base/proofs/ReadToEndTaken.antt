@@ -1,9 +1,9 @@
 -- What a loop of reads has taken so far.
 use Rattle.std.proofs.Common.{◌≡◌, ℕ, ◌+◌, ◌-◌, ◌<◌, ◌≤◌, List, [], ◌∷◌, ◌++◌, length, take, refl, sym, ap, ◌∙◌, subst}
-use Rattle.std.proofs.Common.{arith, Ok, length-take-le, append_assoc, append-nil, inl, length-append}
+use Rattle.std.proofs.Common.{arith, take_all, length-take-le, append_assoc, append-nil, inl, length-append}
 use Rattle.no_std_io2_base.specs.declared.error.Error.{Error}
 use Rattle.no_std_io2_base.specs.Errors.{IsInterruption, IsFault, IsUnexpectedEnd}
-use Rattle.no_std_io2_base.specs.Read.{Event, fails, events_of, bytes, HasNoFault, cut, Reads, Fills, FallsShort, StopsAtFault}
+use Rattle.no_std_io2_base.specs.Read.{Event, fails, events_of, bytes, HasNoFault, cut, Fills, FallsShort, StopsAtFault}
 use Rattle.no_std_io2_base.proofs.EventLemmas.{bytes-append, bytes-events_of, length-events_of, HasNoFault-append}
 use Rattle.no_std_io2_base.proofs.EventLemmas.{HasNoFault-events_of, cut-append, cut-bytes}
 
@@ -25,17 +25,17 @@ taken_none E room = record {
   full = λ h. subst (λ k. cut k E ≡ []) h refl;
 }
 
--- where at least one byte more was read, what was read is taken too, behind the bytes before
-pub taken_bytes : (E : List Event) (room : ℕ) (got : List ℕ) (after : List Event) (more : List ℕ) (rest : List Event)
-    → Taken E room got after → after ≡ events_of more ++ rest → 0 < length more → Taken E room (got ++ more) rest
-taken_bytes E room got after more rest t read some = record {
+-- at least one byte more was read
+pub taken_more : {E : List Event} {room : ℕ} {got shown : List ℕ} {after rest : List Event} (more : List ℕ) → Taken E room got after
+    → after ≡ events_of more ++ rest → 0 < length more → shown ≡ got ++ more → Taken E room shown rest
+taken_more {room = room} {got} {rest = rest} more t read some is = record {
   front = t.front ++ events_of more;
   split = t.split ∙ ap (λ l. t.front ++ l) read ∙ sym (append_assoc t.front (events_of more) rest);
   no_fault = HasNoFault-append t.front (events_of more) t.no_fault (HasNoFault-events_of more);
-  gave = bytes-append t.front (events_of more) ∙ ap (λ l. bytes t.front ++ l) (bytes-events_of more) ∙ ap (λ l. l ++ more) t.gave;
+  gave = bytes-append t.front (events_of more) ∙ ap (λ l. bytes t.front ++ l) (bytes-events_of more) ∙ ap (λ l. l ++ more) t.gave ∙ sym is;
   full = λ h.
       let long : room ≡ length (bytes t.front) + length more =
-      sym h ∙ length-append got more ∙ ap (λ l. length l + length more) (sym t.gave) in
+      sym h ∙ ap length is ∙ length-append got more ∙ ap (λ l. length l + length more) (sym t.gave) in
       let stop : cut (length more) (events_of more ++ rest) ≡ events_of more =
       (let none : length more - length more ≡ 0 = omega arith in
       cut-bytes more rest (length more) (omega arith) ∙ ap (λ n. events_of more ++ cut n rest) none ∙ append-nil (events_of more)) in
@@ -55,10 +55,11 @@ taken_interruption {e} {rest} t read again short is = record {
 }
 
 -- if the buffer is full, `read_exact` has filled it
-pub taken_fills : (E : List Event) (room : ℕ) (got : List ℕ) (after : List Event)
-    → Taken E room got after → length got ≡ room → Fills E got after
-taken_fills E room got after t h =
-    let is : cut (length got) E ≡ t.front = ap (λ n. cut n E) h ∙ t.full h in
+pub taken_fills : {E : List Event} {room at : ℕ} {buf : List ℕ} {after : List Event} → Taken E room (take at buf) after
+    → length buf ≡ room → length buf ≤ at → Fills E buf after
+taken_fills {E} {room} {at} {buf} {after} front h past =
+    let t : Taken E room buf after = subst (λ l. Taken E room l after) (take_all at buf past) front in
+    let is : cut (length buf) E ≡ t.front = ap (λ n. cut n E) h ∙ t.full h in
     record {
       split = t.split ∙ ap (λ l. l ++ after) (sym is);
       no_fault = subst HasNoFault (sym is) t.no_fault;
@@ -78,23 +79,17 @@ taken_fault {most} {got} {e} {rest} t read fault short =
     }
 
 -- if the end came before the buffer was full, `read_exact` fell short
-pub taken_short : (may_take_none : Type 0) (E : List Event) (room : ℕ) (got : List ℕ) (after : List Event) (e : Error) (rest : List Event)
-    → Taken E room got after → after ≡ [] → after ≡ rest → IsUnexpectedEnd e → length got < room → FallsShort may_take_none E room e rest
-taken_short may_take_none E room got after e rest t end same kind short =
-    let whole : E ≡ t.front = t.split ∙ ap (λ l. t.front ++ l) end ∙ append-nil t.front in
+pub taken_short : {may_take_none : Type 0} {E : List Event} {room whole : ℕ} {got : List ℕ} {after : List Event} {e : Error}
+    {rest : List Event} → Taken E room got after → after ≡ [] → rest ≡ [] → IsUnexpectedEnd e → length got < whole
+    → FallsShort may_take_none E whole e rest
+taken_short {whole = most} t end none kind short =
+    let whole = t.split ∙ ap (λ l. t.front ++ l) end ∙ append-nil t.front in
     record {
       no_fault = subst HasNoFault (sym whole) t.no_fault;
-      short = subst (λ l. length l < room) (sym (ap bytes whole ∙ t.gave)) short;
+      short = subst (λ l. length l < most) (sym (ap bytes whole ∙ t.gave)) short;
       answer = kind;
-      left = inl (sym same ∙ end);
+      left = inl none;
     }
-
--- one more read that gave bytes, in a loop that fills a buffer
-pub taken_read : {E : List Event} {room : ℕ} {got shown : List ℕ} {after rest : List Event} {n : ℕ} (buf : List ℕ)
-    → Taken E room got after → Reads after (Ok n) buf rest → n ≤ length buf → 0 < n → shown ≡ got ++ take n buf → Taken E room shown rest
-taken_read {E} {room} {got} {after} {rest} {n} buf t read fits some is =
-    subst (λ l. Taken E room l rest) (sym is)
-    (taken_bytes E room got after (take n buf) rest t read.0 (omega (arith, length-take-le n buf fits)))
 
 -- as many bytes as a read gives, the position moves and the events are fewer
 pub moved_read : {E : List Event} (E' : List Event) (n : ℕ) (buf : List ℕ) (p : ℕ) {p' : ℕ} {all : ℕ}

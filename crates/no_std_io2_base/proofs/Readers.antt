@@ -43,20 +43,19 @@ take_reader inner = record {
 }
 
 -- the ghost members of a boxed trait object, from those of the value in the box
-abbrev pub box_reader : {I A : Type 0} {V : I → Type 0} → ((p : (x : I) × V x) → Type 0) → ((p : (x : I) × V x) → List Event)
-    → ((p : (x : I) × V x) → ℕ) → ((p : (x : I) × V x) → Type 0) → ((i : I) → V i → ReadCall → V i → Type 0) → Reader (DynBox I A V)
-box_reader tells events turns may_take_none may = record {
+abbrev pub box_reader : {I A : Type 0} {V : I → Type 0} → ((p : (x : I) × V x) → Reads (V p.0)) → Reader (DynBox I A V)
+box_reader o = record {
   has_store = λ _. ⊥;
   content = λ _. [];
   position = λ _. 0;
-  tells = λ b. tells (b.vtable, b.value);
-  events = λ b. events (b.vtable, b.value);
-  turns = λ b. turns (b.vtable, b.value);
+  tells = λ b. (o (b.vtable, b.value)).tells b.value;
+  events = λ b. (o (b.vtable, b.value)).events b.value;
+  turns = λ b. (o (b.vtable, b.value)).turns b.value;
   cost = λ _. 0;
   is_metered = λ _. ⊥;
   is_filling = λ _. ⊥;
-  may_take_none = λ b. may_take_none (b.vtable, b.value);
-  may = λ b. BoxMay b (may b.vtable);
+  may_take_none = λ b. (o (b.vtable, b.value)).may_take_none b.value;
+  may = λ b. BoxMay b (λ v. (o (b.vtable, v)).may v);
 }
 
 -- the law that a told store tells what is to come

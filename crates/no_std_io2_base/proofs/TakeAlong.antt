@@ -92,10 +92,6 @@ along_loan (Err e) some same lends = along_fault lends same (λ zero. omega (ari
 reads_at_limit : {T : Type 0} {inner : Reader T} {t : Take T} (room : ℕ) → take_limit t ≡ 0 → TakeMay inner t (Gave room (Ok [])) t
 reads_at_limit {t = t} room at_limit = (gives_none t, λ none. refl, λ some. absurd (omega (arith, at_limit, some)))
 
--- nor to lend
-pub fills_at_limit : {T : Type 0} {inner : Reader T} {t : Take T} → take_limit t ≡ 0 → TakeMay inner t (Filled (Ok [])) t
-fills_at_limit {t = t} at_limit = (gives_none t, λ none. refl, λ some. absurd (omega (arith, at_limit, some)))
-
 -- nor to consume
 pub consumes_at_limit : {T : Type 0} {inner : Reader T} {t : Take T} {n : ℕ} → take_limit t ≡ 0 → n ≡ 0 → TakeMay inner t (Consumed n) t
 consumes_at_limit {inner = inner} {t} at_limit none =

@@ -7,7 +7,7 @@ use Rattle.no_std_io2_base.specs.declared.error.ErrorKind.TheVariants.{WriteZero
 use Rattle.no_std_io2_base.specs.Errors.{error_kind, is_interruption, IsInterruption, IsFault, SaysError}
 use Rattle.no_std_io2_base.specs.Write.{Told, WriteLaw, WriteRestLaw, WriteCall, Wrote, Writes, CallLaw}
 use Rattle.no_std_io2_base.specs.Write.{none as no_write, took, again as goes_again, stuck, fault as fails}
-use Rattle.no_std_io2_base.proofs.CallsLemmas.{CallsSoFar, calls_none, calls_more, calls_end}
+use Rattle.no_std_io2_base.proofs.CallsLemmas.{CallsSoFar, calls_more, calls_end}
 use Rattle.no_std_io2_base.proofs.WritesFacts.{writes_law}
 
 -- what the test of the loop says
@@ -36,46 +36,35 @@ fewer_turns e turns turns' len spent again =
     let one : count_by is_interruption (error_kind e ∷ []) ≡ 1 = ap (λ b. 0 + (if b then 1 else 0)) again in
     omega (arith, spent, one)
 
--- What a loop of writes has done so far: its calls.
-pub record WritesSoFar {S : Type 0} (told : S → Told) (takes_all : S → Type 0) (cost : S → ℕ) (is_metered : S → Type 0)
-    (may : S → WriteCall → S → Type 0) (old : S) (start : List ℕ) (now : S) (left : List ℕ) : Type 0 where
-  pub calls : CallsSoFar (CallLaw told takes_all cost is_metered may) (codes "failed to write whole buffer") old start left now
-
--- before the first write nothing is done
-pub writes_none : {S : Type 0} {told : S → Told} {takes_all : S → Type 0} {cost : S → ℕ} {is_metered : S → Type 0}
-    {may : S → WriteCall → S → Type 0} {old : S} {start : List ℕ} → WritesSoFar told takes_all cost is_metered may old start old start
-writes_none = record { calls = calls_none }
-
 module _ {S : Type 0} {told : S → Told} {takes_all : S → Type 0} {cost : S → ℕ} {is_metered : S → Type 0}
     {may : S → WriteCall → S → Type 0} {old now : S} {start left : List ℕ}
-    (before : WritesSoFar told takes_all cost is_metered may old start now left) where
+    (before : CallsSoFar (CallLaw told takes_all cost is_metered may) (codes "failed to write whole buffer") old start left now) where
   -- all was sent
   pub writes_done : left ≡ [] → WriteRestLaw told takes_all cost is_metered may old start (Ok tt) now left
   writes_done empty =
-      writes_law told takes_all cost is_metered may (calls_end before.calls (Ok tt) left [] refl
+      writes_law told takes_all cost is_metered may (calls_end before (Ok tt) left [] refl
       (subst (λ l. Writes (codes "failed to write whole buffer") [] l (Ok tt) l) (sym empty) no_write))
 
   module _ {new : S} where
     -- n bytes more were sent
     pub writes_more : {n : ℕ} → WriteLaw told takes_all cost is_metered may now left (Ok n) new → 0 < length left → 0 < n
-        → WritesSoFar told takes_all cost is_metered may old start new (take (length left - n) (drop n left))
-    writes_more {n} wrote some more = record {
-      calls = calls_more before.calls wrote (λ D r e w. took some more
-          (subst (λ l. Writes (codes "failed to write whole buffer") D l r e) (rest_is n left) w));
-    }
+        → CallsSoFar (CallLaw told takes_all cost is_metered may) (codes "failed to write whole buffer") old start
+        (take (length left - n) (drop n left)) new
+    writes_more {n} wrote some more = calls_more before wrote
+        (λ D r e w. took some more (subst (λ l. Writes (codes "failed to write whole buffer") D l r e) (rest_is n left) w))
 
     -- an interruption is ignored
     pub writes_interruption : {e : Error} → WriteLaw told takes_all cost is_metered may now left (Err e) new
-        → 0 < length left → IsInterruption e → WritesSoFar told takes_all cost is_metered may old start new left
-    writes_interruption wrote some interrupted =
-        record { calls = calls_more before.calls wrote (λ D r e w. goes_again some interrupted w) }
+        → 0 < length left → IsInterruption e
+        → CallsSoFar (CallLaw told takes_all cost is_metered may) (codes "failed to write whole buffer") old start left new
+    writes_interruption wrote some interrupted = calls_more before wrote (λ D r e w. goes_again some interrupted w)
 
     -- a fault stopped it
     pub writes_fault : {e : Error} → WriteLaw told takes_all cost is_metered may now left (Err e) new → IsFault e → 0 < length left
         → WriteRestLaw told takes_all cost is_metered may old start (Err e) new left
     writes_fault {e} wrote is_fault some =
         writes_law told takes_all cost is_metered may
-        (calls_end before.calls (Err e) left (Wrote left (Err e) ∷ []) (new, wrote, refl) (fails some is_fault))
+        (calls_end before (Err e) left (Wrote left (Err e) ∷ []) (new, wrote, refl) (fails some is_fault))
 
     -- no byte was taken of some
     pub writes_zero : {reply : Result ℕ Error} {n : ℕ} {e : Error} → WriteLaw told takes_all cost is_metered may now left reply new
@@ -84,4 +73,4 @@ module _ {S : Type 0} {told : S → Told} {takes_all : S → Type 0} {cost : S �
     writes_zero {e = e} wrote is none some says =
         let took = subst (λ r. WriteLaw told takes_all cost is_metered may now left r new) (is ∙ ap Ok none) wrote in
         writes_law told takes_all cost is_metered may
-        (calls_end before.calls (Err e) left (Wrote left (Ok 0) ∷ []) (new, took, refl) (stuck some says))
+        (calls_end before (Err e) left (Wrote left (Ok 0) ∷ []) (new, took, refl) (stuck some says))

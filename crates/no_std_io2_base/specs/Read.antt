@@ -1,5 +1,5 @@
 -- The events that a reader is going to give, what its calls do to them, the law of each call of `Read`, and what `Bytes` yields.
-use Rattle.std.specs.Prelude.{◌≡◌, ℕ, zero, suc, ◌<◌, Bool, true, false, List, [], ◌∷◌, ◌++◌, length, take, ⊤, Ok, Err, Result, ◌⊎◌, ◌+◌}
+use Rattle.std.specs.Prelude.{◌≡◌, ℕ, zero, suc, ◌<◌, List, [], ◌∷◌, ◌++◌, length, take, ⊤, Ok, Err, Result, ◌⊎◌, ◌+◌}
 use Rattle.std.specs.Prelude.{◌≤◌, min, Vec, vec_len, vec_capacity, Some, IfOk, IfErr, OnOk, IsOk, IsOkAnd, Option, None, refl}
 use Rattle.std.specs.Prelude.{if◌then◌else◌}
 use Rattle.no_std_io2_base.specs.declared.error.Error.{Error}
@@ -82,13 +82,6 @@ pub record StopsAtFault (E : List Event) (room : ℕ) (e : Error) (after : List 
 abbrev pub ReadsExact : {A : Type 0} → Type 0 → List Event → Result A Error → List ℕ → List Event → Type 0
 ReadsExact may_take_none E (Ok _) buf after = Fills E buf after
 ReadsExact may_take_none E (Err e) buf after = StopsAtFault E (length buf) e after ⊎ FallsShort may_take_none E (length buf) e after
-
--- reads into the room of a vector took the events of E up to `after`, and appended their bytes: all if the result is that the end was met,
--- or those up to the first fault
-abbrev pub FillsRoom : List Event → Result Bool Error → List ℕ → List ℕ → List Event → Type 0
-FillsRoom E (Ok at_end) old new after =
-    (P : List Event) × (E ≡ P ++ after) × HasNoFault P × (new ≡ old ++ bytes P) × (at_end ≡ true → after ≡ [])
-FillsRoom E (Err e) old new after = (P : List Event) × (E ≡ P ++ after) × (new ≡ old ++ bytes P) × EndsInFault P e
 
 -- `read_to_end` took the events of E up to `after`, and appended their bytes: all, or those up to the first fault or a failed allocation
 abbrev pub ReadsToEnd : List Event → Result ℕ Error → List ℕ → List ℕ → List Event → Type 0
@@ -182,13 +175,6 @@ DrainCalls C x (Err e) = (IsFault e × GathersUntil IsRoom C x (Err e)) ⊎ (IsO
 abbrev pub ToEndCalls : List ReadCall → List ℕ → Result ℕ Error → Type 0
 ToEndCalls C x reply = ((D : List ReadCall) × (y : List ℕ) × (z : List ℕ) × Gathers IsRoom D y × (x ≡ y ++ z)
     × (C ≡ D ++ GaveAll z (ended reply) ∷ [])) ⊎ DrainCalls C x reply
-
--- C are the reads into the room that a vector has, and x the bytes that they gave: up to the end if the result is that it was met, up to a
--- full vector, or up to a fault
-abbrev pub RoomCalls : List ReadCall → List ℕ → Result Bool Error → Type 0
-RoomCalls C x (Ok true) = GathersUntil IsRoom C x (Ok [])
-RoomCalls C x (Ok false) = Gathers IsRoom C x
-RoomCalls C x (Err e) = IsFault e × GathersUntil IsRoom C x (Err e)
 
 -- The calls that a `read_exact(buf)` made, and that they are what `ExactCalls` allows.
 pub record ExactMade {S : Type 0} (may : S → ReadCall → S → Type 0) (old : S) (reply : Result (Unit {0}) Error) (buf : List ℕ) (new : S)

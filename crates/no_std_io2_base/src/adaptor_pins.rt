@@ -78,8 +78,8 @@ fn take_calls<T: Read>(old: &Take<T>, new: &Take<T>)
     ensures { (call : ReadCall) → ⟦<Take<T> as Read>⟧.may old.now call new.now → TakeMay T.Read old.now call new.now }
 {}
 
-// The limit of a `Take` falls by the bytes that the trait's loops and its `read_to_end` took, also before an error, and the
-// events that are gone from the `Take` are gone from the inner reader.
+// The limit of a `Take` falls by the bytes that the trait's loops and its `read_to_end` took, also
+// before an error, and the events that are gone from the `Take` are gone from the inner reader.
 fn take_fills<T: Read>(t: &mut Take<T>, buf: &mut [u8]) -> Result<()>
     ensures { (x : List ℕ) × OnOk result (x ≡ buf.new) × TakeGives T.Read t.old (length x) t.new }
 {

@@ -61,7 +61,8 @@ pub enum ErrorKind {
     Uncategorized,
 }
 
-/// Prints the kind's text, as an error with only this kind does. Follows `std::io::ErrorKind`'s `Display`.
+/// Prints the kind's text, as an error with only this kind does. Follows `std::io::ErrorKind`'s
+/// `Display`.
 impl fmt::Display for ErrorKind {
     ghost output = { λ kind. Some (kind_text kind) };
 
@@ -118,7 +119,8 @@ pub struct Error {
     repr: Repr,
 }
 
-// The two forms, named as they are printed. Together they are eight bytes shorter than a kind beside an option.
+// The two forms, named as they are printed. Together they are eight bytes shorter than a kind
+// beside an option.
 #[derive(Debug, Drop)]
 enum Repr {
     Kind(ErrorKind),
@@ -151,7 +153,8 @@ impl Error {
         }
     }
 
-    /// Makes an error of kind [`ErrorKind::Other`], with this text. Follows `std::io::Error::other`.
+    /// Makes an error of kind [`ErrorKind::Other`], with this text. Follows
+    /// `std::io::Error::other`.
     ///
     /// ```rust
     /// let e = Error::other("no carrier");
@@ -198,8 +201,8 @@ impl Error {
         }
     }
 
-    /// Returns whether this is an interruption: the call did nothing, and may be made again. Follows the
-    /// test of the same name inside Rust's `std::io`.
+    /// Returns whether this is an interruption: the call did nothing, and may be made again.
+    /// Follows the test of the same name inside Rust's `std::io`.
     ///
     /// ```rust
     /// assert!(rt; Error::from(ErrorKind::Interrupted).is_interrupted());

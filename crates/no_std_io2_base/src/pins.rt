@@ -305,7 +305,8 @@ fn cursor_lends_all<T: AsSlice<u8>>(c: &mut Cursor<T>) -> Result<usize>
     Ok(c.fill_buf()?.len())
 }
 
-// The bytes before the position of a cursor are out, with zeros if they are too few. A write makes no inner write, and is not counted.
+// The bytes before the position of a cursor are out, with zeros if they are too few. A write makes
+// no inner write, and is not counted.
 fn vector_cursor_writes<A: Allocator>(c: &Cursor<Vec<u8, A>>)
     ensures told { ⟦<Cursor<Vec<u8, A>> as Write>⟧.told c.now
         ≡ told_out (bytes_before (cursor_position c.now) (cursor_inner c.now).items) }

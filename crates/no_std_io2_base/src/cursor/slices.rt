@@ -29,8 +29,8 @@ fn write_fitting(content: &mut [u8], pos: &mut u64, buf: &[u8]) -> usize
 /// bytes of the slice stay. Follows `std::io::Write for Cursor<&mut [u8]>`.
 ///
 /// # Errors
-/// `write_all` returns `WriteZero` if the buffer does not fit; the first bytes, as many as fit, were
-/// then written. `write` and `flush` return no error.
+/// `write_all` returns `WriteZero` if the buffer does not fit; the first bytes, as many as fit,
+/// were then written. `write` and `flush` return no error.
 impl Write for Cursor<&mut [u8]> {
     ghost told = { λ c. told_out (cursor_out (λ s. s.now) c) };
 

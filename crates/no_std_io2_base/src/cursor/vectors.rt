@@ -26,7 +26,8 @@ fn lengthen<A: Allocator>(
     content.resize(end, 0)
 }
 
-// Puts `buf` at `start`, over the bytes there and on past the end, with zeros before it if `start` is past the end.
+// Puts `buf` at `start`, over the bytes there and on past the end, with zeros before it if `start`
+// is past the end.
 #[inline(always)]
 fn put<A: Allocator>(content: &mut Vec<u8, A>, start: usize, buf: &[u8]) -> Result<()>
     ensures { IsPut content.old.items (vec_capacity content.old) start buf.now result content.new.items }
@@ -71,9 +72,9 @@ fn write_all_at<A: Allocator>(content: &mut Vec<u8, A>, pos: &mut u64, buf: &[u8
     Ok(())
 }
 
-/// Writes over the vector from the position on, the whole buffer or nothing. If the position is past
-/// the end, zeros fill the gap, also for a `write` of an empty buffer. Other bytes of the vector stay.
-/// Follows `std::io::Write for Cursor<Vec<u8>>`.
+/// Writes over the vector from the position on, the whole buffer or nothing. If the position is
+/// past the end, zeros fill the gap, also for a `write` of an empty buffer. Other bytes of the
+/// vector stay. Follows `std::io::Write for Cursor<Vec<u8>>`.
 ///
 /// # Errors
 /// Returns `InvalidInput` if the buffer would end past `usize::MAX`, and else `OutOfMemory` if the
@@ -82,6 +83,7 @@ impl<A: Allocator> Write for Cursor<Vec<u8, A>> {
     ghost told = { λ c. told_out (cursor_out (λ v. v.items) c) };
 
     #[inline(always)]
+    #[tactic(auto, using(crate::proofs::CursorLemmas::puts_moves))]
     fn write(&mut self, buf: &[u8]) -> Result<usize>
         ensures law { WriteOf ⟦<Self as Write>⟧ self.old buf.now result self.new }
 

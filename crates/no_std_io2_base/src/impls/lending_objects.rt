@@ -6,8 +6,9 @@ use crate::error::Result;
 use crate::traits::{BufRead, LEAST_ROOM, Read, Stored, find_piece, open_room, reserve_room};
 use std::alloc::Allocator;
 
-// A boxed trait object tells no store. The bodies of `read_to_end` and `read_until` are the traits',
-// written again: a method with a bound of its own is not left to its trait at a boxed trait object.
+// A boxed trait object tells no store. The bodies of `read_to_end` and `read_until` are the
+// traits', written again: a method with a bound of its own is not left to its trait at a boxed
+// trait object.
 impl<A: Allocator> Stored for Box<dyn BufRead + Drop, A> {
     ghost has_store = { λ _. ⊥ };
 

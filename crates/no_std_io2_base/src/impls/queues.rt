@@ -41,8 +41,8 @@ impl<A: Allocator> Stored for VecDeque<u8, A> {
     ghost position = { λ _. 0 };
 }
 
-/// Reads from the front of a queue. A `read` gives bytes of the first of the two slices of the queue, so it may
-/// give fewer bytes than fit. Follows `std::io::Read for VecDeque<u8>`.
+/// Reads from the front of a queue. A `read` gives bytes of the first of the two slices of the
+/// queue, so it may give fewer bytes than fit. Follows `std::io::Read for VecDeque<u8>`.
 impl<A: Allocator> Read for VecDeque<u8, A> {
     ghost tells = { λ _. Unit {0} };
 
@@ -70,8 +70,8 @@ impl<A: Allocator> Read for VecDeque<u8, A> {
     ghost store_fits = { λ q h. absurd h };
 }
 
-/// Appends a whole buffer at the back, or returns `OutOfMemory` and leaves the queue as it was. Follows
-/// `std::io::Write for VecDeque<u8>`.
+/// Appends a whole buffer at the back, or returns `OutOfMemory` and leaves the queue as it was.
+/// Follows `std::io::Write for VecDeque<u8>`.
 impl<A: Allocator> Write for VecDeque<u8, A> {
     ghost told = { λ q. told_out q.items };
 

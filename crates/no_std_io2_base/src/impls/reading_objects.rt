@@ -5,8 +5,8 @@ use crate::error::Result;
 use crate::traits::{LEAST_ROOM, Read, Stored, open_room, reserve_room};
 use std::alloc::Allocator;
 
-// A boxed trait object tells no store. The body of `read_to_end` is the trait's, written again: a method
-// with a bound of its own is not left to its trait at a boxed trait object.
+// A boxed trait object tells no store. The body of `read_to_end` is the trait's, written again: a
+// method with a bound of its own is not left to its trait at a boxed trait object.
 impl<A: Allocator> Stored for Box<dyn Read + Drop, A> {
     ghost has_store = { λ _. ⊥ };
 

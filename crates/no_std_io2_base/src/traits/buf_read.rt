@@ -23,8 +23,8 @@ pub trait BufRead: Read {
     // The bytes in the buffer. If the reader tells its events, the events begin with these bytes.
     ghost held: { Self → List ℕ };
 
-    // Whether the inner reads that `fill_buf` makes are counted, and how many were made. By default they are
-    // not.
+    // Whether the inner reads that `fill_buf` makes are counted, and how many were made. By default
+    // they are not.
     ghost is_fill_metered: { Self → Type 0 } = { λ _. ⊥ };
 
     ghost fills: { Self → ℕ } = { λ _. 0 };
@@ -39,8 +39,8 @@ pub trait BufRead: Read {
     /// reads once. An empty slice means the end. Follows `std::io::BufRead::fill_buf`.
     ///
     /// # Errors
-    /// Returns the device's error, also an interruption, if the read fails; no byte was then taken. If
-    /// bytes are held, there is no error.
+    /// Returns the device's error, also an interruption, if the read fails; no byte was then taken.
+    /// If bytes are held, there is no error.
     fn fill_buf(&mut self) -> Result<&[u8]>
         ensures law { FillBufLaw ⟦<Self as BufRead>⟧ self.old result }
         ensures* after_borrow { sem 𝓛 (Rests Self.row self.entry (λ new. AfterLoan ⟦<Self as BufRead>⟧ self.old result new)) };
@@ -52,15 +52,15 @@ pub trait BufRead: Read {
         ensures law { ConsumeLaw ⟦<Self as BufRead>⟧ self.old amount self.new };
 
     /// Appends the bytes up to and including the first `delim`, and returns their number. If there
-    /// is no `delim`, it appends all bytes that are left. 0 means the end. It ignores interruptions.
-    /// If `buf` has room for these bytes, it never fails for lack of memory. Follows
+    /// is no `delim`, it appends all bytes that are left. 0 means the end. It ignores
+    /// interruptions. If `buf` has room for these bytes, it never fails for lack of memory. Follows
     /// `std::io::BufRead::read_until`.
     ///
     /// # Errors
-    /// Returns the first fault that comes before a `delim`; the reader is then right after it. Returns
-    /// `OutOfMemory` if `buf` could not grow; the bytes that needed the room are not taken. After
-    /// either error, `buf` has its old content, followed by the bytes that were taken. Never returns
-    /// `Interrupted`.
+    /// Returns the first fault that comes before a `delim`; the reader is then right after it.
+    /// Returns `OutOfMemory` if `buf` could not grow; the bytes that needed the room are not taken.
+    /// After either error, `buf` has its old content, followed by the bytes that were taken. Never
+    /// returns `Interrupted`.
     ///
     /// ```rust
     /// let mut r = Cursor::new(*b"key=value");
@@ -97,8 +97,8 @@ pub trait BufRead: Read {
     /// `std::io::BufRead::skip_until`.
     ///
     /// # Errors
-    /// Returns the first fault that comes before a `delim`; the reader is then right after it. Never
-    /// returns `Interrupted`.
+    /// Returns the first fault that comes before a `delim`; the reader is then right after it.
+    /// Never returns `Interrupted`.
     ///
     /// ```rust
     /// let mut r = Cursor::new(*b"key=value");
@@ -128,10 +128,10 @@ pub trait BufRead: Read {
         }
     }
 
-    /// Appends the next line to `buf`, with its newline, and returns the number of its bytes: 0 means
-    /// the end. The last line may have no newline. It ignores interruptions. The bytes are first
-    /// gathered in a vector from `alloc`; a `buf` that has room for them needs no allocation. Follows
-    /// `std::io::BufRead::read_line`.
+    /// Appends the next line to `buf`, with its newline, and returns the number of its bytes: 0
+    /// means the end. The last line may have no newline. It ignores interruptions. The bytes are
+    /// first gathered in a vector from `alloc`; a `buf` that has room for them needs no allocation.
+    /// Follows `std::io::BufRead::read_line`.
     ///
     /// # Errors
     /// Returns `InvalidData` if the line is not UTF-8; `buf` is unchanged, and the line is taken.

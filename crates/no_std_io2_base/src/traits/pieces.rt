@@ -13,8 +13,8 @@ use crate::error::{Error, ErrorKind, Result};
 // The number of bytes that are compared in one step.
 const STEP: usize = 16;
 
-// Returns whether the byte is among the next `STEP`. It compares all of them, so that one vector instruction does
-// it.
+// Returns whether the byte is among the next `STEP`. It compares all of them, so that one vector
+// instruction does it.
 #[inline(always)]
 fn stands_in_step(bytes: &[u8], at: usize, wanted: u8) -> bool
     requires { at + 16 ≤ length bytes.now }
@@ -89,13 +89,13 @@ pub(super) fn text_of(bytes: Vec<u8>) -> Result<String>
     }
 }
 
-/// Appends a line's bytes to a string if they are UTF-8, and returns the result of their read. For a
-/// reader with a `read_line` of its own.
+/// Appends a line's bytes to a string if they are UTF-8, and returns the result of their read. For
+/// a reader with a `read_line` of its own.
 ///
 /// # Errors
 /// Returns the read's error if the read failed, `InvalidData` if the bytes are not UTF-8, and
-/// `OutOfMemory` if the string could not grow. The string is unchanged if the bytes are not UTF-8, and
-/// after every `OutOfMemory`, also the read's.
+/// `OutOfMemory` if the string could not grow. The string is unchanged if the bytes are not UTF-8,
+/// and after every `OutOfMemory`, also the read's.
 pub fn append_line(buf: &mut String, line: &[u8], read: Result<usize>) -> Result<usize>
     ensures answers { AnswersLine line.now read (string_len buf.old) (string_capacity buf.old) result
         (string_bytes buf.old) (string_bytes buf.new) }

@@ -56,8 +56,8 @@ pub trait Read: Stored {
     /// events stays at its end. If `buf` is empty, nothing is read. Follows `std::io::Read::read`.
     ///
     /// # Errors
-    /// Returns the device's error if it fails; no byte was then taken. After an interruption the call
-    /// may be made again.
+    /// Returns the device's error if it fails; no byte was then taken. After an interruption the
+    /// call may be made again.
     fn read(&mut self, buf: &mut [u8]) -> Result<usize>
         ensures law { ReadLaw ⟦<Self as Read>⟧ self.old buf.old result buf.new self.new };
 
@@ -99,9 +99,9 @@ pub trait Read: Stored {
     ///
     /// # Errors
     /// Returns the first fault if there is one; the reader is then right after it. Returns
-    /// `OutOfMemory` if `buf` could not grow; the read that needed the room is not made. After either
-    /// error, `buf` has its old content, followed by the bytes that were taken. Never returns
-    /// `Interrupted`.
+    /// `OutOfMemory` if `buf` could not grow; the read that needed the room is not made. After
+    /// either error, `buf` has its old content, followed by the bytes that were taken. Never
+    /// returns `Interrupted`.
     ///
     /// ```rust
     /// let mut r = Cursor::new(*b"abcde");
@@ -134,14 +134,15 @@ pub trait Read: Stored {
         }
     }
 
-    /// Appends all remaining bytes to the string `buf`, and returns their number. It ignores interruptions. The bytes
-    /// are first gathered in a vector from `alloc`. Follows `std::io::Read::read_to_string`.
+    /// Appends all remaining bytes to the string `buf`, and returns their number. It ignores
+    /// interruptions. The bytes are first gathered in a vector from `alloc`. Follows
+    /// `std::io::Read::read_to_string`.
     ///
     /// # Errors
-    /// Returns `InvalidData` if the bytes are not UTF-8; `buf` is unchanged, and the bytes are taken. Returns the
-    /// first fault of the reader; the bytes before it are appended if they are UTF-8, and else `buf` is unchanged.
-    /// After `OutOfMemory`, also one of the device's own, `buf` is unchanged, and the bytes that this call has taken
-    /// are lost. Never returns `Interrupted`.
+    /// Returns `InvalidData` if the bytes are not UTF-8; `buf` is unchanged, and the bytes are
+    /// taken. Returns the first fault of the reader; the bytes before it are appended if they are
+    /// UTF-8, and else `buf` is unchanged. After `OutOfMemory`, also one of the device's own, `buf`
+    /// is unchanged, and the bytes that this call has taken are lost. Never returns `Interrupted`.
     ///
     /// ```rust
     /// let mut r = Cursor::new(*b"abc");

@@ -1,8 +1,7 @@
 // The room that `read_to_end` makes in a vector for its reads.
-ghost use Rattle.std.specs.Prelude.{◌≡◌, ℕ, List, ◌++◌, take, ◌+◌, ◌≤◌, ◌<◌, false, IfOk, IfErr, OnOk, OnErr, vec_len, vec_capacity};
-ghost use Rattle.no_std_io2_base.specs.Errors.{IsFault, IsOutOfMemory};
-ghost use Rattle.no_std_io2_base.specs.Read.{FillsRoom, ReadToEndLaw, GoesOn, ReadCall, RoomCalls};
-ghost use Rattle.no_std_io2_base.specs.Write.{Made};
+ghost use Rattle.std.specs.Prelude.{◌≡◌, take, ◌+◌, ◌≤◌, ◌<◌, IfErr, OnOk, OnErr, vec_len, vec_capacity};
+ghost use Rattle.no_std_io2_base.specs.Errors.{IsOutOfMemory};
+ghost use Rattle.no_std_io2_base.specs.Read.{ReadToEndLaw};
 
 use super::read::Read;
 use crate::error::Result;
@@ -10,7 +9,7 @@ use std::alloc::Allocator;
 
 /// The least number of bytes for which `read_to_end` makes room if there is none. For a reader with
 /// a loop of its own.
-pub const LEAST_ROOM: usize = 32;
+pub(crate) const LEAST_ROOM: usize = 32;
 
 // The least and the most zeros that it opens for reads at a time, if there is room for them.
 const FIRST_OPENED: usize = 8 * 1024;
@@ -20,8 +19,9 @@ const MOST_OPENED: usize = 128 * 1024;
 /// Makes room for `wanted` more bytes.
 ///
 /// # Errors
-/// Returns `OutOfMemory` if there was too little room and the vector could not grow; nothing then changes.
-pub fn reserve_room<A: Allocator>(buf: &mut Vec<u8, A>, wanted: usize) -> Result<()>
+/// Returns `OutOfMemory` if there was too little room and the vector could not grow; nothing then
+/// changes.
+pub(crate) fn reserve_room<A: Allocator>(buf: &mut Vec<u8, A>, wanted: usize) -> Result<()>
     ensures items { buf.new.items ≡ buf.old.items }
     ensures len { vec_len buf.new ≡ vec_len buf.old }
     ensures room { OnOk result (vec_len buf.new + wanted ≤ vec_capacity buf.new) }
@@ -40,7 +40,7 @@ pub fn reserve_room<A: Allocator>(buf: &mut Vec<u8, A>, wanted: usize) -> Result
 ///
 /// # Errors
 /// Returns `OutOfMemory` if `buf` could not grow; nothing then changes.
-pub fn open_room<A: Allocator>(
+pub(crate) fn open_room<A: Allocator>(
     buf: &mut Vec<u8, A>,
     filled: usize,
     read: usize,
@@ -68,48 +68,6 @@ pub fn open_room<A: Allocator>(
     Ok(())
 }
 
-/// Reads into the room that a vector has until the room is full or the reader is at its end, and
-/// returns whether it is at its end. It allocates nothing, and ignores interruptions.
-///
-/// # Errors
-/// Returns the first fault if there is one; the reader is then right after it, and the bytes before it
-/// are appended. Never returns `Interrupted`.
-fn fill_room<R: Read, A: Allocator>(reader: &mut R, buf: &mut Vec<u8, A>) -> Result<bool>
-    ensures told { R.tells reader.old → R.tells reader.new
-        × FillsRoom (R.events reader.old) result buf.old.items buf.new.items (R.events reader.new) }
-    ensures appends { take (vec_len buf.old) buf.new.items ≡ buf.old.items }
-    ensures grows { vec_len buf.old ≤ vec_len buf.new }
-    ensures capacity { vec_capacity buf.old ≤ vec_capacity buf.new }
-    ensures full { IfOk result (λ at_end. at_end ≡ false → vec_len buf.new ≡ vec_capacity buf.new) }
-    ensures never_interrupted { IfErr result IsFault }
-    ensures turns_never_rise { R.turns reader.new ≤ R.turns reader.old }
-    ensures spends_turn { vec_len buf.old < vec_len buf.new → R.turns reader.new < R.turns reader.old }
-    ensures metered { R.is_metered reader.old → R.is_metered reader.new }
-    ensures filling { R.is_filling reader.old → R.is_filling reader.new }
-    ensures store { GoesOn R.Read reader.old reader.new }
-    ensures calls { (C : List ReadCall) × (x : List ℕ) × Made R.may reader.old C reader.new
-        × (buf.new.items ≡ buf.old.items ++ x) × RoomCalls C x result }
-{
-    let start = buf.len();
-    let mut filled = start;
-    'reads: while filled < buf.capacity() {
-        open_room(buf, filled, filled - start, LEAST_ROOM)?;
-        match reader.read(&mut buf[filled..]) {
-            Ok(0) => {
-                buf.truncate(filled);
-                return Ok(true);
-            }
-            Ok(n) => filled += n,
-            Err(e) if e.is_interrupted() => {}
-            Err(e) => {
-                buf.truncate(filled);
-                return Err(e);
-            }
-        }
-    }
-    Ok(false)
-}
-
 /// Reads to the end like `read_to_end`, but first into the room that the vector has. Only if that
 /// is not enough, it calls the reader's own `read_to_end`. Readers that have several parts use it
 /// for each part after the first.
@@ -120,9 +78,21 @@ pub fn rest_to_end<R: Read, A: Allocator>(reader: &mut R, buf: &mut Vec<u8, A>) 
     ensures law { ReadToEndLaw R.Read reader.old buf.old result buf.new reader.new }
 {
     let start = buf.len();
-    let is_at_end = fill_room(reader, buf)?;
-    if is_at_end {
-        return Ok(buf.len() - start);
+    let mut filled = start;
+    'reads: while filled < buf.capacity() {
+        open_room(buf, filled, filled - start, LEAST_ROOM)?;
+        match reader.read(&mut buf[filled..]) {
+            Ok(0) => {
+                buf.truncate(filled);
+                return Ok(filled - start);
+            }
+            Ok(n) => filled += n,
+            Err(e) if e.is_interrupted() => {}
+            Err(e) => {
+                buf.truncate(filled);
+                return Err(e);
+            }
+        }
     }
     reader.read_to_end(buf)?;
     Ok(buf.len() - start)

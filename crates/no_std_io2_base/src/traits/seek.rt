@@ -3,8 +3,8 @@ ghost use Rattle.std.specs.Prelude.{◌<◌, ◌^◌, length};
 use super::stored::Stored;
 use crate::error::Result;
 
-/// The target of a seek: a number of bytes from the start, from the end or from the current position.
-/// Follows Rust's `std::io::SeekFrom`.
+/// The target of a seek: a number of bytes from the start, from the end or from the current
+/// position. Follows Rust's `std::io::SeekFrom`.
 ///
 /// ```rust
 /// let mut r = Cursor::new(*b"abcde");
@@ -34,16 +34,17 @@ pub trait Seek: Stored {
     /// start. The content of a told store does not change. Follows `std::io::Seek::seek`.
     ///
     /// # Errors
-    /// Returns `InvalidInput`, `invalid seek to a negative or overflowing position`, if a store is told
-    /// and the target is below 0 or above `u64::MAX`; the store is then as it was. If no store is told,
-    /// returns the device's error.
+    /// Returns `InvalidInput`, `invalid seek to a negative or overflowing position`, if a store is
+    /// told and the target is below 0 or above `u64::MAX`; the store is then as it was. If no store
+    /// is told, returns the device's error.
     fn seek(&mut self, pos: SeekFrom) -> Result<u64>
         ensures law { SeekLaw ⟦<Self as Seek>⟧ self.old pos result self.new };
 
     /// Returns the position from the start. Follows `std::io::Seek::stream_position`.
     ///
     /// # Errors
-    /// Returns the error of `seek(SeekFrom::Current(0))` if that fails; over a told store it does not.
+    /// Returns the error of `seek(SeekFrom::Current(0))` if that fails; over a told store it does
+    /// not.
     ///
     /// ```rust
     /// let mut r = Cursor::new(*b"abcde");
@@ -59,7 +60,8 @@ pub trait Seek: Stored {
     /// Moves to the start. Follows `std::io::Seek::rewind`.
     ///
     /// # Errors
-    /// Returns the error of `seek(SeekFrom::Start(0))` if that fails; over a told store it does not.
+    /// Returns the error of `seek(SeekFrom::Start(0))` if that fails; over a told store it does
+    /// not.
     fn rewind(&mut self) -> Result<()>
         ensures law { RewindLaw ⟦<Self as Seek>⟧ self.old result self.new }
     {
@@ -67,12 +69,12 @@ pub trait Seek: Stored {
         Ok(())
     }
 
-    /// Returns the length of the content in bytes. It makes a `stream_position`, a seek to the end and,
-    /// if the position was elsewhere, a seek back. Follows `std::io::Seek::stream_len`.
+    /// Returns the length of the content in bytes. It makes a `stream_position`, a seek to the end
+    /// and, if the position was elsewhere, a seek back. Follows `std::io::Seek::stream_len`.
     ///
     /// # Errors
-    /// Returns the first error of these seeks; the position may then be the end. Over a told store none
-    /// fails, and the store is as it was.
+    /// Returns the first error of these seeks; the position may then be the end. Over a told store
+    /// none fails, and the store is as it was.
     fn stream_len(&mut self) -> Result<u64>
         ensures law { StreamLenLaw ⟦<Self as Seek>⟧ self.old result self.new }
     {
@@ -84,13 +86,13 @@ pub trait Seek: Stored {
         Ok(end)
     }
 
-    /// Moves by `offset` bytes from the current position, by a `seek(SeekFrom::Current(offset))`, and returns no
-    /// position. A [`BufReader`] has a call of this name that stays in its buffer if it can. Follows
-    /// `std::io::Seek::seek_relative`.
+    /// Moves by `offset` bytes from the current position, by a `seek(SeekFrom::Current(offset))`,
+    /// and returns no position. A [`BufReader`] has a call of this name that stays in its buffer if
+    /// it can. Follows `std::io::Seek::seek_relative`.
     ///
     /// # Errors
-    /// Returns the error of `seek`: over a told store `InvalidInput` if there is no such place; the store is then as
-    /// it was.
+    /// Returns the error of `seek`: over a told store `InvalidInput` if there is no such place; the
+    /// store is then as it was.
     ///
     /// ```rust
     /// let mut r = Cursor::new(*b"abcde");

@@ -14,8 +14,8 @@ use std::alloc::Global;
 /// [`BufRead::split`]; follows Rust's `std::io::Split`.
 ///
 /// A last piece without a delimiter is an item too, unless it is empty. After an error, which is a
-/// fault of the reader or `OutOfMemory`, it returns `None` for good, unlike Rust's `Split`; the bytes
-/// that were read for that item are lost.
+/// fault of the reader or `OutOfMemory`, it returns `None` for good, unlike Rust's `Split`; the
+/// bytes that were read for that item are lost.
 #[derive(Drop)]
 pub struct Split<R> {
     inner: R,

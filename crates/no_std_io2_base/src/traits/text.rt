@@ -9,9 +9,10 @@ use std::fmt;
 use std::fmt::{Display, Formatter};
 use std::marker::{Brand, PhantomData};
 
-/// The error type of a call that prints a text. `E` is [`Error`], the only type with an impl, and each call infers it. The
-/// signature does not name `Error`, because that contains a `'static` text: if a signature names `'static`, the borrow
-/// checker takes no text with several lifetimes, such as `format_args!("{name}={value}")`.
+/// The error type of a call that prints a text. `E` is [`Error`], the only type with an impl, and
+/// each call infers it. The signature does not name `Error`, because that contains a `'static`
+/// text: if a signature names `'static`, the borrow checker takes no text with several lifetimes,
+/// such as `format_args!("{name}={value}")`.
 pub trait Answers<E> {
     ghost seen: { Result (Unit {0}) E → Result (Unit {0}) Error };
 
@@ -27,8 +28,8 @@ impl Answers<Error> for ErrorKind {
     }
 }
 
-// The state of the writer before the call, which the proof of the call keeps under the name of the borrow. A call with
-// `Brand` chooses the name.
+// The state of the writer before the call, which the proof of the call keeps under the name of the
+// borrow. A call with `Brand` chooses the name.
 pub(super) trait Began<W> {
     ghost at: { W → ℕ → Type 0 };
 }
@@ -51,8 +52,8 @@ pub(super) struct Printed<'a, W> {
     pub formatted: fmt::Result,
 }
 
-// A writer for the formatter. It keeps the writer's first error, because the formatter's own error does not contain one, and
-// writes nothing after it.
+// A writer for the formatter. It keeps the writer's first error, because the formatter's own error
+// does not contain one, and writes nothing after it.
 #[derive(Drop)]
 struct Adapter<'a, W: Write, K: Began<W>> {
     inner: &'a mut W,
@@ -102,9 +103,9 @@ pub(super) fn print_to<'a, W: Write, D: Display + Drop, K: Began<W>>(
     }
 }
 
-// Returns the writer's result, or an error if the text's own `fmt` failed. That error has the kind of the writer's error,
-// if there is one. Its message tells the caller that not only the writer failed, so the accepted bytes may not be a front
-// of the text.
+// Returns the writer's result, or an error if the text's own `fmt` failed. That error has the kind
+// of the writer's error, if there is one. Its message tells the caller that not only the writer
+// failed, so the accepted bytes may not be a front of the text.
 pub(super) fn answer_of(formatted: fmt::Result, met: Result<()>) -> Result<()>
     ensures ok { OnOk formatted (result ≡ met) }
     ensures err { OnErr formatted (FailsText met result) }

@@ -11,9 +11,9 @@ use std::marker::Brand;
 
 /// A sink of bytes. Follows Rust's `std::io::Write`.
 ///
-/// A writer tells contracts the bytes that are *out*, the bytes that are *held* (accepted and not yet
-/// out), the *mishaps* to come if it knows them, and a number of *turns*. A mishap is an `Err`, of its
-/// error's kind, or an `Ok(0)` of a `write` of some bytes, of kind `WriteZero`.
+/// A writer tells contracts the bytes that are *out*, the bytes that are *held* (accepted and not
+/// yet out), the *mishaps* to come if it knows them, and a number of *turns*. A mishap is an `Err`,
+/// of its error's kind, or an `Ok(0)` of a `write` of some bytes, of kind `WriteZero`.
 ///
 /// Each call keeps this law. `out` followed by `held` is afterwards what it was, followed by
 /// exactly the bytes that the result reports as accepted. What is out stays out. Told mishaps stay
@@ -47,8 +47,8 @@ pub trait Write {
     /// and `n` is at most its length. `Err` means that none was. Follows `std::io::Write::write`.
     ///
     /// # Errors
-    /// Returns the device's error if it fails; nothing was then accepted. After an interruption the call
-    /// may be made again.
+    /// Returns the device's error if it fails; nothing was then accepted. After an interruption the
+    /// call may be made again.
     ///
     /// ```rust
     /// let mut room = [0u8; 4];
@@ -63,8 +63,8 @@ pub trait Write {
     /// is lost: each is out or held. Follows `std::io::Write::flush`.
     ///
     /// # Errors
-    /// Returns the device's error if it fails, and `WriteZero` if a buffer's device takes no byte. Bytes
-    /// that were not passed on are still held, and a later flush continues with them.
+    /// Returns the device's error if it fails, and `WriteZero` if a buffer's device takes no byte.
+    /// Bytes that were not passed on are still held, and a later flush continues with them.
     ///
     /// ```rust
     /// let mut w = BufWriter::<Vec<u8>, 8>::new(Vec::new(rt.alloc()));
@@ -80,10 +80,10 @@ pub trait Write {
     /// `std::io::Write::write_all`.
     ///
     /// # Errors
-    /// Returns `WriteZero` if the device takes no byte, and the device's first fault if it fails. Then
-    /// some first bytes of `buf` were accepted, possibly none or all, and the caller cannot know how
-    /// many. A caller that must not send a byte twice calls [`write_rest`](Write::write_rest). Never
-    /// returns `Interrupted`.
+    /// Returns `WriteZero` if the device takes no byte, and the device's first fault if it fails.
+    /// Then some first bytes of `buf` were accepted, possibly none or all, and the caller cannot
+    /// know how many. A caller that must not send a byte twice calls
+    /// [`write_rest`](Write::write_rest). Never returns `Interrupted`.
     ///
     /// ```rust
     /// let mut room = [0u8; 4];
@@ -100,12 +100,12 @@ pub trait Write {
 
     /// Writes the bytes of `rest`, and removes those that were accepted from its front. So after an
     /// error `rest` is exactly what is still to be written; the same call continues there, and no
-    /// byte goes out twice. It ignores interruptions; an empty `rest` makes no call. Rust's std has no
-    /// such call.
+    /// byte goes out twice. It ignores interruptions; an empty `rest` makes no call. Rust's std has
+    /// no such call.
     ///
     /// # Errors
-    /// Returns `WriteZero` if the device takes no byte, and the device's first fault if it fails. The
-    /// bytes left in `rest` were then not accepted. Never returns `Interrupted`.
+    /// Returns `WriteZero` if the device takes no byte, and the device's first fault if it fails.
+    /// The bytes left in `rest` were then not accepted. Never returns `Interrupted`.
     ///
     /// ```rust
     /// pub fn send_with_one_retry<W: Write>(device: &mut W, rest: &mut &[u8]) -> Result<()>
@@ -132,13 +132,14 @@ pub trait Write {
         Ok(())
     }
 
-    /// Writes a formatted text, for `write!` and `writeln!`: each printed piece as by `write_all`, without allocation.
-    /// Follows `std::io::Write::write_fmt`.
+    /// Writes a formatted text, for `write!` and `writeln!`: each printed piece as by `write_all`,
+    /// without allocation. Follows `std::io::Write::write_fmt`.
     ///
     /// # Errors
-    /// Returns the error of a `write_all` if that fails; some first bytes of the text were then accepted, and the device
-    /// gets no more calls. Returns `formatter error` if the text's own `fmt` fails, with the kind of the device's error if
-    /// that had failed before, and else `Other`; some bytes, possibly none, were then accepted.
+    /// Returns the error of a `write_all` if that fails; some first bytes of the text were then
+    /// accepted, and the device gets no more calls. Returns `formatter error` if the text's own
+    /// `fmt` fails, with the kind of the device's error if that had failed before, and else
+    /// `Other`; some bytes, possibly none, were then accepted.
     ///
     /// ```rust
     /// let mut device = Vec::<u8>::new(rt.alloc());

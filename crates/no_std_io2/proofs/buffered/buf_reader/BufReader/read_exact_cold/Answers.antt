@@ -35,13 +35,15 @@ reads-init g c =
         within = most;
         untouched = λ nothing. absurd (omega (arith, nothing, c.requires));
         told = λ t. (subst g.R.Read.tells same t, taken_first got gave.told (omega arith));
-        turns = omega (arith, gave.turns);
+        kept = record {
+          turns = omega (arith, gave.turns);
+          metered = λ m. m;
+          filling = λ f. f;
+          store = λ s.
+              let now = gave.store s in
+              (now.0, ap g.R.Stored.content gave.inner, omega (arith, now.1, moved, before, after));
+        };
         turn = λ some. omega (arith, gave.turns, some);
-        metered = λ m. m;
-        filling = λ f. f;
-        store = λ s.
-            let now = gave.store s in
-            (now.0, ap g.R.Stored.content gave.inner, omega (arith, now.1, moved, before, after));
         calls = gives_first g.R.Read.may old new n _ c.give-at.new.buf most (c.give-at.auto.buf) (omega (arith, c.requires)) all
             gave.inner gave.none;
       };

@@ -8,8 +8,7 @@ returns g c =
     let o = goal.BufRead-dyn g in
     let dropped = c.consume.ensures in
     record {
-      law = consume_box (λ p. (o p).Read.tells p.1) (λ p. (o p).Read.events p.1) (λ p. (o p).Read.turns p.1)
-          (λ p. (o p).Read.may_take_none p.1) (λ i v. (o (i, v)).Read.may v) c.args.self.now (λ p. (o p).BufRead.held p.1)
+      law = consume_box (λ p. (o p).Read) c.args.self.now (λ p. (o p).BufRead.held p.1)
           c.args.amount c.deref_box_mut-1.result.now (search rules) c.consume.new.self dropped.held dropped.told dropped.turns_never_rise
           dropped.spends_turn dropped.call;
     }

@@ -9,8 +9,7 @@ returns g c =
     let law = c.fill_buf.ensures in
     let after = c.fill_buf.follows.holds-at-none in
     let box =
-    loan_box (λ p. (o p).Read.tells p.1) (λ p. (o p).Read.events p.1) (λ p. (o p).Read.turns p.1)
-    (λ i v. (o (i, v)).Read.may v) (λ p. (o p).BufRead.held p.1)
+    loan_box (λ p. (o p).Read) (λ p. (o p).BufRead.held p.1)
     c.args.self.now c.fill_buf.result _ (search rules) c.fill_buf.follows.lender-at-none (law.held, law.front, law.end)
     after.told after.turns_never_rise after.spends_turn after.unchanged after.call in (
       (

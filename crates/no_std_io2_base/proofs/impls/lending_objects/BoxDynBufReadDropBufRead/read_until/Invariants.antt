@@ -6,8 +6,7 @@ use Rattle.no_std_io2_base.proofs.impls.lending_objects.BoxDynBufReadDropBufRead
 abbrev pub invariant-pieces : goal.invariant-pieces
 invariant-pieces g l =
     let o = goal.BufRead-dyn g in
-    UntilSoFar (lends_as (box_reader (λ p. (o p).Read.tells p.1) (λ p. (o p).Read.events p.1) (λ p. (o p).Read.turns p.1)
-    (λ p. (o p).Read.may_take_none p.1) (λ i v. (o (i, v)).Read.may v)) (holds_alone (λ b. (o (b.vtable, b.value)).BufRead.held b.value)))
+    UntilSoFar (lends_as (box_reader (λ p. (o p).Read)) (holds_alone (λ b. (o (b.vtable, b.value)).BufRead.held b.value)))
     l.delim l.fn.self l.fn.buf l.buf l.self
 
 abbrev pub decreases-pieces : goal.decreases-pieces

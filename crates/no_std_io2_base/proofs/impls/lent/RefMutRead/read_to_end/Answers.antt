@@ -1,24 +1,12 @@
 -- What the call did to the target, it did to the reference.
+use Rattle.std.proofs.Common.{rules}
+use Rattle.std.specs.Borrow.{MutBor}
 use Rattle.no_std_io2_base.proofs.ReadCalls.{to_end_map}
 use Rattle.no_std_io2_base.proofs.impls.lent.RefMutRead.read_to_end.Goals as goal
 
 pub returns : goal.returns
 returns g c =
-    let read = c.read_to_end.ensures.law in
     let put = λ (v : g.row.T.Denot). record c.args.self.now { now = v } in
-    record {
-      law = record {
-        told = read.told;
-        appends = read.appends;
-        count = read.count;
-        capacity = read.capacity;
-        room = read.room;
-        never_interrupted = read.never_interrupted;
-        turns_never_rise = read.turns_never_rise;
-        spends_turn = read.spends_turn;
-        metered = read.metered;
-        filling = read.filling;
-        store = read.store;
-        calls = to_end_map put (λ a b call made. made) read.calls;
-      };
-    }
+    let calls = to_end_map {may' = λ (a : MutBor g.row.T.Denot) call b. g.T.Read.may a.now call b.now} put (λ a b call made. made)
+    c.read_to_end.ensures.law.calls in
+    record { law = search (rules, calls) }

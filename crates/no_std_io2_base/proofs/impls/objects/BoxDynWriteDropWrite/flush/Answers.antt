@@ -6,10 +6,7 @@ use Rattle.no_std_io2_base.proofs.impls.objects.BoxDynWriteDropWrite.flush.Goals
 
 pub returns : goal.returns
 returns g c =
-    let o = goal.Write-dyn g in
     record {
-      law = lent_call (λ i v. (o (i, v)).told v) (λ i v. (o (i, v)).takes_all v) (λ i v. (o (i, v)).cost v) (λ i v. (o (i, v)).is_metered v)
-          (λ i old call new. (o (i, old)).may old call new) c.args.self.now (Flushed c.flush.result) c.deref_box_mut-1.result.now
-          (search rules)
-          c.flush.new.self c.flush.ensures;
+      law = lent_call (goal.Write-dyn g) c.args.self.now (Flushed c.flush.result)
+          c.deref_box_mut-1.result.now (search rules) c.flush.new.self c.flush.ensures;
     }

@@ -5,11 +5,7 @@ use Rattle.no_std_io2_base.proofs.impls.objects.BoxDynWriteDropWrite.write_all.G
 
 pub returns : goal.returns
 returns g c =
-    let o = goal.Write-dyn g in
     record {
-      law = write_all_box (λ i v. (o (i, v)).told v) (λ i v. (o (i, v)).takes_all v) (λ i v. (o (i, v)).cost v)
-          (λ i v. (o (i, v)).is_metered v)
-          (λ i old call new. (o (i, old)).may old call new) c.args.self.now c.args.buf.now c.write_all.result c.deref_box_mut-1.result.now
-          (search rules)
-          c.write_all.new.self c.write_all.ensures;
+      law = write_all_box (goal.Write-dyn g) c.args.self.now c.args.buf.now c.write_all.result c.deref_box_mut-1.result.now
+          (search rules) c.write_all.new.self c.write_all.ensures;
     }

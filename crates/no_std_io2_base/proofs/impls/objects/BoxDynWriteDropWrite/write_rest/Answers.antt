@@ -5,11 +5,7 @@ use Rattle.no_std_io2_base.proofs.impls.objects.BoxDynWriteDropWrite.write_rest.
 
 pub returns : goal.returns
 returns g c =
-    let o = goal.Write-dyn g in
     record {
-      law = write_rest_box (λ i v. (o (i, v)).told v) (λ i v. (o (i, v)).takes_all v) (λ i v. (o (i, v)).cost v)
-          (λ i v. (o (i, v)).is_metered v)
-          (λ i old call new. (o (i, old)).may old call new) c.args.self.now c.args.rest.now.now c.write_rest.result
-          c.write_rest.new.rest.now c.deref_box_mut-1.result.now (search rules)
-          c.write_rest.new.self c.write_rest.ensures;
+      law = write_rest_box (goal.Write-dyn g) c.args.self.now c.args.rest.now.now c.write_rest.result
+          c.write_rest.new.rest.now c.deref_box_mut-1.result.now (search rules) c.write_rest.new.self c.write_rest.ensures;
     }

@@ -8,8 +8,7 @@ returns g c =
     let o = goal.Read-dyn g in
     let read = c.read_exact.ensures in
     record {
-      law = exact_box (λ p. (o p).Read.tells p.1) (λ p. (o p).Read.events p.1) (λ p. (o p).Read.turns p.1)
-          (λ p. (o p).Read.may_take_none p.1) (λ i v. (o (i, v)).Read.may v) c.args.self.now
+      law = exact_box (λ p. (o p).Read) c.args.self.now
           c.args.buf.now c.read_exact.new.buf c.read_exact.result c.deref_box_mut-1.result.now (search rules) c.read_exact.new.self
           read.told read.never_interrupted read.empty read.turns_never_rise read.spends_turn read.calls;
     }

@@ -6,8 +6,7 @@ use Rattle.no_std_io2_base.proofs.impls.reading_objects.BoxDynReadDropRead.read_
 abbrev pub invariant-reads : goal.invariant-reads
 invariant-reads g l =
     let o = goal.Read-dyn g in
-    ToEndSoFar (box_reader (λ p. (o p).Read.tells p.1) (λ p. (o p).Read.events p.1) (λ p. (o p).Read.turns p.1)
-    (λ p. (o p).Read.may_take_none p.1) (λ i v. (o (i, v)).Read.may v)) l.fn.self l.fn.buf l.filled l.buf l.self
+    ToEndSoFar (box_reader (λ p. (o p).Read)) l.fn.self l.fn.buf l.filled l.buf l.self
 
 abbrev pub decreases-reads : goal.decreases-reads
 decreases-reads g l = (goal.Read-dyn g (l.self.vtable, l.self.value)).Read.turns l.self.value

@@ -1,7 +1,7 @@
 -- The loop ends with its reader's turns.
 use Rattle.no_std_io2_base.proofs.Readers.{reader}
 use Rattle.no_std_io2_base.proofs.ReadToEndLoop.{ToEndSoFar}
-use Rattle.no_std_io2_base.proofs.traits.room.fill_room.Given as goal
+use Rattle.no_std_io2_base.proofs.traits.room.rest_to_end.Given as goal
 
 abbrev pub invariant-reads : goal.invariant-reads
 invariant-reads g l = ToEndSoFar (reader g.R.Stored g.R.Read) l.initial.reader l.fn.buf l.filled l.buf l.reader
