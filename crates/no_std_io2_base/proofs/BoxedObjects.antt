@@ -6,7 +6,7 @@ use Rattle.no_std_io2_base.specs.declared.error.Error.{Error}
 use Rattle.no_std_io2_base.specs.declared.traits.read.Read.{Ghosts as ReaderGhosts}
 use Rattle.no_std_io2_base.specs.declared.traits.write.Write.{Ghosts as WriterGhosts}
 use Rattle.no_std_io2_base.specs.Errors.{IsNoInterruption}
-use Rattle.no_std_io2_base.specs.Read.{Event, events_of, Reads, ReadsExact, SpendsTurn, ReadLaw, ReadExactLaw, ReadCall, Gave, gave}
+use Rattle.no_std_io2_base.specs.Read.{events_of, Reads, ReadsExact, SpendsTurn, ReadLaw, ReadExactLaw, Gave, gave}
 use Rattle.no_std_io2_base.specs.Read.{ExactMade, Filled, Consumed}
 use Rattle.no_std_io2_base.proofs.ReadCalls.{exact_map}
 use Rattle.no_std_io2_base.specs.BufRead.{ConsumeLaw, IsNotEmpty, BeginsWith, LendsFrom, LendingTurn, lent_bytes}

@@ -10,53 +10,12 @@ use Rattle.no_std_io2_base.specs.Errors.{error_kind, is_interruption}
 use Rattle.no_std_io2_base.specs.Read.{Event, byte, fails, events_of, bytes, HasNoFault, Reads, SpendsTurn}
 use Rattle.std.specs.Borrow.{Bor}
 use Rattle.no_std_io2_base.specs.BufRead.{Lender, FillBufLaw, AfterLoan, IsNotEmpty, lent_bytes}
-use Rattle.no_std_io2_base.specs.Read.{bytes_to_fault, first_fault, HasRoom, Reader, Gave, Filled, bytes_given, ended, ToEndMade}
-use Rattle.no_std_io2_base.specs.Chain.{chain_events, InTurn, InParts, EndsFirst, ChainMay}
+use Rattle.no_std_io2_base.specs.Read.{bytes_to_fault, first_fault, HasRoom, Reader, Filled, bytes_given, ended, ToEndMade}
+use Rattle.no_std_io2_base.specs.Chain.{InTurn, InParts, EndsFirst, ChainMay}
 use Rattle.no_std_io2_base.proofs.ReadCalls.{to_end_by, drains}
 use Rattle.no_std_io2_base.proofs.ReadsAdd.{EachAdds}
 use Rattle.no_std_io2_base.proofs.EventLemmas.{length-events_of}
 use Rattle.no_std_io2_base.proofs.GivenPieces.{bytes_to_fault-append}
-
--- The first reader is at its end, and if the mark is new, this call met the end. The second reader is read.
-pub record PastFirst {T U : Type 0} (R : Reader T) (later : U → List Event) (room : ℕ) (was now : Chain T U) : Type 0 where
-  pub done : now.done_first ≡ true
-  pub second : now.second ≡ was.second
-  pub spent : R.turns now.first ≤ R.turns was.first
-  pub same : was.done_first ≡ true → now.first ≡ was.first
-  pub none : was.done_first ≡ false → R.tells was.first → R.events was.first ≡ []
-  pub left : (was.done_first ≡ false → R.tells was.first) → chain_events R.events later was ≡ later was.second
-  pub met : was.done_first ≡ false → (0 < room) × R.may was.first (Gave room (Ok [])) now.first
-
--- the first reader was done before
-pub past_done : {T U : Type 0} {R : Reader T} {later : U → List Event} {room : ℕ} {was now : Chain T U} → now ≡ was
-    → was.done_first ≡ true → PastFirst R later room was now
-past_done {R = R} {later} {room} {was} same done =
-    subst (PastFirst R later room was) (sym same) (record {
-      done = done;
-      second = refl;
-      spent = le_refl _;
-      same = λ _. refl;
-      none = λ going. absurd (true≢false (sym done ∙ going));
-      left = λ t. ap (λ b. (if b then [] else R.events was.first) ++ later was.second) done;
-      met = λ going. absurd (true≢false (sym done ∙ going));
-    })
-
--- or the read of this call met its end
-pub past_read : {T U : Type 0} {R : Reader T} {later : U → List Event} {room : ℕ} {was now : Chain T U} {first : T}
-    → now ≡ record { first = first; second = was.second; done_first = true } → was.done_first ≡ false
-    → R.turns first ≤ R.turns was.first → (R.tells was.first → R.events was.first ≡ []) → 0 < room
-    → R.may was.first (Gave room (Ok [])) first → PastFirst R later room was now
-past_read {R = R} {later} {room} {was} {first} is going spent none some call =
-    subst (PastFirst R later room was) (sym is) (record {
-      done = refl;
-      second = refl;
-      spent = spent;
-      same = λ h. absurd (true≢false (sym h ∙ going));
-      none = λ _. none;
-      left = λ t. ap (λ b. (if b then [] else R.events was.first) ++ later was.second) going
-          ∙ ap (λ E. E ++ later was.second) (none (t going));
-      met = λ _. (some, call);
-    })
 
 -- no call raises the turns of both together
 pub both_turns : {first first' second second' : ℕ} → first' ≤ first → second' ≤ second → first' + second' ≤ first + second

@@ -1,5 +1,5 @@
 -- How calls of a writer follow one another.
-use Rattle.std.proofs.Common.{◌≡◌, Result, Ok, Err, ℕ, ◌+◌, length, Bool, true, subst, List, [], ◌∷◌, ◌++◌, Option}
+use Rattle.std.proofs.Common.{◌≡◌, Result, Ok, Err, ℕ, ◌+◌, ◌≤◌, length, Bool, true, subst, List, [], ◌∷◌, ◌++◌, Option}
 use Rattle.std.proofs.Common.{None, Some, sym, ap, ◌∙◌, arith, count_by, append_assoc, append-nil}
 use Rattle.std.proofs.lemmas.List.Sums.{sum_by-append, sum_by-cons}
 use Rattle.std.proofs.lemmas.Bool.Decides.{nat_tests}
@@ -37,11 +37,11 @@ HasSpent-trans (Some a) k (Some b) l None f g = absurd g
 HasSpent-trans (Some a) k (Some b) l (Some c) f g = λ p. omega (arith, f p, g p, count_by-append p k l)
 
 -- fewer mishaps than happened may be told
-pub HasSpent-forget : (a : Option (List ErrorKind)) (k l : List ErrorKind) (c : Option (List ErrorKind))
-    → HasSpent a (k ++ l) c → HasSpent a l c
-HasSpent-forget None k l c f = tt
-HasSpent-forget (Some a) k l None f = absurd f
-HasSpent-forget (Some a) k l (Some c) f = λ p. omega (arith, f p, count_by-append p k l)
+HasSpent-less : (a : Option (List ErrorKind)) (k l : List ErrorKind) (c : Option (List ErrorKind))
+    → ((p : ErrorKind → Bool) → count_by p l ≤ count_by p k) → HasSpent a k c → HasSpent a l c
+HasSpent-less None k l c fewer f = tt
+HasSpent-less (Some a) k l None fewer f = absurd f
+HasSpent-less (Some a) k l (Some c) fewer f = λ p. omega (arith, f p, fewer p)
 
 -- a writer that does nothing has accepted no byte and had no mishap
 pub Moves-refl : (a : Told) → Moves a [] [] a
@@ -62,33 +62,27 @@ Moves-trans {a} {b} {c} {x} {y} {k} {l} f g = record {
   turns = omega (arith, f.turns, g.turns, count_by-append is_interruption k l);
 }
 
--- some mishaps need not be told
-pub Moves-forget : {a c : Told} {x : List ℕ} (k : List ErrorKind) {l : List ErrorKind} → Moves a x (k ++ l) c → Moves a x l c
-Moves-forget {a} {c} {x} k {l} f = record {
+-- fewer mishaps need be told
+Moves-less : {a c : Told} {x : List ℕ} {k l : List ErrorKind} → ((p : ErrorKind → Bool) → count_by p l ≤ count_by p k)
+    → Moves a x k c → Moves a x l c
+Moves-less {a} {c} {k = k} {l} fewer f = record {
   front = f.front;
   bytes = f.bytes;
-  mishaps = HasSpent-forget a.mishaps k l c.mishaps f.mishaps;
-  turns = omega (arith, f.turns, count_by-append is_interruption k l);
+  mishaps = HasSpent-less a.mishaps k l c.mishaps fewer f.mishaps;
+  turns = omega (arith, f.turns, fewer is_interruption);
 }
+
+-- some mishaps need not be told
+pub Moves-forget : {a c : Told} {x : List ℕ} (k : List ErrorKind) {l : List ErrorKind} → Moves a x (k ++ l) c → Moves a x l c
+Moves-forget k {l} f = Moves-less (λ p. omega (arith, count_by-append p k l)) f
 
 -- the first step's mishaps are left out
 pub Moves-then : {a b c : Told} {x y : List ℕ} {k l : List ErrorKind} → Moves a x k b → Moves b y l c → Moves a (x ++ y) l c
 Moves-then {k} f g = Moves-forget k (Moves-trans f g)
 
--- of the mishaps that were spent none need be told
-HasSpent-quiet : (a : Option (List ErrorKind)) (k : List ErrorKind) (c : Option (List ErrorKind)) → HasSpent a k c → HasSpent a [] c
-HasSpent-quiet None k c f = tt
-HasSpent-quiet (Some a) k None f = absurd f
-HasSpent-quiet (Some a) k (Some c) f = λ p. omega (arith, f p)
-
 -- no mishap need be told
 pub Moves-quiet : {a c : Told} {x : List ℕ} {k : List ErrorKind} → Moves a x k c → Moves a x [] c
-Moves-quiet {a} {c} {x} {k} f = record {
-  front = f.front;
-  bytes = f.bytes;
-  mishaps = HasSpent-quiet a.mishaps k c.mishaps f.mishaps;
-  turns = omega (arith, f.turns);
-}
+Moves-quiet f = Moves-less (λ p. omega arith) f
 
 -- two moves in a row, without their mishaps
 pub Moves-more : {a b c : Told} {x y : List ℕ} {k l : List ErrorKind} → Moves a x k b → Moves b y l c → Moves a (x ++ y) [] c

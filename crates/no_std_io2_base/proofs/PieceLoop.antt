@@ -10,10 +10,9 @@ use Rattle.no_std_io2_base.specs.Read.{events_of, ReadCall, Filled, Consumed}
 use Rattle.no_std_io2_base.specs.BufRead.{Lender, FillBufLaw, AfterLoan, ConsumeLaw, ReadUntilLaw, lent_bytes}
 use Rattle.no_std_io2_base.specs.Pieces.{FindsPiece, PartCalls, no_part, and_part, and_waited, PieceMade}
 use Rattle.no_std_io2_base.specs.Write.{IsFront, Made}
-use Rattle.no_std_io2_base.proofs.PieceLemmas.{PieceSoFar, piece_none, piece_more, piece_interruption, piece_ended, piece_fault}
-use Rattle.no_std_io2_base.proofs.PieceLemmas.{byte_next, piece_memory, part_taken, none_taken, error_taken}
-use Rattle.no_std_io2_base.proofs.PieceLemmas.{whole_part, front_more, front_same, spent_more, part_fits, memory_fault}
-use Rattle.no_std_io2_base.proofs.PieceRoom.{part_has_room}
+use Rattle.no_std_io2_base.proofs.PieceLemmas.{PieceSoFar, piece_none, piece_more, piece_interruption, piece_ended, piece_fault, byte_next}
+use Rattle.no_std_io2_base.proofs.PieceLemmas.{piece_memory, part_taken, none_taken, error_taken, whole_part, front_more, front_same}
+use Rattle.no_std_io2_base.proofs.PieceLemmas.{spent_more, part_fits, memory_fault, part_has_room}
 use Rattle.no_std_io2_base.proofs.ReadToEndGathered.{gathered_first_fault}
 use Rattle.no_std_io2_base.proofs.ReadToEndTaken.{moved_read, no_error}
 use Rattle.no_std_io2_base.proofs.CallsLemmas.{made_more, made_then, made_map}

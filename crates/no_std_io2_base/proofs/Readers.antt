@@ -5,7 +5,7 @@ use Rattle.no_std_io2_base.specs.declared.traits.read.Read.{Ghosts as Reads}
 use Rattle.no_std_io2_base.specs.declared.traits.stored.Stored.{Ghosts as Stores}
 use Rattle.no_std_io2_base.specs.declared.traits.buf_read.BufRead.{Ghosts as BufReads}
 use Rattle.no_std_io2_base.specs.declared.traits.take.Take.{Take}
-use Rattle.no_std_io2_base.specs.Read.{Event, events_of, Reader, ReadCall}
+use Rattle.no_std_io2_base.specs.Read.{events_of, Reader}
 use Rattle.no_std_io2_base.specs.Write.{BoxMay}
 use Rattle.no_std_io2_base.specs.BufRead.{Lender}
 use Rattle.no_std_io2_base.specs.Take.{take_inner, take_events, TakeMay}

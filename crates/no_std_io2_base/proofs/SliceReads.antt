@@ -1,14 +1,15 @@
 -- Bytes that are taken off a slice and appended, as a reader tells it.
-use Rattle.std.proofs.Common.{◌≡◌, ℕ, ◌+◌, ◌-◌, ◌<◌, ◌≤◌, ◌^◌, min, List, [], ◌∷◌, ◌++◌, Err, length, take, drop, refl, sym}
-use Rattle.std.proofs.Common.{ap, ◌∙◌, arith, inr, append-nil, append_assoc, take-append-drop, length-drop, length-take}
+use Rattle.std.proofs.Common.{◌≡◌, ℕ, ◌+◌, ◌-◌, ◌<◌, ◌≤◌, ◌^◌, min, List, [], ◌∷◌, ◌++◌, Err, length, take, drop, refl, sym, ap, ◌∙◌, arith}
+use Rattle.std.proofs.Common.{inr, append-nil, append_assoc, take-append-drop, length-drop, length-take, subst, Ok, drop_of_length-le}
 use Rattle.std.proofs.Math.Seq.{drop-append_seam}
 use Rattle.std.proofs.lemmas.List.{length-append, take_at}
 use Rattle.no_std_io2_base.specs.declared.error.Error.{Error}
 use Rattle.no_std_io2_base.specs.Errors.{IsOutOfMemory}
-use Rattle.no_std_io2_base.specs.Read.{events_of, bytes, HasNoFault, ReadsToEnd, bytes_to_fault, HasRoom}
+use Rattle.no_std_io2_base.specs.Read.{events_of, bytes, HasNoFault, ReadsToEnd, bytes_to_fault, HasRoom, bytes-events_of, cut, Reads}
+use Rattle.no_std_io2_base.specs.Read.{Fills}
 use Rattle.no_std_io2_base.specs.Cursor.{HasMoved}
 use Rattle.no_std_io2_base.proofs.CursorLemmas.{left_after}
-use Rattle.no_std_io2_base.proofs.EventLemmas.{HasNoFault-events_of, bytes-events_of, events_of-append, length-events_of}
+use Rattle.no_std_io2_base.proofs.EventLemmas.{HasNoFault-events_of, bytes-events_of, events_of-append, length-events_of, cut-bytes}
 
 -- all of it was appended
 pub moved_whole : {all rest : List ℕ} (old : List ℕ) {new : List ℕ} → HasMoved all rest old new → rest ≡ []
@@ -159,3 +160,34 @@ place_behind content place {left} {rest} old {new} small fits is moved =
         length-events_of (drop (place + (length left - length rest)) content),
       ),
     )
+
+-- all bytes, as events, are the first n of them and then the others
+pub events_of-split : (all : List ℕ) (n : ℕ) → events_of all ≡ events_of (take n all) ++ events_of (drop n all)
+events_of-split all n = ap events_of (sym (take-append-drop n all)) ∙ events_of-append (take n all) (drop n all)
+
+-- n bytes of all were copied to the front of buf
+pub read_bytes : (all buf : List ℕ) {rest : List ℕ} (n : ℕ)
+    → take n buf ≡ take n all → rest ≡ drop n all → (n ≡ 0 → 0 < length buf → length all ≡ 0)
+    → Reads (events_of all) (Ok n) buf (events_of rest)
+read_bytes all buf n front is none = (
+  events_of-split all n ∙ ap (λ l. events_of l ++ events_of (drop n all)) (sym front)
+      ∙ ap (λ l. events_of (take n buf) ++ events_of l) (sym is),
+  λ zero room. ap events_of (drop_of_length-le all {i = 0} (omega (arith, none zero room))),
+)
+
+-- all of buf was filled from all
+pub fill_bytes : (all : List ℕ) {buf rest : List ℕ} (n : ℕ) → buf ≡ take n all → n ≡ length buf → rest ≡ drop n all
+    → Fills (events_of all) buf (events_of rest)
+fill_bytes all {buf = buf} {rest = rest} n front long is =
+    let none : length buf - length buf ≡ 0 = omega arith in
+    let split : events_of all ≡ events_of buf ++ events_of rest =
+    events_of-split all n ∙ ap (λ l. events_of l ++ events_of (drop n all)) (sym front)
+    ∙ ap (λ l. events_of buf ++ events_of l) (sym is) in
+    let stop : cut (length buf) (events_of all) ≡ events_of buf =
+    ap (cut (length buf)) split ∙ cut-bytes buf (events_of rest) (length buf) (omega arith)
+    ∙ ap (λ k. events_of buf ++ cut k (events_of rest)) none ∙ append-nil (events_of buf) in
+    record {
+      split = split ∙ ap (λ l. l ++ events_of rest) (sym stop);
+      no_fault = subst HasNoFault (sym stop) (HasNoFault-events_of buf);
+      filled = ap bytes stop ∙ bytes-events_of buf;
+    }

@@ -18,6 +18,7 @@ use Rattle.no_std_io2_base.specs.declared.error.ErrorKind.{ErrorKind}
 use Rattle.no_std_io2_base.specs.Write.{Told, Moves, MovesFront, HasSpent, WriteCall, WriteAllLaw}
 use Rattle.no_std_io2_base.specs.Text.{Prints, nothing, piece, silent, IsTextError, FailsText, AnswersText, MovesText, WriteFmtLaw}
 use Rattle.no_std_io2_base.specs.Errors.{is_interruption, IsNoInterruption}
+use Rattle.no_std_io2_base.proofs.ChainReads.{after_ok}
 use Rattle.no_std_io2_base.proofs.MovesLemmas.{IsFront-refl, Moves-refl, MovesFront-join, MovesFront-first}
 
 module _ {S : Type 0} {told : S → Told} {takes_all : S → Type 0} {cost : S → ℕ} {is_metered : S → Type 0}
@@ -63,15 +64,6 @@ module _ {W S : Type 0} (prints : S → List ℕ → W → Type 0) where
       (sym (concat-append xs (x ∷ []) ∙ ap (λ l. concat xs ++ l) (append-nil x))) (next old (concat xs) so_far))
       w.parts s t start w.calls)
 
-  -- a specified output was printed through a formatter, after `Ok`
-  pub prints_output : (f g : Formatter W) {s t : W} (old : S) (output : Option (List ℕ)) (formatted : Result (Unit {0}) FormatError)
-      → formatter_writer f ≡ s → IsPlainFormatter f → t ≡ formatter_writer g → DisplaysOnOk Then f formatted output g → IsOk formatted
-      → prints old [] s → IfSome output (λ bs. prints old bs t)
-  prints_output f g old None formatted over plain back shows ok start = tt
-  prints_output f g old (Some bs) formatted over plain back shows ok start =
-      subst (prints old bs) (sym back) (prints_calls (formatter_writer f) (formatter_writer g) old
-      (shows plain ok).wrote (subst (prints old []) (sym over) start))
-
   -- a text was printed through a formatter: whatever its `fmt` did, and its output if that is specified
   pub prints_shown : (f g : Formatter W) {s t : W} {old : S} (output : Option (List ℕ)) (formatted : Result (Unit {0}) FormatError)
       → formatter_writer f ≡ s → IsPlainFormatter f → t ≡ formatter_writer g → DisplaysOnOk Then f formatted output g → prints old [] s
@@ -81,17 +73,11 @@ module _ {W S : Type 0} (prints : S → List ℕ → W → Type 0) where
   prints_shown f g (Some bs) (Err e) over plain back shows start had =
       ∥∥₁_map had (λ p. (p.0, p.1, p.2, λ ok. absurd (true≢false (sym ok))))
   prints_shown f g {old = old} (Some bs) (Ok u) over plain back shows start had =
-      ∣ (
-        old,
-        bs,
-        prints_output f g old (Some bs) (Ok u) over plain back shows refl start,
-        λ ok. refl,
-      ) ∣₁
+      let said = prints_calls (formatter_writer f) (formatter_writer g) old (shows plain refl).wrote
+      (subst (prints old []) (sym over) start) in
+      ∣ (old, bs, subst (prints old bs) (sym back) said, λ ok. refl) ∣₁
 
 -- ---- what is known behind any formatter
-
-list_prop : (xs ys : List ℕ) → IsProp (xs ≡ ys)
-list_prop xs ys = Prim.hlevel props
 
 -- what stands after a front
 behind : (xs ys zs : List ℕ) → ys ≡ xs ++ zs → ys ≡ xs ++ drop (length xs) ys
@@ -112,14 +98,14 @@ since-is {a} {b} {x} m = sym (ap (drop (length (a.out ++ a.held))) m.bytes ∙ d
 
 Moves-had : {a b : Told} {k : List ErrorKind} → ∥ ((x : List ℕ) × Moves a x k b) ∥₁ → Moves a (since a b) k b
 Moves-had {a} {b} {k} had = record {
-  front = (drop (length a.out) b.out, ∥∥₁_elim had (list_prop _ _) (λ m. behind a.out b.out m.1.front.0 m.1.front.1));
-  bytes = ∥∥₁_elim had (list_prop _ _) (λ m. behind (a.out ++ a.held) (b.out ++ b.held) m.0 m.1.bytes);
+  front = (drop (length a.out) b.out, ∥∥₁_elim had (Prim.hlevel props) (λ m. behind a.out b.out m.1.front.0 m.1.front.1));
+  bytes = ∥∥₁_elim had (Prim.hlevel props) (λ m. behind (a.out ++ a.held) (b.out ++ b.held) m.0 m.1.bytes);
   mishaps = ∥∥₁_elim had (HasSpent-prop a.mishaps k b.mishaps) (λ m. m.1.mishaps);
   turns = ∥∥₁_elim had le_prop (λ m. m.1.turns);
 }
 
 OnOk-prop : (r : Result (Unit {0}) Error) (xs ys : List ℕ) → IsProp (OnOk r (xs ≡ ys))
-OnOk-prop (Ok u) xs ys = list_prop xs ys
+OnOk-prop (Ok u) xs ys = Prim.hlevel props
 OnOk-prop (Err e) xs ys = Unit-prop
 
 -- of a known text the front that was accepted is known
@@ -128,7 +114,7 @@ MovesFront-had {a} {b} {text} {r} had = record {
   accepted = since a b;
   front = (
     drop (length (since a b)) text,
-    ∥∥₁_elim had (list_prop _ _)
+    ∥∥₁_elim had (Prim.hlevel props)
         (λ m. behind (since a b) text m.front.0 (m.front.1 ∙ ap (λ l. l ++ m.front.0) (since-is m.moves))),
   );
   whole = ∥∥₁_elim had (OnOk-prop r _ _) (λ m. is_whole r text (since-is m.moves) m.whole);
@@ -145,13 +131,9 @@ MovesFront-some : {a b : Told} {r : Result (Unit {0}) Error} → ∥ ((text : Li
 MovesFront-some {a} {b} {r} had = record {
   accepted = since a b;
   front = IsFront-refl (since a b);
-  whole = is_whole r;
+  whole = after_ok r refl;
   moves = Moves-had (∥∥₁_map had (λ m. (m.1.accepted, m.1.moves)));
 }
-  where
-    is_whole : (r : Result (Unit {0}) Error) → OnOk r (since a b ≡ since a b)
-    is_whole (Ok u) = refl
-    is_whole (Err e) = tt
 
 -- what was printed of a text whose `fmt` returned `Ok`
 moves_text : {a b : Told} (output : Option (List ℕ)) {met : Result (Unit {0}) Error}

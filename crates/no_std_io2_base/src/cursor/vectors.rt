@@ -134,6 +134,7 @@ impl<A: Allocator> Write for Cursor<&mut Vec<u8, A>> {
     ghost told = { λ c. told_out (cursor_out (λ v. v.now.items) c) };
 
     #[inline(always)]
+    #[tactic(auto, using(crate::proofs::CursorLemmas::puts_moves))]
     fn write(&mut self, buf: &[u8]) -> Result<usize>
         ensures law { WriteOf ⟦<Self as Write>⟧ self.old buf.now result self.new }
 

@@ -111,13 +111,16 @@ impl<T: Read, U: Read> Read for Chain<T, U> {
 
     #[inline]
     fn read(&mut self, buf: &mut [u8]) -> Result<usize> {
-        if !self.done_first {
-            match self.first.read(buf)? {
-                0 if !buf.is_empty() => self.done_first = true,
-                n => return Ok(n),
-            }
+        if self.done_first {
+            return self.second.read(buf);
         }
-        self.second.read(buf)
+        match self.first.read(buf)? {
+            0 if !buf.is_empty() => {
+                self.done_first = true;
+                self.second.read(buf)
+            }
+            n => Ok(n),
+        }
     }
 
     // Each reader appends by its own `read_to_end`; the second first uses the room that the vector

@@ -153,7 +153,10 @@ impl<T: Read> Read for Take<T> {
             let least = min_with_limit(LEAST_ROOM, self.limit);
             open_room(buf, filled, filled - start, least)?;
             match self.read(&mut buf[filled..]) {
-                Ok(0) => break 'reads,
+                Ok(0) => {
+                    buf.truncate(filled);
+                    return Ok(filled - start);
+                }
                 Ok(n) => filled += n,
                 Err(e) if e.is_interrupted() => {}
                 Err(e) => {

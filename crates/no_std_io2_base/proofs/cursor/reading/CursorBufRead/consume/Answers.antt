@@ -2,7 +2,7 @@ use Rattle.std.proofs.Common.{sym, refl, ap, ◌∙◌, ◌++◌, take, arith, l
 use Rattle.std.proofs.lemmas.Grind.{common_steps}
 use Rattle.no_std_io2_base.specs.Read.{events_of}
 use Rattle.no_std_io2_base.specs.Cursor.{cursor_left}
-use Rattle.no_std_io2_base.proofs.SliceEvents.{events_of-split}
+use Rattle.no_std_io2_base.proofs.SliceReads.{events_of-split}
 use Rattle.no_std_io2_base.proofs.CursorLemmas.{left_after}
 use Rattle.no_std_io2_base.proofs.cursor.reading.CursorBufRead.consume.Goals as goal
 

@@ -1,7 +1,6 @@
 use Rattle.std.proofs.Common.{◌≡◌, ◌≤◌, arith, length, take, drop, refl, ap, ◌∙◌, take_at, length-take-le, length-drop}
 use Rattle.no_std_io2_base.specs.Cursor.{cursor_left}
-use Rattle.no_std_io2_base.proofs.SliceEvents.{read_bytes}
-use Rattle.no_std_io2_base.proofs.SliceReads.{fewer_behind, spent_behind}
+use Rattle.no_std_io2_base.proofs.SliceReads.{read_bytes, fewer_behind, spent_behind}
 use Rattle.no_std_io2_base.proofs.EventLemmas.{length-events_of}
 use Rattle.no_std_io2_base.proofs.CursorLemmas.{left_after}
 use Rattle.no_std_io2_base.proofs.cursor.reading.CursorRead.read.Goals as goal

@@ -2,8 +2,7 @@ use Rattle.std.proofs.Common.{◌≡◌, ◌+◌, ◌≤◌, ◌++◌, arith, ru
 use Rattle.std.proofs.Common.{length-drop, le_refl}
 use Rattle.no_std_io2_base.specs.Cursor.{cursor_left}
 use Rattle.no_std_io2_base.specs.Read.{bytes-events_of}
-use Rattle.no_std_io2_base.proofs.SliceEvents.{fill_bytes}
-use Rattle.no_std_io2_base.proofs.SliceReads.{fewer_behind, spent_behind}
+use Rattle.no_std_io2_base.proofs.SliceReads.{fill_bytes, fewer_behind, spent_behind}
 use Rattle.no_std_io2_base.proofs.ReadCalls.{exact_own}
 use Rattle.no_std_io2_base.proofs.EventLemmas.{length-events_of, HasNoFault-events_of}
 use Rattle.no_std_io2_base.proofs.CursorLemmas.{left_after}

@@ -1,6 +1,6 @@
 use Rattle.std.proofs.Common.{◌≡◌, arith, length, take, ap, sym, ◌∙◌, take_at, length-take-le, length-drop, length-append, ◌+◌, ◌≤◌}
 use Rattle.std.proofs.lemmas.List.{take-append-le}
-use Rattle.no_std_io2_base.proofs.SliceEvents.{read_bytes}
+use Rattle.no_std_io2_base.proofs.SliceReads.{read_bytes}
 use Rattle.no_std_io2_base.proofs.impls.queues.VecDequeU8Read.read.Goals as goal
 
 pub returns-clause-law : goal.returns-clause-law

@@ -2,7 +2,7 @@ use Rattle.std.proofs.Common.{ap, sym, ◌∙◌, ◌++◌, take, arith}
 use Rattle.std.proofs.lemmas.Grind.{common_steps}
 use Rattle.std.proofs.lemmas.List.{take_rest}
 use Rattle.no_std_io2_base.specs.Read.{events_of}
-use Rattle.no_std_io2_base.proofs.SliceEvents.{events_of-split}
+use Rattle.no_std_io2_base.proofs.SliceReads.{events_of-split}
 use Rattle.no_std_io2_base.proofs.impls.slices.RefSliceU8BufRead.consume.Goals as goal
 
 pub returns : goal.returns

@@ -1,6 +1,6 @@
 use Rattle.std.proofs.Common.{◌≡◌, arith, length, take, ap, ◌∙◌, take_at, length-take-le, length-drop}
 use Rattle.std.proofs.lemmas.List.{take_rest}
-use Rattle.no_std_io2_base.proofs.SliceEvents.{read_bytes}
+use Rattle.no_std_io2_base.proofs.SliceReads.{read_bytes}
 use Rattle.no_std_io2_base.proofs.EventLemmas.{length-events_of}
 use Rattle.no_std_io2_base.proofs.impls.slices.RefSliceU8Read.read.Goals as goal
 

@@ -2,7 +2,7 @@ use Rattle.std.proofs.Common.{◌++◌, length, rules, arith, take, refl, ap, �
 use Rattle.std.proofs.lemmas.Grind.{common_steps}
 use Rattle.std.proofs.lemmas.List.{take_rest, get_or_read}
 use Rattle.no_std_io2_base.specs.Read.{bytes-events_of}
-use Rattle.no_std_io2_base.proofs.SliceEvents.{fill_bytes}
+use Rattle.no_std_io2_base.proofs.SliceReads.{fill_bytes}
 use Rattle.no_std_io2_base.proofs.ReadCalls.{exact_own}
 use Rattle.no_std_io2_base.proofs.EventLemmas.{HasNoFault-events_of}
 use Rattle.no_std_io2_base.proofs.impls.slices.RefSliceU8Read.read_exact.Goals as goal

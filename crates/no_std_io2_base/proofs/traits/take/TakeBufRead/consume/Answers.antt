@@ -2,8 +2,7 @@ use Rattle.std.proofs.Common.{◌≡◌, ◌+◌, ◌-◌, ◌++◌, arith, take
 use lib.Seq.{take-take}
 use Rattle.std.proofs.lemmas.List.{drop-take}
 use Rattle.no_std_io2_base.specs.Read.{events_of, cut}
-use Rattle.no_std_io2_base.proofs.TakeAlong.{consumes_at_limit, consumes_inner}
-use Rattle.no_std_io2_base.proofs.CutReads.{cut_consumes}
+use Rattle.no_std_io2_base.proofs.TakeAlong.{consumes_at_limit, consumes_inner, cut_consumes}
 use Rattle.no_std_io2_base.proofs.ReadExactExits.{some_bytes}
 use Rattle.no_std_io2_base.proofs.traits.take.TakeBufRead.consume.Goals as goal
 

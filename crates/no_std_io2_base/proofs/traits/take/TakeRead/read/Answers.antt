@@ -2,9 +2,8 @@
 use Rattle.std.proofs.Common.{◌<◌, ◌≤◌, Ok, Err, length, refl, arith, ap, length-take-le}
 use lib.Seq.{take-append-le}
 use Rattle.std.proofs.lemmas.Result.{err_from_is_err_and}
-use Rattle.no_std_io2_base.proofs.TakeAlong.{read_at_limit, reads_inner}
-use Rattle.no_std_io2_base.proofs.CutReads.{cut_reads, cut_reads_whole, cut-length, cut_error, part_within, part_room, part_length}
-use Rattle.no_std_io2_base.proofs.CutReads.{fits_whole, limit_falls}
+use Rattle.no_std_io2_base.proofs.TakeAlong.{read_at_limit, reads_inner, cut_reads, cut_reads_whole, cut-length, cut_error, part_within}
+use Rattle.no_std_io2_base.proofs.TakeAlong.{part_room, part_length, fits_whole, limit_falls}
 use Rattle.no_std_io2_base.proofs.ReadExactExits.{some_bytes}
 use Rattle.no_std_io2_base.proofs.traits.take.TakeRead.read.Goals as goal
 

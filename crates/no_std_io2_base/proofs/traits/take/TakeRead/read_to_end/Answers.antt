@@ -1,7 +1,6 @@
-use Rattle.std.proofs.Common.{◌≡◌, ◌<◌, ◌≤◌, List, ℕ, ◌∷◌, [], Result, Ok, length, take, vec_capacity, arith, ap, refl, sym, subst, ◌∙◌}
+use Rattle.std.proofs.Common.{◌∷◌, [], Ok, length, arith, ap, refl, sym, ◌∙◌}
 use Rattle.std.proofs.Common.{length-append}
 use Rattle.std.proofs.lemmas.Result.{err_from_is_err_and}
-use Rattle.no_std_io2_base.specs.declared.error.Error.{Error}
 use Rattle.no_std_io2_base.specs.Read.{ReadLaw}
 use Rattle.no_std_io2_base.proofs.TakeAlong.{take_each, read_at_limit}
 use Rattle.no_std_io2_base.proofs.Readers.{reader, take_reader}
@@ -11,7 +10,6 @@ use Rattle.no_std_io2_base.proofs.ReadToEndExits.{filled_bytes}
 use Rattle.no_std_io2_base.proofs.ReadToEndLoop.{wrote, to_end_none, to_end_no_room, to_end_refused, to_end_read}
 use Rattle.no_std_io2_base.proofs.ReadToEndLoop.{to_end_interruption, to_end_done, to_end_fault}
 use Rattle.no_std_io2_base.proofs.traits.take.TakeRead.read_to_end.Goals as goal
-use Rattle.no_std_io2_base.proofs.traits.take.TakeRead.read_to_end.Goals.{else-reads-test, then-reads-test+in_ok-open_room+in-Ok-eq0}
 
 pub returns-in_err-reserve_room : goal.returns-in_err-reserve_room
 returns-in_err-reserve_room g c =
@@ -53,6 +51,17 @@ reads-preserved-in-Ok g c =
     c.in_ok-open_room.ensures.room in
     to_end_read c.reads.invariant (λ x told. absurd told) c.in-Ok.ensures.law c.in-Ok.n-test.1 w room.grows
 
+pub returns-in-Ok-eq0 : goal.returns-in-Ok-eq0
+returns-in-Ok-eq0 g c =
+    let room = c.open_room.ensures in
+    let w = wrote room.within c.open_room.new.buf.ok.0 c.deref_mut.ensures.value c.read.auto.buf room.front
+    c.in_ok-open_room.ensures.room in
+    record {
+      law = to_end_done c.reads.invariant (λ x told. absurd told) c.read.ensures.law c.in-Ok-eq0.is c.in-Ok-eq0.field-0-test w.some
+          (c.truncate.ensures.items ∙ w.kept) (omega (arith, room.grows, c.truncate.ensures.capacity)) c.len-start.ensures;
+      small_room = λ t enough. tt;
+    }
+
 pub returns-in-Err-2 : goal.returns-in-Err-2
 returns-in-Err-2 g c =
     let before = c.reads.invariant in
@@ -62,8 +71,8 @@ returns-in-Err-2 g c =
     c.in_ok-open_room.ensures.room in
     let fault = sym c.is_interrupted.ensures ∙ c.if-is_interrupted.false in
     record {
-      law = to_end_fault before (λ x told. absurd told) read fault w.some (c.truncate.ensures.items ∙ w.kept)
-          (omega (arith, room.grows, c.truncate.ensures.capacity));
+      law = to_end_fault before (λ x told. absurd told) read fault w.some (c.truncate-in-Err-2.ensures.items ∙ w.kept)
+          (omega (arith, room.grows, c.truncate-in-Err-2.ensures.capacity));
       small_room = λ t enough. let so_far = before.told t in gathered_first_fault so_far.1 (read.told so_far.0).1 fault;
     }
 
@@ -75,40 +84,13 @@ reads-preserved g c =
     to_end_interruption c.reads.invariant (λ x told. absurd told) c.in-Err.ensures.law
     (sym c.is_interrupted.ensures ∙ c.if-is_interrupted.true) w room.grows
 
+-- a read at the limit would meet the end
 pub returns : goal.returns
 returns g c =
-    let filled = c.reads.filled in
-    let mid = c.reads.buf.items in
-    let front : take filled c.reads-test.buf.items ≡ take filled mid = elim c.reads-test.branch [
-      | else-reads-test w ↦ ap (λ b. take filled b.items) w.buf-is
-      | then-reads-test+in_ok-open_room+in-Ok-eq0 w ↦
-          let room = w.open_room.ensures in
-          ap (λ b. take filled b.items) w.buf-is
-          ∙ (wrote room.within w.open_room.new.buf.ok.0 w.deref_mut.ensures.value w.read.auto.buf room.front
-          w.in_ok-open_room.ensures.room).kept
-    ] in
-    let grown : vec_capacity c.reads.buf ≤ vec_capacity c.reads-test.buf = elim c.reads-test.branch [
-      | else-reads-test w ↦ omega (arith, ap vec_capacity w.buf-is)
-      | then-reads-test+in_ok-open_room+in-Ok-eq0 w ↦ omega (arith, ap vec_capacity w.buf-is, w.open_room.ensures.grows)
-    ] in
-    -- the last read met the end, or would do so at the limit
-    let last : (part : List ℕ) × (room : List ℕ) × (reply : Result ℕ Error) × (n : ℕ)
-    × ReadLaw (take_reader (reader g.T.Stored g.T.Read)) c.reads.self room reply part c.reads-test.self
-    × (reply ≡ Ok n) × (n ≡ 0) × (0 < length part) = elim c.reads-test.branch [
-      | else-reads-test w ↦
-          let R = take_reader (reader g.T.Stored g.T.Read) in
-          let end : ReadLaw R c.reads.self (0 ∷ []) (Ok 0) (0 ∷ []) c.reads.self = read_at_limit _ (omega (arith, w.reads-test.false)) in
-          (0 ∷ [], 0 ∷ [], Ok 0, 0, subst (ReadLaw R c.reads.self (0 ∷ []) (Ok 0) (0 ∷ [])) (sym w.self-is) end, refl, refl, omega arith)
-      | then-reads-test+in_ok-open_room+in-Ok-eq0 w ↦
-          let R = take_reader (reader g.T.Stored g.T.Read) in
-          let room = w.open_room.ensures in
-          let some = (wrote room.within w.open_room.new.buf.ok.0 w.deref_mut.ensures.value w.read.auto.buf room.front
-          w.in_ok-open_room.ensures.room).some in
-          let read = subst (ReadLaw R c.reads.self _ w.read.result w.read.new.buf) (sym w.self-is) w.read.ensures.law in
-          (w.read.new.buf, _, w.read.result, _, read, w.in-Ok-eq0.is, w.in-Ok-eq0.field-0-test, some)
-    ] in
+    let end : ReadLaw (take_reader (reader g.T.Stored g.T.Read)) c.reads.self (0 ∷ []) (Ok 0) (0 ∷ []) c.reads.self =
+    read_at_limit _ (omega (arith, c.reads-test.false)) in
     record {
-      law = to_end_done c.reads.invariant (λ x told. absurd told) last.4 last.5 last.6 last.7 (c.truncate-2.ensures.items ∙ front)
-          (omega (arith, grown, c.truncate-2.ensures.capacity)) c.len-start.ensures;
+      law = to_end_done c.reads.invariant (λ x told. absurd told) end refl refl (omega arith) c.truncate-2.ensures.items
+          (omega (arith, c.truncate-2.ensures.capacity)) c.len-start.ensures;
       small_room = λ t enough. tt;
     }
