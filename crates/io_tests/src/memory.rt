@@ -75,7 +75,7 @@ fn a_content_lends_itself(rt: HostRuntime) -> Result<(), Fail> {
 }
 
 #[test]
-fn a_trace_is_seen_by_contracts_alone(_rt: HostRuntime) -> Result<(), Fail> {
+fn ghost_bytes_are_seen_by_contracts_alone(_rt: HostRuntime) -> Result<(), Fail> {
     let mut taken = GhostBytes::new();
     taken.add(b"ab"); // for contracts `taken.bytes` is `ab` now
     Ok(())
