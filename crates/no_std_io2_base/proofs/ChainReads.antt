@@ -17,25 +17,11 @@ use Rattle.no_std_io2_base.proofs.ReadsAdd.{EachAdds}
 use Rattle.no_std_io2_base.proofs.EventLemmas.{length-events_of}
 use Rattle.no_std_io2_base.proofs.GivenPieces.{bytes_to_fault-append}
 
--- no call raises the turns of both together
-pub both_turns : {first first' second second' : ℕ} → first' ≤ first → second' ≤ second → first' + second' ≤ first + second
-both_turns a b = omega (arith, a, b)
-
 -- a turn of the second is a turn of both together
 pub second_turn : (reply : Result ℕ Error) {first first' : ℕ} (second second' : ℕ) → first' ≤ first → SpendsTurn reply second second'
     → SpendsTurn reply (first + second) (first' + second')
 second_turn (Ok n) second second' stays spent = λ some. let now = spent some in omega (arith, stays, now)
 second_turn (Err e) second second' stays spent = omega (arith, stays, spent)
-
--- and so is a turn of the first
-pub first_turn : (n : ℕ) {first first' : ℕ} (second : ℕ)
-    → (0 < n → first' < first) → 0 < n → first' + second < first + second
-first_turn n second spent some = let now = spent some in omega arith
-
--- a read takes the bytes that it gave from the front, also if more events follow
-pub read_before : (n : ℕ) (buf : List ℕ) {E : List Event} (after F : List Event) → E ≡ events_of (take n buf) ++ after
-    → E ++ F ≡ events_of (take n buf) ++ (after ++ F)
-read_before n buf after F read = ap (λ l. l ++ F) read ∙ append_assoc (events_of (take n buf)) after F
 
 -- a reader with nothing left gives no byte
 pub gave_none : {E : List Event} (E' : List Event) {n : ℕ} (buf : List ℕ) → Reads E (Ok n) buf E' → n ≤ length buf → E ≡ [] → n ≡ 0
@@ -43,17 +29,13 @@ gave_none E' {n} buf read bound none =
     let gone = ap length (sym none ∙ read.0) ∙ length-append (events_of (take n buf)) E' in
     omega (arith, gone, length-events_of (take n buf), length-take-le n buf bound)
 
--- and no error
-pub failed_none : {E E' : List Event} {e : Error} → E ≡ fails e ∷ E' → E ≡ [] → ⊥
-failed_none failed none = omega (arith, ap length (sym none ∙ failed))
-
 -- a choice that is no longer on one side is no longer after it
 chosen_le : (t : Bool) (xs ys : List ℕ) → length xs ≤ length ys → length (if t then xs else []) ≤ length (if t then ys else [])
 chosen_le true xs ys below = below
 chosen_le false xs ys below = le_refl _
 
 -- the first reader has at most as many bytes before a fault as both together
-to_fault-first : (E F : List Event) → length (bytes_to_fault E) ≤ length (bytes_to_fault (E ++ F))
+pub to_fault-first : (E F : List Event) → length (bytes_to_fault E) ≤ length (bytes_to_fault (E ++ F))
 to_fault-first [] F = omega arith
 to_fault-first (byte b ∷ E) F = let below = to_fault-first E F in omega (arith, below)
 to_fault-first (fails e ∷ E) F = chosen_le (is_interruption (error_kind e)) (bytes_to_fault E) (bytes_to_fault (E ++ F))
@@ -72,11 +54,7 @@ first_fault-first (byte b ∷ E) F is = first_fault-first E F is
 first_fault-first (fails e ∷ E) F is = chosen_some (is_interruption (error_kind e)) (first_fault E) (first_fault (E ++ F)) (Some e)
     (first_fault-first E F) is
 
--- if there is room for both, there is room for the first
-pub room_of_first : (E F : List Event) (len capacity : ℕ) → HasRoom 32 (E ++ F) len capacity → HasRoom 32 E len capacity
-room_of_first E F len capacity enough = let below = to_fault-first E F in omega (arith, enough, below)
-
--- and for the second after it
+-- if there is room for both, there is room for the second after the first
 pub room_of_second : (E F : List Event) (len capacity n len' capacity' : ℕ) → HasRoom 32 (E ++ F) len capacity → HasNoFault E
     → n ≡ length (bytes E) → len' ≡ len + n → capacity ≤ capacity' → HasRoom 32 F len' capacity'
 room_of_second E F len capacity n len' capacity' enough clean all grown more =

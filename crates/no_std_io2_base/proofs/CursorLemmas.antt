@@ -1,7 +1,7 @@
 -- A content and a position in it.
 use Rattle.std.proofs.Common.{◌≡◌, ℕ, ◌+◌, ◌-◌, ◌<◌, ◌≤◌, ◌⊎◌, min, List, [], ◌∷◌, ◌++◌, Ok, Err, Result}
 use Rattle.std.proofs.Common.{length, take, drop, replicate, refl, sym, ap, ◌∙◌, arith, count_by, inl, inr, append-nil}
-use Rattle.std.proofs.Common.{take-append-drop, length-append, length-take}
+use Rattle.std.proofs.Common.{take-append-drop, length-append, length-take, if◌then◌else◌}
 use Rattle.std.proofs.lemmas.Bool.{cases_lt}
 use Rattle.std.proofs.lemmas.List.{length-replicate, drop-drop, take_all, take_at, take_min, drop_all, take-append-le}
 use Rattle.std.proofs.lemmas.List.{take-replicate}
@@ -12,7 +12,8 @@ use Rattle.no_std_io2_base.specs.declared.error.Error.{Error}
 use Rattle.no_std_io2_base.specs.declared.error.ErrorKind.{ErrorKind}
 use Rattle.no_std_io2_base.specs.declared.error.ErrorKind.TheVariants.{WriteZero}
 use Rattle.no_std_io2_base.specs.Errors.{error_kind, is_interruption, IsFault, IsNoInterruption, IsOutOfMemory}
-use Rattle.no_std_io2_base.specs.Write.{Moves, MovesFront, told_out, taken, write_mishap, zero_write}
+use Rattle.no_std_io2_base.specs.Write.{Told, Moves, MovesFront, told_out, taken, write_mishap, zero_write}
+use Rattle.no_std_io2_base.proofs.CallsLemmas.{all_own}
 use Rattle.no_std_io2_base.specs.Cursor.{bytes_before, put_at, put_over, fitting, IsRefusal, PutsWhole, PutsAll, PutsFitting}
 
 -- n bytes further on
@@ -108,10 +109,14 @@ appends_moves {old} {new} {x} is none = record {
   turns = omega (arith, none);
 }
 
--- the mishap that a refusal is counts as no interruption
-refused_quietly : (place : ℕ) (x : List ℕ) (e : Error) → IsRefusal place x e → count_by is_interruption (error_kind e ∷ []) ≡ 0
-refused_quietly place x e (inl h) = ap (λ k. count_by is_interruption (k ∷ [])) h.1
-refused_quietly place x e (inr h) = ap (λ k. count_by is_interruption (k ∷ [])) h.1
+-- all of x was accepted
+all_accepted : {a b : Told} {x : List ℕ} → Moves a x [] b → MovesFront a x (Ok tt) b
+all_accepted {x = x} moves = record { accepted = x; front = ([], sym (append-nil x)); whole = refl; moves = moves }
+
+-- a refusal is no interruption
+pub refused_fault : (place : ℕ) (x : List ℕ) (e : Error) → IsRefusal place x e → IsFault e
+refused_fault place x e (inl h) = ap is_interruption h.1
+refused_fault place x e (inr h) = ap is_interruption h.1
 
 -- x that was put goes out
 put_goes_out : (bs : List ℕ) (place : ℕ) (x bs' : List ℕ) (place' : ℕ) → bs' ≡ put_at place x bs
@@ -132,7 +137,7 @@ puts_moves bs place x (Ok n) bs' place' h =
     appends_moves (put_goes_out bs place x bs' place' h.2 h.3 ∙ ap (λ l. bytes_before place bs ++ l) (sym all)) (quiet_count n x)
 puts_moves bs place x (Err e) bs' place' h =
     appends_moves (ap (λ l. bytes_before place' l) h.2 ∙ ap (λ m. bytes_before m bs) h.3 ∙ sym (append-nil _))
-    (refused_quietly place x e h.1)
+    (ap (λ b. 0 + (if b then 1 else 0)) (refused_fault place x e h.1))
 
 -- what fits in a slice goes out
 pub fitting_goes_out : (bs : List ℕ) (place : ℕ) (x bs' : List ℕ) (place' : ℕ) → PutsFitting bs place x bs' place'
@@ -187,28 +192,17 @@ pub fits_moves_all : (bs : List ℕ) (place : ℕ) {x bs' : List ℕ} {place' : 
     → MovesFront (told_out (bytes_before place bs)) x (Ok tt) (told_out (bytes_before place' bs'))
 fits_moves_all bs place {x} {bs'} {place'} room h =
     let whole : fitting place x bs ≡ x = take_all (length bs - place) x room in
-    record {
-      accepted = x;
-      front = ([], sym (append-nil x));
-      whole = refl;
-      moves = appends_moves (fitting_goes_out bs place x bs' place' h ∙ ap (λ l. bytes_before place bs ++ l) whole) refl;
-    }
+    all_accepted (appends_moves (fitting_goes_out bs place x bs' place' h ∙ ap (λ l. bytes_before place bs ++ l) whole) refl)
 
 -- `write_all` of a vector keeps the law: an allocation failed and no byte was accepted, or all were
 pub append_moves : {old new x : List ℕ} (reply : Result (Unit {0}) Error) → OnOk reply (new ≡ old ++ x) → OnErr reply (new ≡ old)
     → IfErr reply IsOutOfMemory
     → MovesFront (told_out old) x reply (told_out new)
-append_moves {x} (Ok tt) is same refused =
-    record { accepted = x; front = ([], sym (append-nil x)); whole = refl; moves = appends_moves is refl }
+append_moves {x} (Ok tt) is same refused = all_accepted (appends_moves is refl)
 append_moves {old} {x} (Err e) is same refused =
     let quiet = ap (λ k. count_by is_interruption (k ∷ [])) refused.0 in
     let moves = appends_moves (same ∙ sym (append-nil old)) quiet in
     record { accepted = []; front = (x, refl); whole = tt; moves = moves }
-
--- a refusal is no interruption
-pub refused_fault : (place : ℕ) (x : List ℕ) (e : Error) → IsRefusal place x e → IsFault e
-refused_fault place x e (inl h) = ap is_interruption h.1
-refused_fault place x e (inr h) = ap is_interruption h.1
 
 -- after a `write_all` of x all of x is out, also if x is empty
 all_goes_out : (bs : List ℕ) (place : ℕ) (x bs' : List ℕ) (place' : ℕ) → PutsAll bs place x (Ok tt) bs' place'
@@ -223,12 +217,7 @@ pub puts_all_moves : (bs : List ℕ) (place : ℕ) (x : List ℕ) (reply : Resul
     → PutsAll bs place x reply bs' place'
     → MovesFront (told_out (bytes_before place bs)) x reply (told_out (bytes_before place' bs'))
 puts_all_moves bs place x (Ok tt) bs' place' h =
-    record {
-      accepted = x;
-      front = ([], sym (append-nil x));
-      whole = refl;
-      moves = appends_moves (all_goes_out bs place x bs' place' h) refl;
-    }
+    all_accepted (appends_moves (all_goes_out bs place x bs' place' h) refl)
 puts_all_moves bs place x (Err e) bs' place' h =
     record { accepted = []; front = (x, refl); whole = tt; moves = puts_moves bs place x (Err e) bs' place' h }
 
@@ -238,3 +227,6 @@ pub puts_all_fault : (bs : List ℕ) (place : ℕ) (x : List ℕ) (reply : Resul
     → IsNoInterruption reply
 puts_all_fault bs place x (Ok tt) bs' place' h = tt
 puts_all_fault bs place x (Err e) bs' place' h = refused_fault place x e h.1
+
+-- what a `write_all` of a cursor on a vector follows from
+pub ruleset put_all_laws = (puts_all_moves, puts_all_fault, all_own)

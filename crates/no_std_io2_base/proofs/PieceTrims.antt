@@ -29,10 +29,6 @@ other_last d b n bs long some is differ =
 pub is_last : (d b n : ℕ) (bs : List ℕ) → n ≡ length bs → (n ≡ 0 → ⊥) → b ≡ get_or bs (n - 1) b → b ≡ d → ends_in d bs ≡ true
 is_last d b n bs long some is same = ends_in-at d b bs (n - 1) (omega (arith, long, some)) ∙ ap (λ x. x == d) (sym is) ∙ eq-eqb b d same
 
--- bytes that do not end in d stay as they are
-pub kept_last : (d : ℕ) (bs : List ℕ) → ends_in d bs ≡ false → bs ≡ without d bs
-kept_last d bs other = sym (ap (λ t. if t then but_last bs else bs) other)
-
 -- of n bytes that end in d the first n - 1 are what stays without it
 pub dropped_last : (d n : ℕ) (bs : List ℕ) {new : List ℕ} → n ≡ length bs → (n ≡ 0 → ⊥) → ends_in d bs ≡ true
     → new ≡ take (n - 1) bs → new ≡ without d bs

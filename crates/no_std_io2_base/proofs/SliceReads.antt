@@ -126,10 +126,6 @@ pub fewer_left : {all rest : List ℕ} (old : List ℕ) {new : List ℕ} {was is
 fewer_left {rest} old moved before now more =
     omega (arith, before, now, more, ap length moved.1, ap length moved.2, length-append moved.0 rest, length-append old moved.0)
 
--- the rest is no longer than the whole was
-pub rest_within : (all rest old new : List ℕ) → HasMoved all rest old new → length all ≡ length rest + (length all - length rest)
-rest_within all rest old new moved = omega (arith, ap length moved.1, length-append moved.0 rest)
-
 -- the bytes that a cursor has left after some were taken
 pub left_behind : (content : List ℕ) (place : ℕ) {left rest : List ℕ} (old : List ℕ) {new : List ℕ} → left ≡ drop place content
     → HasMoved left rest old new
@@ -149,7 +145,7 @@ pub place_behind : (content : List ℕ) (place : ℕ) {left rest : List ℕ} (ol
 place_behind content place {left} {rest} old {new} small fits is moved =
     let after = left_behind content place old is moved in
     let long = ap length is ∙ length-drop place content in
-    let within = rest_within left rest old new moved in (
+    let within : length left ≡ length rest + (length left - length rest) = omega (arith, ap length moved.1, length-append moved.0 rest) in (
       omega (arith, small, fits, long),
       omega (
         arith,

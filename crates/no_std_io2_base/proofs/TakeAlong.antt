@@ -36,21 +36,12 @@ along_bytes k k' E E' bs is falls =
       falls = ap (λ l. k' + length l) (bytes-events_of bs) ∙ falls;
     }
 
--- a read of n bytes, by which the limit falls
-pub along_read : {k k' : ℕ} {E E' : List Event} {n : ℕ} (buf : List ℕ) → Reads E (Ok n) buf E' → n ≤ length buf
-    → k' + n ≡ k → TakesAlong k E k' E'
-along_read {k} {k'} {E} {E'} {n} buf read fits falls =
-    along_bytes k k' E E' (take n buf) read.0 (ap (λ m. k' + m) (length-take-le n buf fits) ∙ falls)
-
--- an error, if the limit is not 0
-pub along_error : {k : ℕ} {E E' : List Event} {e : Error} → E ≡ fails e ∷ E' → 0 < k → TakesAlong k E k E'
-along_error {k = zero} is some = absurd (omega arith)
-along_error {k = suc k} {e} is some = record { removed = fails e ∷ []; below = is; here = ap (cut (suc k)) is; falls = omega arith }
-
 -- an error, if the limit stays and is not 0
 pub along_fault : {k k' : ℕ} {E E' : List Event} {e : Error} → E ≡ fails e ∷ E' → k' ≡ k → (k ≡ 0 → ⊥) → TakesAlong k E k' E'
 along_fault {k = zero} is same some = absurd (some refl)
-along_fault {k = suc k} {E} {E'} is same some = subst (λ n. TakesAlong (suc k) E n E') (sym same) (along_error is (omega arith))
+along_fault {k = suc k} {E} {E'} {e} is same some =
+    subst (λ n. TakesAlong (suc k) E n E') (sym same)
+    (record { removed = fails e ∷ []; below = is; here = ap (cut (suc k)) is; falls = omega arith })
 
 -- one call after another
 pub along_then : {k k' k'' : ℕ} {E E' E'' : List Event} → TakesAlong k E k' E' → TakesAlong k' E' k'' E'' → TakesAlong k E k'' E''
@@ -90,16 +81,12 @@ along_loan : {k k' : ℕ} {E E' : List Event} (reply : Result (Bor (List ℕ)) E
 along_loan (Ok s) some same lends = along_none same lends
 along_loan (Err e) some same lends = along_fault lends same (λ zero. omega (arith, some, zero))
 
--- at limit 0 there is nothing to read
-reads_at_limit : {T : Type 0} {inner : Reader T} {t : Take T} (room : ℕ) → take_limit t ≡ 0 → TakeMay inner t (Gave room (Ok [])) t
-reads_at_limit {t = t} room at_limit = (gives_none t, λ none. refl, λ some. absurd (omega (arith, at_limit, some)))
-
--- nor to consume
+-- at limit 0 there is nothing to consume
 pub consumes_at_limit : {T : Type 0} {inner : Reader T} {t : Take T} {n : ℕ} → take_limit t ≡ 0 → n ≡ 0 → TakeMay inner t (Consumed n) t
 consumes_at_limit {inner = inner} {t} at_limit none =
     (subst (λ k. TakeGives inner t k t) (sym none) (gives_none t), λ some. absurd (omega (arith, at_limit, some)))
 
--- so a read at limit 0 meets the end
+-- and a read meets the end
 pub read_at_limit : {T : Type 0} {inner : Reader T} {t : Take T} (buf : List ℕ) → take_limit t ≡ 0
     → ReadLaw (take_reader inner) t buf (Ok 0) buf t
 read_at_limit {inner = inner} {t} buf at_limit =
@@ -112,7 +99,7 @@ read_at_limit {inner = inner} {t} buf at_limit =
       counts = λ m. absurd m;
       fills = λ f. (f, omega (arith, ap (λ k. length (cut k E)) at_limit));
       store = λ s. absurd s;
-      call = reads_at_limit _ at_limit;
+      call = (gives_none t, λ none. refl, λ some. absurd (omega (arith, at_limit, some)));
     }
 
 -- and above 0 one inner read is made, into a part of the buffer
@@ -124,7 +111,9 @@ reads_inner {inner = inner} {old} {new} (Ok n) whole part some read room same fa
   record {
     limit = omega (arith, length-take-le n whole (omega (arith, read.bound, room)), falls);
     at_limit = λ zero. absurd (omega (arith, some, zero));
-    along = λ t. let now = read.told t in (now.0, along_read part now.1 read.bound falls);
+    along = λ t.
+        let now = read.told t in
+        (now.0, along_bytes _ _ _ _ (take n part) now.1.0 (omega (arith, falls, length-take-le n part read.bound)));
   },
   λ zero. absurd (omega (arith, some, zero)),
   λ _. subst (λ call. inner.may (take_inner old) call (take_inner new))
@@ -244,25 +233,11 @@ pub cut_error : {k : ℕ} {E E' : List Event} {e : Error} → E ≡ fails e ∷ 
 cut_error {k = zero} is some = absurd (omega arith)
 cut_error {k = suc k} is some = ap (cut (suc k)) is
 
--- a part of a buffer that is cut to the limit has no more bytes than that
-pub part_within : (most k : ℕ) (buf part : List ℕ) → most ≡ min (length buf) k → length part ≡ length (take most buf) → length part ≤ k
-part_within most k buf part is same = omega (arith, is, same, length-take most buf)
-
--- and some, if the buffer has some
-pub part_room : (most k : ℕ) (buf part : List ℕ) → most ≡ min (length buf) k → length part ≡ length (take most buf) → 0 < k
-    → 0 < length (part ++ drop most buf) → 0 < length part
-part_room most k buf part is same some room =
-    omega (arith, is, same, some, room, length-append part (drop most buf), length-take most buf, length-drop most buf)
-
--- it has as much room as the limit allows
+-- a part of a buffer that is cut to the limit has as much room as that allows
 pub part_length : (most k : ℕ) (buf part : List ℕ) → most ≡ min (length buf) k → length part ≡ length (take most buf)
     → length part ≡ min (length (part ++ drop most buf)) k
 part_length most k buf part is same =
     omega (arith, is, same, length-append part (drop most buf), length-take most buf, length-drop most buf)
-
--- what fits into the part fits into the buffer
-pub fits_whole : (n : ℕ) (part kept : List ℕ) → n ≤ length part → n ≤ length (part ++ kept)
-fits_whole n part kept fits = omega (arith, fits, length-append part kept)
 
 -- the limit falls by the number of given bytes
 pub limit_falls : (k n len : ℕ) → n ≤ len → len ≤ k → k - n + n ≡ k

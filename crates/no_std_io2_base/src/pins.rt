@@ -100,39 +100,29 @@ fn queue_tells<A: Allocator>(queue: &VecDeque<u8, A>)
     ensures turns { ⟦<VecDeque<u8, A> as Read>⟧.turns queue.now ≡ length queue.now.items }
 {}
 
-fn lent_writer_tells<'a, W: Write>(w: &&'a mut W)
+fn lent_writer_tells<'a, W: Write>(w: &&'a mut W, new: &&'a mut W)
     ensures told { ⟦<&'a mut W as Write>⟧.told w.now ≡ W.told w.now.now }
     ensures all { W.takes_all w.now.now → ⟦<&'a mut W as Write>⟧.takes_all w.now }
     ensures cost { ⟦<&'a mut W as Write>⟧.cost w.now ≡ W.cost w.now.now }
     ensures metered { W.is_metered w.now.now → ⟦<&'a mut W as Write>⟧.is_metered w.now }
+    ensures calls { (call : WriteCall) → ⟦<&'a mut W as Write>⟧.may w.now call new.now
+        → W.may w.now.now call new.now.now }
 {}
 
-fn boxed_writer_tells<W: Write>(w: &Box<W>)
+fn boxed_writer_tells<W: Write>(w: &Box<W>, new: &Box<W>)
     ensures told { ⟦<Box<W> as Write>⟧.told w.now ≡ W.told w.now.value }
     ensures all { W.takes_all w.now.value → ⟦<Box<W> as Write>⟧.takes_all w.now }
     ensures cost { ⟦<Box<W> as Write>⟧.cost w.now ≡ W.cost w.now.value }
     ensures metered { W.is_metered w.now.value → ⟦<Box<W> as Write>⟧.is_metered w.now }
+    ensures calls { (call : WriteCall) → ⟦<Box<W> as Write>⟧.may w.now call new.now
+        → W.may w.now.value call new.now.value }
 {}
 
-fn boxed_object_tells(w: &Box<dyn Write + Drop>)
+fn boxed_object_tells(w: &Box<dyn Write + Drop>, new: &Box<dyn Write + Drop>)
     ensures told { ⟦<Box<dyn Write + Drop> as Write>⟧.told w.now ≡ told w.now }
     ensures cost { ⟦<Box<dyn Write + Drop> as Write>⟧.cost w.now ≡ 0 }
-{}
-
-// A call of a reference or a box may do what the same call of the stream behind it may do.
-fn lent_writer_calls<'a, W: Write>(old: &&'a mut W, new: &&'a mut W)
-    ensures { (call : WriteCall) → ⟦<&'a mut W as Write>⟧.may old.now call new.now
-        → W.may old.now.now call new.now.now }
-{}
-
-fn boxed_writer_calls<W: Write>(old: &Box<W>, new: &Box<W>)
-    ensures { (call : WriteCall) → ⟦<Box<W> as Write>⟧.may old.now call new.now
-        → W.may old.now.value call new.now.value }
-{}
-
-fn boxed_object_calls(old: &Box<dyn Write + Drop>, new: &Box<dyn Write + Drop>)
-    ensures { (call : WriteCall) → ⟦<Box<dyn Write + Drop> as Write>⟧.may old.now call new.now
-        → BoxMay old.now (Write-box old.now).may call new.now }
+    ensures calls { (call : WriteCall) → ⟦<Box<dyn Write + Drop> as Write>⟧.may w.now call new.now
+        → BoxMay w.now (Write-box w.now).may call new.now }
 {}
 
 fn lent_store_tells<'a, T: Stored>(r: &&'a mut T)
@@ -161,7 +151,7 @@ fn seeking_object_tells(old: &Box<dyn Seek + Drop>, new: &Box<dyn Seek + Drop>)
         → BoxMay old.now (Seek-box old.now).Seek.may call new.now }
 {}
 
-fn lent_reader_tells<'a, R: Read>(r: &&'a mut R)
+fn lent_reader_tells<'a, R: Read>(r: &&'a mut R, new: &&'a mut R)
     ensures tells { R.tells r.now.now → ⟦<&'a mut R as Read>⟧.tells r.now }
     ensures events { ⟦<&'a mut R as Read>⟧.events r.now ≡ R.events r.now.now }
     ensures turns { ⟦<&'a mut R as Read>⟧.turns r.now ≡ R.turns r.now.now }
@@ -169,22 +159,10 @@ fn lent_reader_tells<'a, R: Read>(r: &&'a mut R)
     ensures metered { R.is_metered r.now.now → ⟦<&'a mut R as Read>⟧.is_metered r.now }
     ensures filling { R.is_filling r.now.now → ⟦<&'a mut R as Read>⟧.is_filling r.now }
     ensures short { ⟦<&'a mut R as Read>⟧.may_take_none r.now → R.may_take_none r.now.now }
+    ensures calls { (call : ReadCall) → ⟦<&'a mut R as Read>⟧.may r.now call new.now → R.may r.now.now call new.now.now }
 {}
 
-fn lent_reader_calls<'a, R: Read>(old: &&'a mut R, new: &&'a mut R)
-    ensures { (call : ReadCall) → ⟦<&'a mut R as Read>⟧.may old.now call new.now → R.may old.now.now call new.now.now }
-{}
-
-fn boxed_reader_calls<R: Read>(old: &Box<R>, new: &Box<R>)
-    ensures { (call : ReadCall) → ⟦<Box<R> as Read>⟧.may old.now call new.now → R.may old.now.value call new.now.value }
-{}
-
-fn reading_object_calls(old: &Box<dyn Read + Drop>, new: &Box<dyn Read + Drop>)
-    ensures { (call : ReadCall) → ⟦<Box<dyn Read + Drop> as Read>⟧.may old.now call new.now
-        → BoxMay old.now (Read-box old.now).Read.may call new.now }
-{}
-
-fn boxed_reader_tells<R: Read>(r: &Box<R>)
+fn boxed_reader_tells<R: Read>(r: &Box<R>, new: &Box<R>)
     ensures tells { R.tells r.now.value → ⟦<Box<R> as Read>⟧.tells r.now }
     ensures events { ⟦<Box<R> as Read>⟧.events r.now ≡ R.events r.now.value }
     ensures turns { ⟦<Box<R> as Read>⟧.turns r.now ≡ R.turns r.now.value }
@@ -192,6 +170,7 @@ fn boxed_reader_tells<R: Read>(r: &Box<R>)
     ensures metered { R.is_metered r.now.value → ⟦<Box<R> as Read>⟧.is_metered r.now }
     ensures filling { R.is_filling r.now.value → ⟦<Box<R> as Read>⟧.is_filling r.now }
     ensures short { ⟦<Box<R> as Read>⟧.may_take_none r.now → R.may_take_none r.now.value }
+    ensures calls { (call : ReadCall) → ⟦<Box<R> as Read>⟧.may r.now call new.now → R.may r.now.value call new.now.value }
 {}
 
 fn lent_lender_tells<'a, R: BufRead>(r: &&'a mut R)
@@ -210,11 +189,13 @@ fn boxed_lender_tells<R: BufRead>(r: &Box<R>)
     ensures length { ⟦<Box<R> as BufRead>⟧.lent_length r.now ≡ R.lent_length r.now.value }
 {}
 
-fn reading_object_tells(r: &Box<dyn Read + Drop>)
+fn reading_object_tells(r: &Box<dyn Read + Drop>, new: &Box<dyn Read + Drop>)
     ensures tells { tells r.now → ⟦<Box<dyn Read + Drop> as Read>⟧.tells r.now }
     ensures events { ⟦<Box<dyn Read + Drop> as Read>⟧.events r.now ≡ events r.now }
     ensures turns { ⟦<Box<dyn Read + Drop> as Read>⟧.turns r.now ≡ turns r.now }
     ensures short { ⟦<Box<dyn Read + Drop> as Read>⟧.may_take_none r.now → may_take_none r.now }
+    ensures calls { (call : ReadCall) → ⟦<Box<dyn Read + Drop> as Read>⟧.may r.now call new.now
+        → BoxMay r.now (Read-box r.now).Read.may call new.now }
 {}
 
 fn lending_object_tells(r: &Box<dyn BufRead + Drop>)

@@ -108,6 +108,7 @@ impl<A: Allocator> Write for Cursor<Vec<u8, A>> {
     }
 
     #[inline(always)]
+    #[tactic(auto, using(crate::proofs::CursorLemmas::put_all_laws))]
     fn write_all(&mut self, buf: &[u8]) -> Result<()>
         ensures law { WriteAllOf ⟦<Self as Write>⟧ self.old buf.now result self.new }
 
@@ -160,6 +161,7 @@ impl<A: Allocator> Write for Cursor<&mut Vec<u8, A>> {
     }
 
     #[inline(always)]
+    #[tactic(auto, using(crate::proofs::CursorLemmas::put_all_laws))]
     fn write_all(&mut self, buf: &[u8]) -> Result<()>
         ensures law { WriteAllOf ⟦<Self as Write>⟧ self.old buf.now result self.new }
 

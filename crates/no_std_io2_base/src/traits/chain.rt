@@ -153,14 +153,14 @@ impl<T: BufRead, U: BufRead> BufRead for Chain<T, U> {
 
     #[tactic(auto, using(crate::proofs::FillBufHeld::begins_append))]
     fn fill_buf(&mut self) -> Result<&[u8]> {
-        if !self.done_first {
-            self.done_first = self.first.fill_buf()?.is_empty();
-        }
         if self.done_first {
-            self.second.fill_buf()
-        } else {
-            self.first.fill_buf()
+            return self.second.fill_buf();
         }
+        if self.first.fill_buf()?.is_empty() {
+            self.done_first = true;
+            return self.second.fill_buf();
+        }
+        self.first.fill_buf()
     }
 
     fn consume(&mut self, amount: usize)

@@ -1,9 +1,9 @@
 use Rattle.std.proofs.Common.{◌≡◌, ◌<◌, ◌++◌, [], Ok, false, true≢false, length, length-take-le, refl, sym, ap, subst, ◌∙◌, arith}
-use Rattle.std.proofs.Common.{le_refl, rules}
+use Rattle.std.proofs.Common.{append_assoc, le_refl, rules, take}
 use Rattle.std.proofs.lemmas.Result.{err_from_is_err_and}
-use Rattle.no_std_io2_base.specs.Read.{Gave, bytes_given}
-use Rattle.no_std_io2_base.proofs.ChainReads.{both_turns, second_turn, first_turn}
-use Rattle.no_std_io2_base.proofs.ChainReads.{by_first, by_second, not_ended, is_ended, gave_none, failed_none, read_before}
+use Rattle.no_std_io2_base.specs.Read.{events_of, Gave, bytes_given}
+use Rattle.no_std_io2_base.proofs.ChainReads.{second_turn}
+use Rattle.no_std_io2_base.proofs.ChainReads.{by_first, by_second, not_ended, is_ended, gave_none}
 use Rattle.no_std_io2_base.proofs.ReadCalls.{gave_nothing}
 use Rattle.no_std_io2_base.proofs.ReadToEndExits.{nothing_read}
 use Rattle.no_std_io2_base.proofs.WriteExits.{not_empty}
@@ -26,7 +26,7 @@ returns-in_err-n g c =
         fills = λ f. absurd f;
         store = λ s. absurd s;
         call = (
-          λ some. not_ended refl (λ t. failed_none (read.told t).1),
+          λ some. not_ended refl (λ t none. omega (arith, ap length (sym none ∙ (read.told t).1))),
           by_first going refl refl (read.call, λ some is. let no : ⊥ = cc in no),
         );
       };
@@ -45,13 +45,14 @@ returns-in_default g c =
             let now = read.told (t.0 going) in (
               (λ _. now.0, t.1),
               rw going (
-                read_before c.in_ok-n.n c.read-2.new.buf (g.T.Read.events c.read-2.new.self)
-                    (g.U.Read.events c.args.self.now.second) now.1.0,
+                ap (λ l. l ++ g.U.Read.events c.args.self.now.second) now.1.0
+                    ∙ append_assoc (events_of (take c.in_ok-n.n c.read-2.new.buf)) (g.T.Read.events c.read-2.new.self)
+                    (g.U.Read.events c.args.self.now.second),
                 λ none some. absurd (gives none some),
               ),
             );
         turns_never_rise = omega (arith, read.turns_never_rise);
-        spends_turn = first_turn c.in_ok-n.n _ read.spends_turn;
+        spends_turn = λ some. let spent = read.spends_turn some in omega (arith, spent);
         counts = λ m. absurd m;
         fills = λ f. absurd f;
         store = λ s. absurd s;
@@ -105,7 +106,7 @@ returns-in-0 g c =
               (λ going. absurd (true≢false going), now.0),
               rw (going, ended (t.0 going)) now.1,
             );
-        turns_never_rise = both_turns first.turns_never_rise read.turns_never_rise;
+        turns_never_rise = omega (arith, first.turns_never_rise, read.turns_never_rise);
         spends_turn = second_turn c.read-in-0.result _ _ first.turns_never_rise read.spends_turn;
         counts = λ m. absurd m;
         fills = λ f. absurd f;

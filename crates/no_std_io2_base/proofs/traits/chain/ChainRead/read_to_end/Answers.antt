@@ -1,6 +1,6 @@
 use Rattle.std.proofs.Common.{◌≡◌, ◌+◌, ◌-◌, false, length, refl, ◌∙◌, arith, le_trans}
 use Rattle.std.proofs.lemmas.Result.{err_from_is_err_and}
-use Rattle.no_std_io2_base.proofs.ChainReads.{room_of_first, room_of_second, room_when_done, first_fault-first}
+use Rattle.no_std_io2_base.proofs.ChainReads.{to_fault-first, room_of_second, room_when_done, first_fault-first}
 use Rattle.no_std_io2_base.proofs.ChainReads.{room_while_going, after_ok, drains_first, drains_second, drains_both, spent_then}
 use Rattle.no_std_io2_base.proofs.Readers.{reader}
 use Rattle.no_std_io2_base.proofs.ReadToEndGathered.{gathered_first, gathered_all, gathered_stop}
@@ -46,7 +46,8 @@ returns-in_err-read_to_end g c =
         capacity = first.capacity;
         room = λ t enough.
             let both = room_while_going one two _ going enough in
-            rw going (first_fault-first one two (first.room (t.0 going) (room_of_first one two _ _ both)));
+            let below = to_fault-first one two in
+            rw going (first_fault-first one two (first.room (t.0 going) (omega (arith, both, below))));
         never_interrupted = first.never_interrupted;
         turns_never_rise = omega (arith, first.turns_never_rise);
         spends_turn = λ more. let spent = first.spends_turn more in omega (arith, spent);

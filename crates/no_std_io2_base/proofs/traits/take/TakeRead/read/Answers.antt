@@ -1,9 +1,9 @@
 -- Far from the limit the inner reader is read into the whole buffer, and else into a part of it.
-use Rattle.std.proofs.Common.{◌<◌, ◌≤◌, Ok, Err, length, refl, arith, ap, length-take-le}
+use Rattle.std.proofs.Common.{◌<◌, ◌≤◌, Ok, Err, length, drop, refl, arith, ap, length-append, length-drop, length-take, length-take-le}
 use lib.Seq.{take-append-le}
 use Rattle.std.proofs.lemmas.Result.{err_from_is_err_and}
-use Rattle.no_std_io2_base.proofs.TakeAlong.{read_at_limit, reads_inner, cut_reads, cut_reads_whole, cut-length, cut_error, part_within}
-use Rattle.no_std_io2_base.proofs.TakeAlong.{part_room, part_length, fits_whole, limit_falls}
+use Rattle.no_std_io2_base.proofs.TakeAlong.{read_at_limit, reads_inner, cut_reads, cut_reads_whole, cut-length, cut_error}
+use Rattle.no_std_io2_base.proofs.TakeAlong.{part_length, limit_falls}
 use Rattle.no_std_io2_base.proofs.ReadExactExits.{some_bytes}
 use Rattle.no_std_io2_base.proofs.traits.take.TakeRead.read.Goals as goal
 
@@ -39,16 +39,25 @@ returns g c =
     let part = c.read-2.new.buf in
     let read = c.in_ok-n.ensures.law in
     let some = some_bytes _ c.if-self-eq0.false in
-    let within = part_within most limit buf part c.min_with_limit-most.ensures c.read-2.auto.buf in
+    let within : length part ≤ limit = omega (arith, c.min_with_limit-most.ensures, c.read-2.auto.buf, length-take most buf) in
     let falls = limit_falls limit c.in_ok-n.n _ read.bound within in
     record {
       law = record {
-        bound = fits_whole _ part _ read.bound;
+        bound = omega (arith, read.bound, length-append part (drop most buf));
         told = λ t.
             let now = read.told t in (
               now.0,
               cut_reads _ limit part _ read.bound within
-                  (part_room most limit buf part c.min_with_limit-most.ensures c.read-2.auto.buf some) now.1,
+                  (λ room. omega (
+                    arith,
+                    c.min_with_limit-most.ensures,
+                    c.read-2.auto.buf,
+                    some,
+                    room,
+                    length-append part (drop most buf),
+                    length-take most buf,
+                    length-drop most buf,
+                  )) now.1,
             );
         turns_never_rise = read.turns_never_rise;
         spends_turn = read.spends_turn;
