@@ -4,7 +4,7 @@
 ghost use Rattle.std.specs.Prelude.{◌≡◌, ◌+◌, ◌≤◌, ◌<◌, ◌^◌, [], length, IfErr, OnOk, OnErr};
 ghost use Rattle.no_std_io2_base.specs.Errors.{IsFault};
 ghost use Rattle.no_std_io2.specs.Copy.{Copies, CopyMoves, CopyHands, copy_reads};
-ghost use Rattle.no_std_io2.specs.Passing.{Skips};
+ghost use Rattle.no_std_io2.specs.Passing.{Skips, SkipMade};
 
 use no_std_io2_base::error::Result;
 use no_std_io2_base::internal::failed_to_fill;
@@ -96,6 +96,7 @@ pub fn copy<R: Read, W: Write, const S: usize>(reader: &mut R, writer: &mut W) -
 /// assert!(rt; skip(&mut r, &mut left).is_err());
 /// assert!(rt; left == 3); // two of them were there
 /// ```
+#[tactic(auto, using(crate::proofs::PortionLemmas::portions_none))]
 pub fn skip<B: BufRead>(reader: &mut B, left: &mut u64) -> Result<()>
     ensures told { B.tells reader.old → B.tells reader.new
         × Skips left.old (B.events reader.old) result left.new (B.events reader.new) }
@@ -103,6 +104,8 @@ pub fn skip<B: BufRead>(reader: &mut B, left: &mut u64) -> Result<()>
     ensures done { OnOk result (left.new ≡ 0) }
     ensures missing { OnErr result (0 < left.new) }
     ensures none { left.old ≡ 0 → reader.new ≡ reader.old }
+    // It makes a `fill_buf` and a `consume` for each portion, and none after the last.
+    ensures calls { SkipMade B.may reader.old left.old result left.new reader.new }
     ensures never_interrupted { IfErr result IsFault }
     ensures turns_never_rise { B.turns reader.new ≤ B.turns reader.old }
     ensures spends_turn { left.new < left.old → B.turns reader.new < B.turns reader.old }

@@ -1,6 +1,7 @@
 -- The events that are gone so far are the skipped bytes, with no fault among them.
 use Rattle.std.proofs.Common.{◌≡◌, ◌+◌, ◌≤◌, ◌<◌}
 use Rattle.no_std_io2.specs.Passing.{SkipsBytes}
+use Rattle.no_std_io2.proofs.PortionLemmas.{PortionsMade}
 use Rattle.no_std_io2.proofs.util.skip.Given as goal
 
 abbrev pub invariant-pieces : goal.invariant-pieces
@@ -11,6 +12,7 @@ invariant-pieces g l =
       told : R.tells l.initial.reader → R.tells l.reader
           × SkipsBytes l.initial.left (R.events l.initial.reader) l.left (R.events l.reader);
       left : l.left ≤ l.initial.left;
+      made : PortionsMade R.may l.initial.reader l.initial.left l.left l.reader;
       none : l.initial.left ≡ 0 → l.reader ≡ l.initial.reader;
       turns : R.turns l.reader ≤ R.turns l.initial.reader;
       turn : l.left < l.initial.left → R.turns l.reader < R.turns l.initial.reader;
