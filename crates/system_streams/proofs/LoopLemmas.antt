@@ -6,17 +6,19 @@ use Rattle.std.specs.Result.{IsErrAnd}
 use borrow.Rule.Slice.PartMut.{put_mid}
 use Rattle.std.proofs.lemmas.Slice.{take-put_mid_below}
 use Rattle.std.specs.Io.KnownBytes.{Consumes, Keeps, ReadConsumes}
+use Rattle.std.specs.declared.io.Error as Std
 use Rattle.no_std_io2.proofs.ReadParts.{take-put_mid}
 use Rattle.no_std_io2.specs.declared.io.Error.{Error}
 use Rattle.no_std_io2.specs.Errors.{is_interruption, IsFault}
-use Rattle.no_std_io2.specs.Read.{Reader}
+use Rattle.no_std_io2.specs.Read.{Reader, gave}
 use Rattle.system_streams.specs.declared.patient.Patient.{Patient}
-use Rattle.system_streams.specs.Patient.{patient_turns}
-use Rattle.system_streams.specs.Turns.{AnswersRead, EndsReads, IsOutOfTurns, IsPlainInterruption, IsDeviceFault}
+use Rattle.system_streams.specs.declared.system.SystemRead.{Ghosts as Source}
+use Rattle.system_streams.specs.Patient.{patient_device, patient_turns, patient_taken, PatientReads, AsksOnce}
+use Rattle.system_streams.specs.Turns.{AnswersRead, GivesOn, EndsReads, IsOutOfTurns, IsPlainInterruption, IsDeviceFault}
 
 -- what a patient reader tells
-abbrev pub patient_reader : {D : Type 0} → Reader (Patient D)
-patient_reader = record {
+abbrev pub patient_reader : {D : Type 0} → Source D → Reader (Patient D)
+patient_reader device = record {
   has_store = λ _. ⊥;
   content = λ _. [];
   position = λ _. 0;
@@ -27,7 +29,29 @@ patient_reader = record {
   is_metered = λ _. ⊥;
   is_filling = λ _. ⊥;
   may_take_none = λ _. ⊥;
-  may = λ _ _ _. Unit {0};
+  may = PatientReads device;
+}
+
+-- with some room and more than one turn, a read makes one read of the device
+pub asks_device : {D : Type 0} (I : Source D) {old new : Patient D} {buf : List ℕ} {given : Result ℕ Std.Error} (reply : Result ℕ Error)
+    → 0 < length buf → 1 < patient_turns old → I.may_read (patient_device old) given buf (patient_device new) → GivesOn given reply
+    → AnswersRead reply (patient_turns old) (patient_turns new) → patient_taken new ≡ patient_taken old
+    → AsksOnce I old (length buf) (gave reply buf) new
+asks_device I reply some more asked gives_on turns taken = record {
+  empty = λ none. absurd (omega (arith, none, some));
+  over = λ none. absurd (omega (arith, none, more));
+  last = λ room one. absurd (omega (arith, one, more));
+  asked = λ room many. record {
+    given = _;
+    reply = reply;
+    buf = _;
+    whole = refl;
+    asked = asked;
+    gives_on = gives_on;
+    turns = turns;
+    answers = refl;
+  };
+  taken = taken;
 }
 
 -- known bytes stay as they are if nothing is read

@@ -137,7 +137,7 @@ impl<D> Stored for Patient<D> {
 
 /// Tells no events, because those of its device are not known.
 impl<D: SystemRead> Read for Patient<D> {
-    ghost use Rattle.system_streams.specs.Patient.{patient_device, patient_turns, patient_taken};
+    ghost use Rattle.system_streams.specs.Patient.{patient_device, patient_turns, patient_taken, PatientReads};
 
     ghost tells = { λ _. ⊥ };
 
@@ -146,6 +146,8 @@ impl<D: SystemRead> Read for Patient<D> {
     ghost turns = { patient_turns };
 
     ghost may_take_none = { λ _. ⊥ };
+
+    ghost may = { PatientReads ⟦<D as SystemRead>⟧ };
 
     fn read(&mut self, buf: &mut [u8]) -> Result<usize>
         ensures law { ReadLaw ⟦<Self as Read>⟧ self.old buf.old result buf.new self.new }

@@ -1,8 +1,8 @@
 //! Functions that nothing calls. Their contracts fix what each type tells. A type whose ghost members say nothing would
 //! still be proved, but every promise about it would be empty.
 ghost use Rattle.std.specs.Prelude.{◌≡◌, Some};
-ghost use Rattle.no_std_io2.specs.Read.{bytes};
-ghost use Rattle.system_streams.specs.Patient.{patient_turns, patient_told, PatientMay};
+ghost use Rattle.no_std_io2.specs.Read.{bytes, ReadCall};
+ghost use Rattle.system_streams.specs.Patient.{patient_turns, patient_told, PatientMay, PatientReads};
 ghost use Rattle.no_std_io2.specs.Write.{WriteCall};
 ghost use Rattle.system_streams.specs.ToStdKnown.{known_inner};
 ghost use Rattle.system_streams.specs.ToStd.{std_inner, accepted};
@@ -38,6 +38,12 @@ pub fn patient_writer_tells<D: SystemWrite>(p: &Patient<D>)
 pub fn patient_writer_calls<D: SystemWrite>(old: &Patient<D>, new: &Patient<D>)
     ensures { (call : WriteCall) → ⟦<Patient<D> as Write>⟧.may old.now call new.now
         → PatientMay ⟦<D as SystemWrite>⟧ old.now call new.now }
+{}
+
+/// Each read of a `Patient` reader makes at most one read of its device.
+pub fn patient_reader_calls<D: SystemRead>(old: &Patient<D>, new: &Patient<D>)
+    ensures { (call : ReadCall) → ⟦<Patient<D> as Read>⟧.may old.now call new.now
+        → PatientReads ⟦<D as SystemRead>⟧ old.now call new.now }
 {}
 
 /// A `ToStdKnown` tells `std::io` the bytes to come.

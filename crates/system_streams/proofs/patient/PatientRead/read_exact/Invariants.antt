@@ -9,7 +9,7 @@ use Rattle.system_streams.proofs.patient.PatientRead.read_exact.Given as goal
 abbrev pub invariant-reads : goal.invariant-reads
 invariant-reads g l =
     record {
-      law : ExactSoFar patient_reader l.initial.self l.initial.buf l.at l.buf l.self;
+      law : ExactSoFar (patient_reader g.D.SystemRead) l.initial.self l.initial.buf l.at l.buf l.self;
       got : Consumes (g.D.SystemRead.known (patient_device l.initial.self)) (g.D.SystemRead.known (patient_device l.self))
           (take l.at l.buf);
       taken : patient_taken l.self ≡ patient_taken l.initial.self;
