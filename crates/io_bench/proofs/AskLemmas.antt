@@ -3,7 +3,7 @@ use Rattle.std.proofs.Common.{Bor, Result, Ok, ◌⊎◌, inl, inr, Err, append-
 use Rattle.std.proofs.Common.{◌≤◌, min, nat_lt, if◌then◌else◌, false, Bool, List, [], ◌∷◌, ◌++◌, length, take, drop}
 use Rattle.std.proofs.Common.{get_or, refl, sym, ap, subst, ◌∙◌, arith, ⊎_elim, drop_of_length-le, length-take-le}
 use Rattle.std.proofs.Common.{length-drop, append_assoc, take_all, length-append}
-use Rattle.std.proofs.lemmas.List.{take_more, take_min}
+use Rattle.std.proofs.lemmas.List.{take_more, take_min, nil_from_length}
 use Rattle.std.proofs.lemmas.Bool.Decides.{nat_tests}
 use Rattle.std.proofs.lemmas.Bool.{cases_lt}
 use Rattle.std.proofs.Math.Seq.{drop-append_seam}
@@ -16,7 +16,7 @@ use Rattle.no_std_io2.specs.declared.io.ErrorKind.TheVariants.{UnexpectedEof}
 use Rattle.no_std_io2.specs.Errors.{error_kind}
 use Rattle.no_std_io2.specs.BufRead.{Lends, LendsFrom}
 use Rattle.no_std_io2.proofs.EventLemmas.{bytes-events_of, length-events_of, events_of-append, HasNoFault-events_of, HasNoFault-front}
-use Rattle.no_std_io2.proofs.BufReaderExact.{length-events, no_bytes}
+use Rattle.no_std_io2.proofs.BufReaderExact.{length-events}
 use Rattle.no_std_io2.proofs.CopyLemmas.{no_fault_at_end}
 use Rattle.no_std_io2.specs.declared.buffered.buf_reader.BufReader.{BufReader}
 use Rattle.no_std_io2.specs.BufReader.{reader_held, reader_inner, held_or_to_come, filled_length, exact_reads, exact_left}
@@ -75,8 +75,8 @@ read_asked S {len} {r} {r'} n held held' buf inner {E'} {is_end} room read fits 
     let long = ap length read.0 ∙ length-events (take n buf) E' in
     let within = length-take-le n buf fits in
     let left : 0 < length held → length held' ≡ length held - n = λ some. ap length (gave some) ∙ length-drop n held in
-    let direct : length held ≡ 0 → S ≤ len → length held' ≡ 0 = λ none wide. ap length (straight (no_bytes held none) wide) in
-    let kept : length held ≡ 0 → len < S → length held' + n ≡ min S (length inner) = λ none. filled (no_bytes held none) in
+    let direct : length held ≡ 0 → S ≤ len → length held' ≡ 0 = λ none wide. ap length (straight (nil_from_length held none) wide) in
+    let kept : length held ≡ 0 → len < S → length held' + n ≡ min S (length inner) = λ none. filled (nil_from_length held none) in
     asked_by S (Read len) (length held) r (length held') r' (events_of held ++ inner) E' is_end n
     (events_of (take n buf), read.0) (omega (arith, long, within))
     (grind (arith, nat_tests, all)) (grind (arith, nat_tests, all)) reads (grind (arith, nat_tests, all))

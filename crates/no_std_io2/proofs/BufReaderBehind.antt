@@ -1,20 +1,23 @@
 -- The bytes that lie behind the held bytes.
-use Rattle.std.proofs.Common.{◌≡◌, ℕ, ◌+◌, ◌-◌, ◌≤◌, ◌<◌, ◌^◌, ℤ, pos, negsuc, ◌+ℤ◌, List, [], ◌++◌, length, take, drop}
-use Rattle.std.proofs.Common.{refl, sym, ap, ◌∙◌, subst, arith, length-take-le, append_assoc, take-append-drop}
+use Rattle.std.proofs.lemmas.Grind.{common_steps}
+use Rattle.std.proofs.Common.{◌≡◌, ℕ, ◌+◌, ◌-◌, ◌≤◌, ◌<◌, ◌^◌, ℤ, pos, negsuc, ◌+ℤ◌, List, ◌++◌, length, take, drop, []}
+use Rattle.std.proofs.Common.{refl, sym, ap, ◌∙◌, subst, arith, length-take-le, length-drop, append_assoc}
 use Rattle.std.proofs.Common.{unsigned_abs, Ok}
-use Rattle.std.proofs.lemmas.Int.{ints}
 use Rattle.std.proofs.lemmas.List.{take-take}
 use Rattle.std.proofs.Math.Seq.{take-add, drop-append_seam, drop-append-add}
 use Rattle.std.specs.Int.{FitsUnsigned, w64}
 use Rattle.std.proofs.lemmas.List.{length-append, drop-append-le}
 use Rattle.no_std_io2_base.specs.declared.traits.seek.SeekFrom.{SeekFrom}
 use Rattle.no_std_io2_base.specs.declared.traits.seek.SeekFrom.TheVariants.{Current}
-use Rattle.no_std_io2_base.specs.Read.{Event, events_of}
-use Rattle.no_std_io2_base.specs.Seek.{IsAtOffset, IsTarget, Seeks}
+use Rattle.no_std_io2_base.specs.Read.{Event, events_of, Reader}
+use Rattle.no_std_io2_base.specs.Seek.{IsTarget, Seeks}
 use Rattle.no_std_io2_base.proofs.EventLemmas.{events_of-append}
-use Rattle.no_std_io2.proofs.BufReaderSound.{give_events}
-use Rattle.no_std_io2.specs.Buffer.{IsSound, IsInBuffer, IsCutOn, MovesEvents}
-use Rattle.no_std_io2.specs.BufReader.{sound_drop}
+use Rattle.no_std_io2.proofs.BufReaderSound.{give_events, give_sound}
+use Rattle.no_std_io2.specs.declared.buffered.buffer.Buffer.{Buffer}
+use Rattle.no_std_io2.specs.declared.buffered.buf_reader.BufReader.{BufReader}
+use Rattle.no_std_io2.specs.Buffer.{buffer_held, buffer_behind, IsSound, IsInBuffer, IsCutOn, MovesEvents}
+use Rattle.no_std_io2.specs.BufReader.{reader_held, reader_behind, reader_events, reader_turns, reader_has_store, reader_position}
+use Rattle.no_std_io2.specs.BufReader.{StaysSound, sound_drop}
 use Rattle.no_std_io2.proofs.BufReaderSeeks.{at_offset_sum}
 
 -- the bytes of the array up to the end are the bytes behind, and then the held bytes
@@ -26,50 +29,31 @@ whole l start end ordered =
 -- n bytes more lie behind
 pub behind_more : (l : List ℕ) (start end n : ℕ) → n ≤ end - start
     → take (start + n) l ≡ take start l ++ take n (take (end - start) (drop start l))
-behind_more l start end n fits =
-    take-add start n l ∙ ap (λ m. take start l ++ m) (sym (take-take n (end - start) (drop start l) fits))
+behind_more l start end n fits = grind (arith, common_steps, take-add, take-take)
 
 -- a sum that fits is not negative
 pub not_negative : (z : ℤ) → FitsUnsigned w64 z → pos (unsigned_abs z) ≡ z
-not_negative (pos n) fits = refl
-not_negative (negsuc n) fits = omega (arith, ints, fits.0)
+not_negative = grind (arith, common_steps)
 
 -- where the border goes
 pub border_within : (o : ℤ) (start end at : ℕ) → start ≤ end → pos at ≡ pos start +ℤ o → at ≤ end → IsInBuffer o start (end - start)
-border_within (pos k) start end at ordered is within = omega (arith, ints)
-border_within (negsuc k) start end at ordered is within = omega (arith, ints)
+border_within = grind (arith, common_steps)
 
 -- the border moved inside the same bytes
 pub cut_on : (l : List ℕ) (o : ℤ) (start end at : ℕ) → start ≤ end → at ≤ end → end ≤ length l → pos at ≡ pos start +ℤ o
     → IsCutOn o (take start l) (take (end - start) (drop start l)) (take at l) (take (end - at) (drop at l))
-cut_on l o start end at ordered within room is =
-    let long : length (take start l) ≡ start = length-take-le start l (omega arith) in
-    let long' : length (take at l) ≡ at = length-take-le at l (omega arith) in (
-      whole l at end within ∙ sym (whole l start end ordered),
-      at_offset_sum (length (take start l)) o (length (take at l)) (ap pos long' ∙ is ∙ ap (λ n. pos n +ℤ o) (sym long)),
-    )
+cut_on l o start end at ordered within room is = grind (arith, common_steps, length-take-le, whole, at_offset_sum)
 
 -- if n held bytes move behind, both joined are the same list
 pub moved_whole : (behind held behind' held' got : List ℕ) (n : ℕ) → behind' ≡ behind ++ got → got ≡ take n held
     → held' ≡ drop n held → behind' ++ held' ≡ behind ++ held
-moved_whole behind held behind' held' got n after front rest =
-    ap (λ l. l ++ held') (after ∙ ap (λ l. behind ++ l) front) ∙ append_assoc behind (take n held) held'
-    ∙ ap (λ l. behind ++ (take n held ++ l)) rest ∙ ap (λ l. behind ++ l) (take-append-drop n held)
-
--- so it is as sound as it was
-pub sound_moved : (behind held behind' held' : List ℕ) {got : List ℕ} {position : ℕ} (content : List ℕ) (n : ℕ)
-    → behind' ≡ behind ++ got → got ≡ take n held → held' ≡ drop n held
-    → IsSound (behind ++ held) position content → IsSound (behind' ++ held') position content
-sound_moved behind held behind' held' {got = got} {position = position} content n after front rest s =
-    subst (λ l. IsSound l position content) (sym (moved_whole behind held behind' held' got n after front rest)) s
+moved_whole behind held behind' held' got n after front rest = grind (arith, common_steps)
 
 -- the same list at the same position of the same content
 pub sound_stayed : (whole whole' : List ℕ) (position position' : ℕ) (content content' : List ℕ) → whole' ≡ whole
     → position' ≡ position → content' ≡ content
     → IsSound whole position content → IsSound whole' position' content'
-sound_stayed whole whole' position position' content content' same here kept s =
-    subst (λ l. IsSound l position' content') (sym same)
-    (subst (λ c. IsSound whole position' c) (sym kept) (subst (λ p. IsSound whole p content) (sym here) s))
+sound_stayed whole whole' position position' content content' same here kept s = grind (arith, common_steps)
 
 -- a reader with nothing behind is sound if its held bytes are
 pub sound_alone : (behind held : List ℕ) (position : ℕ) (content : List ℕ) → behind ≡ [] → IsSound held position content
@@ -79,8 +63,7 @@ sound_alone behind held position content none s = subst (λ l. IsSound (l ++ hel
 -- a reader with nothing behind and nothing held is sound
 pub sound_empty : (behind held : List ℕ) (position : ℕ) (content : List ℕ) → behind ≡ [] → held ≡ []
     → IsSound (behind ++ held) position content
-sound_empty behind held position content none empty =
-    sound_alone behind held position content none (subst (λ l. IsSound l position content) (sym empty) (omega arith, refl))
+sound_empty behind held position content none empty = grind (arith, common_steps)
 
 -- what is held of a sound list
 pub sound_held : (behind held : List ℕ) (position : ℕ) (content : List ℕ) → IsSound (behind ++ held) position content
@@ -110,27 +93,25 @@ cut_moves (negsuc k) behind held behind' held' E cut =
     ap (λ l. events_of l ++ E) rest ∙ ap (λ l. l ++ E) (events_of-append (drop n behind) held)
     ∙ append_assoc (events_of (drop n behind)) (events_of held) E
 
--- the position moves with the border
-pub cut_place : (o : ℤ) (at behind held behind' held' : ℕ) → behind + held ≤ at → behind' + held' ≡ behind + held
-    → IsAtOffset behind o behind' → IsAtOffset (at - held) o (at - held')
-cut_place (pos k) at behind held behind' held' fits same on = omega arith
-cut_place (negsuc k) at behind held behind' held' fits same on = omega arith
-
 -- over sound bytes this is a seek by the offset from the user's position, and does not move the inner reader
 pub cut_seeks : (o : ℤ) (len at : ℕ) (behind held behind' held' content : List ℕ) → IsSound (behind ++ held) at content
     → at < 2 ^ 64 → IsCutOn o behind held behind' held'
     → Seeks len (at - length held) (Current o) (Ok (at - length held')) (at - length held')
-cut_seeks o len at behind held behind' held' content s small cut =
-    let before = length-append behind held in
-    let after = length-append behind' held' in (
-      (
-        cut_place o at (length behind) (length held) (length behind') (length held') (omega (arith, s.0, before))
-            (omega (arith, before, after, ap length cut.0)) cut.1,
-        omega arith,
-      ),
-      refl,
-    )
+cut_seeks o len at behind held behind' held' content s small cut = grind (arith, common_steps)
 
 -- a seek without its number
 pub numberless : (len old new n : ℕ) (from : SeekFrom) → Seeks len old from (Ok n) new → Seeks len old from (Ok new) new
 numberless len old new n from h = (subst (IsTarget len old from) (sym h.1) h.0, refl)
+
+-- What it does to a reader that its first n held bytes, `got`, are given. They lie behind then.
+pub record Given {R : Type 0} {S : ℕ} (K : Reader R) (old new : BufReader R S) (got : List ℕ) (n : ℕ) : Type 0 where
+  pub told : reader_events K.events old ≡ events_of got ++ reader_events K.events new
+  pub turns : reader_turns K.turns new + n ≡ reader_turns K.turns old
+  pub sound : StaysSound K.has_store K.position K.content old new
+  pub store : reader_has_store K.has_store K.position K.content old → reader_has_store K.has_store K.position K.content new
+      × (reader_position K.position new ≡ reader_position K.position old + n)
+
+pub given : {R : Type 0} {S : ℕ} (K : Reader R) (old : BufReader R S) (now : Buffer S) (n : ℕ) {got : List ℕ} → n ≤ length (reader_held old)
+    → got ≡ take n (reader_held old) → buffer_held now ≡ drop n (reader_held old) → buffer_behind now ≡ reader_behind old ++ got
+    → Given K old (record old { buffer = now }) got n
+given = grind (arith, common_steps, give_events, length-drop, give_sound)

@@ -1,38 +1,31 @@
 -- What one inner read does to a reader with a buffer in front that held nothing.
-use Rattle.std.proofs.Common.{◌≡◌, ℕ, zero, suc, ◌+◌, ◌*◌, ◌<◌, ◌≤◌, if◌then◌else◌, List, [], ◌∷◌, ◌++◌, Ok}
+use Rattle.std.proofs.lemmas.Grind.{common_steps}
+use Rattle.std.proofs.lemmas.List.{nil_from_length}
+use Rattle.std.proofs.Common.{◌≡◌, ℕ, zero, suc, ◌+◌, ◌*◌, ◌<◌, ◌≤◌, if◌then◌else◌, List, ◌∷◌, ◌++◌, Ok, []}
 use Rattle.std.proofs.Common.{Err, Result, length, refl, sym, ap, subst, ◌∙◌, arith}
 use Rattle.std.specs.Result.{OnOk, OnErr, IsOk}
 use Rattle.std.proofs.Math.Nat.{mul-le-mul_left}
 use Rattle.no_std_io2_base.specs.declared.error.Error.{Error}
-use Rattle.no_std_io2_base.specs.Read.{Event, events_of, fails, Reads, SpendsTurn, ReadCall, Gave, Gathers, no_read, and_gave, IsRest}
+use Rattle.no_std_io2_base.specs.Read.{Event, events_of, ReadCall, Gave, Gathers, no_read, and_gave, IsRest}
 use Rattle.no_std_io2_base.specs.Read.{ToEndMade}
 use Rattle.no_std_io2_base.specs.Write.{Made}
-use Rattle.std.proofs.Common.{take, drop, min, append_assoc, length-take-le, take_all, drop_of_length-le, inl, inr}
-use Rattle.std.proofs.lemmas.Bool.{cases_lt}
-use Rattle.std.proofs.Math.Seq.{drop-append_seam}
+use Rattle.std.proofs.Common.{take, drop, min, length-take-le}
+use Rattle.std.proofs.lemmas.Bool.{lt-leb}
 use Rattle.no_std_io2.specs.declared.buffered.buf_reader.BufReader.{BufReader}
 use Rattle.no_std_io2.specs.BufReader.{reader_held, reader_inner, PassesOn, FillsBelow, ReaderMay}
 use Rattle.no_std_io2.specs.Buffer.{ReadsAhead, IsSound}
 use Rattle.no_std_io2.specs.BufReader.{FillsFrom, behind_anew}
-use Rattle.no_std_io2.proofs.BufferTests.{is_past, is_own}
-use Rattle.no_std_io2.proofs.BufReaderExact.{no_bytes}
-
--- with nothing held, what is to come is what is to come of the inner reader
-pub nothing_held : (held : List ℕ) (E : List Event) → length held ≡ 0 → events_of held ++ E ≡ E
-nothing_held held E none = ap (λ l. events_of l ++ E) (no_bytes held none)
 
 -- if nothing is held before, nor after an error, a fill takes no event except the error that it returns
 pub fill_told : {A : Type 0} (r : Result A Error) (held held' : List ℕ) (E E' : List Event) → length held ≡ 0
     → OnErr r (held' ≡ []) → ReadsAhead E r held' E'
     → FillsFrom (events_of held ++ E) r (events_of held' ++ E')
-fill_told (Ok _) held held' E E' none no_more read = sym (nothing_held held E none ∙ read.0)
-fill_told (Err e) held held' E E' none no_more read = nothing_held held E none ∙ read ∙ ap (λ l. fails e ∷ events_of l ++ E') (sym no_more)
+fill_told = grind (arith, common_steps)
 
 -- if nothing was held, and nothing is held after a fill that returns `Ok`, nothing was to come
 pub fill_end : {A : Type 0} (r : Result A Error) (held held' : List ℕ) (E E' : List Event) → length held ≡ 0 → ReadsAhead E r held' E'
     → OnOk r (held' ≡ [] → events_of held ++ E ≡ [])
-fill_end (Ok _) held held' E E' none read = λ h. nothing_held held E none ∙ read.1 h
-fill_end (Err e) held held' E E' none read = tt
+fill_end = grind (arith, common_steps)
 
 -- an inner turn is more than a full buffer
 more_turns : (room held held' t t' : ℕ) → held' ≤ room → t' < t → held' + (room + 1) * t' < held + (room + 1) * t
@@ -44,30 +37,13 @@ pub fill_turn : {A : Type 0} (r : Result A Error) (room held held' t t' : ℕ) �
 fill_turn (Ok _) room held held' t t' fits spent = tt
 fill_turn (Err e) room held held' t t' fits spent = more_turns room held held' t t' fits spent
 
--- a read that went past the buffer to the inner reader
-pub through_told : (r : Result ℕ Error) (buf held held' : List ℕ) (E E' : List Event) → length held ≡ 0 → held' ≡ [] → Reads E r buf E'
-    → Reads (events_of held ++ E) r buf (events_of held' ++ E')
-through_told r buf held held' E E' none empty read =
-    let after : Reads E r buf (events_of held' ++ E') = subst (Reads E r buf) (sym (ap (λ l. events_of l ++ E') empty)) read in
-    subst (λ l. Reads l r buf (events_of held' ++ E')) (sym (nothing_held held E none)) after
-
--- a read that spends an inner turn spends a turn of the whole reader, if at most a full buffer is held afterwards
-pub through_turn : (r : Result ℕ Error) (room held held' t t' : ℕ) → held' ≤ room → SpendsTurn r t t'
-    → SpendsTurn r (held + (room + 1) * t) (held' + (room + 1) * t')
-through_turn (Ok n) room held held' t t' fits spent = λ some. more_turns room held held' t t' fits (spent some)
-through_turn (Err e) room held held' t t' fits spent = more_turns room held held' t t' fits spent
-
 -- no held bytes are sound at any position
 pub sound_none : (held : List ℕ) (position : ℕ) (content : List ℕ) → held ≡ [] → IsSound held position content
 sound_none held position content empty = subst (λ l. IsSound l position content) (sym empty) (omega arith, refl)
 
--- the bytes behind after a read that went past the buffer, and after one from it
-pub behind_past : (room len : ℕ) (got behind : List ℕ) → room ≤ len → behind ≡ [] → behind ≡ behind_anew room len got
-behind_past room len got behind past empty = empty ∙ sym (ap (λ b. if b then [] else got) (is_past room len past))
-
 -- after a read of less than a full buffer, the bytes that it gave lie behind
 pub behind_own : (room len : ℕ) (got behind : List ℕ) → len < room → behind ≡ got → behind ≡ behind_anew room len got
-behind_own room len got behind own is = is ∙ sym (ap (λ b. if b then [] else got) (is_own room len own))
+behind_own room len got behind own is = is ∙ sym (ap (λ b. if b then [] else got) (lt-leb room len own))
 
 -- an error is no `Ok`
 pub not_ok : (e : Error) → IsOk {T = Unit {0}} {E = Error} (Err e) → ⊥
@@ -81,23 +57,14 @@ lends_held may r some = record { held = λ _. refl; filled = λ none. absurd (om
 -- of the bytes that were read into the buffer as many were given as both have
 pub passes_on : (n room : ℕ) (read shown held : List ℕ) → n ≡ min (length read) room → take n shown ≡ take n read → held ≡ drop n read
     → PassesOn (Ok read) room (Ok (take n shown)) held
-passes_on n room read shown held is gave left = elim (cases_lt (length read) room) [
-  | inl few ↦
-      let all : n ≡ length read = omega (arith, is, few) in (
-        ap Ok (gave ∙ take_all n read (omega (arith, all)) ∙ sym (take_all room read (omega (arith, few)))),
-        left ∙ drop_of_length-le read {i = n} (omega (arith, all)) ∙ sym (drop_of_length-le read {i = room} (omega (arith, few))),
-      )
-  | inr many ↦
-      let same : n ≡ room = omega (arith, is, many) in
-      (ap Ok (gave ∙ ap (λ k. take k read) same), left ∙ ap (λ k. drop k read) same)
-]
+passes_on n room read shown held is gave left = grind (arith, common_steps)
 
 -- what was held is given first, without a call of the inner reader
 pub gives_first : {R : Type 0} {S : ℕ} (may : R → ReadCall → R → Type 0) (old new : BufReader R S) (n size : ℕ) (buf : List ℕ)
     → n ≤ length buf → length buf ≡ size → 0 < size → n ≡ length (reader_held old) → reader_inner new ≡ reader_inner old
     → (reader_held old ≡ [] → new ≡ old)
     → (C : List ReadCall) × Made (ReaderMay may) old C new × Gathers (IsRest size) C (take n buf)
-gives_first may old new zero size buf within long some is same none = ([], none (no_bytes _ (sym is)), no_read)
+gives_first may old new zero size buf within long some is same none = ([], none (nil_from_length _ (sym is)), no_read)
 gives_first may old new (suc k) size buf within long some is same none =
     let given = take (suc k) buf in
     let more : 0 < length given = omega (arith, length-take-le (suc k) buf within) in (
@@ -118,11 +85,4 @@ gives_first may old new (suc k) size buf within long some is same none =
 pub drained : {R : Type 0} {may : R → ReadCall → R → Type 0} {a b : R} {mid new : List ℕ} {reply : Result ℕ Error} (old held : List ℕ)
     (len : ℕ)
     → ToEndMade may a mid reply new b → mid ≡ old ++ held → len ≡ length old → ToEndMade may a held reply (drop len new) b
-drained old held len m is long = record {
-  calls = m.calls;
-  given = m.given;
-  made = m.made;
-  appended = ap (drop len) (m.appended ∙ ap (λ l. l ++ m.given) is ∙ append_assoc old held m.given)
-      ∙ ap (λ k. drop k (old ++ (held ++ m.given))) long ∙ drop-append_seam old (held ++ m.given);
-  are = m.are;
-}
+drained old held len m is long = grind (arith, common_steps)

@@ -1,12 +1,12 @@
 -- A buffer that is emptied into a vector, before the inner reader appends the rest.
-use Rattle.std.proofs.Common.{◌≡◌, ℕ, ◌+◌, ◌-◌, ◌*◌, ◌<◌, ◌≤◌, Some, List, [], ◌++◌, length, take, drop, Ok, Err, Result, IfErr}
-use Rattle.std.proofs.Common.{inl, refl, sym, ap, subst, ◌∙◌, arith, take_all, take-append-drop, append-nil, append_assoc}
+use Rattle.std.proofs.lemmas.Grind.{common_steps}
+use Rattle.std.proofs.Common.{◌≡◌, ℕ, ◌+◌, ◌-◌, ◌*◌, ◌<◌, ◌≤◌, Some, List, ◌++◌, length, take, drop, Ok, Err, Result, IfErr, []}
+use Rattle.std.proofs.Common.{sym, ap, subst, ◌∙◌, arith, take_all, take-append-drop}
 use Rattle.std.proofs.Common.{length-append}
 use lib.Seq.{take-append-le}
-use Rattle.std.proofs.Math.Seq.{drop-append_seam}
 use Rattle.no_std_io2_base.specs.declared.error.Error.{Error}
 use Rattle.no_std_io2_base.specs.Errors.{IsOutOfMemory}
-use Rattle.no_std_io2_base.specs.Read.{Event, events_of, bytes, ReadsToEnd, bytes_to_fault, first_fault, HasRoom}
+use Rattle.no_std_io2_base.specs.Read.{Event, events_of, ReadsToEnd, first_fault, HasRoom}
 use Rattle.no_std_io2_base.specs.Cursor.{HasMoved}
 use Rattle.no_std_io2_base.specs.Write.{IsFront}
 use Rattle.no_std_io2_base.proofs.ChainReads.{room_of_second}
@@ -23,34 +23,11 @@ use Rattle.no_std_io2.proofs.BufReaderExact.{length-events}
 
 -- all that was held was appended
 pub moved_all : (held held' old mid : List ℕ) → HasMoved held held' old mid → held' ≡ [] → mid ≡ old ++ held
-moved_all held held' old mid moved none =
-    moved.2 ∙ ap (λ l. old ++ l) (sym (moved.1 ∙ ap (λ l. moved.0 ++ l) none ∙ append-nil moved.0))
-
--- what was shown of the held bytes was moved, and then as many of these were dropped as are gone from it
-pub moved_from : {shown rest held left : List ℕ} {n : ℕ} (old : List ℕ) {new : List ℕ} → shown ≡ held → HasMoved shown rest old new
-    → n ≡ length held - length rest → left ≡ drop n held → HasMoved held left old new
-moved_from {rest} {held} {n} old same moved count cut =
-    let x = moved.0 in
-    let split : held ≡ x ++ rest = sym same ∙ moved.1 in
-    let is : n ≡ length x = omega (arith, count, ap length split, length-append x rest) in
-    let left_is = cut ∙ ap (λ k. drop k held) is ∙ ap (drop (length x)) split ∙ drop-append_seam x rest in
-    (x, split ∙ ap (λ l. x ++ l) (sym left_is), moved.2)
-
--- held bytes that are dropped from the front lie behind
-pub kept_in_all : (n : ℕ) (behind held : List ℕ) {behind' left : List ℕ} → behind' ≡ behind ++ take n held → left ≡ drop n held
-    → behind' ++ left ≡ behind ++ held
-kept_in_all n behind held {left} b cut =
-    ap (λ l. l ++ left) b ∙ append_assoc behind (take n held) left ∙ ap (λ l. behind ++ (take n held ++ l)) cut
-    ∙ ap (λ l. behind ++ l) (take-append-drop n held)
+moved_all held held' old mid moved none = grind (arith, common_steps)
 
 -- once the held bytes are appended, they are gone from the events, and the events after them are left
 emptied : (held old mid : List ℕ) (E : List Event) → mid ≡ old ++ held → Gathered (events_of held ++ E) old mid E
-emptied held old mid E is = record {
-  front = events_of held;
-  split = refl;
-  no_fault = HasNoFault-events_of held;
-  gave = is ∙ ap (λ l. old ++ l) (sym (bytes-events_of held));
-}
+emptied held old mid E is = grind (arith, common_steps, HasNoFault-events_of, bytes-events_of)
 
 -- and then the rest
 pub emptied_all : (held held' old : List ℕ) {mid new : List ℕ} (E : List Event) {E' : List Event} {n k : ℕ} → mid ≡ old ++ held → held' ≡ []
@@ -70,22 +47,18 @@ emptied_stop held held' old {mid} {new} {E} {E'} {e} is none read =
 -- with nothing held the inner reader gives all
 pub none_told : (held held' : List ℕ) (E E' : List Event) (reply : Result ℕ Error) (old new : List ℕ) → held ≡ [] → held' ≡ []
     → ReadsToEnd E reply old new E' → ReadsToEnd (events_of held ++ E) reply old new (events_of held' ++ E')
-none_told held held' E E' reply old new none left read =
-    subst (λ l. ReadsToEnd (events_of l ++ E) reply old new (events_of held' ++ E')) (sym none)
-    (subst (λ l. ReadsToEnd E reply old new (events_of l ++ E')) (sym left) read)
+none_told held held' E E' reply old new none left read = grind (arith, common_steps)
 
 -- it fails for lack of room if the inner reader does
 pub none_room : (held : List ℕ) (E : List Event) (reply : Result ℕ Error) (len capacity : ℕ) → held ≡ []
     → (HasRoom 32 E len capacity → IfErr reply (λ e. first_fault E ≡ Some e))
     → HasRoom 32 (events_of held ++ E) len capacity → IfErr reply (λ e. first_fault (events_of held ++ E) ≡ Some e)
-none_room held E reply len capacity none =
-    subst (λ l. HasRoom 32 (events_of l ++ E) len capacity → IfErr reply (λ e. first_fault (events_of l ++ E) ≡ Some e)) (sym none)
+none_room held E reply len capacity none = grind (arith, common_steps)
 
 -- the same holds for every result
 pub none_empties : {R : Type 0} {S : ℕ} (old new : BufReader R S) (before after : List ℕ) (reply : Result ℕ Error)
     → IsFront (before ++ reader_held old) after × HasNoBuffer new → EmptiesInto old before reply after new
-none_empties old new before after (Ok n) did = did
-none_empties old new before after (Err e) did = inl did
+none_empties = grind (arith, common_steps)
 
 -- what the vector had stays at its front
 pub emptied_front : (held : List ℕ) {old mid : List ℕ} (new : List ℕ) {len n : ℕ} → len ≡ length old → n ≡ length mid
@@ -109,16 +82,12 @@ emptied_again held old long more is = omega (arith, long, more, ap length is, le
 pub emptied_moved : (held held' : List ℕ) (E E' : List Event) {p : ℕ} (p' : ℕ)
     → length held ≤ p → held' ≡ [] → p' + length E' ≡ p + length E
     → (p' - length held') + length (events_of held' ++ E') ≡ (p - length held) + length (events_of held ++ E)
-emptied_moved held held' E E' p' within none moved =
-    omega (arith, ap length none, length-events held E, length-events held' E', within, moved)
+emptied_moved held held' E E' p' within none moved = grind (arith, common_steps, length-events)
 
 -- room for all is room for what is held
 pub room_held : (held : List ℕ) (E : List Event) (len : ℕ) {capacity : ℕ} → HasRoom 32 (events_of held ++ E) len capacity
     → capacity < len + length held + 32 → ⊥
-room_held held E len enough full =
-    let all = ap length (bytes_to_fault-append (events_of held) E (HasNoFault-events_of held))
-    ∙ length-append (bytes (events_of held)) (bytes_to_fault E) in
-    omega (arith, enough, full, all, ap length (bytes-events_of held))
+room_held held E len enough full = grind (arith, common_steps, bytes_to_fault-append, HasNoFault-events_of, length-append, bytes-events_of)
 
 -- the first fault comes after the held bytes
 pub held_fault : (held : List ℕ) (E : List Event) {e : Error} → first_fault E ≡ Some e → first_fault (events_of held ++ E) ≡ Some e
@@ -135,15 +104,12 @@ emptied_on held old E {len} {capacity} {n} {capacity'} enough long more is grows
 -- if there was no room for all held bytes, a front of them was appended
 pub part_refused : (held held' old : List ℕ) {new : List ℕ} (E : List Event) {e : Error} → HasMoved held held' old new → IsOutOfMemory e
     → ReadsToEnd (events_of held ++ E) (Err e) old new (events_of held' ++ E)
-part_refused held held' old {new} E {e} moved refused =
-    stopped_first (events_of held) E old new (events_of held') e
-    (moved_part old moved refused)
+part_refused held held' old {new} E {e} moved refused = grind (arith, common_steps, stopped_first, moved_part)
 
 -- if a front of the held bytes was appended, the old content of the vector stays at its front
 pub part_front : (held held' : List ℕ) {old new : List ℕ} {len : ℕ}
     → len ≡ length old → HasMoved held held' old new → take len new ≡ old
-part_front held held' {old = old} {len = len} long moved =
-    ap (take len) moved.2 ∙ take-append-le len old moved.0 (omega (arith, long)) ∙ take_all len old (omega (arith, long))
+part_front held held' {old = old} {len = len} long moved = grind (arith, common_steps)
 
 -- if held bytes go to a vector and the inner reader's turns stay, the reader has no more turns than before
 pub part_turns : (held held' old : List ℕ) {new : List ℕ} (room turns : ℕ) → HasMoved held held' old new
@@ -154,11 +120,9 @@ part_turns held held' old room turns moved = omega (arith, ap length moved.1, le
 pub part_sound : (held held' old : List ℕ) {new : List ℕ} {position : ℕ} (content : List ℕ) → HasMoved held held' old new
     → IsSound held position content
     → IsSound held' position content
-part_sound held held' old {position} content moved sound =
-    sound_held moved.0 held' position content (subst (λ l. IsSound l position content) moved.1 sound)
+part_sound held held' old {position} content moved sound = grind (arith, common_steps, sound_held)
 
 -- the position moves by the held bytes that are gone of the events
 pub part_moved : (held held' old : List ℕ) {new : List ℕ} (E : List Event) {p : ℕ} → length held ≤ p → HasMoved held held' old new
     → (p - length held') + length (events_of held' ++ E) ≡ (p - length held) + length (events_of held ++ E)
-part_moved held held' old E within moved =
-    omega (arith, within, length-events held E, length-events held' E, ap length moved.1, length-append moved.0 held')
+part_moved held held' old E within moved = grind (arith, common_steps, length-events, length-append)

@@ -1,11 +1,10 @@
 -- How far an exact read has come.
-use Rattle.std.proofs.Common.{◌≡◌, ℕ, ◌+◌, ◌-◌, ◌<◌, ◌≤◌, List, [], ◌++◌, length, take, min, Ok, sym, ap, ◌∙◌}
+use Rattle.std.proofs.lemmas.Grind.{common_steps}
+use Rattle.std.proofs.Common.{◌≡◌, ℕ, ◌+◌, ◌-◌, ◌<◌, ◌≤◌, List, ◌++◌, length, take, min, Ok, sym, ap, ◌∙◌, []}
 use Rattle.std.proofs.Common.{nat_le, if◌then◌else◌, ⊎_elim, length-take-le, arith, length-append, append-nil}
-use Rattle.std.proofs.Common.{subst, drop_of_length-le}
-use Rattle.std.proofs.lemmas.Bool.{cases_lt}
+use Rattle.std.proofs.lemmas.Bool.{cases_lt, le-leb, lt-leb}
 use Rattle.std.proofs.lemmas.Bool.Decides.{nat_tests}
-use Rattle.no_std_io2.proofs.BufferTests.{is_past, is_own}
-use Rattle.no_std_io2_base.specs.Read.{Event, events_of, bytes, HasNoFault, cut, Reads, Fills}
+use Rattle.no_std_io2_base.specs.Read.{Event, events_of, Reads, Fills}
 use Rattle.no_std_io2_base.proofs.EventLemmas.{length-events_of, bytes-events_of, HasNoFault-events_of, cut-bytes}
 use Rattle.no_std_io2_base.proofs.ReadToEndTaken.{Taken}
 use Rattle.no_std_io2.specs.Buffer.{IsSuffix}
@@ -26,48 +25,23 @@ behind_so_far room len held at = if nat_le room (len - held) then 0 else at - he
 -- the held bytes were given first
 pub exact_begins : {room len held all at now_held now_inner : ℕ} → at ≡ held → now_held ≡ 0
     → now_held + now_inner + at ≡ all → Exact room len held all at now_held now_inner
-exact_begins begun none total = record {
-  begun = omega arith;
-  total = total;
-  none = λ _. none;
-  read = λ h. absurd (omega arith);
-  left = λ h. absurd (omega arith);
-}
+exact_begins begun none total = grind (arith, common_steps)
 
 -- while room is left, nothing is held
 pub exact_none : (room len held all at now_held now_inner : ℕ) → Exact room len held all at now_held now_inner → at < len → now_held ≡ 0
-exact_none room len held all at now_held now_inner t more =
-    let begun = t.begun in
-    let total = t.total in
-    let none = t.none in
-    let read = t.read in
-    grind arith
+exact_none room len held all at now_held now_inner t more = grind (arith, common_steps)
 
 -- if bytes still come, none were read yet
 pub exact_first : (room len held all at now_held now_inner n : ℕ) → Exact room len held all at now_held now_inner
     → at < len → n ≡ min (len - at) now_inner → 0 < n → held < len → at ≡ held
-exact_first room len held all at now_held now_inner n t more is some short =
-    let zero : now_held ≡ 0 = exact_none room len held all at now_held now_inner t more in
-    let begun = t.begun in
-    let total = t.total in
-    let read = t.read in
-    grind arith
+exact_first room len held all at now_held now_inner n t more is some short = grind (arith, common_steps)
 
 -- one read, straight into the buffer or over the own one
 pub exact_read : {room len held all at now_held now_inner : ℕ} (n next_held next_inner : ℕ)
     → Exact room len held all at now_held now_inner → at < len
     → n ≡ min (len - at) now_inner → (room ≤ len - at → next_held ≡ 0) → (len - at < room → next_held + n ≡ min room now_inner)
     → next_held + next_inner + n ≡ now_held + now_inner → 0 < n → held < len → Exact room len held all (at + n) next_held next_inner
-exact_read {room} {len} {held} {all} {at} {now_held} {now_inner} n next_held next_inner t more is direct filled moved some short =
-    let zero : now_held ≡ 0 = exact_none room len held all at now_held now_inner t more in
-    let first : at ≡ held = exact_first room len held all at now_held now_inner n t more is some short in
-    let whole : at + n ≡ min len all = omega (arith, t.total) in record {
-      begun = omega arith;
-      total = omega (arith, t.total);
-      none = λ h. absurd (omega arith);
-      read = λ _. whole;
-      left = λ _. grind (arith, nat_tests);
-    }
+exact_read {room} {len} {held} {all} {at} {now_held} {now_inner} n next_held next_inner t more is direct filled moved some short = grind (arith, common_steps)
 
 -- after a read with nothing held, the bytes behind are a suffix of the bytes that it gave, shorter than a full buffer
 pub read_ends : (room at rest n : ℕ) (buf buf' got behind : List ℕ) → behind ≡ behind_anew room rest (take n got) → 0 < room
@@ -75,12 +49,12 @@ pub read_ends : (room at rest n : ℕ) (buf buf' got behind : List ℕ) → behi
     → IsSuffix (take (at + n) buf') behind × (length behind < room)
 read_ends room at rest n buf buf' got behind is some fits within shown = ⊎_elim
     (λ own.
-    let last = is ∙ ap (λ b. if b then [] else take n got) (is_own room rest own) in (
+    let last = is ∙ ap (λ b. if b then [] else take n got) (lt-leb room rest own) in (
       (take at buf, shown ∙ ap (λ l. take at buf ++ l) (sym last)),
       omega (arith, ap length last, length-take-le n got fits),
     ))
     (λ past.
-    let none = is ∙ ap (λ b. if b then [] else take n got) (is_past room rest past) in (
+    let none = is ∙ ap (λ b. if b then [] else take n got) (le-leb room rest past) in (
       (take (at + n) buf', sym (append-nil _) ∙ ap (λ l. take (at + n) buf' ++ l) (sym none)),
       omega (arith, ap length none, some),
     ))
@@ -89,56 +63,26 @@ read_ends room at rest n buf buf' got behind is some fits within shown = ⊎_eli
 -- if it was the first read, this suffix has that length
 pub read_behind : (room len held at n : ℕ) (rest : ℕ) (got behind : List ℕ) → behind ≡ behind_anew room rest (take n got)
     → n ≤ length got → at ≡ held → rest ≡ len - at → length behind ≡ behind_so_far room len held (at + n)
-read_behind room len held at n rest got behind is fits first left =
-    let long = length-take-le n got fits in
-    ⊎_elim
-    (λ own.
-    let last = is ∙ ap (λ b. if b then [] else take n got) (is_own room rest own) in
-    let count : at + n - held ≡ n = omega (arith, first) in
-    ap length last ∙ long ∙ sym count
-    ∙ sym (ap (λ b. if b then 0 else at + n - held) (is_own room (len - held) (omega (arith, own, left, first)))))
-    (λ past.
-    let none = is ∙ ap (λ b. if b then [] else take n got) (is_past room rest past) in
-    ap length none ∙ sym (ap (λ b. if b then 0 else at + n - held) (is_past room (len - held) (omega (arith, past, left, first)))))
-    (cases_lt rest room)
+read_behind room len held at n rest got behind is fits first left = grind (arith, common_steps)
 
 -- after a read that gave nothing, nothing lies behind
 pub none_behind : (room rest n : ℕ) (got behind : List ℕ) → behind ≡ behind_anew room rest (take n got) → n ≡ 0 → behind ≡ []
-none_behind room rest n got behind is zero = ⊎_elim
-    (λ own. is ∙ ap (λ b. if b then [] else take n got) (is_own room rest own) ∙ ap (λ k. take k got) zero)
-    (λ past. is ∙ ap (λ b. if b then [] else take n got) (is_past room rest past))
-    (cases_lt rest room)
+none_behind = grind (arith, common_steps)
 
 -- how many inner reads it took
 pub exact_end : {room len held all at now_held now_inner : ℕ} → Exact room len held all at now_held now_inner → len ≤ at
     → held < len → exact_reads len held all ≡ min 1 (at - held)
-exact_end {len} {all} {at} t done short =
-    let whole : at ≡ min len all = t.read (omega arith) in
-    grind (arith, nat_tests)
+exact_end {len} {all} {at} t done short = grind (arith, common_steps)
 
 -- if the end came before the buffer was full, there was one more inner read, which met the end
 pub exact_short : {room len held all at now_held now_inner : ℕ} → Exact room len held all at now_held now_inner
     → at < len → now_inner ≡ 0 → held < len → exact_reads len held all ≡ min 1 (at - held) + 1
-exact_short {room = room} {len = len} {held = held} {all = all} {at = at} {now_held = now_held} {now_inner = now_inner} t more end short =
-    let zero : now_held ≡ 0 = exact_none room len held all at now_held now_inner t more in
-    let whole : at ≡ all = omega (arith, t.total) in
-    let begun = t.begun in
-    grind (arith, nat_tests)
-
--- nothing is held then
-pub exact_left-short : (room len held all : ℕ) → all < len → held ≤ all → exact_left room len held all ≡ 0
-exact_left-short room len held all short within = grind (arith, nat_tests)
+exact_short {room = room} {len = len} {held = held} {all = all} {at = at} {now_held = now_held} {now_inner = now_inner} t more end short = grind (arith, common_steps)
 
 -- the first bytes that were taken, fewer than there is room
 pub taken_first : {E : List Event} {room : ℕ} (more : List ℕ) {rest : List Event} → E ≡ events_of more ++ rest
     → length more < room → Taken E room more rest
-taken_first {E = E} more is short = record {
-  front = events_of more;
-  split = is;
-  no_fault = HasNoFault-events_of more;
-  gave = bytes-events_of more;
-  full = λ h. absurd (omega arith);
-}
+taken_first {E = E} more is short = grind (arith, common_steps, HasNoFault-events_of, bytes-events_of)
 
 -- the number of events is that of the held bytes and that of the inner events together
 pub length-events : (held : List ℕ) (E : List Event) → length (events_of held ++ E) ≡ length held + length E
@@ -153,10 +97,6 @@ moved_length held held' got E E' n is long =
     sym (length-events held E) ∙ ap length is ∙ length-events got (events_of held' ++ E')
     ∙ ap (λ k. length got + k) (length-events held' E') in
     omega arith
-
--- a list of length 0 is empty
-pub no_bytes : (xs : List ℕ) → length xs ≡ 0 → xs ≡ []
-no_bytes xs h = drop_of_length-le xs {i = 0} (omega arith)
 
 -- with nothing held, a read gives of what is to come
 pub gives_to_come : (held to_come : ℕ) → held ≡ 0 → held_or_to_come held to_come ≡ to_come
@@ -175,34 +115,17 @@ pub exact_left-end : (room : ℕ) {len held all at now_held now_inner : ℕ} (ne
     → Exact room len held all at now_held now_inner → at < len → now_inner ≡ 0
     → (room ≤ rest → next_held ≡ 0) → (rest < room → next_held + 0 ≡ min room now_inner) → held < len
     → (next_held ≡ exact_left room len held all) × (0 ≡ all - len)
-exact_left-end room {len} {held} {all} {at} {now_held} {now_inner} next_held rest t more end direct filled short =
-    let zero : now_held ≡ 0 = exact_none room len held all at now_held now_inner t more in
-    let begun = t.begun in
-    let whole : at ≡ all = omega (arith, t.total) in
-    let left : exact_left room len held all ≡ 0 = exact_left-short room len held all (omega arith) (omega arith) in
-    let none : next_held ≡ 0 = grind arith in
-    (none ∙ sym left, omega arith)
+exact_left-end room {len} {held} {all} {at} {now_held} {now_inner} next_held rest t more end direct filled short = grind (arith, common_steps)
 
 -- what is left once the buffer is full
 pub exact_left-full : {room len held all at now_held now_inner : ℕ} (next : ℕ) → Exact room len held all at now_held now_inner
     → len ≤ at → held < len → next ≡ now_held + now_inner
     → (now_held ≡ exact_left room len held all) × (next ≡ all - len)
-exact_left-full {len} {all} {at} next t full short is =
-    let whole : at ≡ min len all = t.read (omega arith) in
-    (t.left (omega arith), omega (arith, t.total))
+exact_left-full {len} {all} {at} next t full short is = grind (arith, common_steps)
 
 -- a front of bytes fills a buffer of its length
 pub fills_front : (E rest : List Event) (got : List ℕ) → E ≡ events_of got ++ rest → Fills E got rest
-fills_front E rest got is =
-    let none : length got - length got ≡ 0 = omega arith in
-    let front : cut (length got) E ≡ events_of got =
-    ap (cut (length got)) is ∙ cut-bytes got rest (length got) (omega arith)
-    ∙ ap (λ n. events_of got ++ cut n rest) none ∙ append-nil (events_of got) in
-    record {
-      split = is ∙ ap (λ l. l ++ rest) (sym front);
-      no_fault = subst HasNoFault (sym front) (HasNoFault-events_of got);
-      filled = ap bytes front ∙ bytes-events_of got;
-    }
+fills_front E rest got is = grind (arith, common_steps, cut-bytes, append-nil, HasNoFault-events_of, bytes-events_of)
 
 -- if enough bytes are held, that many fewer are held afterwards
 pub exact_left-held : (room len held all next : ℕ) → len ≤ held → next ≡ held - len → next ≡ exact_left room len held all

@@ -1,9 +1,10 @@
 -- A header that is read of a store.
-use Rattle.std.proofs.Common.{◌≡◌, ℕ, ◌+◌, ◌<◌, ◌⊎◌, inl, inr, List, [], ◌∷◌, length, take, sym, ap, subst, ◌∙◌}
-use Rattle.std.proofs.Common.{arith, length-append, true≢false, ⊎_elim}
+use Rattle.std.proofs.lemmas.Grind.{common_steps}
+use Rattle.std.proofs.Common.{◌≡◌, ℕ, ◌+◌, ◌<◌, ◌⊎◌, List, length, take, sym, ap, ◌∙◌}
+use Rattle.std.proofs.Common.{arith, length-append, true≢false}
 use Rattle.no_std_io2_base.specs.declared.error.Error.{Error}
 use Rattle.no_std_io2_base.specs.Errors.{IsUnexpectedEnd}
-use Rattle.no_std_io2_base.specs.Read.{Event, fails, events_of, bytes, cut, HasNoFault, Fills, FallsShort, StopsAtFault}
+use Rattle.no_std_io2_base.specs.Read.{Event, events_of, bytes, cut, Fills, FallsShort, StopsAtFault}
 use Rattle.no_std_io2_base.specs.Read.{bytes-events_of, cut_alone}
 use Rattle.no_std_io2_base.proofs.EventLemmas.{length-events_of, bytes-cut, HasNoFault-events_of, HasNoFault-front, HasNoFault-behind}
 
@@ -23,15 +24,4 @@ header_read {E} {after} bs buf n is filled long =
 pub header_short : {E after : List Event} (bs : List ℕ) (n : ℕ) {e : Error} → E ≡ events_of bs
     → StopsAtFault E n e after ⊎ FallsShort ⊥ E n e after → (length bs < n) × IsUnexpectedEnd e × (length after ≡ 0)
     × (length E ≡ length bs)
-header_short {E} {after} bs n {e} is (inl stops) =
-    let none : HasNoFault stops.taken =
-    HasNoFault-front stops.taken after (subst HasNoFault stops.split (subst HasNoFault (sym is) (HasNoFault-events_of bs))) in
-    let ends = stops.ends in
-    let last = HasNoFault-behind ends.0 (fails e ∷ []) (subst HasNoFault ends.1 none) in
-    absurd (true≢false (sym last.0 ∙ ends.3))
-header_short {E} {after} bs n is (inr short) = (
-  subst (λ l. length l < n) (ap bytes is ∙ bytes-events_of bs) short.short,
-  short.answer,
-  ⊎_elim (λ none. ap length none) (λ kept. absurd kept.0) short.left,
-  ap length is ∙ length-events_of bs,
-)
+header_short = grind (arith, common_steps, HasNoFault-front, HasNoFault-events_of, HasNoFault-behind, true≢false, bytes-events_of, length-events_of)

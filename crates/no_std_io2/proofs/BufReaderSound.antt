@@ -1,9 +1,9 @@
 -- A fill from a store.
-use Rattle.std.proofs.Common.{◌≡◌, ℕ, suc, ◌+◌, ◌-◌, ◌<◌, ◌≤◌, List, [], ◌∷◌, ◌++◌, Ok, Err, Result, length, take, drop}
-use Rattle.std.proofs.Common.{slice_index_or, sym, ap, subst, ◌∙◌, arith, refl, length-drop, take-append-drop}
+use Rattle.std.proofs.lemmas.Grind.{common_steps}
+use Rattle.std.proofs.Common.{◌≡◌, ℕ, ◌+◌, ◌-◌, ◌≤◌, List, ◌++◌, Ok, Err, Result, length, take, drop}
+use Rattle.std.proofs.Common.{sym, ap, subst, ◌∙◌, arith, refl, length-drop, take-append-drop}
 use Rattle.std.proofs.Common.{append_assoc}
 use Rattle.std.proofs.lemmas.List.{drop-drop, drop-take}
-use Rattle.std.proofs.Math.Seq.{drop-cons}
 use Rattle.no_std_io2_base.proofs.EventLemmas.{events_of-append}
 use Rattle.no_std_io2_base.specs.Read.{Event, events_of}
 use Rattle.no_std_io2_base.specs.declared.error.Error.{Error}
@@ -38,14 +38,6 @@ sound_ahead (Err e) held {position} {content} E' is read moved same =
 pub position_none : (position : ℕ) (held : List ℕ) → length held ≡ 0 → position - length held ≡ position
 position_none position held h = omega arith
 
--- the first of the bytes between two places
-pub held_first : (all : List ℕ) (start end : ℕ) → start < end → end ≤ length all
-    → take 1 (take (end - start) (drop start all)) ≡ slice_index_or all start 0 ∷ []
-held_first all start end some within =
-    let k = end - (start + 1) in
-    let count : end - start ≡ suc k = omega arith in
-    ap (λ n. take 1 (take n (drop start all))) count ∙ ap (λ l. take 1 (take (suc k) l)) (drop-cons all start 0 (omega arith))
-
 -- the held bytes after the first n
 pub held_rest : (buf : List ℕ) (pos cap n : ℕ) → n ≤ cap - pos
     → take (cap - (pos + n)) (drop (pos + n) buf) ≡ drop n (take (cap - pos) (drop pos buf))
@@ -68,10 +60,7 @@ give_events held rest got E n is front =
 pub give_sound : (held rest : List ℕ) (position : ℕ) (content : List ℕ) (n : ℕ) → rest ≡ drop n held → n ≤ length held
     → IsSound held position content
     → IsSound rest position content × (position - length rest ≡ (position - length held) + n)
-give_sound held rest position content n is fits s = (
-  subst (λ l. IsSound l position content) (sym is) (sound_drop held position content n s fits),
-  omega (arith, s.0, ap length is, length-drop n held),
-)
+give_sound held rest position content n is fits s = grind (arith, common_steps, sound_drop, length-drop)
 
 -- events that have the held bytes in front begin with them
 pub begins_held : (held : List ℕ) (E : List Event) → BeginsWith (events_of held ++ E) held

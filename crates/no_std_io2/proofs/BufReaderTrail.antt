@@ -1,35 +1,27 @@
 -- The bytes behind while pieces are lent and taken.
-use Rattle.std.proofs.Common.{◌≡◌, ℕ, ◌≤◌, List, [], ◌++◌, length, take, drop, Result, Ok, Err, OnOk, sym, ap, subst, ◌∙◌}
-use Rattle.std.proofs.Common.{arith, ⊎_elim, append_assoc}
-use Rattle.std.proofs.lemmas.Bool.{cases_lt}
-use Rattle.std.proofs.lemmas.List.{drop-append-le}
+use Rattle.std.proofs.lemmas.Bool.Decides.{nat_tests}
+use Rattle.std.proofs.lemmas.Grind.{common_steps}
+use Rattle.std.proofs.Common.{◌≡◌, ℕ, ◌≤◌, List, ◌++◌, length, take, drop, Result, Ok, OnOk, sym, subst, []}
+use Rattle.std.proofs.Common.{arith}
+use Rattle.std.proofs.lemmas.List.{nil_from_length}
 use Rattle.std.proofs.Math.Seq.{drop-append_seam}
 use Rattle.std.specs.Borrow.{Bor}
 use Rattle.no_std_io2_base.specs.declared.error.Error.{Error}
 use Rattle.no_std_io2_base.specs.BufRead.{IsNotEmpty, Lends}
 use Rattle.no_std_io2_base.specs.Pieces.{AnswersLine}
 use Rattle.no_std_io2.specs.Buffer.{IsSuffix}
-use Rattle.no_std_io2.proofs.BufReaderExact.{no_bytes}
-use Rattle.no_std_io2.proofs.BufWriterLemmas.{IsSuffix-none, IsSuffix-held}
+use Rattle.no_std_io2.proofs.BufWriterLemmas.{IsSuffix-none}
 
 -- a fill leaves the bytes behind as they are, or drops them
 pub trail_filled : {whole behind behind' held : List ℕ} → IsSuffix whole behind → (IsNotEmpty held → behind' ≡ behind)
     → (held ≡ [] → behind' ≡ []) → IsSuffix whole behind'
-trail_filled {whole} {behind} {behind'} {held} end kept read = ⊎_elim
-    (λ some. subst (IsSuffix whole) (sym (kept some)) end)
-    (λ none. IsSuffix-none whole behind' (read (no_bytes held (omega (arith, none)))))
-    (cases_lt 0 (length held))
+trail_filled {whole} {behind} {behind'} {held} end kept read = grind (arith, common_steps, IsSuffix-none, nil_from_length)
 
 -- the lent bytes that are taken are appended to the bytes behind
 pub trail_taken : (front items items' : List ℕ) (len n : ℕ) {behind behind' held lent : List ℕ} → IsSuffix (front ++ drop len items) behind
     → len ≤ length items → held ≡ lent → items' ≡ items ++ take n lent → behind' ≡ behind ++ take n held
     → IsSuffix (front ++ drop len items') behind'
-trail_taken front items items' len n {behind} {behind'} {held} {lent} end fits same more taken =
-    let part = take n lent in
-    subst (λ l. IsSuffix l behind')
-    (append_assoc front (drop len items) part ∙ ap (λ l. front ++ l) (sym (drop-append-le len items part fits))
-    ∙ ap (λ l. front ++ drop len l) (sym more))
-    (IsSuffix-held (front ++ drop len items) behind behind' part end (taken ∙ ap (λ l. behind ++ take n l) same))
+trail_taken front items items' len n {behind} {behind'} {held} {lent} end fits same more taken = grind (arith, common_steps)
 
 -- what is held is what was lent
 pub lent_held : {reply : Result (Bor (List ℕ)) Error} (s : Bor (List ℕ)) (held : List ℕ) → reply ≡ Ok s → Lends reply held → held ≡ s.now
@@ -44,18 +36,9 @@ trail_same front len {behind} same end = subst (λ l. IsSuffix (front ++ drop le
 pub trail_line : (front line lent : List ℕ) (read reply : Result ℕ Error) (len capacity : ℕ) (text text' : List ℕ) {none : ℕ}
     {behind : List ℕ} → none ≡ 0 → len ≡ length text → lent ≡ line → AnswersLine lent read len capacity reply text text'
     → IsSuffix (front ++ drop none line) behind → OnOk reply (IsSuffix (front ++ drop len text') behind)
-trail_line front line lent (Ok n) (Ok m) len capacity text text' {behind = behind} zero whole same follows end =
-    let left : drop len text' ≡ lent =
-    ap (drop len) follows.0.1 ∙ ap (λ k. drop k (text ++ lent)) whole ∙ drop-append_seam text lent in
-    subst (λ l. IsSuffix (front ++ l) behind) (ap (λ k. drop k line) zero ∙ sym same ∙ sym left) end
-trail_line front line lent (Err f) (Ok m) len capacity text text' zero whole same follows end = absurd follows
-trail_line front line lent read (Err e) len capacity text text' zero whole same follows end = tt
+trail_line = grind (arith, nat_tests, drop-append_seam)
 
 -- the same for a line that went straight to the text
 pub trail_given : (text part behind : List ℕ) {len : ℕ} {text' behind' : List ℕ} → len ≡ length text → text' ≡ text ++ part
     → behind' ≡ behind ++ part → IsSuffix (behind ++ drop len text') behind'
-trail_given text part behind {len} whole given taken = (
-  [],
-  ap (λ l. behind ++ drop len l) given ∙ ap (λ k. behind ++ drop k (text ++ part)) whole
-      ∙ ap (λ l. behind ++ l) (drop-append_seam text part) ∙ sym taken,
-)
+trail_given text part behind {len} whole given taken = grind (arith, common_steps)

@@ -1,6 +1,9 @@
 -- What the steps of a buffered writer leave, tell and count, and what follows for its calls.
-use Rattle.std.proofs.Common.{◌≡◌, ◌+◌, ℕ, ◌<◌, ◌≤◌, ◌∙◌, List, [], ◌∷◌, ◌++◌, length, Result, Ok, Err, Some, OnOk, IsOk, IfOk}
-use Rattle.std.proofs.Common.{refl, sym, ap, subst, arith, le_refl, take_all, append-nil, if◌then◌else◌, nat_le, nat_lt, ⊎_elim, inl, inr}
+use Rattle.std.proofs.Common.{rules, []}
+use Rattle.std.proofs.lemmas.Grind.{common_steps}
+use Rattle.std.proofs.lemmas.List.{nil_from_length}
+use Rattle.std.proofs.Common.{◌≡◌, ◌+◌, ℕ, ◌<◌, ◌≤◌, List, ◌∷◌, ◌++◌, length, Result, Ok, Err, Some, OnOk, IsOk, IfOk}
+use Rattle.std.proofs.Common.{refl, sym, subst, arith, le_refl, take_all, append-nil, if◌then◌else◌, nat_le, nat_lt, ⊎_elim, inl, inr}
 use Rattle.std.proofs.lemmas.Bool.{cases_lt}
 use Rattle.std.proofs.lemmas.Bool.Decides.{nat_tests}
 use Rattle.no_std_io2_base.specs.declared.error.Error.{Error}
@@ -16,8 +19,8 @@ use Rattle.no_std_io2.specs.declared.buffered.sender.Sender.{Sender}
 use Rattle.no_std_io2.specs.BufWriter.{CallOf, stops, goes_on, with_buffer, Takes, sender_inner, sender_buffer, sender_with_inner}
 use Rattle.no_std_io2.specs.BufWriter.{SendCalls, WayCalls, PutCalls, Buffered, WriteCalls, WriteAllCalls, FlushCalls, PastEmpty, OneWrite}
 use Rattle.no_std_io2.specs.BufWriter.{OneWriteAll, OneFlush, way_calls, writing_calls, buffer_after, Buffers, BuffersAll, Flushes}
-use Rattle.no_std_io2.proofs.BufWriterLemmas.{Moves-kept, Moves-sent_part, Moves-emptied, MovesFront-emptied, none_of_length}
-use Rattle.no_std_io2.proofs.AnswerLemmas.{onok, onok_map}
+use Rattle.no_std_io2.proofs.BufWriterLemmas.{Moves-kept, Moves-sent_part, Moves-emptied, MovesFront-emptied}
+use Rattle.no_std_io2.proofs.AnswerLemmas.{onok_map}
 use Rattle.no_std_io2.proofs.StepLemmas.{no_ok, Stepped, Leaves, Tells, Sending, Counts, Counted, then_goes_on, then_leaves, then_tells}
 use Rattle.no_std_io2.proofs.StepLemmas.{then_counts}
 
@@ -43,24 +46,8 @@ way_left-fits S n held h = grind (arith, nat_tests)
 way_left-over : (S n : ℕ) (held : List ℕ) → S < length held + n → way_left S n held ≡ []
 way_left-over S n held h = grind (arith, nat_tests)
 
-put_left-short : (S : ℕ) (x held : List ℕ) → length x < S → put_left S x held ≡ held ++ x
-put_left-short S x held h = grind (arith, nat_tests)
-
-put_left-long : (S : ℕ) (x held : List ℕ) → S ≤ length x → put_left S x held ≡ []
-put_left-long S x held h = grind (arith, nat_tests)
-
--- that is the buffer after a write
-buffer_after-fits : (S : ℕ) (held x : List ℕ) → length held + length x ≤ S → put_left S x held ≡ buffer_after S held x
-buffer_after-fits S held x h = grind (arith, nat_tests)
-
-buffer_after-over : (S : ℕ) (held x : List ℕ) → S < length held + length x → put_left S x [] ≡ buffer_after S held x
-buffer_after-over S held x h = grind (arith, nat_tests)
-
 buffer_after-is : (S : ℕ) (held x : List ℕ) → put_left S x (way_left S (length x) held) ≡ buffer_after S held x
-buffer_after-is S held x = ⊎_elim
-    (λ over. ap (put_left S x) (way_left-over S (length x) held over) ∙ buffer_after-over S held x over)
-    (λ room. ap (put_left S x) (way_left-fits S (length x) held room) ∙ buffer_after-fits S held x room)
-    (cases_lt S (length held + length x))
+buffer_after-is S held x = grind (arith, common_steps)
 
 -- bytes that are held need no call, and bytes that go past the buffer need n
 abbrev pub past_calls : ℕ → ℕ → ℕ → ℕ
@@ -81,25 +68,11 @@ writing_all-is S x held some = grind (arith, nat_tests)
 
 -- in front of fewer than S bytes there is room then,
 pub way_room : (S n : ℕ) {held left : List ℕ} {C : List WriteCall} → n < S → WayCalls S n held C (Ok tt) left → length left + n ≤ S
-way_room S n short way = elim way [
-  | inl kept ↦ omega (arith, kept.0, ap length kept.3)
-  | inr sent ↦ omega (arith, short, ap length (writes_whole sent.1))
-]
+way_room S n short way = grind (arith, common_steps, writes_whole)
 
 -- and in front of S bytes and more nothing is held
 pub way_none : (S n : ℕ) {held left : List ℕ} {C : List WriteCall} → S ≤ n → WayCalls S n held C (Ok tt) left → left ≡ []
-way_none S n {held = held} long way = elim way [
-  | inl kept ↦ kept.3 ∙ none_of_length held (omega (arith, long, kept.0))
-  | inr sent ↦ writes_whole sent.1
-]
-
--- if n bytes fit, nothing is sent, so it does not fail
-way_fits : (S n : ℕ) {held left : List ℕ} {C : List WriteCall} {reply : Result (Unit {0}) Error} → WayCalls S n held C reply left
-    → length held + n ≤ S → (C ≡ []) × (reply ≡ Ok tt) × (left ≡ held)
-way_fits S n way room = elim way [
-  | inl kept ↦ (kept.1, kept.2, kept.3)
-  | inr sent ↦ absurd (omega (arith, sent.0, room))
-]
+way_none S n {held = held} long way = grind (arith, common_steps, nil_from_length, writes_whole)
 
 module _ {W : Type 0} {I : Writer W} (S : ℕ) where
   -- way is made: there is room beside what is held, or nothing is held, or it was sent
@@ -146,17 +119,11 @@ pub send_leaves : Leaves SendCalls (λ _. [])
 send_leaves = λ held C reply left writes. writes_whole writes
 
 way_leaves : (S n : ℕ) → Leaves (WayCalls S n) (way_left S n)
-way_leaves S n = λ held C reply left way. elim way [
-  | inl kept ↦ onok reply _ (kept.3 ∙ sym (way_left-fits S n held kept.0))
-  | inr sent ↦ onok_map reply _ _ (λ e. e ∙ sym (way_left-over S n held sent.0)) (writes_whole sent.1)
-]
+way_leaves S n = grind (arith, common_steps, way_left-fits, onok_map, way_left-over, writes_whole)
 
 module _ {A : Type 0} (S : ℕ) (x : List ℕ) (v : A) (past : List WriteCall → Result A Error → Type 0) where
   put_leaves : Leaves (PutCalls S x v past) (put_left S x)
-  put_leaves = λ held C reply left put. elim put [
-    | inl kept ↦ onok reply _ (kept.3 ∙ sym (put_left-short S x held kept.0))
-    | inr gone ↦ onok reply _ (gone.1.1 ∙ sym (put_left-long S x held gone.0))
-  ]
+  put_leaves = grind (arith, common_steps)
 
   pub buffered_leaves : Leaves (Buffered S x v past) (λ held. buffer_after S held x)
   buffered_leaves = λ held C reply left write.
@@ -167,28 +134,17 @@ module _ {A : Type 0} (S : ℕ) (x : List ℕ) (v : A) (past : List WriteCall �
   -- if both fit, x is held and there is no inner call
   pub buffered_fits : {held left : List ℕ} {C : List WriteCall} {reply : Result A Error} → Buffered S x v past held C reply left
       → length x < S → length held + length x ≤ S → (C ≡ []) × (reply ≡ Ok v) × (left ≡ held ++ x)
-  buffered_fits (stops way) short room = absurd (let never = (way_fits S (length x) way room).1 in cc)
-  buffered_fits (goes_on {D = D} way put) short room =
-      let kept = way_fits S (length x) way room in
-      elim put [
-        | inl held ↦ (ap (λ C. C ++ D) kept.0 ∙ held.1, held.2, held.3 ∙ ap (λ l. l ++ x) kept.2)
-        | inr gone ↦ absurd (omega (arith, short, gone.0))
-      ]
+  buffered_fits = grind (arith, common_steps)
 
 -- an x that is shorter than the buffer is taken whole, or an error is returned
 pub write_whole : (S : ℕ) {x held left : List ℕ} {C : List WriteCall} {reply : Result ℕ Error} → WriteCalls S x held C reply left
     → length x < S → IfOk reply (λ n. n ≡ length x)
-write_whole S (stops way) short = tt
-write_whole S {x = x} (goes_on {reply = reply} way put) short = elim put [
-  | inl held ↦ subst (λ r. IfOk r (λ n. n ≡ length x)) (sym held.2) refl
-  | inr gone ↦ absurd (omega (arith, short, gone.0))
-]
+write_whole = grind (arith, common_steps)
 
 module _ {W : Type 0} (I : Writer W) where
   -- the one call that was made
   pub one_call : {call : WriteCall} {C : List WriteCall} (a b : W) → C ≡ call ∷ [] → Made (CallOf I) a C b → CallOf I a call b
-  one_call {call} a b is made =
-      let one = subst (λ K. Made (CallOf I) a K b) is made in subst (λ w. CallOf I a call w) (sym one.2) one.1
+  one_call {call} a b is made = grind (arith, common_steps)
 
   -- no call was made, and x follows the held bytes
   pub idle_tells : (held left x : List ℕ) {C : List WriteCall} (a b : W) → C ≡ [] → left ≡ held ++ x → Made (CallOf I) a C b
@@ -197,51 +153,28 @@ module _ {W : Type 0} (I : Writer W) where
 
   -- what each step tells
   pub send_tells : Tells I SendCalls (Sending I)
-  send_tells = λ held C reply left writes a b made.
-      let sends = writes_sends I.told I.takes_all I.cost I.is_metered I.may writes a b made in
-      Moves-sent_part sends.sent _ _ sends.split sends.moves
+  send_tells = grind (arith, common_steps, writes_sends, Moves-sent_part)
 
   -- a sending, or no call
   pub kept_tells : (held left : List ℕ) (C : List WriteCall) (reply : Result (Unit {0}) Error) (a b : W) → C ≡ [] → reply ≡ Ok tt
       → left ≡ held
       → Made (CallOf I) a C b → Sending I (with_buffer (I.told a) held) reply (with_buffer (I.told b) left)
-  kept_tells held left C reply a b is ok same made =
-      subst (λ r. Moves (with_buffer (I.told a) held) [] (call_mishap r) (with_buffer (I.told b) left)) (sym ok)
-      (idle_tells held left [] a b is (same ∙ sym (append-nil held)) made)
+  kept_tells held left C reply a b is ok same made = grind (arith, common_steps)
 
   way_tells : (S n : ℕ) → Tells I (WayCalls S n) (Sending I)
-  way_tells S n = λ held C reply left way a b made. elim way [
-    | inl kept ↦ kept_tells held left C reply a b kept.1 kept.2 kept.3 made
-    | inr sent ↦ send_tells _ _ _ _ sent.1 a b made
-  ]
+  way_tells = search (rules, kept_tells, send_tells)
 
   -- what each step counts, over an inner writer that takes all
   pub send_counts : Counts I SendCalls calls_for
-  send_counts = λ held C reply left writes a b made takes.
-      let all = writes_all I.told I.takes_all I.cost I.is_metered I.may writes a b made takes in
-      (all.0, all.1, all.3)
+  send_counts = grind (arith, common_steps, writes_all)
 
   -- no call was made
   pub idle_counts : {A : Type 0} {C : List WriteCall} {reply : Result A Error} (v : A) (a b : W) (n : ℕ) → C ≡ [] → reply ≡ Ok v
       → n ≡ 0 → Made (CallOf I) a C b → I.takes_all a → Counted I reply a n b
-  idle_counts v a b n is ok zero made takes =
-      let same = subst (λ K. Made (CallOf I) a K b) is made in (
-        subst I.takes_all (sym same) takes,
-        subst IsOk (sym ok) refl,
-        λ m. (
-          subst I.is_metered (sym same) m,
-          omega
-              (arith, ap I.cost same, zero),
-        ),
-      )
+  idle_counts = grind (arith, common_steps)
 
   way_counts : (S n : ℕ) → Counts I (WayCalls S n) (λ held. way_calls S held n)
-  way_counts S n = λ held C reply left way a b made takes. elim way [
-    | inl kept ↦ idle_counts tt a b (way_calls S held n) kept.1 kept.2 (way_calls-none S n held kept.0) made takes
-    | inr sent ↦
-        let spent = send_counts _ _ _ _ sent.1 a b made takes in
-        (spent.0, spent.1, λ m. let one = spent.2 m in (one.0, omega (arith, one.1, way_calls-over S n held sent.0)))
-  ]
+  way_counts S n = grind (arith, common_steps, idle_counts, way_calls-none, send_counts, way_calls-over)
 
   module _ {A : Type 0} (S : ℕ) (x : List ℕ) (v : A) (past : List WriteCall → Result A Error → Type 0) where
     -- what goes through a buffer tells what it tells held, and past it
@@ -299,11 +232,7 @@ module _ {W : Type 0} (I : Writer W) where
   -- a `write` takes no more than it is given,
   pub write_bound : (S : ℕ) {x held left : List ℕ} {C : List WriteCall} {reply : Result ℕ Error} → WriteCalls S x held C reply left
       → (a b : W) → Made (CallOf I) a C b → IfOk reply (λ n. n ≤ length x)
-  write_bound S (stops way) a b made = tt
-  write_bound S {x = x} (goes_on {C = C} {D = D} {reply = reply} way put) a b made = elim put [
-    | inl held ↦ subst (λ r. IfOk r (λ n. n ≤ length x)) (sym held.2) (le_refl (length x))
-    | inr gone ↦ let parts = made_split (CallOf I) C a D b made in (one_call parts.0 b gone.1.2 parts.2).bound
-  ]
+  write_bound = grind (arith, common_steps, le_refl, made_split, one_call)
 
   -- and all of it, over an inner writer that takes all
   pub write_takes : (S : ℕ) {x held left : List ℕ} {C : List WriteCall} {reply : Result ℕ Error} → WriteCalls S x held C reply left
@@ -319,10 +248,7 @@ module _ {W : Type 0} (I : Writer W) where
   -- `flush` leaves nothing held, here or further in
   pub flush_empty : {held left : List ℕ} {C : List WriteCall} {reply : Result (Unit {0}) Error} → FlushCalls held C reply left
       → (a b : W) → Made (CallOf I) a C b → OnOk reply ((I.told b).held ++ left ≡ [])
-  flush_empty (stops sent) a b made = tt
-  flush_empty (goes_on {C = C} {D = D} {reply = reply} sent gone) a b made =
-      let parts = made_split (CallOf I) C a D b made in
-      onok_map reply _ _ (λ e. ap (λ l. (I.told b).held ++ l) gone.1 ∙ append-nil _ ∙ e) (one_call parts.0 b gone.2 parts.2).empty
+  flush_empty = grind (arith, common_steps, made_split, onok_map, append-nil, one_call)
 
 module _ {W : Type 0} (I : Writer W) (steady : (w : W) → I.takes_all w → (I.told w).mishaps ≡ Some []) where
   -- a `write_all` accepts some front of x, all of it after `Ok`, and never returns an interruption
@@ -343,16 +269,7 @@ module _ {W : Type 0} (I : Writer W) (steady : (w : W) → I.takes_all w → (I.
 
   pub write_all_fault : (S : ℕ) {x held left : List ℕ} {C : List WriteCall} {reply : Result (Unit {0}) Error}
       → WriteAllCalls S x held C reply left → (a b : W) → Made (CallOf I) a C b → IsNoInterruption reply
-  write_all_fault S (stops way) a b made = elim way [
-    | inl kept ↦ absurd (let no : ⊥ = cc in no)
-    | inr sent ↦ writes_fault sent.1
-  ]
-  write_all_fault S (goes_on {C = C} {D = D} {reply = reply} way put) a b made = elim put [
-    | inl held ↦ subst IsNoInterruption (sym held.2) tt
-    | inr gone ↦
-        let parts = made_split (CallOf I) C a D b made in
-        (all_calls I.told I.takes_all I.cost I.is_metered I.may steady gone.1.2 parts.0 b parts.2).0
-  ]
+  write_all_fault = grind (arith, common_steps, writes_fault, made_split, all_calls)
 
   pub flush_counts : Counts I FlushCalls calls_for
   flush_counts = λ held C reply left flush a b made takes.
@@ -369,32 +286,12 @@ module _ {W : Type 0} (I : Writer W) (steady : (w : W) → I.takes_all w → (I.
     -- what follows for `write`, `write_all` and `flush`
     pub buffers_of : {x : List ℕ} {reply : Result ℕ Error} → Takes I inner buffer (WriteCalls S x) old reply new
         → Buffers I S inner buffer old x reply new
-    buffers_of {x} calls =
-        record {
-          calls = calls;
-          fits = λ short room.
-              let kept = buffered_fits S x (length x) (OneWrite x) calls.2 short room in
-              (kept.1, subst (λ K. Made (CallOf I) (inner old) K (inner new)) kept.0 calls.1, kept.2);
-          whole = write_whole S calls.2;
-          after = buffered_leaves S x (length x) (OneWrite x) _ _ _ _ calls.2;
-          counts = λ m t. (write_counts I S x _ _ _ _ calls.2 (inner old) (inner new) calls.1 t).2 m;
-        }
+    buffers_of {x} calls = grind (arith, common_steps, buffered_fits, write_whole, buffered_leaves, write_counts)
 
     pub buffers_all_of : {x : List ℕ} {reply : Result (Unit {0}) Error} → Takes I inner buffer (WriteAllCalls S x) old reply new
         → BuffersAll I S inner buffer old x reply new
-    buffers_all_of {x} calls =
-        record {
-          calls = calls;
-          fits = λ short room.
-              let kept = buffered_fits S x tt (OneWriteAll x) calls.2 short room in
-              (subst IsOk (sym kept.1) refl, subst (λ K. Made (CallOf I) (inner old) K (inner new)) kept.0 calls.1, kept.2);
-          after = buffered_leaves S x tt (OneWriteAll x) _ _ _ _ calls.2;
-          counts = λ some m t.
-              let spent = (write_all_counts S x _ _ _ _ calls.2 (inner old) (inner new) calls.1 t).2 m in
-              (spent.0, omega (arith, spent.1, writing_all-is S x (buffer old) some));
-        }
+    buffers_all_of {x} calls = grind (arith, common_steps, buffered_fits, buffered_leaves, write_all_counts, writing_all-is)
 
     pub flushes_of : {reply : Result (Unit {0}) Error} → Takes I inner buffer FlushCalls old reply new
         → Flushes I inner buffer old reply new
-    flushes_of calls =
-        record { calls = calls; counts = λ m t. (flush_counts _ _ _ _ calls.2 (inner old) (inner new) calls.1 t).2 m }
+    flushes_of calls = grind (arith, common_steps, flush_counts)

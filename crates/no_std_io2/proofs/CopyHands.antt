@@ -1,11 +1,12 @@
 -- The bytes that a copy has passed on so far, and after one more step.
-use Rattle.std.proofs.Common.{◌≡◌, ℕ, ◌<◌, ◌≤◌, List, [], ◌∷◌, ◌++◌, length, take, Result, Ok, Err, refl, sym, ap, subst, ◌∙◌}
+use Rattle.std.proofs.lemmas.Grind.{common_steps}
+use Rattle.std.proofs.Common.{◌≡◌, ℕ, ◌<◌, ◌≤◌, List, ◌∷◌, ◌++◌, length, take, Result, Ok, Err, refl, sym, ap, subst, ◌∙◌, []}
 use Rattle.std.proofs.Common.{arith, append_assoc, append-nil, length-append}
 use Rattle.std.specs.List.{concat}
 use Rattle.std.proofs.lemmas.List.Folds.{concat-append}
 use Rattle.no_std_io2_base.specs.declared.error.Error.{Error}
 use Rattle.no_std_io2_base.specs.declared.traits.write.Write.{Ghosts as Writer}
-use Rattle.no_std_io2_base.specs.Read.{Event, bytes, events_of, Reads, Reader, ReadCall, Gave, Gathers, no_read, and_gave, and_again}
+use Rattle.no_std_io2_base.specs.Read.{Event, bytes, Reads, Reader, ReadCall, Gave, Gathers, no_read, and_gave, and_again}
 use Rattle.no_std_io2_base.specs.Errors.{IsInterruption}
 use Rattle.no_std_io2_base.specs.Write.{WriteCall, Made, AllCalls}
 use Rattle.no_std_io2_base.proofs.CallsLemmas.{made_then}
@@ -28,8 +29,7 @@ handed_more reply (refused more room first) done some fits calls = absurd (let n
 -- what a read gave is gone from the reader
 pub gave : (n : ℕ) {E : List Event} (after : List Event) (buf : List ℕ) → Reads E (Ok n) buf after
     → bytes E ≡ take n buf ++ bytes after
-gave n after buf read =
-    ap bytes read.0 ∙ bytes-append (events_of (take n buf)) after ∙ ap (λ l. l ++ bytes after) (bytes-events_of (take n buf))
+gave n after buf read = grind (arith, common_steps, bytes-append, bytes-events_of)
 
 -- at the end it gave nothing
 pub gave_none : (n : ℕ) {E : List Event} (after : List Event) (buf : List ℕ) → Reads E (Ok n) buf after → n ≡ 0
@@ -58,25 +58,13 @@ module _ {R W : Type 0} {K : Reader R} {I : Writer W} {S : ℕ} {from : R} {old 
   module _ {mid : R} {now : W} (before : HandsOn K I S [] from old (Ok tt) mid now) {from' : R} {room : ℕ} (whole : room ≡ S) where
     -- one call more
     asked_more : (call : ReadCall) → K.may mid call from' → Made K.may from (before.reads ++ call ∷ []) from'
-    asked_more call may =
-        subst (λ l. Made K.may from (l ++ call ∷ []) from') (append-nil before.reads)
-        (made_then K.may (before.reads ++ []) from (call ∷ []) mid from' before.asked (from', may, refl))
+    asked_more call may = grind (arith, common_steps, append-nil, made_then)
 
     -- the last read: it gave nothing or returned an error
     pub hands_last : (answer : Result (List ℕ) Error) → K.turns from' ≤ K.turns mid
         → (K.tells from → bytes (K.events mid) ≡ bytes (K.events from')) → K.may mid (Gave room answer) from'
         → HandsOn K I S (Gave S answer ∷ []) from old (Ok tt) from' now
-    hands_last answer less same call = record {
-      pieces = before.pieces;
-      calls = before.calls;
-      handed = before.handed;
-      made = before.made;
-      reads = before.reads;
-      gathered = before.gathered;
-      asked = asked_more (Gave S answer) (subst (λ k. K.may mid (Gave k answer) from') whole call);
-      turns = omega (arith, before.turns, less);
-      bytes = λ t. before.bytes t ∙ ap (λ l. concat before.pieces ++ l) (same t);
-    }
+    hands_last answer less same call = grind (arith, common_steps, asked_more)
 
     -- an interruption
     pub hands_again : (e : Error) → IsInterruption e → K.turns from' ≤ K.turns mid

@@ -1,5 +1,6 @@
 -- What a loop of reads and writes has moved so far.
-use Rattle.std.proofs.Common.{◌≡◌, Option, None, Some, true, ℕ, ◌+◌, ◌-◌, ◌^◌, ◌<◌, ◌≤◌, min, List, [], ◌∷◌, ◌++◌}
+use Rattle.std.proofs.lemmas.Grind.{common_steps}
+use Rattle.std.proofs.Common.{◌≡◌, Option, None, Some, true, ℕ, ◌+◌, ◌-◌, ◌^◌, ◌<◌, ◌≤◌, min, List, ◌∷◌, ◌++◌, []}
 use Rattle.std.proofs.Common.{length, take, refl, sym, ap, ◌∙◌, subst, arith, Ok, Err, append_assoc, append-nil, inl}
 use Rattle.std.proofs.Common.{inr, length-append, length-take-le, drop_of_length-le}
 use Rattle.std.proofs.lemmas.List.Sums.{sum_by-cons}
@@ -78,18 +79,6 @@ copied_interruption {old} {mid} {e} {rest} t read again = record {
 none_counted : (m : ℕ) (bs : List ℕ) → m ≡ counted bs → m ≡ 0 → bs ≡ []
 none_counted m bs is zero = drop_of_length-le bs {i = 0} (omega arith)
 
--- the reader's end ends the copy
-pub copied_end : (room : ℕ) {E : List Event} {old mid : Told} {m n : ℕ} (buf : List ℕ) {after rest : List Event}
-    → Copied E old mid m after → Reads after (Ok n) buf rest → n ≡ 0 → length buf ≡ room → (room ≡ 0 → m ≡ 0)
-    → Copies room E (Ok m) rest old mid
-copied_end room {m} buf {after} {rest} t read zero long none =
-    let same : after ≡ rest = read.0 ∙ ap (λ k. events_of (take k buf) ++ rest) zero in (
-      t.front,
-      t.split ∙ ap (λ l. t.front ++ l) same,
-      λ no_room. none_counted m (bytes t.front) t.count (none no_room),
-      (t.no_fault, λ some. sym same ∙ read.1 zero (omega (arith, some, long)), t.count, t.moves),
-    )
-
 -- the reader's fault ends it
 pub copied_fault : (room : ℕ) {E : List Event} {old mid : Told} {m : ℕ} {after : List Event} (e : Error) {rest : List Event}
     → Copied E old mid m after → after ≡ fails e ∷ rest → IsFault e → (room ≡ 0 → m ≡ 0) → Copies room E (Err e) rest old mid
@@ -152,10 +141,7 @@ no_fault_at_end (fails f ∷ Q) e h fault = no_fault_at_end Q e h.1 fault
 -- a copy fails for a fault of the reader, or a mishap of the writer
 pub copies_steadily : (room : ℕ) {E : List Event} (e : Error) {after : List Event} {old new : Told}
     → Copies room E (Err e) after old new → HasNoFault E → old.mishaps ≡ Some [] → ⊥
-copies_steadily room e {after} (P, split, none, inl at_fault) whole steady =
-    let is : P ≡ at_fault.0.0 ++ fails e ∷ [] = at_fault.0.1 in
-    no_fault_at_end at_fault.0.0 e (subst HasNoFault is (HasNoFault-front P after (subst HasNoFault split whole))) at_fault.0.3
-copies_steadily room e (P, split, none, inr refused) whole steady = Moves-steady steady refused.1.1.2
+copies_steadily = grind (arith, common_steps, no_fault_at_end, HasNoFault-front, Moves-steady)
 
 -- a steady writer is steady afterwards
 pub stays_steady : {a c : Told} {x : List ℕ} → a.mishaps ≡ Some [] → Moves a x [] c → c.mishaps ≡ Some []
@@ -169,5 +155,4 @@ stays_steady {a} {c} {x} steady m = none_left c.mishaps (subst (λ k. HasSpent k
 -- what is out after a flush
 pub flushed : (a : Told) {b c : Told} {x : List ℕ}
     → Moves a x [] b → Moves b [] [] c → c.held ≡ [] → c.out ≡ a.out ++ a.held ++ x
-flushed a {b = b} {c = c} m n empty =
-    sym (append-nil c.out) ∙ ap (λ l. c.out ++ l) (sym empty) ∙ n.bytes ∙ append-nil (b.out ++ b.held) ∙ m.bytes
+flushed a {b = b} {c = c} m n empty = grind (arith, common_steps)

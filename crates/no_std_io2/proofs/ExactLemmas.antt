@@ -1,5 +1,6 @@
 -- What a `read_exact` does if the events begin with some bytes.
-use Rattle.std.proofs.Common.{◌≡◌, ◌⊎◌, inl, inr, ℕ, ◌≤◌, List, [], ◌∷◌, ◌++◌, length, Result, Ok, Err, IsOk, refl, sym, ap, ◌∙◌}
+use Rattle.std.proofs.lemmas.Grind.{common_steps}
+use Rattle.std.proofs.Common.{◌≡◌, ◌⊎◌, ℕ, ◌≤◌, List, ◌∷◌, ◌++◌, length, Result, Ok, Err, IsOk, refl, ap, ◌∙◌, []}
 use Rattle.std.proofs.Common.{arith, append_assoc, append-nil, length-append}
 use Rattle.no_std_io2_base.specs.declared.error.Error.{Error}
 use Rattle.no_std_io2_base.specs.Read.{Event, byte, fails, events_of, bytes, cut, Fills, StopsAtFault, FallsShort, ReadsExact}
@@ -18,11 +19,7 @@ events_of-cancel (b ∷ bs) x y e = events_of-cancel bs x y (cc)
 -- a filled buffer of the length of the first bytes is these bytes, and they are taken
 pub Fills-bytes : {E after : List Event} (bs buf : List ℕ) (rest : List Event) → E ≡ events_of bs ++ rest → Fills E buf after
     → length buf ≡ length bs → (buf ≡ bs) × (after ≡ rest)
-Fills-bytes {E} {after} bs buf rest is f long =
-    let stop : cut (length buf) E ≡ events_of bs = ap (λ n. cut n E) long ∙ ap (cut (length bs)) is ∙ cut_behind bs rest in (
-      sym f.filled ∙ ap bytes stop ∙ bytes-events_of bs,
-      sym (events_of-cancel bs rest after (sym is ∙ f.split ∙ ap (λ l. l ++ after) stop)),
-    )
+Fills-bytes {E} {after} bs buf rest is f long = grind (arith, common_steps, cut_behind, bytes-events_of, events_of-cancel)
 
 -- an error comes after all of the first bytes
 stands_behind : (bs : List ℕ) (Q R rest : List Event) (e : Error) → events_of bs ++ rest ≡ Q ++ fails e ∷ R
@@ -39,21 +36,7 @@ bytes_end Q e = bytes-append Q (fails e ∷ []) ∙ append-nil (bytes Q)
 -- a `read_exact` into no more room than there are bytes first does not fail
 pub ReadsExact-failed : {t : Type 0} {E after : List Event} {room : ℕ} {e : Error} (bs : List ℕ) (rest : List Event)
     → E ≡ events_of bs ++ rest → room ≤ length bs → StopsAtFault E room e after ⊎ FallsShort t E room e after → ⊥
-ReadsExact-failed {after = after} {e = e} bs rest is fits (inl s) =
-    let Q = s.ends.0 in
-    let whole = sym is ∙ s.split ∙ ap (λ l. l ++ after) s.ends.1 ∙ append_assoc Q (fails e ∷ []) after in
-    let far : length bs ≤ length (bytes Q) = stands_behind bs Q after rest e whole in
-    omega (arith, far, fits, s.short, ap (λ l. length (bytes l)) s.ends.1, ap length (bytes_end Q e))
-ReadsExact-failed bs rest is fits (inr s) =
-    omega (
-      arith,
-      fits,
-      s.short,
-      ap (λ l. length (bytes l)) is,
-      ap length (bytes-append (events_of bs) rest),
-      length-append (bytes (events_of bs)) (bytes rest),
-      ap length (bytes-events_of bs),
-    )
+ReadsExact-failed = grind (arith, common_steps, append_assoc, stands_behind, bytes_end, bytes-append, length-append, bytes-events_of)
 
 -- so its result is `Ok`
 pub ReadsExact-enough : (t : Type 0) {E : List Event} (after : List Event) (r : Result (Unit {0}) Error) (buf bs : List ℕ)

@@ -1,9 +1,9 @@
 -- A piece at the front of the held bytes.
-use Rattle.std.proofs.Common.{◌≡◌, ℕ, Bool, true, List, [], ◌∷◌, ◌++◌, length, take, drop, refl, sym, ap, ap₂, subst, ◌∙◌, arith, ◌≤◌, ◌<◌}
-use Rattle.std.proofs.Common.{Result, Ok, Err, inl, inr, ⊎_elim, append_assoc, length-append, length-take-le, take-append-drop}
+use Rattle.std.proofs.lemmas.Grind.{common_steps}
+use Rattle.std.proofs.Common.{◌≡◌, ℕ, Bool, true, List, ◌∷◌, ◌++◌, length, take, drop, refl, sym, ap, ap₂, ◌∙◌, arith, ◌≤◌, ◌<◌, []}
+use Rattle.std.proofs.Common.{Result, Ok, ⊎_elim, append_assoc, length-append, length-take-le, take-append-drop}
 use Rattle.std.proofs.Common.{take_all}
 use Rattle.no_std_io2_base.specs.declared.error.Error.{Error}
-use Rattle.no_std_io2_base.specs.Errors.{IsOutOfMemory}
 use Rattle.no_std_io2_base.specs.BufRead.{IsNotEmpty}
 use Rattle.no_std_io2_base.specs.Pieces.{AnswersLine, Lacks, EndsPiece, FindsPiece}
 use Rattle.no_std_io2_base.proofs.PieceLemmas.{found_end}
@@ -37,9 +37,7 @@ piece_some d piece rest is ends = omega (arith, ap length (is ∙ whole d piece 
 -- all of these bytes were searched, so that its end was found
 pub piece_open : (d : ℕ) (piece rest lent : List ℕ) (n : ℕ) → lent ≡ piece ++ rest → EndsPiece d piece → n ≡ length lent
     → Lacks d (take n lent) → ⊥
-piece_open d piece rest lent n is ends all lacks =
-    has_end d ends.0 rest
-    (subst (Lacks d) (take_all n lent (omega (arith, all)) ∙ is ∙ whole d piece rest ends) lacks)
+piece_open d piece rest lent n is ends all lacks = grind (arith, common_steps, has_end, take_all, whole)
 
 -- what was found is that piece
 pub piece_found : {d : ℕ} {n : ℕ} {is_whole : Bool} (piece rest lent : List ℕ) → lent ≡ piece ++ rest → EndsPiece d piece
@@ -59,31 +57,12 @@ piece_found {d} {n} piece rest lent is ends found ended = ⊎_elim
 pub line_held : {R : Type 0} {S : ℕ} (line rest none items lent : List ℕ) (old new : BufReader R S) (read reply : Result ℕ Error)
     (len capacity : ℕ) (text text' : List ℕ) → none ≡ [] → lent ≡ items → TakesHeld line rest old none read items new
     → AnswersLine lent read len capacity reply text text' → TakesHeldLine line rest old text reply text' new
-line_held line rest none items lent old new (Ok n) (Ok m) len capacity text text' empty same taken follows = (
-  follows.1 ∙ taken.0,
-  follows.0.1 ∙ ap (λ l. text ++ l) (same ∙ taken.1 ∙ ap (λ l. l ++ line) empty),
-  taken.2,
-  taken.3,
-  taken.4,
-)
-line_held line rest none items lent old new (Ok n) (Err e) len capacity text text' empty same taken refused =
-    (refused.0, taken.4, inl (taken.2, taken.3))
-line_held line rest none items lent old new (Err f) (Ok m) len capacity text text' empty same taken follows = absurd follows
-line_held line rest none items lent old new (Err f) (Err e) len capacity text text' empty same taken refused = ⊎_elim
-    (λ h. (
-      h.2,
-      ap reader_inner taken.2,
-      inr (subst IsOutOfMemory (sym h.1) taken.0, (ap reader_held taken.2, ap reader_behind taken.2)),
-    ))
-    (λ other. absurd (other.0 taken.0.0))
-    refused
+line_held = grind (arith, common_steps)
 
 -- the part of the held bytes that was found is a line, if it is whole and not empty
 pub line_first : {n : ℕ} {is_whole : Bool} {lent : List ℕ} (held : List ℕ) → lent ≡ held → FindsPiece 10 lent n is_whole
     → is_whole ≡ true → 0 < n → (n ≤ length held) × EndsPiece 10 (take n held)
-line_first {n} {is_whole} held same finds ended some =
-    let found : FindsPiece 10 held n is_whole = subst (λ l. FindsPiece 10 l n is_whole) same finds in
-    (found.within, ⊎_elim (λ ends. ends) (λ none. absurd (omega (arith, some, found.within, ap length none))) (found.whole ended))
+line_first {n} {is_whole} held same finds ended some = grind (arith, common_steps)
 
 -- a line that was held went straight to the text
 pub line_given : {R : Type 0} {S n : ℕ} (line rest : List ℕ) (old new : BufReader R S) (text : List ℕ) {text' : List ℕ}

@@ -1,19 +1,20 @@
 -- What the calls of a line writer tell and count, by the calls of its inner writer.
-use Rattle.std.proofs.Common.{◌≡◌, ◌+◌, ℕ, ◌<◌, ◌≤◌, ◌==◌, ◌∙◌, List, [], ◌++◌, length, take, drop, Result, Ok, Err, Some, OnOk, IsOk}
+use Rattle.std.proofs.Common.{rules, []}
+use Rattle.std.proofs.lemmas.Grind.{common_steps}
+use Rattle.std.proofs.Common.{◌≡◌, ◌+◌, ℕ, ◌<◌, ◌≤◌, ◌==◌, ◌∙◌, List, length, take, drop, Result, Some, OnOk, IsOk}
 use Rattle.std.proofs.Common.{IfOk}
-use Rattle.std.proofs.Common.{refl, sym, ap, subst, arith, if◌then◌else◌, ⊎_elim, inl, inr, take-append-drop}
-use Rattle.std.proofs.lemmas.Bool.{cases_lt}
+use Rattle.std.proofs.Common.{refl, sym, ap, arith, if◌then◌else◌, inl, inr, take-append-drop}
 use Rattle.std.proofs.lemmas.Bool.Decides.{nat_tests}
 use lib.Seq.{take-take}
 use Rattle.no_std_io2_base.specs.declared.error.Error.{Error}
 use Rattle.no_std_io2_base.specs.Errors.{IsNoInterruption}
 use Rattle.no_std_io2_base.specs.declared.traits.write.Write.{Ghosts as Writer}
-use Rattle.no_std_io2_base.specs.Write.{Moves, MovesFront, WriteCall, Wrote, Made, zero_write, calls_for}
+use Rattle.no_std_io2_base.specs.Write.{MovesFront, WriteCall, Wrote, Made, calls_for}
 use Rattle.no_std_io2_base.proofs.MovesLemmas.{Moves-then}
 use Rattle.no_std_io2_base.proofs.CallsLemmas.{made_split}
 use Rattle.no_std_io2_base.proofs.WritesFacts.{writes_fault}
 use Rattle.no_std_io2_base.proofs.AllFacts.{all_calls}
-use Rattle.no_std_io2.specs.Lines.{IsLineState, lines_of, lines_len, unfinished_line, held_tail}
+use Rattle.no_std_io2.specs.Lines.{IsLineState, lines_of, lines_len, unfinished_line}
 use Rattle.no_std_io2.specs.BufWriter.{CallOf, Then, stops, goes_on, with_buffer}
 use Rattle.no_std_io2.specs.BufWriter.{SendCalls, WriteCalls, WriteAllCalls, OneWrite, OneWriteAll, buffer_after, writing_calls}
 use Rattle.no_std_io2.specs.LineWriter.{SendLineCalls, HoldsTail, LinesCalls, SendLinesCalls, LineWriteCalls, LineWriteAllCalls}
@@ -26,7 +27,7 @@ use Rattle.no_std_io2.proofs.BufWriterCalls.{write_counts}
 use Rattle.no_std_io2.proofs.BufWriterCalls.{write_all_tells, write_all_fault, write_all_counts, writing_all_calls}
 use Rattle.no_std_io2.proofs.LineWriterLemmas.{MovesFront-ends, MovesFront-whole, MovesFront-part, MovesFront-rest}
 use Rattle.no_std_io2.proofs.LineWriterStates.{line_left, line_left-is, send_line_leaves, send_lines_leaves, lines_length, tail_whole}
-use Rattle.no_std_io2.proofs.LinesLast.{lines_are, lines_len-some, lines_len-none, unfinished_line-drop, took_tail, took_tail-le}
+use Rattle.no_std_io2.proofs.LinesLast.{lines_len-some, lines_len-none, unfinished_line-drop, took_tail}
 use Rattle.no_std_io2.proofs.LinesLast.{tail_mishap}
 
 -- a sent line is one call at most
@@ -53,26 +54,16 @@ writing_calls-le S held x = grind (arith, nat_tests)
 writing_all-none : (S : ℕ) (x : List ℕ) → writing_all_calls S x [] ≤ 1
 writing_all-none S x = grind (arith, nat_tests)
 
-writing_all-short : (S : ℕ) (x held : List ℕ) → length x < S → writing_all_calls S x held ≤ 1
-writing_all-short S x held short = grind (arith, nat_tests)
-
 writing_all-le : (S : ℕ) (x held : List ℕ) → writing_all_calls S x held ≤ 2
 writing_all-le S x held = grind (arith, nat_tests)
 
-long_sent : (S : ℕ) (held x : List ℕ) → S ≤ length x → calls_for (buffer_after S held x) ≡ 0
-long_sent S held x long = grind (arith, nat_tests)
-
 -- so do a write and then a sending
 writing_then_sending : (S : ℕ) (x held : List ℕ) → writing_all_calls S x held + calls_for (buffer_after S held x) ≤ 2
-writing_then_sending S x held = ⊎_elim
-    (λ short. omega (arith, writing_all-short S x held short, calls_for-le (buffer_after S held x)))
-    (λ long. omega (arith, writing_all-le S x held, long_sent S held x long))
-    (cases_lt (length x) S)
+writing_then_sending S x held = grind (arith, common_steps)
 
 -- what holds after `Ok` holds for a result that is `Ok`
 at_ok : {A : Type 0} {P : Type 0} (r : Result A Error) → IsOk r → OnOk r P → P
-at_ok (Ok v) is p = p
-at_ok (Err e) is p = no_ok is
+at_ok = grind (arith, common_steps)
 
 filled_plain : (S : ℕ) (held x : List ℕ) → lines_len x ≡ 0 → buffer_after S (unfinished_line held) x ≡ line_buffer_filled S held x
 filled_plain S held x none = grind (arith, nat_tests)
@@ -82,46 +73,23 @@ filled_lines S held x some = grind (arith, nat_tests)
 
 module _ {W : Type 0} (I : Writer W) where
   send_line_tells : Tells I SendLineCalls (Sending I)
-  send_line_tells = λ held C reply left sends a b made. elim sends [
-    | inl kept ↦
-        kept_tells I held left C reply a b kept.1 kept.2 kept.3 made
-    | inr sent ↦ send_tells I _ _ _ _ sent.1 a b made
-  ]
+  send_line_tells = search (rules, kept_tells, send_tells)
 
   send_line_counts : Counts I SendLineCalls line_calls
-  send_line_counts = λ held C reply left sends a b made takes. elim sends [
-    | inl kept ↦ idle_counts I tt a b (line_calls held) kept.1 kept.2 (line_calls-zero held (lines_len-none held kept.0)) made takes
-    | inr sent ↦
-        let spent = send_counts I _ _ _ _ sent.1 a b made takes in
-        (spent.0, spent.1, λ m. let one = spent.2 m in (one.0, omega (arith, one.1, line_calls-some held (lines_len-some held sent.0))))
-  ]
+  send_line_counts = grind (arith, nat_tests, idle_counts, line_calls-zero, lines_len-none, send_counts, line_calls-some, lines_len-some)
 
   module _ (S : ℕ) (x : List ℕ) where
     -- one write of lines took n bytes, and then a tail is held
     tail_tells : 0 < lines_len x → (answer reply : Result ℕ Error) (held left : List ℕ) → held ≡ [] → HoldsTail S x answer reply left
         → (a b : W) → CallOf I a (Wrote (lines_of x) answer) b
         → Writing I x (with_buffer (I.told a) held) reply (with_buffer (I.told b) left)
-    tail_tells some (Err e) reply held left none tail a b law =
-        subst (λ r. Writing I x (with_buffer (I.told a) held) r (with_buffer (I.told b) left)) (sym tail.1)
-        (Moves-emptied none tail.0 law.moves)
-    tail_tells some (Ok n) reply held left none tail a b law =
-        subst (λ r. Writing I x (with_buffer (I.told a) held) r (with_buffer (I.told b) left)) (sym tail.1)
-        (subst (λ k. Moves (with_buffer (I.told a) held) (take (n + length left) x) k (with_buffer (I.told b) left))
-        (tail_mishap S x n some ∙ ap (λ t. zero_write (n + length t) x) (sym tail.0))
-        (Moves-buffered held left (take (n + length left) x) law.moves
-        (ap (λ l. l ++ take (n + length left) x) none ∙ ap (λ t. take (n + length t) x) tail.0 ∙ took_tail S x n
-        ∙ ap (λ l. l ++ held_tail S x n) (sym (take-take n (lines_len x) x (omega (arith, law.bound, lines_length x))))
-        ∙ ap (λ t. take n (lines_of x) ++ t) (sym tail.0))))
+    tail_tells = grind (arith, common_steps, Moves-emptied, tail_mishap, Moves-buffered, took_tail, take-take, lines_length)
 
     lines_tell : 0 < lines_len x → Tells I (LinesCalls S x) (Writing I x)
-    lines_tell some = λ held C reply left lines a b made.
-        tail_tells some lines.1 reply held left lines.0 lines.3 a b (one_call I a b lines.2 made)
+    lines_tell some = grind (arith, common_steps, tail_tells, one_call)
 
     lines_count : 0 < lines_len x → Counts I (LinesCalls S x) (λ _. 1)
-    lines_count some = λ held C reply left lines a b made takes.
-        let law = one_call I a b lines.2 made in
-        let all = law.all takes in
-        (all.0, (tail_whole S x lines.1 reply left all.1 some lines.3).0, λ m. law.counts m takes)
+    lines_count some = grind (arith, common_steps)
 
     -- `write` accepts the bytes that its result reports,
     pub line_write_tells : Tells I (LineWriteCalls S x) (Writing I x)
@@ -137,11 +105,7 @@ module _ {W : Type 0} (I : Writer W) where
     tail_bound : (answer reply : Result ℕ Error) (left : List ℕ) → HoldsTail S x answer reply left
         → IfOk answer (λ n. n ≤ length (lines_of x))
         → IfOk reply (λ n. n ≤ length x)
-    tail_bound (Err e) reply left tail bound = subst (λ r. IfOk r (λ n. n ≤ length x)) (sym tail.1) tt
-    tail_bound (Ok n) reply left tail bound =
-        let within : n ≤ length x = omega (arith, bound, lines_length x, (lines_are x).within) in
-        subst (λ r. IfOk r (λ n. n ≤ length x)) (sym tail.1)
-        (omega (arith, ap length tail.0, took_tail-le S x n within))
+    tail_bound = grind (arith, common_steps)
 
     -- and over an inner writer that takes all, it leaves this
     tail_filled : {held left : List ℕ} {C : List WriteCall} {reply : Result ℕ Error} → Then SendCalls (LinesCalls S x) held C reply left
@@ -155,25 +119,17 @@ module _ {W : Type 0} (I : Writer W) where
   plain_bound : (S : ℕ) {x held left : List ℕ} {C : List WriteCall} {reply : Result ℕ Error}
       → Then SendLineCalls (WriteCalls S x) held C reply left
       → (a b : W) → Made (CallOf I) a C b → IfOk reply (λ n. n ≤ length x)
-  plain_bound S (stops p) a b made = tt
-  plain_bound S (goes_on {C = C} {D = D} p q) a b made =
-      let parts = made_split (CallOf I) C a D b made in write_bound I S q parts.0 b parts.2
+  plain_bound = grind (arith, common_steps, made_split, write_bound)
 
   lines_bound : (S : ℕ) (x : List ℕ) {held left : List ℕ} {C : List WriteCall} {reply : Result ℕ Error}
       → Then SendCalls (LinesCalls S x) held C reply left
       → (a b : W) → Made (CallOf I) a C b → IfOk reply (λ n. n ≤ length x)
-  lines_bound S x (stops p) a b made = tt
-  lines_bound S x (goes_on {C = C} {D = D} {left = left} {reply = reply} p q) a b made =
-      let parts = made_split (CallOf I) C a D b made in
-      tail_bound S x q.1 reply left q.3 (one_call I parts.0 b q.2 parts.2).bound
+  lines_bound = grind (arith, nat_tests, made_split, tail_bound, one_call)
 
   -- no more is taken than was given
   pub line_write_bound : (S : ℕ) {x held left : List ℕ} {C : List WriteCall} {reply : Result ℕ Error} → LineWriteCalls S x held C reply left
       → (a b : W) → Made (CallOf I) a C b → IfOk reply (λ n. n ≤ length x)
-  line_write_bound S {x} write a b made = elim write [
-    | inl plain ↦ plain_bound S plain.1 a b made
-    | inr lines ↦ lines_bound S x lines.1 a b made
-  ]
+  line_write_bound S {x} write a b made = grind (arith, common_steps, plain_bound, lines_bound)
 
   -- over an inner writer that takes all it makes three calls at most,
   pub line_write_keeps : (S : ℕ) {x held left : List ℕ} {C : List WriteCall} {reply : Result ℕ Error} → LineWriteCalls S x held C reply left

@@ -1,26 +1,20 @@
 -- Line states under the changes that a line writer makes.
-use Rattle.std.proofs.Common.{Result, Ok, Err, slice_index, refl, append_assoc, take-append-drop, ◌≡◌}
-use Rattle.std.proofs.Common.{◌≢◌, ℕ, ◌+◌, ◌-◌, ◌<◌, ◌≤◌, List, [], ◌++◌, length, take, drop, get_or, sym, ap, ◌∙◌}
-use Rattle.std.proofs.Common.{subst, arith, length-append, length-take, ⊎_elim}
-use Rattle.std.proofs.Math.Seq.{get_or-append_right}
-use Rattle.std.proofs.lemmas.List.{get_or-append-add, get_or_append_left, get_or-take}
-use Rattle.std.proofs.lemmas.Bool.{cases_lt}
+use Rattle.std.proofs.lemmas.Grind.{common_steps}
+use Rattle.std.proofs.Common.{Result, Ok, Err, slice_index, refl, append_assoc, take-append-drop, ◌≡◌, []}
+use Rattle.std.proofs.Common.{◌≢◌, ℕ, ◌-◌, ◌<◌, List, ◌++◌, length, take, drop, get_or, sym, ap, ◌∙◌}
+use Rattle.std.proofs.Common.{subst, arith, length-append}
+use Rattle.std.proofs.lemmas.List.{get_or-append-add}
 use Rattle.std.proofs.lemmas.Bool.Decides.{nat_tests}
 use Rattle.no_std_io2_base.specs.declared.error.Error.{Error}
 use Rattle.no_std_io2_base.specs.Write.{Told, Moves, MovesFront, IsFront, zero_write, call_mishap}
-use Rattle.no_std_io2_base.proofs.MovesLemmas.{IsFront-refl, IsFront-trans, Moves-then, Moves-ends}
+use Rattle.no_std_io2_base.proofs.MovesLemmas.{IsFront-refl, Moves-then, Moves-ends}
 use Rattle.no_std_io2.proofs.AnswerLemmas.{onok, onok_map}
 use Rattle.no_std_io2.specs.Lines.{IsLineState, HasNoNewline}
 use Rattle.no_std_io2.specs.Buffer.{IsSuffix}
 
 -- a suffix of a line state is a line state
 pub IsLineState-append : (front end : List ℕ) → IsLineState (front ++ end) → IsLineState end
-IsLineState-append front end line k h e =
-    let n = length front in
-    let sum = length-append front end in
-    let last : n + (length end - 1) ≡ length (front ++ end) - 1 = omega arith in
-    sym (get_or-append-add front end (length end - 1) 0) ∙ ap (λ m. get_or (front ++ end) m 0) last
-    ∙ line (n + k) (omega arith) (get_or-append-add front end k 0 ∙ e)
+IsLineState-append = grind (arith, nat_tests, length-append, get_or-append-add, get_or)
 
 -- an end of a line state is a line state
 pub IsLineState-end : (whole end : List ℕ) → IsSuffix whole end → IsLineState whole → IsLineState end
@@ -36,26 +30,15 @@ HasNoNewline-unended xs line last k h e = last (omega arith) (line k h e)
 
 -- if two lists have no newline, both joined have none
 pub HasNoNewline-append : (xs ys : List ℕ) → HasNoNewline xs → HasNoNewline ys → HasNoNewline (xs ++ ys)
-HasNoNewline-append xs ys p q k h e = ⊎_elim
-    (λ left. p k left (sym (get_or_append_left xs ys 0 k left) ∙ e))
-    (λ right. q (k - length xs) (omega (arith, length-append xs ys)) (sym (get_or-append_right xs ys k 0 right) ∙ e))
-    (cases_lt k (length xs))
+HasNoNewline-append xs ys p q k h e = grind (arith, common_steps)
 
 -- if some bytes have no newline, their first n have none
 pub HasNoNewline-take : (n : ℕ) (xs : List ℕ) → HasNoNewline xs → HasNoNewline (take n xs)
-HasNoNewline-take n xs p k h e =
-    let len = length-take n xs in
-    p k (omega arith) (sym (get_or-take n xs k 0 (omega arith)) ∙ e)
+HasNoNewline-take n xs p k h e = grind (arith, common_steps)
 
 -- if some bytes have no newline, a suffix of them has none
 pub HasNoNewline-end : (whole end : List ℕ) → IsSuffix whole end → HasNoNewline whole → HasNoNewline end
-HasNoNewline-end whole end f plain k h e =
-    let sum = length-append f.0 end in
-    plain (length f.0 + k) (omega (arith, ap length f.1)) (ap (λ l. get_or l (length f.0 + k) 0) f.1 ∙ get_or-append-add f.0 end k 0 ∙ e)
-
--- a write of one or more first bytes of x that took nothing is the same mishap as one of x that took nothing
-pub zero_write-lines : (x : List ℕ) (len : ℕ) → 0 < len → len ≤ length x → zero_write 0 (take len x) ≡ zero_write 0 x
-zero_write-lines x len h g = let lines = length-take len x in grind (arith, nat_tests)
+HasNoNewline-end whole end f plain k h e = grind (arith, common_steps, length-append, get_or, get_or-append-add)
 
 -- a write that took some bytes is no mishap
 pub zero_write-some : (x : List ℕ) (n : ℕ) → 0 < n → zero_write n x ≡ []
@@ -63,10 +46,7 @@ zero_write-some x n h = grind (arith, nat_tests)
 
 -- what ends in a newline
 pub IsLineState-ended : (xs ys : List ℕ) → 0 < length ys → slice_index ys (length ys - 1) ≡ 10 → IsLineState (xs ++ ys)
-IsLineState-ended xs ys some ends k h e =
-    let sum = length-append xs ys in
-    let last : length (xs ++ ys) - 1 ≡ length xs + (length ys - 1) = omega arith in
-    ap (λ m. get_or (xs ++ ys) m 0) last ∙ get_or-append-add xs ys (length ys - 1) 0 ∙ ends
+IsLineState-ended xs ys some ends k h e = grind (arith, common_steps)
 
 -- if x was accepted whole, and then a call accepted nothing: together they do what a `write_all` of x does, with that call's result
 pub MovesFront-ends : {a b c : Told} (x : List ℕ) (r : Result (Unit {0}) Error) → Moves a x [] b
@@ -80,8 +60,7 @@ MovesFront-whole {a} {b} x u f = subst (λ l. Moves a l [] b) f.whole f.moves
 -- a `write_all` that failed on a front of x did what a failed `write_all` of x does
 pub MovesFront-part : {a b : Told} (front x : List ℕ) (e : Error) → IsFront front x → MovesFront a front (Err e) b
     → MovesFront a x (Err e) b
-MovesFront-part front x e p f =
-    record { accepted = f.accepted; front = IsFront-trans f.accepted front x f.front p; whole = tt; moves = f.moves }
+MovesFront-part front x e p f = grind (arith, common_steps)
 
 -- the first n bytes of x were accepted, and then a `write_all` of the rest came:
 -- together they do what a `write_all` of x does

@@ -1,8 +1,8 @@
 -- What the calls of a line writer leave: line states, and after an `Ok` these.
-use Rattle.std.proofs.Common.{◌≡◌, ◌+◌, ◌-◌, ℕ, ◌<◌, ◌≤◌, ◌==◌, ◌∙◌, List, [], ◌∷◌, ◌++◌, length, take, drop, slice_index, Result}
-use Rattle.std.proofs.Common.{Ok, Err, OnOk}
-use Rattle.std.proofs.Common.{IsOk, IfOk, refl, sym, ap, subst, arith, if◌then◌else◌, ⊎_elim, inl, inr, length-take, take-append-drop}
-use Rattle.std.proofs.lemmas.Bool.{cases_lt}
+use Rattle.std.proofs.lemmas.Grind.{common_steps}
+use Rattle.std.proofs.Common.{◌≡◌, ◌+◌, ℕ, ◌<◌, ◌≤◌, ◌==◌, ◌∙◌, List, ◌∷◌, ◌++◌, length, take, drop, slice_index, Result, []}
+use Rattle.std.proofs.Common.{Ok, OnOk}
+use Rattle.std.proofs.Common.{IsOk, IfOk, refl, sym, ap, subst, arith, if◌then◌else◌, inl, inr, length-take, take-append-drop}
 use Rattle.std.proofs.lemmas.Bool.Decides.{nat_tests}
 use Rattle.std.proofs.lemmas.List.{get_or-take}
 use Rattle.no_std_io2_base.specs.declared.error.Error.{Error}
@@ -16,14 +16,14 @@ use Rattle.no_std_io2.specs.BufWriter.{OneWriteAll, buffer_after}
 use Rattle.no_std_io2.specs.LineWriter.{SendLineCalls, HoldsTail, LinesCalls, SendLinesCalls, LineWriteCalls, LineWriteAllCalls}
 use Rattle.no_std_io2.specs.LineWriter.{line_buffer_after, IsShortText}
 use Rattle.no_std_io2.proofs.AnswerLemmas.{onok, onok_map}
-use Rattle.no_std_io2.proofs.BufWriterLemmas.{IsSuffix-trans, ok_same}
+use Rattle.no_std_io2.proofs.BufWriterLemmas.{IsSuffix-trans}
 use Rattle.no_std_io2.proofs.StepLemmas.{Stepped, Leaves, then_leaves}
 use Rattle.no_std_io2.proofs.BufWriterCalls.{buffered_leaves, buffered_fits, send_leaves, write_whole}
 use Rattle.no_std_io2.proofs.LineWriterLemmas.{IsLineState-end, IsLineState-plain, IsLineState-ended, HasNoNewline-end, HasNoNewline-append}
 use Rattle.no_std_io2.proofs.LineWriterLemmas.{HasNoNewline-none}
 use Rattle.no_std_io2.proofs.LinesLast.{lines_are, lines_len-is, lines_len-some, lines_len-none, unfinished_line-none}
 use Rattle.no_std_io2.proofs.LinesLast.{unfinished_line-ended}
-use Rattle.no_std_io2.proofs.LinesLast.{unfinished_line-drop, unfinished_line-plain, none_or_some, held_tail-all, tail_line}
+use Rattle.no_std_io2.proofs.LinesLast.{unfinished_line-drop, unfinished_line-plain, none_or_some, tail_line}
 
 -- what is left of some bytes that were sent is an end of them
 pub writes_end : {text : List ℕ} {C : List WriteCall} {x left : List ℕ} {reply : Result (Unit {0}) Error}
@@ -37,10 +37,7 @@ writes_end (fault some is) = ([], refl)
 
 way_end : (S n : ℕ) {held left : List ℕ} {C : List WriteCall} {reply : Result (Unit {0}) Error} → WayCalls S n held C reply left
     → IsSuffix held left
-way_end S n {left = left} way = elim way [
-  | inl kept ↦ subst (λ l. IsSuffix l left) kept.3 ([], refl)
-  | inr sent ↦ writes_end sent.1
-]
+way_end S n {left = left} way = grind (arith, common_steps, writes_end)
 
 -- a line that is held is sent
 abbrev pub line_left : List ℕ → List ℕ
@@ -54,43 +51,23 @@ line_left-some held some = grind (arith, nat_tests)
 
 -- of a line state that is what follows its lines
 pub line_left-is : (held : List ℕ) → IsLineState held → line_left held ≡ unfinished_line held
-line_left-is held line =
-    let are = lines_are held in
-    ⊎_elim
-    (λ some. line_left-some held some
-    ∙ sym (unfinished_line-ended held (line (lines_len held - 1) (omega (arith, are.within, some)) (are.ends some))))
-    (λ none.
-    let zero : lines_len held ≡ 0 = omega (arith, none) in
-    line_left-zero held zero ∙ sym (unfinished_line-drop held ∙ ap (λ n. drop n held) zero))
-    (cases_lt 0 (lines_len held))
+line_left-is held line = grind (arith, common_steps, lines_are, line_left-some, unfinished_line-ended, line_left-zero, unfinished_line-drop)
 
 pub send_line_leaves : Leaves SendLineCalls line_left
-send_line_leaves = λ held C reply left sends. elim sends [
-  | inl kept ↦ onok reply _ (kept.3 ∙ sym (line_left-zero held (lines_len-none held kept.0)))
-  | inr sent ↦ onok_map reply _ _ (λ e. e ∙ sym (line_left-some held (lines_len-some held sent.0))) (writes_whole sent.1)
-]
+send_line_leaves = grind (arith, common_steps, line_left-zero, lines_len-none, onok_map, line_left-some, lines_len-some, writes_whole)
 
 -- and what is left then has no newline
 send_line_plain : {held left : List ℕ} {C : List WriteCall} → SendLineCalls held C (Ok tt) left → HasNoNewline left
-send_line_plain {left = left} sends = elim sends [
-  | inl kept ↦ subst HasNoNewline (sym kept.3) kept.0
-  | inr sent ↦ HasNoNewline-none left (writes_whole sent.1)
-]
+send_line_plain {left = left} sends = grind (arith, common_steps, HasNoNewline-none, writes_whole)
 
 send_line_end : {held left : List ℕ} {C : List WriteCall} {reply : Result (Unit {0}) Error} → SendLineCalls held C reply left
     → IsSuffix held left
-send_line_end {left = left} sends = elim sends [
-  | inl kept ↦ subst (λ l. IsSuffix l left) kept.3 ([], refl)
-  | inr sent ↦ writes_end sent.1
-]
+send_line_end {left = left} sends = grind (arith, common_steps, writes_end)
 
 -- no line is held: none is sent
 no_line_sent : {held left : List ℕ} {C : List WriteCall} {reply : Result (Unit {0}) Error} → SendLineCalls held C reply left
     → HasNoNewline held → (C ≡ []) × (reply ≡ Ok tt) × (left ≡ held)
-no_line_sent {held} sends plain = elim sends [
-  | inl kept ↦ (kept.1, kept.2, kept.3)
-  | inr sent ↦ absurd (none_or_some held plain sent.0)
-]
+no_line_sent {held} sends plain = grind (arith, common_steps, none_or_some)
 
 module _ {A : Type 0} (S : ℕ) (x : List ℕ) (v : A) (past : List WriteCall → Result A Error → Type 0) where
   -- if neither the held bytes nor x have a newline, the buffer has none after x went through it
@@ -131,8 +108,7 @@ module _ {A : Type 0} (S : ℕ) (x : List ℕ) (v : A) (past : List WriteCall �
 
 -- one write of lines, which may take a part of them, leaves a line state
 tail_state : (S : ℕ) (x : List ℕ) (answer reply : Result ℕ Error) (left : List ℕ) → HoldsTail S x answer reply left → IsLineState left
-tail_state S x (Err e) reply left tail = IsLineState-plain left (HasNoNewline-none left tail.0)
-tail_state S x (Ok n) reply left tail = subst IsLineState (sym tail.0) (tail_line S x n)
+tail_state = grind (arith, common_steps, IsLineState-plain, HasNoNewline-none, tail_line)
 
 -- the lines of x are a front of it
 pub lines_length : (x : List ℕ) → length (lines_of x) ≡ lines_len x
@@ -141,13 +117,7 @@ lines_length x = omega (arith, length-take (lines_len x) x, (lines_are x).within
 -- an inner writer that takes all returns `Ok` of the whole; then the unfinished line is held
 pub tail_whole : (S : ℕ) (x : List ℕ) (answer reply : Result ℕ Error) (left : List ℕ) → answer ≡ Ok (length (lines_of x)) → 0 < lines_len x
     → HoldsTail S x answer reply left → IsOk reply × (left ≡ take S (unfinished_line x))
-tail_whole S x (Err e) reply left is some tail = absurd (let no : ⊥ = cc in no)
-tail_whole S x (Ok n) reply left is some tail =
-    let all : n ≡ lines_len x = ok_same is ∙ lines_length x in (
-      subst IsOk (sym tail.1) refl,
-      tail.0 ∙ held_tail-all S x (lines_len x) n refl (omega (arith, some, all)) (omega (arith, all))
-          ∙ ap (take S) (ap (λ k. drop k x) all ∙ sym (unfinished_line-drop x)),
-    )
+tail_whole = grind (arith, common_steps)
 
 -- a `write` leaves a line state
 lines_state : (S : ℕ) (x : List ℕ) {held left : List ℕ} {C : List WriteCall} {reply : Result ℕ Error}
@@ -157,30 +127,20 @@ lines_state S x (goes_on {left = left} {reply = reply} p q) line = tail_state S 
 
 pub line_write_state : (S : ℕ) {x held left : List ℕ} {C : List WriteCall} {reply : Result ℕ Error} → LineWriteCalls S x held C reply left
     → IsLineState held → IsLineState left
-line_write_state S {x} write line = elim write [
-  | inl plain ↦ (plain_state S x (length x) _ plain.1 line plain.0).0
-  | inr lines ↦ lines_state S x lines.1 line
-]
+line_write_state S {x} write line = grind (arith, common_steps, plain_state, lines_state)
 
 -- a short text is taken whole, or the call fails; if the text fits, it is held without a call
 plain_whole : (S : ℕ) {x held left : List ℕ} {C : List WriteCall} {reply : Result ℕ Error}
     → Then SendLineCalls (WriteCalls S x) held C reply left → length x < S → IfOk reply (λ n. n ≡ length x)
-plain_whole S (stops p) short = tt
-plain_whole S (goes_on p q) short = write_whole S q short
+plain_whole = grind (arith, common_steps, write_whole)
 
 pub line_write_short : (S : ℕ) {x held left : List ℕ} {C : List WriteCall} {reply : Result ℕ Error} → LineWriteCalls S x held C reply left
     → IsShortText S x → IfOk reply (λ n. n ≡ length x)
-line_write_short S {x} write short = elim write [
-  | inl plain ↦ plain_whole S plain.1 short.1
-  | inr lines ↦ absurd (none_or_some x short.0 lines.0)
-]
+line_write_short S {x} write short = grind (arith, common_steps, plain_whole, none_or_some)
 
 pub line_write_fits : (S : ℕ) {x held left : List ℕ} {C : List WriteCall} {reply : Result ℕ Error} → LineWriteCalls S x held C reply left
     → IsShortText S x → HasNoNewline held → length held + length x ≤ S → (C ≡ []) × IsOk reply × (left ≡ held ++ x)
-line_write_fits S {x} write short plain room = elim write [
-  | inl text ↦ plain_fits S x (length x) _ text.1 plain short.1 room
-  | inr lines ↦ absurd (none_or_some x short.0 lines.0)
-]
+line_write_fits S {x} write short plain room = grind (arith, common_steps, plain_fits, none_or_some)
 
 -- a `flush` leaves one too
 pub flush_state : {held left : List ℕ} {C : List WriteCall} {reply : Result (Unit {0}) Error} → FlushCalls held C reply left
@@ -206,12 +166,7 @@ behind_state S {y} (goes_on w s) line ended =
     IsLineState-end _ _ (writes_end s) (buffered_line S y tt (OneWriteAll y) w line ended)
 
 lines_ended : (x : List ℕ) → 0 < lines_len x → (front : List ℕ) → IsLineState (front ++ lines_of x)
-lines_ended x some front =
-    let lines = lines_are x in
-    let len = lines_length x in
-    IsLineState-ended front (lines_of x) (omega (arith, len, some))
-    (ap (λ n. slice_index (lines_of x) (n - 1)) len ∙ get_or-take (lines_len x) x (lines_len x - 1) 0 (omega (arith, some))
-    ∙ lines.ends some)
+lines_ended = grind (arith, common_steps, lines_are, lines_length, IsLineState-ended, slice_index, get_or-take)
 
 -- a `write_all` has no newline left after an `Ok`, and a line state after an error
 all_lines_state : (S : ℕ) (x : List ℕ) {held left : List ℕ} {C : List WriteCall} {reply : Result (Unit {0}) Error}
@@ -240,10 +195,7 @@ line_write_all_state S {x} write line = elim write [
 pub line_write_all_fits : (S : ℕ) {x held left : List ℕ} {C : List WriteCall} {reply : Result (Unit {0}) Error}
     → LineWriteAllCalls S x held C reply left
     → IsShortText S x → HasNoNewline held → length held + length x ≤ S → (C ≡ []) × IsOk reply × (left ≡ held ++ x)
-line_write_all_fits S {x} write short plain room = elim write [
-  | inl text ↦ plain_fits S x tt _ text.1 plain short.1 room
-  | inr lines ↦ absurd (none_or_some x short.0 lines.0)
-]
+line_write_all_fits S {x} write short plain room = grind (arith, common_steps, plain_fits, none_or_some)
 
 -- what is held after an `Ok` of `write_all`
 after_plain : (S : ℕ) (held x : List ℕ) → lines_len x ≡ 0

@@ -1,16 +1,18 @@
 -- The lines of a list of bytes, and what follows them.
-use Rattle.std.proofs.Common.{◌≡◌, ◌≢◌, ℕ, zero, suc, ◌+◌, ◌-◌, ◌<◌, ◌≤◌, ◌==◌, not, true, false, List, [], ◌++◌, length, take}
+use Rattle.std.proofs.Common.{rules, []}
+use Rattle.std.proofs.lemmas.Grind.{common_steps}
+use Rattle.std.proofs.Common.{◌≡◌, ◌≢◌, ℕ, zero, suc, ◌+◌, ◌-◌, ◌<◌, ◌≤◌, ◌==◌, not, true, false, List, ◌++◌, length, take}
 use Rattle.std.proofs.Common.{drop, get_or, slice_index, refl, sym, ap, ◌∙◌, subst, arith, min, length-drop, length-take, ⊎_elim}
 use Rattle.std.proofs.lemmas.Bool.{cases_lt}
 use lib.Seq.{take-add}
 use Rattle.std.proofs.lemmas.Bool.Decides.{nat_tests}
-use Rattle.std.proofs.lemmas.List.{get_or-drop, get_or-take, drop_all, take_min, take-take, get_or_default}
+use Rattle.std.proofs.lemmas.List.{get_or-drop, take_min, take-take, get_or_default}
 use Rattle.std.proofs.lemmas.List.Sums.{suffix_len_is}
 use Rattle.no_std_io2.specs.Lines.{HasNoNewline, IsLineState, HasNewline, IsLinesLen, unfinished_line, lines_of, lines_len, lines_or_all}
 use Rattle.no_std_io2.specs.Lines.{held_tail}
 use Rattle.std.specs.List.{slice_range}
 use Rattle.no_std_io2_base.specs.Write.{zero_write}
-use Rattle.no_std_io2.proofs.LineWriterLemmas.{IsLineState-plain, HasNoNewline-take, HasNoNewline-none, zero_write-lines, zero_write-some}
+use Rattle.no_std_io2.proofs.LineWriterLemmas.{IsLineState-plain, HasNoNewline-take, HasNoNewline-none}
 
 -- how a search from the end tests a byte: it skips each byte that is no newline,
 is_not_ten : (b : ℕ) → b ≢ 10 → not (b == 10) ≡ true
@@ -92,15 +94,11 @@ unfinished_line-none xs h = unfinished_line-is xs 0 (IsLinesLen-none xs h)
 
 -- and none if the last byte is a newline
 pub unfinished_line-ended : (xs : List ℕ) → slice_index xs (length xs - 1) ≡ 10 → unfinished_line xs ≡ []
-unfinished_line-ended xs h =
-    unfinished_line-is xs (length xs) (IsLinesLen-whole xs (λ _. h)) ∙ drop_all (length xs) xs (omega arith)
+unfinished_line-ended xs h = grind (arith, common_steps)
 
 -- the first n bytes, which end in a newline if there are some
 pub IsLineState-lines : (xs : List ℕ) (n : ℕ) → n ≤ length xs → (0 < n → slice_index xs (n - 1) ≡ 10) → IsLineState (take n xs)
-IsLineState-lines xs n within ends k lt e =
-    let len = length-take n xs in
-    let last : length (take n xs) - 1 ≡ n - 1 = omega arith in
-    ap (λ m. get_or (take n xs) m 0) last ∙ get_or-take n xs (n - 1) 0 (omega arith) ∙ ends (omega arith)
+IsLineState-lines xs n within ends k lt e = grind (arith, common_steps)
 
 -- the lines, or all if there are none
 pub lines_or_all-none : (xs : List ℕ) → lines_len xs ≡ 0 → lines_or_all xs ≡ xs
@@ -149,36 +147,16 @@ tail_front S x n =
 
 -- the first n bytes and that tail are the first ones of x
 pub took_tail : (S : ℕ) (x : List ℕ) (n : ℕ) → take (n + length (held_tail S x n)) x ≡ take n x ++ held_tail S x n
-took_tail S x n =
-    let front = tail_front S x n in
-    let l = drop n x in
-    take-add n (length (held_tail S x n)) x
-    ∙ ap (λ k. take n x ++ take k l) (ap length front.1 ∙ length-take front.0 l)
-    ∙ ap (λ t. take n x ++ t) (take_min front.0 l ∙ sym front.1)
-
--- and no more than x has
-pub took_tail-le : (S : ℕ) (x : List ℕ) (n : ℕ) → n ≤ length x → n + length (held_tail S x n) ≤ length x
-took_tail-le S x n within =
-    let front = tail_front S x n in
-    omega (arith, ap length front.1, length-take front.0 (drop n x), length-drop n x, within)
+took_tail S x n = grind (arith, common_steps, tail_front, take-add, length-take, take_min)
 
 -- none of some is the same mishap, of lines and of all
 pub tail_mishap : (S : ℕ) (x : List ℕ) (n : ℕ) → 0 < lines_len x
     → zero_write n (lines_of x) ≡ zero_write (n + length (held_tail S x n)) x
-tail_mishap S x n lines = ⊎_elim
-    (λ some. zero_write-some (lines_of x) n some ∙ sym (zero_write-some x (n + length (held_tail S x n)) (omega (arith, some))))
-    (λ none.
-    let zero : n ≡ 0 = omega (arith, none) in
-    let sum : n + length (held_tail S x n) ≡ 0 = omega (arith, zero, ap length (ap (held_tail S x) zero)) in
-    ap (λ k. zero_write k (lines_of x)) zero ∙ zero_write-lines x (lines_len x) lines (lines_are x).within
-    ∙ sym (ap (λ k. zero_write k x) sum))
-    (cases_lt 0 n)
+tail_mishap S x n lines = grind (arith, common_steps)
 
 -- windows of x after its first n bytes
 pub window_all : (x : List ℕ) (n S m : ℕ) → m ≡ min (length x - n) S → slice_range x n (n + m) ≡ take S (drop n x)
-window_all x n S m e =
-    let len = length-drop n x in
-    ap (λ i. take i (drop n x)) (let same : (n + m) - n ≡ min S (length (drop n x)) = omega arith in same) ∙ take_min S (drop n x)
+window_all x n S m e = grind (arith, common_steps)
 
 -- the window of m bytes from n on is the first m bytes after the first n
 pub window_some : (x : List ℕ) (n m : ℕ) → slice_range x n (n + m) ≡ take m (drop n x)
@@ -206,12 +184,7 @@ unfinished_line-plain xs = subst HasNoNewline (sym (unfinished_line-drop xs)) (l
 
 -- the lines are not empty if there is a newline,
 pub lines_len-some : (xs : List ℕ) → HasNewline xs → 0 < lines_len xs
-lines_len-some xs has = ⊎_elim
-    (λ some. some)
-    (λ none.
-    let no_line : lines_len xs ≡ 0 = omega (arith, none) in
-    absurd (none_or_some xs (subst (λ n. HasNoNewline (drop n xs)) no_line (lines_are xs).none_after) has))
-    (cases_lt 0 (lines_len xs))
+lines_len-some xs has = grind (arith, common_steps, none_or_some, lines_are)
 
 -- and are, if there is none
 pub lines_len-none : (xs : List ℕ) → HasNoNewline xs → lines_len xs ≡ 0
@@ -219,25 +192,11 @@ lines_len-none xs h = lines_len-is xs 0 (IsLinesLen-none xs h)
 
 -- lines are a newline at least
 pub HasNewline-lines : (xs : List ℕ) (n : ℕ) → IsLinesLen xs n → 0 < n → HasNewline xs
-HasNewline-lines xs n h some = (
-  n - 1,
-  omega (arith, h.within, some),
-  get_or_default xs (n - 1) 10 0 (omega (arith, h.within, some))
-      ∙ h.ends some,
-)
+HasNewline-lines = search (rules, get_or_default)
 
 -- that tail has no newline, or ends in one
 part_line : (S : ℕ) (l : List ℕ) → IsLineState (lines_or_all (take S l))
-part_line S l =
-    let lines = lines_are (take S l) in
-    let n = lines_len (take S l) in
-    ⊎_elim
-    (λ some. subst IsLineState (sym (lines_or_all-some (take S l) n some refl)) (IsLineState-lines (take S l) n lines.within lines.ends))
-    (λ none.
-    let zero : n ≡ 0 = omega (arith, none) in
-    subst IsLineState (sym (lines_or_all-none (take S l) zero))
-    (IsLineState-plain (take S l) (subst (λ k. HasNoNewline (drop k (take S l))) zero lines.none_after)))
-    (cases_lt 0 n)
+part_line = grind (arith, nat_tests, lines_are, lines_or_all-some, IsLineState-lines, lines_or_all-none, IsLineState-plain)
 
 pub tail_line : (S : ℕ) (x : List ℕ) (n : ℕ) → IsLineState (held_tail S x n)
 tail_line S x n =

@@ -1,33 +1,25 @@
 -- A read after a seek.
-use Rattle.std.proofs.Common.{◌≡◌, ℕ, ◌+◌, ◌≤◌, ℤ, pos, negsuc, List, [], length, drop, Result, Ok, Err, ap, ◌∙◌, sym}
+use Rattle.std.proofs.lemmas.Grind.{common_steps}
+use Rattle.std.proofs.Common.{◌≡◌, ℕ, ◌+◌, ◌≤◌, List, length, drop, Result, Ok, Err, ◌∙◌, sym, []}
 use Rattle.std.proofs.Common.{arith, append-nil, length-drop}
 use Rattle.std.specs.Result.{IfOk, IsOk}
 use Rattle.no_std_io2_base.specs.declared.error.Error.{Error}
 use Rattle.no_std_io2_base.specs.declared.traits.seek.SeekFrom.{SeekFrom}
-use Rattle.no_std_io2_base.specs.declared.traits.seek.SeekFrom.TheVariants.{Start, End, Current}
 use Rattle.no_std_io2_base.specs.Read.{Event, events_of, ReadsExact}
-use Rattle.no_std_io2_base.specs.Seek.{Seeks, IsTarget, IsAtOffset}
+use Rattle.no_std_io2_base.specs.Seek.{Seeks, IsTarget}
 use Rattle.no_std_io2.specs.ReadAt.{ReadsAt}
 use Rattle.no_std_io2.proofs.BufReaderHeaders.{header_read}
 use Rattle.no_std_io2.proofs.ExactLemmas.{ReadsExact-enough}
 
--- an offset leads to one place
-IsAtOffset-unique : (base : ℕ) (k : ℤ) (p q : ℕ) → IsAtOffset base k p → IsAtOffset base k q → p ≡ q
-IsAtOffset-unique base (pos k) p q f g = omega (arith, f, g)
-IsAtOffset-unique base (negsuc k) p q f g = omega (arith, f, g)
-
 -- a seek has one target
 pub IsTarget-unique : (len position : ℕ) (at : SeekFrom) (p q : ℕ) → IsTarget len position at p → IsTarget len position at q → p ≡ q
-IsTarget-unique len position (Start k) p q f g = f ∙ sym g
-IsTarget-unique len position (End k) p q f g = IsAtOffset-unique len k p q f.0 g.0
-IsTarget-unique len position (Current k) p q f g = IsAtOffset-unique position k p q f.0 g.0
+IsTarget-unique = grind (arith, common_steps)
 
 -- after a seek that succeeded, the bytes from its target on are to come
 pub comes_there : {E : List Event} (content content' : List ℕ) (old position n : ℕ) (at : SeekFrom)
     → Seeks (length content) old at (Ok n) position → content' ≡ content → E ≡ events_of (drop position content')
     → E ≡ events_of (drop n content)
-comes_there content content' old position n at sought same is =
-    is ∙ ap (λ p. events_of (drop p content')) sought.1 ∙ ap (λ l. events_of (drop n l)) same
+comes_there content content' old position n at sought same is = grind (arith, common_steps)
 
 -- a read there fills the buffer with these bytes, and the position is then after them
 pub stands_there : (t : Type 0) {E : List Event} (after : List Event) (r : Result (Unit {0}) Error) (content content' buf : List ℕ)

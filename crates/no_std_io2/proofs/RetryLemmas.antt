@@ -1,5 +1,6 @@
 -- How tries follow one another.
-use Rattle.std.proofs.Common.{◌≡◌, ℕ, ◌+◌, List, [], ◌∷◌, length, true, Option, None, Some, Result, Ok, Err, refl, subst, arith, count_by}
+use Rattle.std.proofs.lemmas.Grind.{common_steps}
+use Rattle.std.proofs.Common.{◌≡◌, ℕ, ◌+◌, List, ◌∷◌, length, true, Option, Result, Ok, Err, refl, subst, arith, count_by, []}
 use Rattle.std.proofs.lemmas.List.Recursion.{is_count_by}
 use Rattle.no_std_io2_base.specs.declared.error.Error.{Error}
 use Rattle.no_std_io2_base.specs.declared.error.ErrorKind.{ErrorKind}
@@ -22,24 +23,17 @@ count_all = is_count_by length (λ _. true) refl (λ x xs. omega arith)
 
 -- no try was made, and no mishap spent
 pub spent_none : (n : ℕ) (old : Option (List ErrorKind)) → HasSpentTries n n old old
-spent_none n None = tt
-spent_none n (Some old) = omega arith
+spent_none = grind (arith, common_steps)
 
 -- a mishap more was spent
 pub spent_more : (n left less : ℕ) (old mid new : Option (List ErrorKind)) (k : ErrorKind)
     → HasSpentTries n left old mid → HasSpent mid (k ∷ []) new → left ≡ less + 1 → HasSpentTries n less old new
-spent_more n left less None mid new k f g is = tt
-spent_more n left less (Some old) None new k f g is = absurd f
-spent_more n left less (Some old) (Some mid) None k f g is = absurd g
-spent_more n left less (Some old) (Some mid) (Some new) k f g is = omega (arith, f, g (λ _. true), count_all mid, count_all new)
+spent_more = grind (arith, common_steps, count_all)
 
 -- no more mishaps than were told
 pub spent_all : (n : ℕ) (old mid new : Option (List ErrorKind)) (k : ErrorKind) → HasSpentTries n 0 old mid
     → HasSpent mid (k ∷ []) new → HasAtMost n old → ⊥
-spent_all n None mid new k f g most = most
-spent_all n (Some old) None new k f g most = f
-spent_all n (Some old) (Some mid) None k f g most = g
-spent_all n (Some old) (Some mid) (Some new) k f g most = omega (arith, f, g (λ _. true), count_all mid, count_all new, most)
+spent_all = grind (arith, common_steps, count_all)
 
 -- a try that failed, and then the others, one fewer
 pub tries_again : {W : Type 0} (law : Law W) (retries less : ℕ) {old mid new : W} {x rest left : List ℕ} {e : Error}

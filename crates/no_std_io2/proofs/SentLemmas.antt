@@ -1,5 +1,6 @@
 -- The calls of a buffered writer that first send the held bytes: its seeks and `into_inner`.
-use Rattle.std.proofs.Common.{◌≡◌, ℕ, List, [], length, Result, Ok, Err, IsOk, refl, ap, subst, arith}
+use Rattle.std.proofs.lemmas.Grind.{common_steps}
+use Rattle.std.proofs.Common.{◌≡◌, ℕ, List, length, Result, Ok, Err, IsOk, refl, ap, subst, arith, []}
 use Rattle.no_std_io2_base.specs.declared.error.Error.{Error}
 use Rattle.no_std_io2_base.specs.declared.traits.write.Write.{Ghosts as Writer}
 use Rattle.no_std_io2_base.specs.Write.{WriteCall, Made}
@@ -9,7 +10,6 @@ use Rattle.no_std_io2_base.proofs.WritesFacts.{writes_fault, writes_left, writes
 use Rattle.no_std_io2.specs.BufWriter.{CallOf, SendCalls, Takes, SendsFirst, SendsHeld, Unwraps}
 use Rattle.no_std_io2.specs.declared.buffered.into_inner_error.IntoInnerError.{IntoInnerError}
 use Rattle.no_std_io2.specs.BufWriter.{into_inner_error_writer, into_inner_error_cause}
-use Rattle.no_std_io2.proofs.AnswerLemmas.{onok, iferr}
 use Rattle.no_std_io2.proofs.BufWriterLemmas.{Moves-out}
 use Rattle.no_std_io2.proofs.BufWriterCalls.{send_tells, send_counts}
 use Rattle.no_std_io2.proofs.StepLemmas.{no_ok, Stepped}
@@ -25,31 +25,17 @@ module _ {W : Type 0} {I : Writer W} {a b : W} {held left : List ℕ} where
 
   -- all was sent
   pub sends_all : Stepped I SendCalls a held (Ok tt) left b → SendsHeld I a held b
-  sends_all calls =
-      let none = writes_whole calls.2 in
-      let sends = writes_sends I.told I.takes_all I.cost I.is_metered I.may calls.2 a b calls.1 in
-      record {
-        moves = Moves-out {k = []} _ sends.sent _ sends.split none sends.moves;
-        calls = (calls.0, calls.1, subst (λ l. SendCalls held calls.0 (Ok tt) l) none calls.2);
-      }
+  sends_all calls = grind (arith, common_steps, writes_whole, writes_sends, Moves-out)
 
 module _ {W B : Type 0} {I : Writer W} {inner : B → W} {buffer : B → List ℕ} {old : B} where
   -- a call that sends first: the sending failed
   pub sending_failed : {A : Type 0} {new : B} {e : Error} → Takes I inner buffer SendCalls old (Err e) new
       → SendsFirst {A = A} I inner buffer old (Err e) new
-  sending_failed {new = new} calls = record {
-    empty = tt;
-    stopped = λ _. calls;
-    refused = λ _. send_tells I _ _ _ _ calls.2 (inner old) (inner new) calls.1;
-  }
+  sending_failed = grind (arith, common_steps, send_tells)
 
   -- or all was sent, whatever came then
   pub sending_went : {A : Type 0} {new : B} (r : Result A Error) → buffer new ≡ [] → SendsFirst I inner buffer old r new
-  sending_went r none = record {
-    empty = onok r _ none;
-    stopped = iferr r (λ e some. absurd (omega (arith, some, ap length none)));
-    refused = iferr r (λ e some. absurd (omega (arith, some, ap length none)));
-  }
+  sending_went r none = grind (arith, common_steps)
 
   -- `into_inner`: all was sent, and the inner writer comes back
   pub unwraps_ok : {w : W} {left : List ℕ}

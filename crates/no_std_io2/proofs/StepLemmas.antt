@@ -1,5 +1,6 @@
 -- Steps of a writer with a buffer, one after another: what holds of the parts holds of `first?; next`.
-use Rattle.std.proofs.Common.{◌≡◌, ℕ, ◌+◌, List, [], ◌∷◌, ◌++◌, Result, Ok, Err, OnOk, IsOk, ap, subst, arith, false, true}
+use Rattle.std.proofs.lemmas.Grind.{common_steps}
+use Rattle.std.proofs.Common.{◌≡◌, ℕ, ◌+◌, List, ◌∷◌, ◌++◌, Result, Ok, Err, OnOk, IsOk, ap, arith, false, true, []}
 use Rattle.no_std_io2_base.specs.declared.error.Error.{Error}
 use Rattle.no_std_io2_base.specs.Errors.{error_kind}
 use Rattle.no_std_io2_base.specs.declared.traits.write.Write.{Ghosts as Writer}
@@ -33,9 +34,7 @@ Leaves {A} step f = (held : List ℕ) (C : List WriteCall) (reply : Result A Err
 
 pub then_leaves : {A : Type 0} {held left : List ℕ} {C : List WriteCall} {reply : Result A Error} (first : Step (Unit {0})) (next : Step A)
     (f g : List ℕ → List ℕ) → Leaves first f → Leaves next g → Then first next held C reply left → OnOk reply (left ≡ g (f held))
-then_leaves first next f g of_first of_next (stops p) = tt
-then_leaves first next f g of_first of_next (goes_on {left = left} {reply = reply} p q) =
-    subst (λ m. OnOk reply (left ≡ g m)) (of_first _ _ _ _ p) (of_next _ _ _ _ q)
+then_leaves = grind (arith, common_steps)
 
 module _ {W : Type 0} (I : Writer W) where
   -- this step changes what is told like this, for every result

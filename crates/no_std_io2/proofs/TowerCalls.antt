@@ -1,5 +1,5 @@
 -- The calls of a tower are calls of the device below it.
-use Rattle.std.proofs.Common.{List, [], ◌∷◌, ◌++◌, ℕ, refl, ap}
+use Rattle.std.proofs.Common.{List, ◌∷◌, ◌++◌, ℕ, refl, ap, []}
 use Rattle.no_std_io2_base.specs.declared.traits.write.Write.{Ghosts as Writer}
 use Rattle.no_std_io2_base.specs.Write.{WriteCall, Made}
 use Rattle.no_std_io2_base.proofs.CallsLemmas.{made_then, law_may}

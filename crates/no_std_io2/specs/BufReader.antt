@@ -1,18 +1,18 @@
 -- What a `BufReader` holds and tells, what its calls do, and the lemmas that are its laws.
 use Rattle.std.specs.Prelude.{◌≡◌, ℕ, ℤ, ◌^◌, ◌<◌, ◌≤◌, negsuc, pos, ◌+◌, ◌-◌, ◌-ℤ◌, ◌*◌, ◌&&◌, min, nat_lt, nat_le, if◌then◌else◌, List}
-use Rattle.std.specs.Prelude.{[], ◌∷◌, ◌++◌, Ok, Err, Result, IsOk, IsErr, OnOk, OnErr, IfOk, IfErr, length, ◌⊎◌, take, drop, refl}
+use Rattle.std.specs.Prelude.{[], ◌∷◌, ◌++◌, Ok, Err, Result, IsOk, IsErr, OnOk, OnErr, IfOk, length, ◌⊎◌, take, drop, refl}
 use denote.Param.{param, number}
 use denote.RattleType.{RattleType}
 use Rattle.std.specs.Mem.{FitsInMemory}
 use Rattle.no_std_io2_base.specs.declared.error.Error.{Error}
 use Rattle.no_std_io2_base.specs.declared.traits.seek.SeekFrom.{SeekFrom}
 use Rattle.no_std_io2_base.specs.declared.traits.seek.SeekFrom.TheVariants.{Start, Current}
-use Rattle.no_std_io2_base.specs.Errors.{IsFault, IsOutOfMemory}
+use Rattle.no_std_io2_base.specs.Errors.{IsOutOfMemory}
 use Rattle.no_std_io2_base.specs.Cursor.{HasMoved}
 use Rattle.no_std_io2_base.specs.Write.{IsFront, Made}
 use Rattle.no_std_io2_base.specs.Seek.{SeekCall, Sought, Measured, LenCalls}
-use Rattle.no_std_io2_base.specs.Read.{Event, events_of, fails, ReadsExact, bytes, bytes-events_of, Reader, ReadCall, Gave}
-use Rattle.no_std_io2_base.specs.Read.{GaveExactly, GaveAll, Filled, Consumed, gave_whole, ExactMade, Drains}
+use Rattle.no_std_io2_base.specs.Read.{Event, events_of, fails, bytes, bytes-events_of, Reader, ReadCall, Gave}
+use Rattle.no_std_io2_base.specs.Read.{GaveExactly, GaveAll, Filled, Consumed, gave_whole, Drains}
 use Rattle.no_std_io2.specs.contracts.buffered.buf_reader.BufReader.{the_row as reader-row}
 use Rattle.no_std_io2.specs.declared.buffered.buf_reader.BufReader.{BufReader}
 use Rattle.no_std_io2.specs.Buffer.{buffer_held, buffer_behind, IsSuffix, IsSound}
@@ -215,22 +215,6 @@ pub record LeavesExact {R : Type 0} {S : ℕ} (inner : Reader R) (old : BufReade
       × (length (reader_events inner.events new) ≡ length (reader_events inner.events old) - room)
   pub behind_length : inner.is_filling (reader_inner old) → length (reader_held old) < room
       → OnOk reply (length (reader_behind new) ≡ exact_behind S room (length (reader_held old)))
-
--- A `read_exact` of more than the held bytes: the room was filled, or the bytes ended, or a fault came.
-pub record ReadsOn {R : Type 0} {S : ℕ} (inner : Reader R) (old : BufReader R S) (room : ℕ) (reply : Result (Unit {0}) Error)
-    (buf : List ℕ) (new : BufReader R S) : Type 0 where
-  pub told : inner.tells (reader_inner old) → inner.tells (reader_inner new)
-      × ReadsExact ⊥ (reader_events inner.events old) reply buf (reader_events inner.events new)
-  pub fault : IfErr reply IsFault
-  pub no_later : reader_turns inner.turns new ≤ reader_turns inner.turns old
-  pub turn : OnOk reply (reader_turns inner.turns new < reader_turns inner.turns old)
-  pub store : reader_has_store inner.has_store inner.position inner.content old
-      → reader_has_store inner.has_store inner.position inner.content new
-      × (inner.content (reader_inner new) ≡ inner.content (reader_inner old))
-      × (reader_position inner.position new + length (reader_events inner.events new)
-      ≡ reader_position inner.position old + length (reader_events inner.events old))
-  pub leaves : LeavesExact inner old room reply buf new
-  pub calls : ExactMade (ReaderMay inner.may) old reply buf new
 
 -- the result of a seek that led to `place`, with the position added
 abbrev pub led_to : ℕ → Result (Unit {0}) Error → Result ℕ Error

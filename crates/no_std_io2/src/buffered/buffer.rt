@@ -68,6 +68,7 @@ impl<const S: usize> Buffer<S> {
         ensures held { buffer_held self.new ≡ [] }
         ensures behind { buffer_behind self.new ≡ [] }
         ensures unmoved { self.new.bytes ≡ self.old.bytes }
+        ensures front { (self.new.start ≡ 0) × (self.new.end ≡ 0) }
     {
         self.start = 0;
         self.end = 0;
@@ -80,6 +81,7 @@ impl<const S: usize> Buffer<S> {
         ensures held { buffer_held self.new ≡ drop n (buffer_held self.old) }
         ensures behind { buffer_behind self.new ≡ buffer_behind self.old ++ take n (buffer_held self.old) }
         ensures unmoved { self.new.bytes ≡ self.old.bytes }
+        ensures none { n ≡ 0 → self.new ≡ self.old }
     {
         self.start += n;
     }
@@ -110,12 +112,10 @@ impl<const S: usize> Buffer<S> {
         ensures gave { buf.new ≡ take (length buf.old) (buffer_held self.old) }
         ensures held { buffer_held self.new ≡ drop (length buf.old) (buffer_held self.old) }
         ensures behind { buffer_behind self.new ≡ buffer_behind self.old ++ buf.new }
-        ensures empty { length buf.old ≡ 0 → self.new ≡ self.old }
+        ensures none { length buf.old ≡ 0 → self.new ≡ self.old }
     {
-        let end = self.start + buf.len();
-        let all = &self.bytes[..];
-        copy_bytes(&all[self.start..end], buf);
-        self.start = end;
+        copy_bytes(&self.as_slice()[..buf.len()], buf);
+        self.consume(buf.len());
     }
 
     /// Gives as many bytes as are held and fit in `buf`.
@@ -127,13 +127,13 @@ impl<const S: usize> Buffer<S> {
         ensures behind { buffer_behind self.new ≡ buffer_behind self.old ++ take result buf.new }
         ensures none { buffer_held self.old ≡ [] → self.new ≡ self.old }
     {
-        if self.start == self.end {
+        if self.len() == 0 {
             return 0;
         }
         // A caller that reads byte by byte reads one.
         if buf.len() == 1 {
-            buf[0] = self.bytes[self.start];
-            self.start += 1;
+            buf[0] = self.as_slice()[0];
+            self.consume(1);
             return 1;
         }
         let n = self.len().min(buf.len());
@@ -199,7 +199,7 @@ impl<const S: usize> Buffer<S> {
         ensures emptied { buffer_held self.new ≡ [] → (self.new.start ≡ 0) × (self.new.end ≡ 0) }
     {
         self.consume(n);
-        if self.start == self.end {
+        if self.len() == 0 {
             self.clear();
         }
     }

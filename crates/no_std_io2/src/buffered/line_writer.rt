@@ -18,7 +18,6 @@ use no_std_io2_base::error::Result;
 use no_std_io2_base::traits::Write;
 use state::LineSender;
 use std::fmt;
-use steps::{lines_len, write_all_lines, write_all_plain, write_lines, write_plain};
 
 /// Passes each line on as soon as it is complete. An incomplete line is held, up to `S` bytes; `S`
 /// may be 0. Follows Rust's `std::io::LineWriter`.
@@ -163,11 +162,7 @@ impl<W: Write + Drop, const S: usize> Write for LineWriter<W, S> {
             → line_buffer self.new ≡ line_buffer_filled S (line_buffer self.old) buf.now }
         ensures inner { KeepsTaking W.Write (line_inner self.old) result (line_inner self.new) }
     {
-        let len = lines_len(buf);
-        if len == 0 {
-            return write_plain(&mut self.core.buffered, buf);
-        }
-        write_lines(&mut self.core.buffered, buf, len)
+        steps::write(&mut self.core.buffered, buf)
     }
 
     /// Sends the held bytes, then flushes the inner writer.
@@ -202,11 +197,7 @@ impl<W: Write + Drop, const S: usize> Write for LineWriter<W, S> {
         ensures fits { HoldsShort self.old buf.now result self.new }
         ensures inner { KeepsTaking W.Write (line_inner self.old) result (line_inner self.new) }
     {
-        let len = lines_len(buf);
-        if len == 0 {
-            return write_all_plain(&mut self.core.buffered, buf);
-        }
-        write_all_lines(&mut self.core.buffered, buf, len)
+        steps::write_all(&mut self.core.buffered, buf)
     }
 
     ghost steady = { λ w h. absurd h };

@@ -1,29 +1,17 @@
-use Rattle.std.proofs.Common.{rules, ◌∙◌, le_trans, inl, inr, ap, arith, length-take-le, [], take, Ok, Err}
+use Rattle.std.proofs.Common.{rules, ◌∙◌, le_trans, inl, inr, ap, arith, length-take-le, take, Ok, Err}
 use Rattle.std.proofs.lemmas.Grind.{common_steps}
 use Rattle.std.proofs.lemmas.Result.{err_from_is_err_and}
 use Rattle.no_std_io2_base.proofs.ReadCalls.{gave_nothing}
 use Rattle.no_std_io2_base.proofs.ReadToEndTaken.{moved_read, no_error}
-use Rattle.no_std_io2.proofs.CopyReads.{read_length, one_read, last_read}
+use Rattle.no_std_io2.proofs.CopyReads.{read_length, one_read}
 use Rattle.no_std_io2_base.specs.Read.{bytes}
 use Rattle.no_std_io2.proofs.CopyHands.{hands_none, hands_last, hands_again, hands_more, gave, gave_none}
-use Rattle.no_std_io2.proofs.CopyLemmas.{written_more, copied_more, copied_interruption, copied_end, copied_fault}
+use Rattle.no_std_io2.proofs.CopyLemmas.{written_more, copied_more, copied_interruption, copied_fault}
 use Rattle.no_std_io2.proofs.CopyLemmas.{copied_refused, written_refused}
 use Rattle.no_std_io2.proofs.util.copy.Goals as goal
 
 pub reads-init : goal.reads-init
-reads-init g c = record {
-  long = grind (arith, common_steps);
-  written = search rules;
-  told = search rules;
-  hands = hands_none;
-  same = search rules;
-  all = search rules;
-  turns = search rules;
-  metered = search rules;
-  reads = search rules;
-  filling = search rules;
-  store = search rules;
-}
+reads-init g c = grind (arith, common_steps, hands_none)
 
 pub reads-preserved : goal.reads-preserved
 reads-preserved g c =
@@ -84,52 +72,8 @@ reads-preserved-in-Ok g c =
           (now.0, now.1 ∙ so_far.1, moved_read _ c.in-Ok.n c.read.new.buf _ read.bound (read.told tells.0).1.0 now.2 so_far.2);
     }
 
--- the reader's end
-pub returns-in-Ok-eq0-clause-told : goal.returns-in-Ok-eq0-clause-told
-returns-in-Ok-eq0-clause-told g c = λ t.
-    let so_far = c.reads.invariant.told t in
-    let now = c.read.ensures.law.told so_far.0 in (
-      now.0,
-      copied_end g.row.S c.read.new.buf so_far.1 (rw c.in-Ok-eq0.is at now.1)
-          (search rules) (search rules) (λ z. (c.reads.invariant.same z).1),
-    )
-
 pub returns-in-Ok-eq0-clause-calls : goal.returns-in-Ok-eq0-clause-calls
-returns-in-Ok-eq0-clause-calls g c =
-    let before = c.reads.invariant in
-    let read = c.read.ensures.law in
-    hands_last before.hands (search rules) (Ok []) read.turns_never_rise
-    (λ t. gave_none c.in-Ok-eq0.field-0 _ c.read.new.buf (rw c.in-Ok-eq0.is at (read.told (before.told t).0).1) c.in-Ok-eq0.field-0-test)
-    (gave_nothing g.R.Read.may c.read.new.buf read.call c.in-Ok-eq0.is c.in-Ok-eq0.field-0-test)
-
-pub returns-in-Ok-eq0-clause-reads : goal.returns-in-Ok-eq0-clause-reads
-returns-in-Ok-eq0-clause-reads g c = λ some m f.
-    let before = c.reads.invariant in
-    let paid = (c.read.ensures.law.counts (before.metered m)).1 in
-    let gave = rw c.in-Ok-eq0.is at (c.read.ensures.law.fills (before.filling f)).1 in
-    last_read g.row.S _ _ _ _ some before.long gave (search rules) paid (before.reads some m f)
-
-pub returns-in-Ok-eq0-clause-store : goal.returns-in-Ok-eq0-clause-store
-returns-in-Ok-eq0-clause-store g c = λ s.
-    let so_far = c.reads.invariant.store s in
-    let now = rw c.in-Ok-eq0.is at c.read.ensures.law.store so_far.0 in
-    let tells = g.met.R.Read.store_tells _ so_far.0 in
-    let told = rw c.in-Ok-eq0.is at c.read.ensures.law.told tells.0 in
-    (now.0, now.1 ∙ so_far.1, moved_read _ _ c.read.new.buf _ (rw c.in-Ok-eq0.is at c.read.ensures.law.bound) told.1.0 now.2 so_far.2)
-
--- the writer's fault
-pub returns-in_err-write_all-in-Ok-clause-unchanged : goal.returns-in_err-write_all-in-Ok-clause-unchanged
-returns-in_err-write_all-in-Ok-clause-unchanged g c = λ z. absurd (search rules)
-
-pub returns-in_err-write_all-in-Ok-clause-never_interrupted : goal.returns-in_err-write_all-in-Ok-clause-never_interrupted
-returns-in_err-write_all-in-Ok-clause-never_interrupted g c =
-    let p = err_from_is_err_and c.from_residual.result c.from_residual.ensures.1 in
-    rw (p.1, p.2) c.in_err-write_all-in-Ok.ensures.law.never_interrupted
-
-pub returns-in_err-write_all-in-Ok-clause-reads : goal.returns-in_err-write_all-in-Ok-clause-reads
-returns-in_err-write_all-in-Ok-clause-reads g c = λ _ _ _.
-    let p = err_from_is_err_and c.from_residual.result c.from_residual.ensures.1 in
-    rw p.1 tt
+returns-in-Ok-eq0-clause-calls g c = grind (arith, common_steps, hands_last, gave_none, gave_nothing)
 
 pub returns-in_err-write_all-in-Ok-clause-store : goal.returns-in_err-write_all-in-Ok-clause-store
 returns-in_err-write_all-in-Ok-clause-store g c = λ s.
@@ -176,9 +120,6 @@ returns-in-Err-2-clause-calls g c =
     let read = c.in-Err.ensures.law in
     inl (hands_last before.hands (search rules) (Err c.in-Err.e) read.turns_never_rise
     (λ t. ap bytes (read.told (before.told t).0).1) read.call)
-
-pub returns-in-Err-2-clause-moves : goal.returns-in-Err-2-clause-moves
-returns-in-Err-2-clause-moves g c = let so_far = c.reads.invariant.written in (so_far.accepted, inl so_far.moves)
 
 pub returns-in-Err-2-clause-store : goal.returns-in-Err-2-clause-store
 returns-in-Err-2-clause-store g c = λ s.

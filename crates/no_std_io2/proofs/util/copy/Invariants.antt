@@ -1,5 +1,5 @@
 -- `copy` ends with its reader's turns, and the writer accepted the bytes that the reader lost.
-use Rattle.std.proofs.Common.{◌≡◌, ◌≤◌, ◌<◌, ◌+◌, [], length, Ok}
+use Rattle.std.proofs.Common.{◌≡◌, ◌≤◌, ◌<◌, ◌+◌, length, Ok, []}
 use Rattle.std.specs.Int.{div_ceil}
 use Rattle.no_std_io2_base.proofs.Readers.{reader}
 use Rattle.no_std_io2.specs.Copy.{HandsOn}

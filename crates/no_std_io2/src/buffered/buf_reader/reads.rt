@@ -4,7 +4,7 @@ ghost use Rattle.no_std_io2_base.specs.Read.{events_of, given, ReadLaw, ReadExac
 ghost use Rattle.no_std_io2_base.specs.BufRead.{IsNotEmpty, reads_needed};
 ghost use Rattle.no_std_io2.specs.BufReader.{reader_held, reader_behind, reader_inner, reader_events, reader_turns};
 ghost use Rattle.no_std_io2.specs.BufReader.{reader_has_store, StaysSound, reader_position, behind_anew};
-ghost use Rattle.no_std_io2.specs.BufReader.{held_or_to_come, EmptiesInto, FillsBuffer, LeavesExact, ReadsOn};
+ghost use Rattle.no_std_io2.specs.BufReader.{held_or_to_come, EmptiesInto, FillsBuffer, LeavesExact};
 ghost use Rattle.no_std_io2.specs.BufReader.{ReaderMay, sound_tells, sound_fits};
 
 use super::BufReader;
@@ -14,26 +14,6 @@ use no_std_io2_base::traits::Read;
 use std::alloc::Allocator;
 
 impl<R: Read, const S: usize> BufReader<R, S> {
-    // Gives as many of the held bytes as fit in `buf`.
-    #[inline(always)]
-    fn give(&mut self, buf: &mut [u8]) -> usize
-        ensures count { result ≡ min (length (reader_held self.old)) (length buf.old) }
-        ensures gave { take result buf.new ≡ take result (reader_held self.old) }
-        ensures held { reader_held self.new ≡ drop result (reader_held self.old) }
-        ensures behind { reader_behind self.new ≡ reader_behind self.old ++ take result buf.new }
-        ensures sound { StaysSound R.has_store R.position R.content self.old self.new }
-        ensures inner { reader_inner self.new ≡ reader_inner self.old }
-        ensures none { reader_held self.old ≡ [] → self.new ≡ self.old }
-        ensures told { reader_events R.events self.old
-            ≡ events_of (take result buf.new) ++ reader_events R.events self.new }
-        ensures turns { reader_turns R.turns self.new + result ≡ reader_turns R.turns self.old }
-        ensures store { reader_has_store R.has_store R.position R.content self.old
-            → reader_has_store R.has_store R.position R.content self.new
-            × (reader_position R.position self.new ≡ reader_position R.position self.old + result) }
-    {
-        self.buffer.give(buf)
-    }
-
     // Reads once into the buffer. Nothing is held before.
     #[inline(always)]
     pub(super) fn read_ahead(&mut self) -> Result<()>
@@ -48,9 +28,10 @@ impl<R: Read, const S: usize> BufReader<R, S> {
     #[inline(never)]
     fn read_exact_cold(&mut self, buf: &mut [u8]) -> Result<()>
         requires { length (reader_held self.old) < length buf.old }
-        ensures { ReadsOn R.Read self.old (length buf.old) result buf.new self.new }
+        ensures law { ReadExactLaw ⟦<BufReader<R, S> as Read>⟧ self.old buf.old result buf.new self.new }
+        ensures leaves { LeavesExact R.Read self.old (length buf.old) result buf.new self.new }
     {
-        let mut at = self.give(buf);
+        let mut at = self.buffer.give(buf);
         'reads: while at < buf.len() {
             match self.read(&mut buf[at..]) {
                 Ok(0) => return Err(failed_to_fill()),
@@ -66,7 +47,8 @@ impl<R: Read, const S: usize> BufReader<R, S> {
     #[inline(always)]
     fn read_exact_out_of_line(&mut self, buf: &mut [u8]) -> Result<()>
         requires { length (reader_held self.old) < length buf.old }
-        ensures { ReadsOn R.Read self.old (length buf.old) result buf.new self.new }
+        ensures law { ReadExactLaw ⟦<BufReader<R, S> as Read>⟧ self.old buf.old result buf.new self.new }
+        ensures leaves { LeavesExact R.Read self.old (length buf.old) result buf.new self.new }
     {
         self.read_exact_cold(buf)
     }
@@ -121,14 +103,14 @@ impl<R: Read, const S: usize> Read for BufReader<R, S> {
         ensures sound { StaysSound R.has_store R.position R.content self.old self.new }
     {
         if self.buffer.len() > 0 {
-            return Ok(self.give(buf));
+            return Ok(self.buffer.give(buf));
         }
         if buf.len() >= S {
             self.buffer.clear();
             return self.inner.read(buf);
         }
         self.read_ahead()?;
-        Ok(self.give(buf))
+        Ok(self.buffer.give(buf))
     }
 
     #[inline(always)]

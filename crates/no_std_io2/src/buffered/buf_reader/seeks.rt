@@ -6,7 +6,7 @@ ghost use Rattle.no_std_io2_base.specs.Read.{Event};
 ghost use Rattle.no_std_io2.specs.Buffer.{IsInBuffer, IsCutOn, MovesEvents};
 ghost use Rattle.no_std_io2.specs.BufReader.{reader_held, reader_behind, reader_inner, reader_events, reader_has_store};
 ghost use Rattle.no_std_io2.specs.BufReader.{reader_is_sound, reader_position, StaysSound, KeepsBuffer, HasNoBuffer, IsTooFarBack};
-ghost use Rattle.no_std_io2.specs.BufReader.{SeeksInner, ReaderSeeks, ReaderMaySeek, at_start, back_by, led_to, sound_fits};
+ghost use Rattle.no_std_io2.specs.BufReader.{ReaderSeeks, ReaderMaySeek, at_start, back_by, led_to, sound_fits};
 
 use super::BufReader;
 use no_std_io2_base::error::Result;
@@ -24,10 +24,8 @@ fn offset_behind(offset: i64, held: usize) -> Option<i64>
 impl<R: Seek, const S: usize> BufReader<R, S> {
     // Seeks the inner reader, and drops the held bytes if that succeeds.
     fn seek_inner(&mut self, target: SeekFrom) -> Result<u64>
-        ensures empty { OnOk result (reader_held self.new ≡ []) }
-        ensures behind { OnOk result (reader_behind self.new ≡ []) }
-        ensures kept { OnErr result (reader_held self.new ≡ reader_held self.old) }
-        ensures behind_kept { OnErr result (reader_behind self.new ≡ reader_behind self.old) }
+        ensures dropped { OnOk result (HasNoBuffer self.new) }
+        ensures kept { OnErr result (KeepsBuffer self.old self.new) }
         ensures store { R.has_store (reader_inner self.old) → R.has_store (reader_inner self.new)
             × (R.content (reader_inner self.new) ≡ R.content (reader_inner self.old))
             × Seeks (length (R.content (reader_inner self.old))) (R.position (reader_inner self.old))
@@ -44,10 +42,8 @@ impl<R: Seek, const S: usize> BufReader<R, S> {
 
     // Seeks back to the first held byte, and drops the held bytes.
     fn seek_back(&mut self) -> Result<()>
-        ensures empty { OnOk result (reader_held self.new ≡ []) }
-        ensures behind { OnOk result (reader_behind self.new ≡ []) }
-        ensures kept { OnErr result (reader_held self.new ≡ reader_held self.old) }
-        ensures behind_kept { OnErr result (reader_behind self.new ≡ reader_behind self.old) }
+        ensures dropped { OnOk result (HasNoBuffer self.new) }
+        ensures kept { OnErr result (KeepsBuffer self.old self.new) }
         ensures store { reader_has_store R.has_store R.position R.content self.old
             → R.has_store (reader_inner self.new) × IsOk result
             × (R.content (reader_inner self.new) ≡ R.content (reader_inner self.old))
@@ -69,15 +65,9 @@ impl<R: Seek, const S: usize> BufReader<R, S> {
             × (R.content (reader_inner self.new) ≡ R.content (reader_inner self.old))
             × Seeks (length (R.content (reader_inner self.old))) (reader_position R.position self.old)
             (SeekFrom.Current offset) result (reader_position R.position self.new) }
-        ensures sought { SeeksInner R.Seek.may (length (reader_held self.old)) (reader_inner self.old)
-            (SeekFrom.Current offset) (reader_inner self.new) result }
+        ensures seeks { ReaderSeeks R.Seek.may self.old (SeekFrom.Current offset) self.new result }
         ensures position { IfOk result (λ n. R.has_store (reader_inner self.new)
             → R.position (reader_inner self.new) ≡ n) }
-        ensures empty { OnOk result (reader_held self.new ≡ []) }
-        ensures behind { OnOk result (reader_behind self.new ≡ []) }
-        ensures kept { OnErr result (KeepsBuffer self.old self.new
-            ⊎ (IsTooFarBack (SeekFrom.Current offset) (length (reader_held self.old))
-            × HasNoBuffer self.new)) }
         ensures dropped { reader_has_store R.has_store R.position R.content self.old
             → IsTooFarBack (SeekFrom.Current offset) (length (reader_held self.old))
             → HasNoBuffer self.new }
@@ -118,9 +108,6 @@ impl<R: Seek, const S: usize> BufReader<R, S> {
             (reader_events events self.old) (reader_events events self.new) }
 
         // Outside the buffer it is a seek.
-        ensures outside { ¬ IsInBuffer offset (length (reader_behind self.old)) (length (reader_held self.old))
-            → OnOk result (HasNoBuffer self.new) × OnErr result (KeepsBuffer self.old self.new
-            ⊎ (IsTooFarBack (SeekFrom.Current offset) (length (reader_held self.old)) × HasNoBuffer self.new)) }
         ensures far { ¬ IsInBuffer offset (length (reader_behind self.old)) (length (reader_held self.old))
             → WithoutPosition (ReaderSeeks R.Seek.may self.old (SeekFrom.Current offset) self.new) result }
         ensures sought { ¬ IsInBuffer offset (length (reader_behind self.old)) (length (reader_held self.old))
@@ -162,8 +149,7 @@ impl<R: Seek, const S: usize> Seek for BufReader<R, S> {
         ensures law { SeekLaw ⟦<Self as Seek>⟧ self.old pos result self.new }
 
         // Success drops the buffer; if the first or only seek is refused, it is kept.
-        ensures empty { OnOk result (reader_held self.new ≡ []) }
-        ensures behind { OnOk result (reader_behind self.new ≡ []) }
+        ensures empty { OnOk result (HasNoBuffer self.new) }
         ensures kept { OnErr result (KeepsBuffer self.old self.new
             ⊎ (IsTooFarBack pos (length (reader_held self.old)) × HasNoBuffer self.new)) }
         ensures dropped { reader_has_store R.has_store R.position R.content self.old
@@ -179,8 +165,7 @@ impl<R: Seek, const S: usize> Seek for BufReader<R, S> {
     // `stream_position` and `rewind` drop the buffer, as `seek` does.
     fn stream_position(&mut self) -> Result<u64>
         ensures law { StreamPositionLaw ⟦<Self as Seek>⟧ self.old result self.new }
-        ensures empty { OnOk result (reader_held self.new ≡ []) }
-        ensures behind { OnOk result (reader_behind self.new ≡ []) }
+        ensures empty { OnOk result (HasNoBuffer self.new) }
         ensures kept { OnErr result (KeepsBuffer self.old self.new) }
         ensures sound { StaysSound R.has_store R.position R.content self.old self.new }
     {
@@ -189,8 +174,7 @@ impl<R: Seek, const S: usize> Seek for BufReader<R, S> {
 
     fn rewind(&mut self) -> Result<()>
         ensures law { RewindLaw ⟦<Self as Seek>⟧ self.old result self.new }
-        ensures empty { OnOk result (reader_held self.new ≡ []) }
-        ensures behind { OnOk result (reader_behind self.new ≡ []) }
+        ensures empty { OnOk result (HasNoBuffer self.new) }
         ensures kept { OnErr result (KeepsBuffer self.old self.new) }
         ensures sound { StaysSound R.has_store R.position R.content self.old self.new }
     {

@@ -11,7 +11,7 @@ use no_std_io2_base::error::Result;
 use no_std_io2_base::traits::Write;
 
 // Returns the length of the lines of x: everything up to and including its last newline.
-pub(super) fn lines_len(x: &[u8]) -> usize
+fn lines_len(x: &[u8]) -> usize
     ensures lines { IsLinesLen x.now result }
     ensures plain { result ≡ 0 → HasNoNewline x.now }
 {
@@ -63,21 +63,8 @@ fn send_line<W: Write + Drop, const S: usize>(w: &mut Sender<W, S>) -> Result<()
     Ok(())
 }
 
-// Writes some first bytes of x, which has no newline.
-pub(super) fn write_plain<W: Write + Drop, const S: usize>(
-    w: &mut Sender<W, S>,
-    x: &[u8],
-) -> Result<usize>
-    requires line { IsLineState (sender_buffer w.old) }
-    requires plain { HasNoNewline x.now }
-    ensures { Takes W.Write sender_inner sender_buffer (LineWriteCalls S x.now) w.old result w.new }
-{
-    send_line(w)?;
-    w.write(x)
-}
-
 // Writes some first bytes of x, whose first `len` bytes are lines.
-pub(super) fn write_lines<W: Write + Drop, const S: usize>(
+fn write_lines<W: Write + Drop, const S: usize>(
     w: &mut Sender<W, S>,
     x: &[u8],
     len: usize,
@@ -96,17 +83,21 @@ pub(super) fn write_lines<W: Write + Drop, const S: usize>(
     Ok(end)
 }
 
-// Writes all of x, which has no newline.
-pub(super) fn write_all_plain<W: Write + Drop, const S: usize>(
+// Writes some first bytes of x.
+#[inline]
+pub(super) fn write<W: Write + Drop, const S: usize>(
     w: &mut Sender<W, S>,
     x: &[u8],
-) -> Result<()>
-    requires line { IsLineState (sender_buffer w.old) }
-    requires plain { HasNoNewline x.now }
-    ensures { Takes W.Write sender_inner sender_buffer (LineWriteAllCalls S x.now) w.old result w.new }
+) -> Result<usize>
+    requires { IsLineState (sender_buffer w.old) }
+    ensures { Takes W.Write sender_inner sender_buffer (LineWriteCalls S x.now) w.old result w.new }
 {
+    let len = lines_len(x);
+    if len > 0 {
+        return write_lines(w, x, len);
+    }
     send_line(w)?;
-    w.write_all(x)
+    w.write(x)
 }
 
 // Writes all of x, which consists of lines: straight to the inner writer if nothing is held. If not, x goes through
@@ -122,7 +113,7 @@ fn send_lines<W: Write + Drop, const S: usize>(w: &mut Sender<W, S>, x: &[u8]) -
 }
 
 // Writes all of x, whose first `len` bytes are lines.
-pub(super) fn write_all_lines<W: Write + Drop, const S: usize>(
+fn write_all_lines<W: Write + Drop, const S: usize>(
     w: &mut Sender<W, S>,
     x: &[u8],
     len: usize,
@@ -133,4 +124,21 @@ pub(super) fn write_all_lines<W: Write + Drop, const S: usize>(
 {
     send_lines(w, &x[..len])?;
     w.write_all(&x[len..])
+}
+
+// Writes all of x.
+#[inline]
+pub(super) fn write_all<W: Write + Drop, const S: usize>(
+    w: &mut Sender<W, S>,
+    x: &[u8],
+) -> Result<()>
+    requires { IsLineState (sender_buffer w.old) }
+    ensures { Takes W.Write sender_inner sender_buffer (LineWriteAllCalls S x.now) w.old result w.new }
+{
+    let len = lines_len(x);
+    if len > 0 {
+        return write_all_lines(w, x, len);
+    }
+    send_line(w)?;
+    w.write_all(x)
 }

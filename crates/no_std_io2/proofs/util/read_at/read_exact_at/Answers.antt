@@ -1,5 +1,5 @@
-use Rattle.std.proofs.Common.{◌∙◌, refl, inl, inr, arith}
-use Rattle.std.proofs.lemmas.Result.{err_from_is_err_and}
+use Rattle.std.proofs.lemmas.Grind.{common_steps}
+use Rattle.std.proofs.Common.{◌∙◌, arith}
 use Rattle.no_std_io2.proofs.PlaceLemmas.{stands_there, enough_there}
 use Rattle.no_std_io2.proofs.util.read_at.read_exact_at.Goals as goal
 
@@ -16,17 +16,4 @@ returns-clause-store g c = λ s.
     )
 
 pub returns-clause-enough : goal.returns-clause-enough
-returns-clause-enough g c = λ s place target enough.
-    let sought = c.in_ok-seek.ensures.law.store s in
-    let tells = g.met.R.Read.store_tells c.seek.new.self sought.0 in
-    let read = c.read_exact.ensures.law in
-    enough_there _ _ c.read_exact.result _ _ _ _ _ _ place c.args.at sought.2 sought.1 tells.1 (read.told tells.0).1 target
-    (omega (arith, enough, c.read_exact.auto.buf))
-
-pub returns-in_err-seek-clause-calls : goal.returns-in_err-seek-clause-calls
-returns-in_err-seek-clause-calls g c =
-    let p = err_from_is_err_and c.from_residual.result c.from_residual.ensures.1 in
-    rw (p.1, p.2) (inl (_, refl, c.in_err-seek.ensures.law))
-
-pub returns-clause-calls : goal.returns-clause-calls
-returns-clause-calls g c = inr (_, _, c.in_ok-seek.ensures.law, c.read_exact.ensures.law)
+returns-clause-enough g c = grind (arith, common_steps, enough_there)

@@ -1,11 +1,8 @@
 use Rattle.std.proofs.Common.{arith}
 use Rattle.no_std_io2_base.proofs.MovesLemmas.{Sends-then, Moves-quiet}
 use Rattle.no_std_io2.specs.Retries.{last}
-use Rattle.no_std_io2.proofs.RetryLemmas.{sends_none, spent_none, spent_more, spent_all, tries_again}
+use Rattle.no_std_io2.proofs.RetryLemmas.{spent_more, spent_all, tries_again}
 use Rattle.no_std_io2.proofs.util.retries.write_with_retries.Goals as goal
-
-pub tries-init : goal.tries-init
-tries-init g c = record { sends = sends_none _ _; spent = spent_none _ _; so_far = λ reply new left tries. tries }
 
 pub tries-preserved : goal.tries-preserved
 tries-preserved g c =
@@ -34,3 +31,6 @@ returns-in-Err-clause-calls g c =
 
 pub returns-in-Err-clause-sends : goal.returns-in-Err-clause-sends
 returns-in-Err-clause-sends g c = Sends-then c.tries.invariant.sends (rw c.in-Err.is at c.write_and_flush.ensures.sends)
+
+pub returns-in-Ok-clause-sends : goal.returns-in-Ok-clause-sends
+returns-in-Ok-clause-sends g c = Sends-then c.tries.invariant.sends (rw c.in-Ok.is at c.write_and_flush.ensures.sends)

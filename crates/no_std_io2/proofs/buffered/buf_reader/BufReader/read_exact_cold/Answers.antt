@@ -1,12 +1,17 @@
 -- An exact read past the held bytes: its turns, and its three ends.
-use Rattle.std.proofs.Common.{◌≡◌, ◌-◌, ◌≤◌, length, take, arith, sym, ap, subst, ◌∙◌, length-take-le, length-drop}
+use Rattle.std.proofs.lemmas.List.{nil_from_length}
+use Rattle.std.proofs.Common.{◌≡◌, ◌-◌, ◌≤◌, length, take, arith, sym, ap, ◌∙◌, length-take-le, length-drop, refl}
 use Rattle.std.proofs.Common.{take_all}
 use Rattle.no_std_io2_base.proofs.ReadParts.{take-put_mid}
 use Rattle.no_std_io2_base.proofs.ReadExactLoop.{exact_read, exact_interruption, exact_end, exact_fault, exact_all}
+use Rattle.no_std_io2_base.proofs.Readers.{reader}
+use Rattle.no_std_io2.specs.Buffer.{buffer_held}
+use Rattle.no_std_io2.proofs.BufReaderBehind.{given}
+use Rattle.no_std_io2.proofs.BufReaderRoom.{same_buffer}
 use Rattle.no_std_io2.specs.BufReader.{reader_held, reader_behind, reader_inner, reader_events}
 use Rattle.no_std_io2.proofs.BufReaderExact.{exact_begins, exact_first, exact_read as exact_reads, exact_end as exact_ends}
 use Rattle.no_std_io2.proofs.BufReaderExact.{exact_short, exact_left-end}
-use Rattle.no_std_io2.proofs.BufReaderExact.{exact_left-full, taken_first, nothing_read, length-events, no_bytes}
+use Rattle.no_std_io2.proofs.BufReaderExact.{exact_left-full, taken_first, nothing_read, length-events}
 use Rattle.no_std_io2.proofs.BufReaderExact.{moved_length, read_ends, read_behind, none_behind, gives_to_come}
 use Rattle.no_std_io2.proofs.BufReaderCalls.{gives_first}
 use Rattle.no_std_io2.proofs.BufReaderLends.{buf_tells}
@@ -16,46 +21,36 @@ use Rattle.no_std_io2.proofs.buffered.buf_reader.BufReader.read_exact_cold.Goals
 pub reads-init : goal.reads-init
 reads-init g c =
     let old = c.args.self.now in
-    let new = c.give-at.new.self in
     let n = c.give-at.result in
-    let gave = c.give-at.ensures in
+    let is = c.give-at.ensures in
     let most : n ≤ length c.give-at.new.buf = omega arith in
     let got = take n c.give-at.new.buf in
-    let long : length got ≡ n = length-take-le n c.give-at.new.buf most in
     let all : n ≡ length (reader_held old) = omega arith in
-    let left : length (reader_held new) ≡ 0 = omega (arith, ap length gave.held, length-drop n (reader_held old)) in
-    let moved = moved_length (reader_held old) (reader_held new) got (g.R.Read.events (reader_inner old)) (g.R.Read.events
-    (reader_inner new)) n gave.told long in
+    let gave = given (reader g.R.Stored g.R.Read) old c.give-at.new.self n (omega (arith, all)) is.gave is.held is.behind in
+    let left : length (buffer_held c.give-at.new.self) ≡ 0 = omega (arith, ap length is.held, length-drop n (reader_held old)) in
     let before = length-events (reader_held old) (g.R.Read.events (reader_inner old)) in
-    let after = length-events (reader_held new) (g.R.Read.events (reader_inner new)) in
-    let same = sym gave.inner in
+    let after = length-events (buffer_held c.give-at.new.self) (g.R.Read.events (reader_inner old)) in
     record {
       law = record {
         long = omega arith;
         within = most;
         untouched = λ nothing. absurd (omega (arith, nothing, c.requires));
-        told = λ t. (subst g.R.Read.tells same t, taken_first got gave.told (omega arith));
+        told = λ t. (t, taken_first got gave.told (omega (arith, length-take-le n c.give-at.new.buf most)));
         kept = record {
           turns = omega (arith, gave.turns);
           metered = λ m. m;
           filling = λ f. f;
-          store = λ s.
-              let now = gave.store s in
-              (now.0, ap g.R.Stored.content gave.inner, omega (arith, now.1, moved, before, after));
+          store = λ s. let now = gave.store s in (now.0, refl, omega (arith, now.1, all, left, before, after));
         };
         turn = λ some. omega (arith, gave.turns, some);
-        calls = gives_first g.R.Read.may old new n _ c.give-at.new.buf most (c.give-at.auto.buf) (omega (arith, c.requires)) all
-            gave.inner gave.none;
+        calls = gives_first g.R.Read.may old _ n _ c.give-at.new.buf most (c.give-at.auto.buf) (omega (arith, c.requires)) all refl
+            (λ none. same_buffer old _ _ _ (is.none none));
       };
       none = λ more. left;
       behind = λ more. absurd (omega (arith, more, all));
       sound = gave.sound;
-      filling = λ f. (
-        subst g.R.Read.is_filling same f,
-        exact_begins all left (omega (arith, moved, before)),
-        λ more. absurd (omega (arith, more, all)),
-      );
-      cost = λ m f. (subst g.R.Read.is_metered same m, omega (arith, ap g.R.Read.cost gave.inner));
+      filling = λ f. (f, exact_begins all left (omega (arith, all, left, before)), λ more. absurd (omega (arith, more, all)));
+      cost = λ m f. (m, omega arith);
     }
 
 pub reads-preserved-in-Ok : goal.reads-preserved-in-Ok
@@ -67,7 +62,7 @@ reads-preserved-in-Ok g c =
     let new = c.read.new.self in
     let read = c.in-Ok.ensures in
     let zero : length (reader_held old) ≡ 0 = c.reads.invariant.none (omega arith) in
-    let none = no_bytes (reader_held old) zero in
+    let none = nil_from_length (reader_held old) zero in
     let to_come = gives_to_come (length (reader_held old)) (length (g.R.Read.events (reader_inner old))) zero in
     let shown = take-put_mid at (length buf - at) n buf c.read.new.buf (omega arith) (omega (arith, read.law.bound)) in
     record {
@@ -110,7 +105,7 @@ reads-preserved g c =
     let at = c.reads.at in
     let buf = c.reads.buf in
     let read = c.in-Err.ensures in
-    let none = no_bytes (reader_held c.reads.self) (c.reads.invariant.none (omega arith)) in
+    let none = nil_from_length (reader_held c.reads.self) (c.reads.invariant.none (omega arith)) in
     record {
       law = exact_interruption c.reads.invariant.law (buf_tells g.R.Stored g.R.Read g.met.R.Read.store_tells)
           c.reads-test.true c.read.auto.buf read.law (sym c.is_interrupted.ensures ∙ c.if-is_interrupted.true);
@@ -128,14 +123,9 @@ returns-in-Err-2 g c =
     let read = c.in-Err.ensures in
     let law = exact_fault c.reads.invariant.law (buf_tells g.R.Stored g.R.Read g.met.R.Read.store_tells)
     c.reads-test.true c.read.auto.buf read.law (sym c.is_interrupted.ensures ∙ c.if-is_interrupted.false) in
-    let none = no_bytes (reader_held c.reads.self) (c.reads.invariant.none (omega arith)) in
+    let none = nil_from_length (reader_held c.reads.self) (c.reads.invariant.none (omega arith)) in
     record {
-      told = law.told;
-      fault = law.never_interrupted;
-      no_later = law.turns_never_rise;
-      turn = tt;
-      store = law.store;
-      calls = law.calls;
+      law = law;
       leaves = record {
         held = λ fits. absurd (omega (arith, fits, c.requires));
         behind = λ past. tt;
@@ -161,15 +151,10 @@ returns-in-Ok-eq0 g c =
     let read = rw c.in-Ok-eq0.is at c.read.ensures in
     let zero : c.in-Ok-eq0.field-0 ≡ 0 = omega arith in
     let empty : length (reader_held old) ≡ 0 = c.reads.invariant.none (omega arith) in
-    let none = no_bytes (reader_held old) empty in
+    let none = nil_from_length (reader_held old) empty in
     let to_come = gives_to_come (length (reader_held old)) (length (g.R.Read.events (reader_inner old))) empty in
     record {
-      told = law.told;
-      fault = law.never_interrupted;
-      no_later = law.turns_never_rise;
-      turn = tt;
-      store = law.store;
-      calls = law.calls;
+      law = law;
       leaves = record {
         held = λ fits. absurd (omega (arith, fits, c.requires));
         behind = λ past. tt;
@@ -207,12 +192,7 @@ returns g c =
     let whole : take c.reads.at c.reads.buf ≡ c.reads.buf = take_all c.reads.at c.reads.buf (omega arith) in
     let full : c.reads.at ≡ length c.args.buf.now = omega arith in
     record {
-      told = law.told;
-      fault = law.never_interrupted;
-      no_later = law.turns_never_rise;
-      turn = law.spends_turn (omega (arith, c.requires));
-      store = law.store;
-      calls = law.calls;
+      law = law;
       leaves = record {
         held = λ fits. absurd (omega (arith, fits, c.requires));
         behind = λ past. rw whole at all.behind (omega (arith, full, c.requires));

@@ -8,7 +8,7 @@ use Rattle.no_std_io2_base.specs.declared.traits.seek.SeekFrom.TheVariants.{Curr
 use Rattle.no_std_io2_base.specs.Seek.{Sought}
 use Rattle.no_std_io2.specs.BufReader.{reader_held, reader_behind, reader_inner, IsTooFarBack}
 use Rattle.no_std_io2.proofs.BufReaderCalls.{not_ok}
-use Rattle.no_std_io2.proofs.BufReaderSeeks.{sought_current, sought_again, fits_not_far, far_unless_fits, kept_whole}
+use Rattle.no_std_io2.proofs.BufReaderSeeks.{sought_current, sought_again, fits_not_far, far_unless_fits, kept_or}
 use Rattle.no_std_io2.proofs.BufReaderSeeks.{dropped_far, still_none}
 use Rattle.no_std_io2.proofs.buffered.buf_reader.BufReader.seek_current.Goals as goal
 
@@ -23,14 +23,15 @@ returns-in-Some g c =
     record {
       store = λ s.
           let now = seek.store s.0 in
-          let done = sought_current c.args.offset rest c.seek_inner.result held (reader_held c.seek_inner.new.self) is s.1
-          now.1 now.2 seek.empty seek.kept in
+          let done = sought_current c.args.offset rest c.seek_inner.result held (reader_held c.seek_inner.new.self) _ _ is s.1
+          now.1 now.2 seek.dropped seek.kept in
           ((now.0, done.0), now.1, done.1);
-      sought = inl (subst (λ (z : ℤ). g.R.Seek.may inner (Sought (Current z) c.seek_inner.result) new) is seek.sought);
+      seeks = record {
+        dropped = seek.dropped;
+        kept = kept_or c.seek_inner.result _ _ seek.kept;
+        inner = inl (subst (λ (z : ℤ). g.R.Seek.may inner (Sought (Current z) c.seek_inner.result) new) is seek.sought);
+      };
       position = seek.position;
-      empty = seek.empty;
-      behind = seek.behind;
-      kept = kept_whole c.seek_inner.result _ _ _ seek.kept seek.behind_kept;
       dropped = λ s far.
           let same = to_z-of_z w64 c.args.offset c.ranges.offset in
           let fits : FitsSigned w64 (c.args.offset -ℤ pos c.len-held.result) = subst (λ (z : ℤ). FitsSigned w64 (z -ℤ pos
@@ -47,8 +48,7 @@ returns-in_ok-seek_back-in-None g c =
     let mid = c.seek_back.new.self in
     let new = c.seek_inner-in-None.new.self in
     let same = to_z-of_z w64 c.args.offset c.ranges.offset in
-    let none = still_none answer (reader_held mid) (reader_held new) first.empty second.empty second.kept in
-    let none_behind = still_none answer (reader_behind mid) (reader_behind new) first.behind second.behind second.behind_kept in
+    let none = still_none answer (reader_held new) (reader_behind new) first.dropped second.dropped second.kept in
     let not_fits : FitsSigned w64 (c.args.offset -ℤ pos c.len-held.result) → ⊥ =
     subst (λ (z : ℤ). FitsSigned w64 (z -ℤ pos c.len-held.result) → ⊥) same c.in-None.ensures in
     let small : c.len-held.result < 2 ^ 63 = omega (arith, c.len-held.ensures.bound, c.args.self.now.in_memory) in
@@ -59,23 +59,24 @@ returns-in_ok-seek_back-in-None g c =
       store = λ s.
           let there = first.store s in
           let now = second.store there.0 in
-          let done = sought_again c.args.offset answer (reader_held mid) (reader_held new) _ first.empty same there.2
-          there.3 now.2 second.empty second.kept in
+          let done = sought_again c.args.offset answer (reader_held mid) (reader_held new) (reader_behind new) _ first.dropped same there.2
+          there.3 now.2 second.dropped second.kept in
           ((now.0, done.0), now.1 ∙ there.2, done.1);
-      sought = inr (
-        too_far,
-        inl (record {
-          between = reader_inner mid;
-          at = first.sought.0;
-          back = first.sought.1;
-          on = subst on same second.sought;
-        }),
-      );
+      seeks = record {
+        dropped = second.dropped;
+        kept = dropped_far answer _ _ (too_far, none);
+        inner = inr (
+          too_far,
+          inl (record {
+            between = reader_inner mid;
+            at = first.sought.0;
+            back = first.sought.1;
+            on = subst on same second.sought;
+          }),
+        );
+      };
       position = second.position;
-      empty = second.empty;
-      behind = second.behind;
-      kept = dropped_far answer _ _ (too_far, (none, none_behind));
-      dropped = λ s far. (none, none_behind);
+      dropped = λ s far. none;
       sound = λ h. second.sound (first.sound h);
     }
 
@@ -92,11 +93,8 @@ returns-in_err-seek_back-in-None g c =
     let too_far = subst (IsTooFarBack (Current c.args.offset)) c.len-held.ensures.len far in
     rw (p.1, p.2) (record {
       store = λ s. absurd (not_ok failed (first.store s).1);
-      sought = inr (too_far, inr (refl, first.sought));
+      seeks = record { dropped = tt; kept = inl first.kept; inner = inr (too_far, inr (refl, first.sought)) };
       position = tt;
-      empty = tt;
-      behind = tt;
-      kept = inl (first.kept, first.behind_kept);
       dropped = λ s far. absurd (not_ok failed (first.store s).1);
       sound = first.sound;
     })

@@ -23,7 +23,6 @@ returns-then-shift g c =
       events =
           λ _ events. cut_moves c.args.offset (reader_behind old) (reader_held old) (buffer_behind new) (buffer_held new)
           (events inner) cut;
-      outside = λ not. absurd (not within);
       far = λ not. absurd (not within);
       sought = λ not _. absurd (not within);
       store = λ s.
@@ -55,15 +54,9 @@ returns-in-Ok g c =
     record {
       within = λ h. absurd (not h);
       events = λ h events. absurd (not h);
-      outside = λ _. ((c.in-Ok.ensures.empty, c.in-Ok.ensures.behind), tt);
-      far = λ _. (
-        c.in-Ok.field-0,
-        record {
-          dropped = (c.in-Ok.ensures.empty, c.in-Ok.ensures.behind);
-          kept = tt;
-          inner = rw (kept.0, same) at c.in-Ok.ensures.sought;
-        },
-      );
+      far = λ _.
+          let seeks = c.in-Ok.ensures.seeks in
+          (c.in-Ok.field-0, record { dropped = seeks.dropped; kept = tt; inner = rw (kept.0, same) at seeks.inner });
       sought = λ _ s.
           let now = store s in
           (now.0, now.1, led now.2);
@@ -84,12 +77,9 @@ returns-in-Err g c =
     record {
       within = λ h. absurd (not h);
       events = λ h events. absurd (not h);
-      outside = λ _. (tt, rw (kept.0, same) at c.in-Err.ensures.kept);
-      far = λ _. record {
-        dropped = tt;
-        kept = rw (kept.0, same) at c.in-Err.ensures.kept;
-        inner = rw (kept.0, same) at c.in-Err.ensures.sought;
-      };
+      far = λ _.
+          let seeks = c.in-Err.ensures.seeks in
+          record { dropped = tt; kept = rw (kept.0, same) at seeks.kept; inner = rw (kept.0, same) at seeks.inner };
       sought = λ _ s. store s;
       store = λ s.
           let now = store (s.0, sound_held (reader_behind old) (reader_held old) _ _ s.1) in

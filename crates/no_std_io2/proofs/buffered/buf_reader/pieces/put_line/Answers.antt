@@ -1,12 +1,13 @@
 -- A line became the string, or it is not UTF-8.
-use Rattle.std.proofs.Common.{◌≡◌, ℕ, List, ◌++◌, [], Result, Ok, Err, IfErr, IsUtf8, ⊎_elim, inl, inr, refl, sym, ap, ◌∙◌, string_bytes}
+use Rattle.std.proofs.lemmas.Grind.{common_steps}
+use Rattle.std.proofs.lemmas.List.{nil_from_length}
+use Rattle.std.proofs.Common.{◌≡◌, ℕ, List, ◌++◌, Result, Ok, Err, IfErr, IsUtf8, ⊎_elim, inl, inr, refl, sym, ap, ◌∙◌, string_bytes, []}
 use Rattle.std.proofs.Common.{string_len, string_capacity, subst, rules, arith, true≢false}
 use Rattle.no_std_io2_base.specs.declared.error.Error.{Error}
 use Rattle.no_std_io2_base.specs.declared.error.ErrorKind.TheVariants.{OutOfMemory}
 use Rattle.no_std_io2_base.specs.Errors.{error_kind}
 use Rattle.no_std_io2_base.specs.Pieces.{AnswersLine}
 use Rattle.std.proofs.lemmas.Str.{IsUtf8-string_bytes}
-use Rattle.no_std_io2.proofs.BufReaderExact.{no_bytes}
 use Rattle.no_std_io2.proofs.buffered.buf_reader.pieces.put_line.Goals as goal
 
 -- an empty string became a line that is UTF-8
@@ -29,17 +30,10 @@ pub returns-in-Ok-clause-answers : goal.returns-in-Ok-clause-answers
 returns-in-Ok-clause-answers c = λ capacity room.
     let is : string_bytes c.in-Ok.text ≡ c.args.line.items = search rules in
     let other : IfErr c.args.read (λ e. error_kind e ≡ OutOfMemory → ⊥) = search rules in
-    let none : string_bytes c.args.buf.now ≡ [] = no_bytes (string_bytes c.args.buf.now)
+    let none : string_bytes c.args.buf.now ≡ [] = nil_from_length (string_bytes c.args.buf.now)
     (omega (arith, c.if-len-gt0.false, c.len.ensures, c.args.buf.now.bytes.ok.0)) in
     let text : IsUtf8 c.args.line.items = subst IsUtf8 is (IsUtf8-string_bytes c.in-Ok.text) in
     became c.args.line.items c.args.read (string_len c.args.buf.now) capacity text none is other
 
 pub returns-in-Err-from_utf8-clause-answers : goal.returns-in-Err-from_utf8-clause-answers
-returns-in-Err-from_utf8-clause-answers c = λ capacity room.
-    let bad : IsUtf8 c.args.line.items → ⊥ = λ text. true≢false (sym (c.in-Err-from_utf8.ensures.succeeds text)) in
-    let is : c.as_bytes.result.now ≡ c.args.line.items = search rules in
-    let given = c.append_line-in-Err-from_utf8.ensures.answers in
-    refused c.args.line.items c.args.read c.append_line-in-Err-from_utf8.result (string_len c.args.buf.now)
-    (string_capacity c.args.buf.now) capacity (string_bytes c.args.buf.now) (string_bytes c.append_line-in-Err-from_utf8.new.buf) bad
-    (subst (λ l. AnswersLine l c.args.read (string_len c.args.buf.now) (string_capacity c.args.buf.now)
-    c.append_line-in-Err-from_utf8.result (string_bytes c.args.buf.now) (string_bytes c.append_line-in-Err-from_utf8.new.buf)) is given)
+returns-in-Err-from_utf8-clause-answers c = grind (arith, common_steps, true≢false, refused, string_len, string_capacity, string_bytes)

@@ -8,43 +8,15 @@ use Rattle.no_std_io2.proofs.LineWriterCalls.{line_write_all_tells, line_write_a
 use Rattle.no_std_io2.proofs.buffered.line_writer.LineWriterWrite.write_all.Goals as goal
 
 pub invariant_of-self : goal.invariant_of-self
-invariant_of-self g c = record { line = (line_write_all_state g.row.S c.write_all_plain.ensures.2 c.args.self.now.core.line).0 }
-
-pub invariant_of-self-2 : goal.invariant_of-self-2
-invariant_of-self-2 g c = record { line = (line_write_all_state g.row.S c.write_all_lines.ensures.2 c.args.self.now.core.line).0 }
-
-pub returns-then-len-eq0 : goal.returns-then-len-eq0
-returns-then-len-eq0 g c =
-    let I = g.W.Write in
-    let S = g.row.S in
-    let a = line_inner c.args.self.now in
-    let b = sender_inner c.write_all_plain.new.w in
-    let calls = c.write_all_plain.ensures in
-    let said = line_write_all_tells I g.met.W.Write.steady S calls.2 a b calls.1 in
-    record {
-      law = record {
-        never_interrupted = said.1;
-        moves = said.0;
-        all = λ no. absurd no;
-        counts = λ no. absurd no;
-        calls = all_own _ _ _ (calls, said.1, said.0, λ no. no, λ no. absurd no);
-      };
-      calls = calls;
-      no_newline_held = (line_write_all_state S calls.2 c.args.self.now.core.line).1;
-      held = line_write_all_leaves S calls.2 c.args.self.now.core.line;
-      fits = λ short plain room.
-          let fits = line_write_all_fits S calls.2 short plain room in
-          (fits.1, subst (λ C. Made (CallOf I) a C b) fits.0 calls.1, fits.2);
-      inner = line_write_all_keeps I g.met.W.Write.steady S calls.2 a b calls.1;
-    }
+invariant_of-self g c = record { line = (line_write_all_state g.row.S c.write_all.ensures.2 c.args.self.now.core.line).0 }
 
 pub returns : goal.returns
 returns g c =
     let I = g.W.Write in
     let S = g.row.S in
     let a = line_inner c.args.self.now in
-    let b = sender_inner c.write_all_lines.new.w in
-    let calls = c.write_all_lines.ensures in
+    let b = sender_inner c.write_all.new.w in
+    let calls = c.write_all.ensures in
     let said = line_write_all_tells I g.met.W.Write.steady S calls.2 a b calls.1 in
     record {
       law = record {

@@ -1,4 +1,4 @@
-use Rattle.std.proofs.Common.{[], ◌≡◌, ◌≢◌, ◌-◌, ◌<◌, length, slice_index, refl, subst, inl, inr}
+use Rattle.std.proofs.Common.{◌≡◌, ◌≢◌, ◌-◌, ◌<◌, length, slice_index, refl, subst, inl, inr, []}
 use Rattle.no_std_io2.proofs.LinesLast.{HasNewline-lines, IsLinesLen-whole}
 use Rattle.no_std_io2.proofs.LineWriterLemmas.{HasNoNewline-unended}
 use Rattle.no_std_io2.proofs.buffered.line_writer.steps.send_line.Goals as goal

@@ -1,15 +1,8 @@
-use Rattle.std.proofs.Common.{◌≡◌, ◌<◌, [], length, rules, inl, inr}
+use Rattle.std.proofs.Common.{◌<◌, length, rules, inr}
 use Rattle.std.proofs.lemmas.Result.{err_from_is_err_and}
 use Rattle.no_std_io2.specs.BufWriter.{sender_buffer}
-use Rattle.no_std_io2.proofs.BufWriterLemmas.{none_of_length}
 use Rattle.no_std_io2.proofs.StepLemmas.{then_stops, then_goes_on}
 use Rattle.no_std_io2.proofs.buffered.line_writer.steps.send_lines.Goals as goal
-
-pub returns-then-is_empty : goal.returns-then-is_empty
-returns-then-is_empty g c =
-    let empty : sender_buffer c.args.w.now ≡ [] = none_of_length _ (search rules) in
-    let wrote = c.write_all.ensures.law.calls in
-    (wrote.0, wrote.1, inl (empty, empty, wrote.2))
 
 pub returns-in_err-write_all : goal.returns-in_err-write_all
 returns-in_err-write_all g c =

@@ -1,4 +1,5 @@
-use Rattle.std.proofs.Common.{◌≡◌, ◌+◌, ◌-◌, ◌++◌, Ok, length, arith, ◌∙◌, sym, refl, ap, inr, rules, length-take, length-drop}
+use Rattle.std.proofs.lemmas.Grind.{common_steps}
+use Rattle.std.proofs.Common.{◌≡◌, ◌+◌, ◌-◌, ◌++◌, Ok, length, arith, ◌∙◌, sym, refl, ap, inr, length-take, length-drop}
 use Rattle.std.proofs.Common.{drop}
 use Rattle.std.specs.List.{slice_range}
 use Rattle.std.proofs.lemmas.Result.{err_from_is_err_and}
@@ -37,12 +38,7 @@ returns-then-n-eq0 g c =
     (went.0, went.1, inr (HasNewline-lines _ _ c.requires.lines c.requires.some, went.2))
 
 pub hold-requires : goal.hold-requires
-hold-requires g c =
-    let none = writes_whole c.in_ok-send.ensures.calls.2 in
-    let end = c.tail_end-end.result in
-    let tail = c.tail_end-end.ensures in
-    let x = c.args.x.now in
-    (search rules, omega (arith, ap length none, tail.room, length-take (end - c.in_ok-n.n) (drop c.in_ok-n.n x)))
+hold-requires g c = grind (arith, common_steps, writes_whole, length-take)
 
 -- some were, and the tail is held
 pub returns : goal.returns

@@ -1,18 +1,32 @@
 -- Sending: each turn moves a front of what is held from the buffer to what was sent.
-use Rattle.std.proofs.Common.{arith, sym, ◌∙◌}
-use Rattle.no_std_io2.proofs.BufWriterSends.{sending_begins, sending_took, sending_again, sending_fails}
-use Rattle.no_std_io2.proofs.BufWriterSends.{sending_stuck, sending_done, fewer_left}
+use Rattle.std.proofs.lemmas.Grind.{common_steps}
+use Rattle.std.proofs.lemmas.List.{nil_from_length}
+use Rattle.std.proofs.Common.{◌≡◌, ℕ, ◌+◌, ◌<◌, ◌≤◌, List, ◌∷◌, length, drop, Result, Ok, Err, refl, sym, ap, subst, ◌∙◌, arith, []}
+use Rattle.no_std_io2_base.specs.declared.error.Error.{Error}
+use Rattle.no_std_io2_base.specs.declared.error.ErrorKind.{ErrorKind}
+use Rattle.no_std_io2_base.specs.Write.{Told, Moves, Wrote, none as no_write, took, again, stuck, fault}
+use Rattle.no_std_io2_base.proofs.CallsLemmas.{calls_none, calls_more, calls_end}
+use Rattle.no_std_io2.specs.BufWriter.{sender_buffer, SendCalls, CallOf}
 use Rattle.no_std_io2.proofs.buffered.sender.Sender.send_held.Goals as goal
-use Rattle.no_std_io2.specs.BufWriter.{sender_buffer}
-use Rattle.no_std_io2.proofs.BufWriterLemmas.{none_of_length}
 
 pub sends-init : goal.sends-init
-sends-init g c = sending_begins
+sends-init g c = record { made = calls_none; unmoved = refl }
 
 pub sends-preserved-in-Ok : goal.sends-preserved-in-Ok
 sends-preserved-in-Ok g c =
-    sending_took c.sends.invariant (omega arith) (omega (arith, c.in-Ok.n-test.1)) c.as_slice.ensures.value c.in-Ok.ensures.law
-    c.drop_front.ensures.held c.drop_front.ensures.unmoved
+    let before = c.sends.invariant in
+    let wrote : List ℕ → Type 0 = λ y. CallOf g.W.Write c.sends.self.inner (Wrote y (Ok c.in-Ok.n)) c.write.new.self in
+    let rest = c.drop_front.ensures in
+    record {
+      made = calls_more before.made (subst wrote c.as_slice.ensures.value c.in-Ok.ensures.law)
+          (λ D r e w. took (omega arith) (omega (arith, c.in-Ok.n-test.1)) (subst (λ l. SendCalls l D r e) rest.held w));
+      unmoved = rest.unmoved ∙ before.unmoved;
+    }
+
+-- fewer turns and bytes are left after a write that took some
+fewer_left : {a b : Told} {y : List ℕ} {k : List ErrorKind} (x : List ℕ) {held next : List ℕ} {n : ℕ} → Moves a y k b → (n ≡ 0 → ⊥)
+    → n ≤ length x → x ≡ held → next ≡ drop n held → b.turns + length next < a.turns + length held
+fewer_left x {held = held} {n = n} moves some within given rest = grind (arith, common_steps)
 
 pub sends-smaller-in-Ok : goal.sends-smaller-in-Ok
 sends-smaller-in-Ok g c =
@@ -20,18 +34,34 @@ sends-smaller-in-Ok g c =
     c.drop_front.ensures.held
 
 pub sends-preserved : goal.sends-preserved
-sends-preserved g c = sending_again c.sends.invariant (omega arith) c.as_slice.ensures.value
-    (sym c.is_interrupted.ensures ∙ c.if-is_interrupted.true) c.in-Err.ensures.law
+sends-preserved g c =
+    let before = c.sends.invariant in
+    let wrote : List ℕ → Type 0 = λ y. CallOf g.W.Write c.sends.self.inner (Wrote y (Err c.in-Err.e)) c.write.new.self in
+    let interrupted = sym c.is_interrupted.ensures ∙ c.if-is_interrupted.true in
+    record {
+      made = calls_more before.made (subst wrote c.as_slice.ensures.value c.in-Err.ensures.law)
+          (λ D r end w. again (omega arith) interrupted w);
+      unmoved = before.unmoved;
+    }
 
 pub returns-in-Ok-eq0-clause-calls : goal.returns-in-Ok-eq0-clause-calls
 returns-in-Ok-eq0-clause-calls g c =
-    sending_stuck c.sends.invariant (omega arith) c.as_slice.ensures.value c.in-Ok-eq0.is c.in-Ok-eq0.field-0-test
-    (c.new.ensures.kind, c.new.ensures.text) c.write.ensures.law
+    let held = sender_buffer c.sends.self in
+    let wrote : List ℕ → Result ℕ Error → Type 0 = λ y a. CallOf g.W.Write c.sends.self.inner (Wrote y a) c.write.new.self in
+    let none = subst (wrote c.as_slice.result.now) (c.in-Ok-eq0.is ∙ ap Ok c.in-Ok-eq0.field-0-test) c.write.ensures.law in
+    let last = subst (λ y. wrote y (Ok 0)) c.as_slice.ensures.value none in
+    calls_end c.sends.invariant.made (Err c.new.result) held (Wrote held (Ok 0) ∷ []) (_, last, refl)
+    (stuck (omega arith) (c.new.ensures.kind, c.new.ensures.text))
 
 pub returns-in-Err-2-clause-calls : goal.returns-in-Err-2-clause-calls
 returns-in-Err-2-clause-calls g c =
-    let fault = sym c.is_interrupted.ensures ∙ c.if-is_interrupted.false in
-    sending_fails c.sends.invariant (omega arith) c.as_slice.ensures.value fault c.in-Err.ensures.law
+    let held = sender_buffer c.sends.self in
+    let wrote : List ℕ → Type 0 = λ y. CallOf g.W.Write c.sends.self.inner (Wrote y (Err c.in-Err.e)) c.write.new.self in
+    let last = subst wrote c.as_slice.ensures.value c.in-Err.ensures.law in
+    calls_end c.sends.invariant.made (Err c.in-Err.e) held (Wrote held (Err c.in-Err.e) ∷ []) (_, last, refl)
+    (fault (omega arith) (sym c.is_interrupted.ensures ∙ c.if-is_interrupted.false))
 
 pub returns-clause-calls : goal.returns-clause-calls
-returns-clause-calls g c = sending_done c.sends.invariant (none_of_length (sender_buffer c.sends.self) (omega arith))
+returns-clause-calls g c =
+    let empty = nil_from_length (sender_buffer c.sends.self) (omega arith) in
+    calls_end c.sends.invariant.made (Ok tt) _ [] refl (subst (λ l. SendCalls l [] (Ok tt) l) (sym empty) no_write)

@@ -1,6 +1,7 @@
 -- A line that is held whole goes straight to the text; else nothing has changed, and it is read into a vector first.
-use Rattle.std.proofs.Common.{◌≡◌, ◌⊎◌, ℕ, List, [], Result, Ok, Err, OnOk, OnErr, String, string_len, string_capacity, string_bytes}
-use Rattle.std.proofs.Common.{arith, take, ◌∙◌, ◌+◌, ◌++◌, ⊎_elim, inl, inr, length, vec_len, drop, sym, ap, subst, refl}
+use Rattle.std.proofs.lemmas.Grind.{common_steps}
+use Rattle.std.proofs.Common.{◌≡◌, ◌⊎◌, ℕ, List, Result, Ok, Err, OnOk, OnErr, String, string_len, string_capacity, string_bytes, []}
+use Rattle.std.proofs.Common.{arith, take, ◌+◌, ◌++◌, length, vec_len, drop, sym, ap, subst, refl}
 use Rattle.std.proofs.Common.{take-append-drop}
 use Rattle.no_std_io2_base.specs.declared.error.Error.{Error}
 use Rattle.no_std_io2_base.specs.Pieces.{AnswersLine}
@@ -43,10 +44,7 @@ by_string : {A : Type 0} (line : List ℕ) (read reply : Result ℕ Error) (text
     → ((capacity : ℕ) → (string_bytes taken ≡ []) ⊎ (string_capacity taken ≡ capacity)
     → AnswersLine line read (string_len taken) capacity reply (string_bytes taken) new)
     → AnswersLine line read (string_len text) (string_capacity text) reply (string_bytes text) new
-by_string line read reply text taken new bytes len room answers =
-    subst (λ l. AnswersLine line read (string_len text) (string_capacity text) reply l new) bytes
-    (subst (λ n. AnswersLine line read n (string_capacity text) reply (string_bytes taken) new) len
-    (answers (string_capacity text) (⊎_elim (λ none. inl (bytes ∙ none)) inr room)))
+by_string line read reply text taken new bytes len room answers = grind (arith, common_steps, string_len, string_capacity, string_bytes)
 
 -- what holds, holds after an error
 on_err : {X : Type 0} (reply : Result ℕ Error) → X → OnErr reply X

@@ -1,5 +1,5 @@
 -- As the trait's; a piece that is held whole is taken at once, and the bytes behind grow by what is taken.
-use Rattle.std.proofs.Common.{◌∙◌, length, take, drop, refl, sym, arith, append-nil, [], lt_of_lt_of_le}
+use Rattle.std.proofs.Common.{◌∙◌, length, take, drop, refl, sym, arith, append-nil, lt_of_lt_of_le, []}
 use Rattle.std.proofs.Common.{ap, ap₂, ◌++◌, vec_len, drop_of_length-le}
 use Rattle.std.proofs.lemmas.Result.{err_from_is_err_and}
 use Rattle.no_std_io2_base.proofs.PieceLoop.{until_none, until_interruption, until_fault, until_refused, until_more, until_whole}

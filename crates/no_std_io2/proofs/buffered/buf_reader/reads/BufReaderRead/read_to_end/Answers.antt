@@ -1,5 +1,6 @@
 -- A read to the end, by its four ends: nothing held, no room for what is held, an error of the inner reader, or its end.
-use Rattle.std.proofs.Common.{◌≡◌, ◌-◌, ◌≤◌, [], ◌++◌, length, arith, ap, refl, sym, ◌∙◌, inl, inr, le_trans, append-nil, rules}
+use Rattle.std.proofs.lemmas.List.{nil_from_length}
+use Rattle.std.proofs.Common.{◌≡◌, ◌-◌, ◌≤◌, ◌++◌, length, arith, ap, refl, sym, ◌∙◌, inl, inr, le_trans, append-nil, rules, []}
 use Rattle.std.proofs.lemmas.Result.{err_from_is_err_and}
 use Rattle.no_std_io2_base.proofs.PieceLemmas.{memory_fault}
 use Rattle.no_std_io2_base.proofs.SliceReads.{fewer_left}
@@ -9,7 +10,6 @@ use Rattle.no_std_io2.proofs.BufReaderBehind.{sound_empty, sound_stayed}
 use Rattle.no_std_io2.proofs.BufReaderEmptied.{moved_all, emptied_all, emptied_stop, emptied_front, emptied_shown, emptied_on}
 use Rattle.no_std_io2.proofs.BufReaderEmptied.{emptied_moved, emptied_again, part_refused, part_front, part_moved, part_sound}
 use Rattle.no_std_io2.proofs.BufReaderEmptied.{part_turns, room_held, held_fault, none_told, none_room, none_empties}
-use Rattle.no_std_io2.proofs.BufWriterLemmas.{none_of_length}
 use Rattle.no_std_io2.proofs.BufReaderCalls.{sound_none, drained}
 use Rattle.no_std_io2_base.proofs.ReadCalls.{to_end_own}
 use Rattle.no_std_io2.proofs.BufReaderTurns.{turns_read, appended_turn}
@@ -18,7 +18,7 @@ use Rattle.no_std_io2.proofs.buffered.buf_reader.reads.BufReaderRead.read_to_end
 pub returns-then-is_empty : goal.returns-then-is_empty
 returns-then-is_empty g c =
     let held = reader_held c.args.self.now in
-    let none : held ≡ [] = none_of_length _ (search rules) in
+    let none : held ≡ [] = nil_from_length _ (search rules) in
     let left = buffer_held c.clear.new.self in
     let clear = c.clear.ensures in
     let read = c.read_to_end.ensures.law in

@@ -5,7 +5,7 @@ use Rattle.no_std_io2_base.specs.declared.traits.seek.SeekFrom.{SeekFrom}
 use Rattle.no_std_io2_base.specs.declared.traits.seek.SeekFrom.TheVariants.{Current}
 use Rattle.no_std_io2_base.specs.Seek.{Seeks}
 use Rattle.no_std_io2.specs.BufReader.{ReaderSeeks, reader_held, reader_inner, reader_position}
-use Rattle.no_std_io2.proofs.BufReaderSeeks.{arrives_at, sought, elsewhere, not_far, one_inner, dropped_whole, kept_whole}
+use Rattle.no_std_io2.proofs.BufReaderSeeks.{arrives_at, sought, elsewhere, one_inner, kept_or}
 use Rattle.no_std_io2.proofs.buffered.buf_reader.seeks.BufReaderSeek.seek.Goals as goal
 
 pub returns-in-Current-clause-law : goal.returns-in-Current-clause-law
@@ -21,15 +21,11 @@ returns-in-Current-clause-law g c =
           λ (target : SeekFrom). Seeks (length (g.R.Stored.content (reader_inner c.args.self.now))) (place c.args.self.now)
           target c.seek_current.result (place c.seek_current.new.self) in
           (now.0, now.1, subst sought_here same now.2);
-      position = arrives_at c.seek_current.result _ _ _ _ seek.position seek.empty;
+      position = arrives_at c.seek_current.result _ _ _ _ _ seek.position seek.seeks.dropped;
       call =
           let sought_to =
           λ (target : SeekFrom). ReaderSeeks g.R.Seek.may c.args.self.now target c.seek_current.new.self c.seek_current.result in
-          subst sought_to same (record {
-            dropped = dropped_whole c.seek_current.result _ _ seek.empty seek.behind;
-            kept = seek.kept;
-            inner = seek.sought;
-          });
+          subst sought_to same seek.seeks;
     }
 
 pub returns-in-Start-clause-law : goal.returns-in-Start-clause-law
@@ -42,16 +38,13 @@ returns-in-Start-clause-law g c =
           let now = seek.store s.0 in
           let there = elsewhere c.args.pos c.in-Start.is in
           let done =
-          sought c.args.pos c.args.pos c.seek_inner.result held new _ _ _ _ (λ n. there _ _ _ n) (λ n. there _ _ _ n) s.1
-          now.1 now.2 seek.empty seek.kept in
+          sought c.args.pos c.args.pos c.seek_inner.result held new _ _ _ _ _ _ (λ n. there _ _ _ n) (λ n. there _ _ _ n) s.1
+          now.1 now.2 seek.dropped seek.kept in
           ((now.0, done.0), now.1, done.1);
-      position = arrives_at c.seek_inner.result _ _ _ _ seek.position seek.empty;
+      position = arrives_at c.seek_inner.result _ _ _ _ _ seek.position seek.dropped;
       call = record {
-        dropped = dropped_whole c.seek_inner.result _ _ seek.empty seek.behind;
-        kept = kept_whole c.seek_inner.result _ _ _ seek.kept seek.behind_kept;
+        dropped = seek.dropped;
+        kept = kept_or c.seek_inner.result _ _ seek.kept;
         inner = one_inner g.R.Seek.may _ c.seek_inner.result c.args.pos c.in-Start.is seek.sought;
       };
     }
-
-pub returns-in-Start-clause-dropped : goal.returns-in-Start-clause-dropped
-returns-in-Start-clause-dropped g c = λ s far. absurd (not_far c.args.pos _ c.in-Start.is far)
