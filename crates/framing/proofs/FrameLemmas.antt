@@ -1,6 +1,9 @@
 -- How a frame is read: its header, and then its payload.
-use Rattle.std.proofs.Common.{◌≡◌, ◌⊎◌, ℕ, ◌+◌, ◌<◌, ◌≤◌, min, Bool, true, false, List, [], ◌++◌, length, take, codes, Ok, Err}
-use Rattle.std.proofs.Common.{refl, sym, ap, ◌∙◌, subst, inl, inr, arith, append-nil}
+use Rattle.std.proofs.Common.{◌≡◌, ◌⊎◌, ℕ, zero, suc, ◌+◌, ◌<◌, ◌≤◌, min, Bool, true, false, List, [], ◌++◌, length, take, codes, Ok, Err}
+use Rattle.std.proofs.Common.{refl, sym, ap, ◌∙◌, subst, inl, inr, arith, append-nil, length-append, length-take, le_refl}
+use borrow.Rule.Slice.PartMut.{put_mid}
+use Rattle.std.proofs.lemmas.Slice.{take-put_mid_below}
+use Rattle.no_std_io2.proofs.ReadParts.{take-put_mid}
 use Rattle.std.specs.Int.{w32, to_le_bytes, from_le_bytes}
 use Rattle.std.proofs.Math.Seq.{take-append_seam}
 use Rattle.no_std_io2.specs.declared.io.Error.{Error}
@@ -11,7 +14,7 @@ use Rattle.framing.specs.Frames.{frame, told_length, IsPart}
 use Rattle.no_std_io2.specs.Passing.{TakesBytes, Gathered}
 use Rattle.framing.specs.Taking.{GathersPart, TakesNone}
 use Rattle.no_std_io2.proofs.EventLemmas.{bytes-behind, TakesBytes-all}
-use Rattle.no_std_io2.proofs.EventLemmas.{Gathered-then, Gathered-passes}
+use Rattle.no_std_io2.proofs.EventLemmas.{Gathered-then, Gathered-passes, Gathered-more}
 
 -- a payload after the header does not change the length that the header says
 pub told_behind : (header payload : List ℕ) → length header ≡ 4 → told_length (header ++ payload) ≡ from_le_bytes w32 header
@@ -135,3 +138,33 @@ none_lost short limit E e after (inl (inr h)) =
     ap bytes (h.kept ∙ sym (append-nil (events_of h.seen))) ∙ bytes-behind h.seen [] ∙ sym (TakesBytes-all h.passes)
 none_lost short limit E e after (inr (inl h)) = ap bytes h.kept ∙ bytes-behind h.seen h.rest ∙ sym (TakesBytes-all h.passes)
 none_lost short limit E e after (inr (inr h)) = ap bytes h.kept ∙ bytes-behind h.seen h.rest ∙ sym (TakesBytes-all h.passes)
+
+-- a read gave more of the header; nothing of the payload was read before
+pub header_more : {E mid after : List Event} {old : List ℕ} (count n k : ℕ) (header buf payload : List ℕ) → payload ≡ []
+    → count ≤ length header → n ≤ length buf → Gathered E old (take count header ++ payload) mid → mid ≡ events_of (take n buf) ++ after
+    → Gathered E old (take (count + n) (put_mid count k header buf) ++ payload) after
+header_more {after = after} count n k header buf payload none within fits g read =
+    Gathered-more (take n buf) (take (count + n) (put_mid count k header buf) ++ payload) after g read
+    (ap (λ l. l ++ payload) (take-put_mid count k n header buf within fits)
+    ∙ ap (λ p. (take count header ++ take n buf) ++ p) none ∙ append-nil (take count header ++ take n buf)
+    ∙ ap (λ l. l ++ take n buf) (sym (append-nil (take count header)) ∙ ap (λ p. take count header ++ p) (sym none)))
+
+-- a read gave nothing, and wrote only behind the bytes that were read
+pub header_still : {E after : List Event} {old : List ℕ} (count k : ℕ) (header buf payload : List ℕ) → count ≤ length header
+    → Gathered E old (take count header ++ payload) after → Gathered E old (take count (put_mid count k header buf) ++ payload) after
+header_still {E} {after} {old} count k header buf payload within g =
+    subst (λ l. Gathered E old (l ++ payload) after) (sym (take-put_mid_below count k header buf count (le_refl count) within)) g
+
+-- a header is short as long as bytes of it are missing
+pub header_short : (count : ℕ) (header payload : List ℕ) → payload ≡ [] → count < 4 → length (take count header ++ payload) < 4
+header_short count header payload none less =
+    omega (arith, length-append (take count header) payload, length-take count header, ap length none)
+
+-- and then there are four bytes and more
+pub header_long : (count : ℕ) (header payload : List ℕ) → length header ≡ 4 → 4 ≤ count → 4 ≤ length (take count header ++ payload)
+header_long count header payload long more = omega (arith, length-append (take count header) payload, length-take count header)
+
+-- of a part of at least four bytes some were read, now or before
+pub some_part : (was new : ℕ) → 4 ≤ new → (was < new) ⊎ (0 < was)
+some_part zero new long = inl (omega (arith, long))
+some_part (suc n) new long = inr (omega arith)

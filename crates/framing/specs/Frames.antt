@@ -22,9 +22,11 @@ told_length bs = from_le_bytes w32 (take 4 bs)
 abbrev pub IsPart : List ℕ → Type 0
 IsPart bs = (length bs < 4) ⊎ (length bs < 4 + told_length bs)
 
--- a header and a payload that are at most one frame: there is no payload until the header is whole, and then at most as much as it says
-abbrev pub IsWithin : List ℕ → List ℕ → Type 0
-IsWithin header payload = (length header ≤ 4) × (length header < 4 → payload ≡ []) × (length payload ≤ from_le_bytes w32 header)
+-- so many bytes of a header, and a payload, are at most one frame: there is no payload until the header is whole, and then at most as much
+-- as it says
+abbrev pub IsWithin : ℕ → List ℕ → List ℕ → Type 0
+IsWithin count header payload =
+    (count ≤ 4) × (count < 4 → payload ≡ []) × (length payload ≤ from_le_bytes w32 (take count header))
 
 -- e is the error of a payload that is too long for a frame
 abbrev pub IsTooLongToSend : List ℕ → Error → Type 0

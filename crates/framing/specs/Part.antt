@@ -1,5 +1,5 @@
 -- The part of the next frame that a reader of frames has.
-use Rattle.std.specs.Prelude.{◌≡◌, ◌⊎◌, ◌<◌, ◌≤◌, ℕ, List, ◌++◌, length, min, ◌+◌, vec_capacity}
+use Rattle.std.specs.Prelude.{◌≡◌, ◌<◌, ◌≤◌, ℕ, List, ◌++◌, length, take, min, ◌+◌, vec_capacity}
 use Rattle.std.specs.Int.{w32, from_le_bytes}
 use Rattle.no_std_io2.specs.Read.{Event, events_of}
 use Rattle.no_std_io2.specs.BufReader.{reader_inner, reader_events, reader_turns}
@@ -8,11 +8,11 @@ use Rattle.framing.specs.declared.reader.FrameReader.{FrameReader}
 
 -- the bytes of the next frame that were read
 abbrev pub part_bytes : Part → List ℕ
-part_bytes p = p.header.items ++ p.payload.items
+part_bytes p = take p.count p.header ++ p.payload.items
 
 -- those of them that are in its header
 abbrev pub part_header : Part → List ℕ
-part_header p = p.header.items
+part_header p = take p.count p.header
 
 -- those of them that are in its payload
 abbrev pub part_payload : Part → List ℕ
@@ -20,11 +20,7 @@ part_payload p = p.payload.items
 
 -- the length of the payload, as the header says
 abbrev pub told_by : Part → ℕ
-told_by p = from_le_bytes w32 p.header.items
-
--- the number of bytes of a header for which there is room
-abbrev pub header_room : Part → ℕ
-header_room p = vec_capacity p.header
+told_by p = from_le_bytes w32 (part_header p)
 
 -- the number of bytes of a payload for which there is room
 abbrev pub payload_room : Part → ℕ
@@ -46,10 +42,9 @@ most r = r.limit
 abbrev pub part_of : {R : Type 0} {S : ℕ} → FrameReader R S → Part
 part_of r = r.part
 
--- there is too little room for a header, or for the payload of the length that the header says, which is within the limit
+-- there is too little room for the payload of the length that the header says, which is within the limit
 abbrev pub LacksRoom : ℕ → Part → Type 0
-LacksRoom limit p = (header_room p < 4)
-    ⊎ ((length (part_header p) ≡ 4) × (told_by p ≤ limit) × (payload_room p < told_by p))
+LacksRoom limit p = (length (part_header p) ≡ 4) × (told_by p ≤ limit) × (payload_room p < told_by p)
 
 -- a number that each frame lowers, if the reader below tells `turns`
 abbrev pub frame_turns : {R : Type 0} {S : ℕ} → (R → ℕ) → FrameReader R S → ℕ

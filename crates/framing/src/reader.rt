@@ -115,9 +115,8 @@ impl<R: Read, const S: usize> FrameReader<R, S> {
     /// # Errors
     /// Returns the first fault of the reader below; the next call continues after it. Returns `UnexpectedEof` if
     /// the bytes end inside a frame. Returns `InvalidData` if the next payload is longer than the limit; nothing
-    /// is allocated for it. Returns `OutOfMemory` if there is no room for the header or the payload; nothing of
-    /// it is read. After each of these errors the frame is still to come, with all its bytes. Never returns
-    /// `Interrupted`.
+    /// is allocated for it. Returns `OutOfMemory` if there is no room for the payload; nothing of it is read. After
+    /// each of these errors the frame is still to come, with all its bytes. Never returns `Interrupted`.
     pub fn next(&mut self) -> Result<Option<Vec<u8>>>
         ensures told { R.tells (reads_from self.old) → R.tells (reads_from self.new)
             × TakesFrame (λ v. v.items) (most self.old) (LacksRoom (most self.old) (part_of self.new))

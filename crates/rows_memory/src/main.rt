@@ -47,7 +47,6 @@ fn play_long(alloc: Global, text: &[u8], word: &str, first: usize, second: usize
 
 fn play(alloc: Global, text: &[u8], call: &str) -> Outcome {
     match call {
-        "above" => frames::by_above(alloc),
         "short read_line" => small::by_read_lines(alloc),
         "short split" => small::by_split(alloc),
         "short lines" => small::by_lines(alloc),

@@ -5,7 +5,7 @@ ghost use Rattle.no_std_io2.specs.Errors.{IsFault};
 ghost use Rattle.framing.specs.Frames.{IsWithin};
 ghost use Rattle.framing.specs.Taking.{GathersPart};
 
-use no_std_io2::io::{BufRead, Result};
+use no_std_io2::io::{BufRead, Read, Result};
 use std::alloc::Global;
 use std::mem;
 
@@ -53,13 +53,15 @@ fn length_of(header: [u8; HEADER]) -> u32
 /// A frame's header and payload, as far as they were read.
 #[derive(Drop)]
 pub struct Part {
-    header: Vec<u8>,
+    header: [u8; HEADER],
+    // How many bytes of the header were read.
+    count: usize,
     payload: Vec<u8>,
-    ghost within: { IsWithin header.items payload.items },
+    ghost within: { IsWithin count header payload.items },
 }
 
 impl Part {
-    ghost use Rattle.framing.specs.Part.{part_bytes, part_header, part_payload, header_room, payload_room};
+    ghost use Rattle.framing.specs.Part.{part_bytes, part_header, part_payload, payload_room};
 
     /// Makes a part of which nothing was read.
     pub fn new(alloc: Global) -> Part
@@ -67,7 +69,8 @@ impl Part {
         ensures room { payload_room result ≡ 0 }
     {
         Part {
-            header: Vec::new(alloc),
+            header: [0; HEADER],
+            count: 0,
             payload: Vec::new(alloc),
         }
     }
@@ -76,31 +79,36 @@ impl Part {
     pub fn is_empty(&self) -> bool
         ensures { result ≡ (length (part_bytes self.now) == 0) }
     {
-        self.header.is_empty()
+        self.count == 0
     }
 
     /// Reads the rest of the frame's header. `false` means that the end came first.
     ///
     /// # Errors
-    /// Returns the reader's first fault, and `OutOfMemory` if an allocation failed. The bytes
-    /// before the error are kept.
-    pub fn fill_header<B: BufRead>(&mut self, from: &mut B) -> Result<bool>
-        ensures told { B.tells from.old → B.tells from.new
-            × GathersPart 4 (header_room self.new < 4) (B.events from.old) result
-            (part_bytes self.old) (part_bytes self.new) (B.events from.new) }
-        ensures room { payload_room self.new ≡ payload_room self.old }
+    /// Returns the reader's first fault. The bytes before the error are kept.
+    pub fn fill_header<R: Read>(&mut self, from: &mut R) -> Result<bool>
+        ensures told { R.tells from.old → R.tells from.new
+            × GathersPart 4 ⊥ (R.events from.old) result (part_bytes self.old) (part_bytes self.new) (R.events from.new) }
+        ensures payload { self.new.payload ≡ self.old.payload }
         ensures whole { IfOk result (λ b. b ≡ true → length (part_header self.new) ≡ 4) }
         ensures never_interrupted { IfErr result IsFault }
-        ensures turns_never_rise { B.turns from.new ≤ B.turns from.old }
-        ensures spends_turn { length (part_bytes self.old) < length (part_bytes self.new) → B.turns from.new < B.turns from.old }
+        ensures turns_never_rise { R.turns from.new ≤ R.turns from.old }
+        ensures spends_turn { length (part_bytes self.old) < length (part_bytes self.new) → R.turns from.new < R.turns from.old }
         ensures some { IfOk result (λ b. b ≡ true → length (part_bytes self.old) < length (part_bytes self.new)
             ⊎ (0 < length (part_bytes self.old))) }
     {
-        if self.header.len() == HEADER {
-            return Ok(true);
+        'bytes: while self.count < HEADER {
+            match from.read(&mut self.header[self.count..]) {
+                Ok(0) => return Ok(false),
+                Ok(n) => self.count += n,
+                Err(e) => {
+                    if !e.is_interrupted() {
+                        return Err(e);
+                    }
+                }
+            }
         }
-        self.header.reserve_exact(HEADER - self.header.len())?;
-        gather(from, &mut self.header, HEADER)
+        Ok(true)
     }
 
     /// Returns the length that the header says.
@@ -109,9 +117,7 @@ impl Part {
         ensures value { result ≡ from_le_bytes w32 (part_header self.now) }
         ensures back { to_le_bytes w32 result ≡ part_header self.now }
     {
-        let mut header = [0; HEADER];
-        header.copy_from_slice(&self.header);
-        length_of(header)
+        length_of(self.header)
     }
 
     /// Reads the rest of the payload, whose length the header says. `false` means that the end came
@@ -140,7 +146,7 @@ impl Part {
         ensures payload { result.items ≡ part_payload self.old }
         ensures empty { part_bytes self.new ≡ [] }
     {
-        self.header.clear();
+        self.count = 0;
         let alloc = *self.payload.allocator();
         mem::replace(&mut self.payload, Vec::new(alloc))
     }

@@ -1,7 +1,7 @@
-use Rattle.std.proofs.Common.{◌≡◌, ◌+◌, ◌<◌, [], length, sym, ap, ◌∙◌, inl, inr, arith, length-append}
+use Rattle.std.proofs.Common.{◌≡◌, ◌+◌, ◌<◌, [], length, sym, ap, ◌∙◌, inl, arith, length-append}
 use Rattle.std.proofs.lemmas.Result.{err_from_is_err_and}
 use Rattle.std.specs.Int.{w32, from_le_bytes}
-use Rattle.framing.specs.Part.{part_bytes, part_header, part_payload, header_room, payload_room, most}
+use Rattle.framing.specs.Part.{part_bytes, part_header, part_payload, payload_room, most}
 use Rattle.no_std_io2.proofs.EventLemmas.{Gathered-none, Gathered-then, Gathered-passes}
 use Rattle.no_std_io2.proofs.EventLemmas.{not_empty, is_empty}
 use Rattle.framing.proofs.FrameLemmas.{told_behind, stopped, ended, no_frame, whole_part, too_long, frame_whole}
@@ -14,7 +14,7 @@ returns-in_err-fill_header-clause-told g c = λ t.
     let said = c.in_err-fill_header.ensures.told t in (
       said.0,
       rw (p.1, p.2)
-          (stopped (header_room c.fill_header.new.self < 4) _ (most c.args.self.now) 4 (λ h. inl h) c.in_err-fill_header.field-0.0
+          (stopped ⊥ _ (most c.args.self.now) 4 (λ no. absurd no) c.in_err-fill_header.field-0.0
           (Gathered-none _ _) said.1
           (λ h. inl h)),
     )
@@ -23,14 +23,14 @@ pub returns-then-is_empty-clause-told : goal.returns-then-is_empty-clause-told
 returns-then-is_empty-clause-told g c = λ t.
     let said = c.in_ok-fill_header.ensures.told t in
     let none : part_bytes c.fill_header.new.self ≡ [] = is_empty _ _ c.is_empty.ensures c.if-is_empty.true in
-    (said.0, no_frame (header_room c.fill_header.new.self < 4) 4 _ _ c.in_ok-fill_header.field-0 c.if-not-branch.true said.1 none)
+    (said.0, no_frame ⊥ 4 _ _ c.in_ok-fill_header.field-0 c.if-not-branch.true said.1 none)
 
 pub returns-then-not-branch-clause-told : goal.returns-then-not-branch-clause-told
 returns-then-not-branch-clause-told g c = λ t.
     let said = c.in_ok-fill_header.ensures.told t in
     let some : 0 < length (part_bytes c.fill_header.new.self) = not_empty _ _ c.is_empty.ensures c.if-is_empty.false in (
       said.0,
-      ended (header_room c.fill_header.new.self < 4) _ (most c.args.self.now) 4 _ _ c.in_ok-fill_header.field-0 c.ended_inside.result
+      ended ⊥ _ (most c.args.self.now) 4 _ _ c.in_ok-fill_header.field-0 c.ended_inside.result
           c.if-not-branch.true
           (Gathered-none _ _) said.1 (λ h. inl h) some c.ended_inside.ensures,
     )
@@ -42,7 +42,7 @@ pub returns-then-len-self-clause-told : goal.returns-then-len-self-clause-told
 returns-then-len-self-clause-told g c = λ t.
     let said = c.in_ok-fill_header.ensures.told t in
     let b = c.if-not-branch.false in
-    let whole = whole_part (header_room c.fill_header.new.self < 4) 4 c.in_ok-fill_header.field-0 b said.1 in
+    let whole = whole_part ⊥ 4 c.in_ok-fill_header.field-0 b said.1 in
     let part = c.fill_header.new.self in
     let told = told_behind (part_header part) (part_payload part) (c.in_ok-fill_header.ensures.whole b) in (
       said.0,
@@ -56,7 +56,7 @@ returns-in_err-fill_payload-clause-told g c = λ t.
     let header = c.in_ok-fill_header.ensures.told t in
     let said = c.in_err-fill_payload.ensures.told header.0 in
     let b = c.if-not-branch.false in
-    let whole = whole_part (header_room c.fill_header.new.self < 4) 4 c.in_ok-fill_header.field-0 b header.1 in
+    let whole = whole_part ⊥ 4 c.in_ok-fill_header.field-0 b header.1 in
     let len = c.told_len-len.result in
     let part = c.fill_payload.new.self in
     let same = c.in_err-fill_payload.ensures.header in
@@ -65,7 +65,7 @@ returns-in_err-fill_payload-clause-told g c = λ t.
       said.0,
       rw (p.1, p.2)
           (stopped (payload_room c.fill_payload.new.self < c.told_len-len.result) _ (most c.args.self.now) (4 + len)
-          (λ less. inr (four, omega (arith, told, c.if-len-self.false), omega (arith, told, less)))
+          (λ less. (four, omega (arith, told, c.if-len-self.false), omega (arith, told, less)))
           c.in_err-fill_payload.field-0.0 whole.0 said.1
           (part_short (part_header part) (part_payload part) len four told)),
     )
@@ -75,7 +75,7 @@ returns-then-not-branch-2-clause-told g c = λ t.
     let header = c.in_ok-fill_header.ensures.told t in
     let said = c.in_ok-fill_payload.ensures.told header.0 in
     let b = c.if-not-branch.false in
-    let whole = whole_part (header_room c.fill_header.new.self < 4) 4 c.in_ok-fill_header.field-0 b header.1 in
+    let whole = whole_part ⊥ 4 c.in_ok-fill_header.field-0 b header.1 in
     let len = c.told_len-len.result in
     let part = c.fill_payload.new.self in
     let same = c.in_ok-fill_payload.ensures.header in
@@ -95,7 +95,7 @@ returns-clause-told g c = λ t.
     let said = c.in_ok-fill_payload.ensures.told header.0 in
     let b = c.if-not-branch.false in
     let b2 = c.if-not-branch-2.false in
-    let first = whole_part (header_room c.fill_header.new.self < 4) 4 c.in_ok-fill_header.field-0 b header.1 in
+    let first = whole_part ⊥ 4 c.in_ok-fill_header.field-0 b header.1 in
     let len = c.told_len-len.result in
     let whole = whole_part (payload_room c.fill_payload.new.self < len) (4 + len) c.in_ok-fill_payload.field-0 b2 said.1 in
     let part = c.fill_payload.new.self in

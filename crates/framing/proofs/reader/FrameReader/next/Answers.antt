@@ -4,6 +4,17 @@ use Rattle.framing.specs.Part.{most, part_bytes, part_payload}
 use Rattle.framing.proofs.FrameLemmas.{none_lost, end_taken, frame_taken}
 use Rattle.framing.proofs.reader.FrameReader.next.Goals as goal
 
+pub returns-in_err-gather_frame-clause-told : goal.returns-in_err-gather_frame-clause-told
+returns-in_err-gather_frame-clause-told g c = λ t.
+    let p = err_from_is_err_and c.from_residual.result c.from_residual.ensures.1 in
+    let said = c.in_err-gather_frame.ensures.told t in
+    (said.0, rw (p.1, p.2) said.1)
+
+pub returns-in_err-gather_frame-clause-unasked : goal.returns-in_err-gather_frame-clause-unasked
+returns-in_err-gather_frame-clause-unasked g c =
+    let p = err_from_is_err_and c.from_residual.result c.from_residual.ensures.1 in
+    rw p.1 c.in_err-gather_frame.ensures.unasked
+
 pub returns-in_err-gather_frame-clause-kept : goal.returns-in_err-gather_frame-clause-kept
 returns-in_err-gather_frame-clause-kept g c = λ t.
     let p = err_from_is_err_and c.from_residual.result c.from_residual.ensures.1 in
@@ -26,3 +37,7 @@ returns-clause-told g c = λ t.
 pub returns-clause-spends_turn : goal.returns-clause-spends_turn
 returns-clause-spends_turn g c =
     omega (arith, ap length c.take_payload.ensures.empty, c.in_ok-gather_frame.ensures.spends_turn c.if-not-branch.false)
+
+pub returns-clause-within : goal.returns-clause-within
+returns-clause-within g c =
+    omega (arith, ap length c.take_payload.ensures.payload, c.in_ok-gather_frame.ensures.within c.if-not-branch.false)
