@@ -10,9 +10,8 @@ use Rattle.no_std_io2.specs.Errors.{IsOutOfMemory}
 use Rattle.no_std_io2.specs.Read.{Event, fails, events_of, bytes, bytes-events_of}
 use Rattle.framing.specs.Frames.{frames, IsPayloadRefusal, IsTooLongToSend}
 use Rattle.no_std_io2.specs.Write.{Told}
-use Rattle.framing.specs.Sending.{TakesPayloads, HasLongFrame}
+use Rattle.framing.specs.Sending.{TakesPayloads, HasLongFrame, Delivers}
 use Rattle.pending.specs.Pending.{RefusesFirst}
-use Rattle.framing.specs.Delivering.{Delivers}
 use Rattle.no_std_io2.specs.Appended.{appended}
 use Rattle.framing.specs.Taking.{ComesBack, IsFirstFault}
 use Rattle.framing.proofs.RoundTrip.{All-right}

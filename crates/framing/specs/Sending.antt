@@ -1,6 +1,6 @@
 -- What a writer of frames holds and tells, and what its calls do.
-use Rattle.std.specs.Prelude.{◌<◌, ◌≤◌, ◌+◌, ◌^◌, All, List, ℕ, length}
-use Rattle.no_std_io2.specs.Write.{Told}
+use Rattle.std.specs.Prelude.{◌<◌, ◌≤◌, ◌+◌, ◌^◌, All, List, ℕ, length, Ok}
+use Rattle.no_std_io2.specs.Write.{Told, Sends}
 use Rattle.no_std_io2.specs.BufWriter.{writer_inner, writer_buffer, writer_told}
 use Rattle.pending.specs.Pending.{pending_bytes, pending_rest, pending_room}
 use Rattle.pending.specs.Pending as records
@@ -42,3 +42,7 @@ HasLongFrame room payloads = All (λ p. 4 + length p ≤ room) payloads → ⊥
 -- the payloads that are gone from the front are short enough for a frame
 abbrev pub TakesPayloads : List (List ℕ) → List (List ℕ) → Type 0
 TakesPayloads = records.TakesOff (λ p. length p < 2 ^ 32)
+
+-- The bytes that are gone from the front of `to_go` were accepted, each once, in order, by calls that may have failed.
+abbrev pub Delivers : Told → List ℕ → Told → List ℕ → Type 0
+Delivers old to_go new left = Sends old to_go (Ok tt) new left

@@ -12,7 +12,6 @@
 //! ```
 #![tactic(auto)]
 
-mod delivery;
 mod reader;
 mod round;
 mod writer;

@@ -56,9 +56,9 @@ impl<W: Shown> Shown for Box<W> {
     }
 }
 
-/// Sends these payloads, with up to `tries` more tries after faults, and returns what a reader of frames
+/// Sends these payloads, with up to `retries` more tries after faults, and returns what a reader of frames
 /// reads from the bytes that went out: these payloads, in order, each once, for every tower of buffers and
-/// every device. The writer has to be flushed, with no frame under way. If the device tells at most `tries`
+/// every device. The writer has to be flushed, with no frame under way. If the device tells at most `retries`
 /// mishaps to come, and each payload has fewer than 2^32 bytes, the call fails only if an allocation does:
 /// for a frame that is longer than the writer's room for one, or, after all frames are out, for what is read.
 ///
@@ -75,12 +75,12 @@ pub fn round_trip<W: Shown + Drop, const S: usize>(
     alloc: Global,
     w: &mut FrameWriter<W, S>,
     payloads: &[Vec<u8>],
-    tries: u32,
+    retries: u32,
 ) -> Result<Vec<Vec<u8>>>
     requires idle { under_way w.old ≡ [] }
     requires flushed { (writer_tells W.told w.old).held ≡ [] }
     ensures came { IfOk result (λ given. map (λ v. v.items) given.items ≡ map (λ v. v.items) payloads.now) }
-    ensures enough { HasAtMost tries (writer_tells W.told w.old).mishaps
+    ensures enough { HasAtMost retries (writer_tells W.told w.old).mishaps
         → All (λ p. length p < 2 ^ 32) (map (λ v. v.items) payloads.now)
         → IfErr result (λ e. IsOutOfMemory e × (HasLongFrame (frame_room w.old) (map (λ v. v.items) payloads.now)
         ⊎ ((W.told (writes_to w.new)).out ≡ (W.told (writes_to w.old)).out ++ frames (map (λ v. v.items) payloads.now)))) }
@@ -89,7 +89,7 @@ pub fn round_trip<W: Shown + Drop, const S: usize>(
 {
     let before = w.get_ref().shown().len();
     let mut rest = payloads;
-    w.send_all_with_retries(&mut rest, tries)?;
+    w.send_all_with_retries(&mut rest, retries)?;
     let sent = &w.get_ref().shown()[before..];
     let mut reader = FrameReader::<&[u8], 64>::new(alloc, sent, u32::MAX);
     let mut given = Vec::new(alloc);

@@ -1,11 +1,13 @@
 //! Writes frames to a writer. A fault does not tear a frame, and no frame goes out twice.
-ghost use Rattle.std.specs.Prelude.{◌≡◌, ◌<◌, ◌≤◌, ◌^◌, [], ◌++◌, map, length, nat_lt, OnOk, OnErr, IfErr, IsOk};
+ghost use Rattle.std.specs.Prelude.{◌≡◌, ◌<◌, ◌≤◌, ◌^◌, ◌⊎◌, [], ◌++◌, map, length, nat_lt, OnOk, OnErr, IfErr, IsOk};
 ghost use Rattle.no_std_io2.specs.BufWriter.{writer_inner, writer_buffer, Unwraps};
 ghost use Rattle.pending.specs.Pending.{pending_bytes, pending_rest, pending_room, RestLaw, RestFlushLaw};
-ghost use Rattle.pending.specs.Pending.{SendsRecord, SendsRecords, SendsAll, RefusesFirst};
+ghost use Rattle.pending.specs.Pending.{SendsRecord, SendsRecords, SendsAll, RefusesFirst, StopsWith};
+ghost use Rattle.no_std_io2.specs.Retries.{HasAtMost, Tries};
+ghost use Rattle.no_std_io2.specs.Write.{Sends};
 ghost use Rattle.framing.specs.Frames.{frame, frames, IsPayloadRefusal};
 ghost use Rattle.framing.specs.Sending.{writes_to, frames_held, writer_tells, frame_writer, frame_room};
-ghost use Rattle.framing.specs.Sending.{under_way, still_to_go, TakesPayloads};
+ghost use Rattle.framing.specs.Sending.{under_way, still_to_go, TakesPayloads, Delivers};
 
 use no_std_io2::io::{BufWriter, Error, ErrorKind, IntoInnerError, Result, Write};
 use pending::Pending;
@@ -146,21 +148,85 @@ impl<W: Write + Drop, const S: usize> FrameWriter<W, S> {
         }
     }
 
+    /// Sends these payloads like [`send_all`](FrameWriter::send_all) and flushes, and tries again after each of the
+    /// first `retries` faults. After `Ok` every frame is out, once, and nothing is held. If the device tells that at
+    /// most `retries` mishaps are to come, the call fails only if a payload is refused.
+    ///
+    /// # Errors
+    /// Returns the fault of the last try if that try fails too; the same call then continues.
+    /// Returns `InvalidInput` and `OutOfMemory` as [`send`](FrameWriter::send) does, without another try; the
+    /// refused payload is then at the front of `rest`.
+    ///
+    /// ```rust
+    /// let mut w = FrameWriter::<Vec<u8>, 64>::new(rt.alloc(), Vec::new(rt.alloc()));
+    /// let mut rest = payloads.as_slice();
+    /// w.send_all_with_retries(&mut rest, 3)?; // tries again after each of the first three faults
+    /// assert!(rt; rest.is_empty());
+    /// ```
+    pub fn send_all_with_retries(&mut self, rest: &mut &[Vec<u8>], retries: u32) -> Result<()>
+        ensures sends { Delivers (writer_tells W.told self.old)
+            (still_to_go self.old ++ frames (map (λ v. v.items) rest.old.now))
+            (writer_tells W.told self.new) (still_to_go self.new ++ frames (map (λ v. v.items) rest.new.now)) }
+        ensures rest { TakesPayloads (map (λ v. v.items) rest.old.now) (map (λ v. v.items) rest.new.now) }
+        ensures done { OnOk result ((under_way self.new ≡ []) × (still_to_go self.new ≡ [])
+            × (rest.new.now ≡ []) × ((writer_tells W.told self.new).held ≡ [])) }
+        ensures enough { HasAtMost retries (writer_tells W.told self.old).mishaps
+            → IfErr result (RefusesFirst (IsPayloadRefusal (frame_room self.old)) (map (λ v. v.items) rest.new.now)) }
+        ensures last { IfErr result (λ e. RefusesFirst (IsPayloadRefusal (frame_room self.old)) (map (λ v. v.items) rest.new.now) e
+            ⊎ StopsWith (RestFlushLaw ⟦<BufWriter<W, S> as Write>⟧) e (frame_writer self.new) (still_to_go self.new)) }
+    {
+        let mut left = retries;
+        'tries: loop {
+            match self.send_all(rest) {
+                Ok(()) => return self.flush_with_retries(left),
+                Err(refusal) if !self.is_under_way() => return Err(refusal),
+                Err(fault) if left == 0 => return Err(fault),
+                Err(_fault) => left -= 1,
+            }
+        }
+    }
+
     /// Continues the frame under way, and then sends all held bytes. After `Ok` nothing is held, and no
     /// frame is under way.
     ///
     /// # Errors
-    /// Returns the errors that `resume` returns, and the device's error if its `flush` fails. Bytes that
-    /// were not sent are still held or in the frame under way, and a later call continues with them.
+    /// Returns the errors that `resume` returns, and the device's error if its `flush` fails. A frame that was
+    /// under way still is, bytes that were not sent are still held or its rest, and a later call continues.
     pub fn flush(&mut self) -> Result<()>
         ensures calls { RestFlushLaw ⟦<BufWriter<W, S> as Write>⟧ (frame_writer self.old) (still_to_go self.old) result
             (frame_writer self.new) (still_to_go self.new) }
         ensures done { OnOk result ((under_way self.new ≡ []) × (still_to_go self.new ≡ [])
             × ((writer_tells W.told self.new).held ≡ [])) }
+        ensures err { OnErr result (under_way self.new ≡ under_way self.old) }
         ensures room { frame_room self.new ≡ frame_room self.old }
     {
-        self.resume()?;
-        self.inner.flush()
+        self.flush_with_retries(0)
+    }
+
+    /// Flushes like [`flush`](FrameWriter::flush), and tries again after each of the first `retries` faults. If the
+    /// device tells that at most `retries` mishaps are to come, the call succeeds.
+    ///
+    /// # Errors
+    /// Returns the fault of the last try if that try fails too. What then holds is as after an error of `flush`, and
+    /// the same call continues.
+    ///
+    /// ```rust
+    /// w.send(b"c")?;
+    /// w.flush_with_retries(3)?; // tries again after each of the first three faults
+    /// assert!(rt; w.get_ref().len() == 11);
+    /// ```
+    pub fn flush_with_retries(&mut self, retries: u32) -> Result<()>
+        ensures sends { Sends (writer_tells W.told self.old) (still_to_go self.old) result
+            (writer_tells W.told self.new) (still_to_go self.new) }
+        ensures done { OnOk result ((under_way self.new ≡ []) × (still_to_go self.new ≡ [])
+            × ((writer_tells W.told self.new).held ≡ [])) }
+        ensures err { OnErr result (under_way self.new ≡ under_way self.old) }
+        ensures enough { HasAtMost retries (writer_tells W.told self.old).mishaps → IsOk result }
+        ensures calls { Tries (RestFlushLaw ⟦<BufWriter<W, S> as Write>⟧) retries (frame_writer self.old) (still_to_go self.old) result
+            (frame_writer self.new) (still_to_go self.new) }
+        ensures room { frame_room self.new ≡ frame_room self.old }
+    {
+        self.pending.send_with_retries(&mut self.inner, retries)
     }
 
     /// Sends the held bytes and returns the writer below, which is not flushed. If nothing is held, it makes no call. No frame may be under

@@ -37,9 +37,12 @@ fn frames_are_sent(rt: HostRuntime) -> std::result::Result<(), Fail> {
     w.send(b"ab")?;
     w.flush()?;
     assert!(rt; w.get_ref().as_slice() == b"\x02\0\0\0ab".as_slice());
+    w.send(b"c")?;
+    w.flush_with_retries(3)?; // tries again after each of the first three faults
+    assert!(rt; w.get_ref().len() == 11);
     let device = w.into_inner()?; // no frame is under way
-    assert!(rt; device.len() == 6);
-    assert!(rt; device.as_slice() == b"\x02\0\0\0ab".as_slice());
+    assert!(rt; device.len() == 11);
+    assert!(rt; device.as_slice() == b"\x02\0\0\0ab\x01\0\0\0c".as_slice());
     Ok(())
 }
 
@@ -135,9 +138,12 @@ fn lines_are_logged(rt: HostRuntime) -> std::result::Result<(), Fail> {
     log.log("started")?;
     assert!(rt; log.get_ref().as_slice() == b"started\n".as_slice());
     log.flush()?; // after `Ok` nothing is held, and no line is under way
+    log.log("stopped")?;
+    log.flush_with_retries(3)?; // tries again after each of the first three faults
+    assert!(rt; log.get_ref().len() == 16);
     let device = log.into_inner()?;
-    assert!(rt; device.len() == 8);
-    assert!(rt; device.as_slice() == b"started\n".as_slice());
+    assert!(rt; device.len() == 16);
+    assert!(rt; device.as_slice() == b"started\nstopped\n".as_slice());
     Ok(())
 }
 

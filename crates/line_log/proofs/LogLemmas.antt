@@ -73,6 +73,11 @@ ends_line before text to_go is = ap (λ l. before ++ l) is ∙ sym (append_assoc
 pub some_line : (text line : List ℕ) → line ≡ line_of text → 0 < length line
 some_line text line is = omega (arith, ap length is, length-append text (10 ∷ []))
 
+-- what holds anyway holds after `Ok`
+pub on_ok : {P : Type 0} (reply : Result (Unit {0}) Error) → P → OnOk reply P
+on_ok (Ok u) p = p
+on_ok (Err e) p = tt
+
 -- a text that was put under way as a line was sent, or is under way
 pub logs_text : {W : Type 0} (law : Law W) {room : ℕ} {output : Option (List ℕ)} {old new : W} {staged to_go left log_under_way : List ℕ}
     (reply : Result (Unit {0}) Error) → StagesLine room output (Ok tt) staged to_go → law old to_go reply new left
@@ -85,10 +90,6 @@ logs_text law {room} {output} {log_under_way = log_under_way} reply (text, is, w
   plain = on_ok reply plain;
   started = λ some. plain;
 }
-  where
-    on_ok : {P : Type 0} (r : Result (Unit {0}) Error) → P → OnOk r P
-    on_ok (Ok u) p = p
-    on_ok (Err e) p = tt
 
 -- a text was refused before it was printed whole
 pub refused_text : (room : ℕ) (output : Option (List ℕ)) (e : Error) {log_under_way to_go : List ℕ} → IsPrintRefusal room output 1 e

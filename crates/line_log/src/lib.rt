@@ -11,7 +11,9 @@ ghost use Rattle.std.specs.Prelude.{◌≡◌, ◌<◌, ◌≤◌, [], ◌∷◌
 ghost use Rattle.no_std_io2.specs.BufWriter.{Unwraps};
 ghost use Rattle.no_std_io2.specs.Lines.{HasNoNewline};
 ghost use Rattle.no_std_io2.specs.LineWriter.{line_inner, line_buffer};
-ghost use Rattle.pending.specs.Pending.{pending_bytes, pending_rest, pending_room, FlushedLaw, AndThen};
+ghost use Rattle.no_std_io2.specs.Retries.{HasAtMost, RestFlushLaw, Tries};
+ghost use Rattle.no_std_io2.specs.Write.{Sends};
+ghost use Rattle.pending.specs.Pending.{pending_bytes, pending_rest, pending_room};
 ghost use Rattle.pending.specs.Pending.{SendsRecord, SendsRecords, SendsAll, RefusesFirst};
 ghost use Rattle.line_log.specs.Lines.{line_of, lines_out, IsLineRefusal, SaysNewline};
 ghost use Rattle.line_log.specs.Text.{StagesLine, LogsText};
@@ -205,16 +207,40 @@ impl<W: Write + Drop, const S: usize> LineLog<W, S> {
     /// line is under way.
     ///
     /// # Errors
-    /// Returns the errors that `resume` returns, and the device's error if its `flush` fails. Bytes that
-    /// were not sent are still held or in the line under way, and a later call continues with them.
+    /// Returns the errors that `resume` returns, and the device's error if its `flush` fails. A line that was
+    /// under way still is, bytes that were not sent are still held or its rest, and a later call continues.
     pub fn flush(&mut self) -> Result<()>
-        ensures calls { let L = ⟦<LineWriter<W, S> as Write>⟧ in AndThen (LineLaw L) (FlushedLaw L) (log_writer self.old)
-            (log_left self.old) result (log_writer self.new) (log_left self.new) }
+        ensures calls { RestFlushLaw ⟦<LineWriter<W, S> as Write>⟧ (log_writer self.old) (log_left self.old) result
+            (log_writer self.new) (log_left self.new) }
         ensures done { OnOk result ((log_under_way self.new ≡ []) × (log_left self.new ≡ [])
             × ((log_told W.told self.new).held ≡ [])) }
+        ensures err { OnErr result (log_under_way self.new ≡ log_under_way self.old) }
     {
-        self.resume()?;
-        self.lines.flush()
+        self.flush_with_retries(0)
+    }
+
+    /// Flushes like [`flush`](LineLog::flush), and tries again after each of the first `retries` faults. If the
+    /// device tells that at most `retries` mishaps are to come, the call succeeds.
+    ///
+    /// # Errors
+    /// Returns the fault of the last try if that try fails too. What then holds is as after an error of `flush`, and
+    /// the same call continues.
+    ///
+    /// ```rust
+    /// log.log("stopped")?;
+    /// log.flush_with_retries(3)?; // tries again after each of the first three faults
+    /// assert!(rt; log.get_ref().len() == 16);
+    /// ```
+    pub fn flush_with_retries(&mut self, retries: u32) -> Result<()>
+        ensures sends { Sends (log_told W.told self.old) (log_left self.old) result (log_told W.told self.new) (log_left self.new) }
+        ensures done { OnOk result ((log_under_way self.new ≡ []) × (log_left self.new ≡ [])
+            × ((log_told W.told self.new).held ≡ [])) }
+        ensures err { OnErr result (log_under_way self.new ≡ log_under_way self.old) }
+        ensures enough { HasAtMost retries (log_told W.told self.old).mishaps → IsOk result }
+        ensures calls { Tries (RestFlushLaw ⟦<LineWriter<W, S> as Write>⟧) retries (log_writer self.old) (log_left self.old) result
+            (log_writer self.new) (log_left self.new) }
+    {
+        self.pending.send_with_retries(&mut self.lines, retries)
     }
 
     /// Sends the held bytes and returns the writer below, which is not flushed. If nothing is held, it makes no

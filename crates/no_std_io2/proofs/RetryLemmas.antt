@@ -35,6 +35,14 @@ pub spent_all : (n : ℕ) (old mid new : Option (List ErrorKind)) (k : ErrorKind
     → HasSpent mid (k ∷ []) new → HasAtMost n old → ⊥
 spent_all = grind (arith, common_steps, count_all)
 
+-- if there were enough retries, enough are left
+pub spent_left : (n left : ℕ) (old mid new : Option (List ErrorKind)) → HasSpentTries n left old mid → HasSpent mid [] new
+    → HasAtMost n old → HasAtMost left new
+spent_left n left None mid new f g most = absurd most
+spent_left n left (Some old) None new f g most = absurd f
+spent_left n left (Some old) (Some mid) None f g most = absurd g
+spent_left n left (Some old) (Some mid) (Some new) f g most = omega (arith, f, g (λ _. true), count_all mid, count_all new, most)
+
 -- a try that failed, and then the others, one fewer
 pub tries_again : {W : Type 0} (law : Law W) (retries less : ℕ) {old mid new : W} {x rest left : List ℕ} {e : Error}
     {reply : Result (Unit {0}) Error} → retries ≡ less + 1 → law old x (Err e) mid rest → Tries law less mid rest reply new left

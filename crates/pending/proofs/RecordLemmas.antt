@@ -1,7 +1,6 @@
 -- How records go, piece by piece.
 use Rattle.std.proofs.Common.{◌≡◌, ◌⊎◌, ℕ, ◌-◌, ◌<◌, List, [], ◌∷◌, ◌++◌, length, take, drop, map, Result, Ok, Err, OnOk, OnErr, refl, sym}
-use Rattle.std.proofs.Common.{Bool, true, false, nat_lt, Option, IfSome}
-use Rattle.std.specs.Result.{result_err}
+use Rattle.std.proofs.Common.{Bool, true, false, nat_lt}
 use Rattle.std.proofs.Common.{ap, ◌∙◌, subst, inl, inr, arith, append_assoc, append-nil, length-append, length-drop}
 use Rattle.std.proofs.Math.Seq.{drop-append_seam, drop-nil}
 use Rattle.std.proofs.lemmas.Bool.Decides.{nat_tests}
@@ -12,10 +11,12 @@ use Rattle.std.proofs.lemmas.List.Elements.{All-append, All-push}
 use Rattle.no_std_io2.specs.declared.io.Error.{Error}
 use Rattle.no_std_io2.specs.declared.io.ErrorKind.{ErrorKind}
 use Rattle.no_std_io2.specs.declared.io.Write.{Ghosts as Writer}
-use Rattle.no_std_io2.specs.Write.{Told, Moves, Sends, call_mishap, none as no_writes}
+use Rattle.no_std_io2.specs.Errors.{error_kind}
+use Rattle.no_std_io2.specs.Retries.{Tries, last, again}
+use Rattle.no_std_io2.specs.Write.{Told, Moves, Sends, HasSpent, call_mishap, none as no_writes}
 use Rattle.no_std_io2.proofs.MovesLemmas.{Moves-refl, Moves-then, Moves-quiet}
-use Rattle.no_std_io2.proofs.RetryLemmas.{sends_none, sends_ends}
-use Rattle.pending.specs.Pending.{Law, RestLaw, NoneLaw, FlushedLaw, AndThen, StopsWith, SendsEach, ComesTo, SendsAll, SendsRecord}
+use Rattle.no_std_io2.proofs.RetryLemmas.{sends_none}
+use Rattle.pending.specs.Pending.{Law, RestLaw, NoneLaw, AndThen, StopsWith, SendsEach, ComesTo, SendsAll, SendsRecord}
 use Rattle.pending.specs.Pending.{record_mishap, SendsRecords, TakesOff, RefusesFirst}
 
 -- a slice from k on has all that lies there
@@ -23,7 +24,7 @@ pub slice_rest : (k : ℕ) (bs : List ℕ) → take (length bs - k) (drop k bs) 
 slice_rest k bs = take_all (length bs - k) (drop k bs) (omega (arith, length-drop k bs))
 
 -- the rest of a rest is a rest of the whole
-pub rest_left : (n k : ℕ) (bytes sent left : List ℕ) → n ≡ length bytes → drop k bytes ≡ sent ++ left → drop (n - length left) bytes ≡ left
+rest_left : (n k : ℕ) (bytes sent left : List ℕ) → n ≡ length bytes → drop k bytes ≡ sent ++ left → drop (n - length left) bytes ≡ left
 rest_left n k bytes sent left long e =
     let front = take k bytes ++ sent in
     let is : bytes ≡ front ++ left =
@@ -31,11 +32,16 @@ rest_left n k bytes sent left long e =
     let count : n - length left ≡ length front = omega (arith, ap length is, length-append front left) in
     ap (λ m. drop m bytes) count ∙ ap (drop (length front)) is ∙ drop-append_seam front left
 
--- a `write_rest` of these bytes under other names
-pub rest_as : {W : Type 0} (I : Writer W) {a b : W} {x left : List ℕ} {reply : Result (Unit {0}) Error} (y shown : List ℕ)
-    → RestLaw I a x reply b left → x ≡ y → left ≡ shown → RestLaw I a y reply b shown
-rest_as I {a} {b} {left = left} {reply = reply} y shown law from to =
-    subst (λ l. RestLaw I a y reply b l) to (subst (λ l. RestLaw I a l reply b left) from law)
+-- what calls that send such a rest leave of it is the rest afterwards
+pub rest_after : {a b : Told} {reply : Result (Unit {0}) Error} (n k : ℕ) (bytes left : List ℕ)
+    → Sends a (take (length bytes - k) (drop k bytes)) reply b left → n ≡ length bytes → left ≡ drop (n - length left) bytes
+rest_after n k bytes left s long = sym (rest_left n k bytes s.sent left long (sym (slice_rest k bytes) ∙ s.split))
+
+-- calls that send these bytes, under other names
+pub law_as : {W : Type 0} (law : Law W) {a b : W} {x left : List ℕ} {reply : Result (Unit {0}) Error} (y shown : List ℕ)
+    → law a x reply b left → x ≡ y → left ≡ shown → law a y reply b shown
+law_as law {a} {b} {left = left} {reply = reply} y shown calls from to =
+    subst (λ l. law a y reply b l) to (subst (λ l. law a l reply b left) from calls)
 
 -- for no bytes there is no call
 pub rest_none : {W : Type 0} (I : Writer W) (w : W) (x : List ℕ) → x ≡ [] → RestLaw I w x (Ok tt) w x
@@ -58,24 +64,21 @@ all_none I w = record {
   calls = ([], refl, inr ([], inr no_writes));
 }
 
--- the bytes that these calls and then a flush send
-pub flush_sends : {W : Type 0} (I : Writer W) (law : Law W) {a b : W} {x left : List ℕ} (reply : Result (Unit {0}) Error)
-    → ((w : W) (r : Result (Unit {0}) Error) → law a x r w left → Sends (I.told a) x r (I.told w) left)
-    → AndThen law (FlushedLaw I) a x reply b left → Sends (I.told a) x reply (I.told b) left
-flush_sends I law {b = b} reply sends (inl (err, calls)) = sends b reply calls
-flush_sends I law reply sends (inr (mid, calls, flush)) = sends_ends reply (sends mid (Ok tt) calls) flush.moves
-
 -- an error that stopped these calls also stopped them with one more call after them
-pub then_stops : {W : Type 0} (law : Law W) (last : W → Result (Unit {0}) Error → W → Type 0) {e : Error} {new : W} {left : List ℕ}
-    → StopsWith law e new left → StopsWith (AndThen law last) e new left
-then_stops law last s = (s.0, s.1, inl (refl, s.2))
+pub then_stops : {W : Type 0} (law : Law W) (more : W → Result (Unit {0}) Error → W → Type 0) {e : Error} {new : W} {left : List ℕ}
+    → StopsWith law e new left → StopsWith (AndThen law more) e new left
+then_stops law more s = (s.0, s.1, inl (refl, s.2))
 
--- an error that these calls returned stopped them
-pub stops_at : {W : Type 0} (law : Law W) {old new : W} (x left : List ℕ) (reply : Result (Unit {0}) Error) (fault : Option Error)
-    → fault ≡ result_err reply → law old x reply new left → IfSome fault (λ e. StopsWith law e new left)
-stops_at law {old} {new} x left (Ok u) fault is calls = subst (λ f. IfSome f (λ e. StopsWith law e new left)) (sym is) tt
-stops_at law {old} {new} x left (Err e) fault is calls =
-    subst (λ f. IfSome f (λ e. StopsWith law e new left)) (sym is) (old, x, calls)
+-- with no retry there is one try
+pub tries_once : {W : Type 0} {law : Law W} {old new : W} {x left : List ℕ} {reply : Result (Unit {0}) Error}
+    → Tries law 0 old x reply new left → law old x reply new left
+tries_once (last calls h) = calls
+
+-- the error of tries is that of the last
+pub tries_stop : {W : Type 0} {law : Law W} {retries : ℕ} {old new : W} {x left : List ℕ} {e : Error}
+    → Tries law retries old x (Err e) new left → StopsWith law e new left
+tries_stop (last calls h) = (_, _, calls)
+tries_stop (again failed tries) = tries_stop tries
 
 -- what is left under another name
 pub left_as : {W : Type 0} (law : Law W) {a b : W} {x left : List ℕ} {reply : Result (Unit {0}) Error} (shown : List ℕ)
@@ -108,6 +111,12 @@ as_record : {a b : Told} {x : List ℕ} (reply : Result (Unit {0}) Error) (under
 as_record (Ok u) under_way m = m
 as_record (Err e) [] m = Moves-quiet m
 as_record (Err e) (b ∷ bs) m = m
+
+-- an error has used up a mishap if a record is under way
+pub record_spent : {a b : Told} {to_go left : List ℕ} (under_way : List ℕ) (e : Error) → SendsRecords a to_go (Err e) under_way b left
+    → 0 < length under_way → HasSpent a.mishaps (error_kind e ∷ []) b.mishaps
+record_spent [] e s some = absurd (omega arith)
+record_spent (x ∷ xs) e s some = s.moves.mishaps
 
 -- with no record under way there is none
 no_record : {a b : Told} {x : List ℕ} (reply : Result (Unit {0}) Error) (under_way : List ℕ) → under_way ≡ [] → Moves a x [] b

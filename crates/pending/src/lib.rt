@@ -1,12 +1,14 @@
 //! [`Pending`], a record that is sent to a writer whole and once, however often the writer fails.
 #![tactic(auto)]
 
-ghost use Rattle.std.specs.Prelude.{◌≡◌, ◌≤◌, ◌<◌, ◌+◌, [], ◌++◌, length, vec_len, nat_lt, OnOk, OnErr, IfErr};
+ghost use Rattle.std.specs.Prelude.{◌≡◌, ◌≤◌, ◌<◌, ◌+◌, [], ◌++◌, length, vec_len, nat_lt, IsOk, OnOk, OnErr, IfErr};
 ghost use Rattle.no_std_io2.specs.Errors.{IsOutOfMemory};
+ghost use Rattle.no_std_io2.specs.Retries.{HasAtMost, RestFlushLaw, Tries};
+ghost use Rattle.no_std_io2.specs.Write.{Sends};
 
 mod text;
 
-use no_std_io2::io::{Result, Write};
+use no_std_io2::io::{Result, Write, write_with_retries};
 use std::alloc::Global;
 use std::fmt::Display;
 use text::append_text;
@@ -123,6 +125,31 @@ impl Pending {
         let left = rest.len();
         self.sent = self.bytes.len() - left;
         reply
+    }
+
+    /// Sends the rest of the record and flushes, and tries again after each of the first `retries` faults, by one
+    /// `write_with_retries`. After `Ok` no record is under way. If the writer tells that at most `retries` mishaps
+    /// are to come, the call succeeds.
+    ///
+    /// # Errors
+    /// Returns the fault of the last try if that try fails too. The record is still under way, the bytes that were
+    /// not accepted are its new rest, and the same call continues with them.
+    pub fn send_with_retries<W: Write>(&mut self, writer: &mut W, retries: u32) -> Result<()>
+        ensures sends { Sends (W.told writer.old) (pending_rest self.old) result (W.told writer.new) (pending_rest self.new) }
+        ensures done { OnOk result ((pending_bytes self.new ≡ []) × (pending_rest self.new ≡ []) × ((W.told writer.new).held ≡ [])) }
+        ensures err { OnErr result (pending_bytes self.new ≡ pending_bytes self.old) }
+        ensures enough { HasAtMost retries (W.told writer.old).mishaps → IsOk result }
+        ensures calls { Tries (RestFlushLaw W.Write) retries writer.old (pending_rest self.old) result writer.new (pending_rest self.new) }
+        ensures room { pending_room self.new ≡ pending_room self.old }
+    {
+        let mut rest = &self.bytes[self.sent..];
+        if let Err(fault) = write_with_retries(writer, &mut rest, retries) {
+            let left = rest.len();
+            self.sent = self.bytes.len() - left;
+            return Err(fault);
+        }
+        self.clear();
+        Ok(())
     }
 
     /// Ends the record, and drops its rest. No record is then under way.

@@ -2,7 +2,8 @@ use Rattle.std.proofs.Common.{Ok, refl, sym, ◌∙◌, inl, inr}
 use Rattle.std.proofs.lemmas.Result.{err_from_is_err_and}
 use Rattle.no_std_io2.specs.LineWriter.{line_inner}
 use Rattle.line_log.specs.Log.{log_told, log_left}
-use Rattle.pending.proofs.RecordLemmas.{rest_as, rest_none, all_none, none_of, some_of}
+use Rattle.pending.specs.Pending.{RestLaw}
+use Rattle.pending.proofs.RecordLemmas.{left_as, rest_none, all_none, none_of, some_of}
 use Rattle.line_log.proofs.LogLemmas.{line_sends, none_waits}
 use Rattle.line_log.proofs.LineLog.resume.Goals as goal
 
@@ -15,6 +16,11 @@ pub returns-in_err-send_to-clause-calls : goal.returns-in_err-send_to-clause-cal
 returns-in_err-send_to-clause-calls g c =
     let p = err_from_is_err_and c.from_residual.result c.from_residual.ensures.1 in
     rw (p.1, p.2) (inl (refl, c.in_err-send_to.ensures.law))
+
+pub returns-in_err-send_to-clause-some : goal.returns-in_err-send_to-clause-some
+returns-in_err-send_to-clause-some g c =
+    let p = err_from_is_err_and c.from_residual.result c.from_residual.ensures.1 in
+    rw (p.1, c.in_err-send_to.ensures.bytes) (some_of _ _ c.is_under_way.ensures c.if-not-is_under_way.false)
 
 pub returns-in_err-write_all-clause-calls : goal.returns-in_err-write_all-clause-calls
 returns-in_err-write_all-clause-calls g c =
@@ -29,7 +35,7 @@ returns-in_err-write_all-clause-some g c =
 pub returns-clause-calls : goal.returns-clause-calls
 returns-clause-calls g c =
     let law = c.in_ok-send_to.ensures.law in
-    inr (_, rest_as _ _ _ law refl (law.done ∙ sym c.clear.ensures.rest), c.in_ok-write_all.ensures.law)
+    inr (_, left_as (RestLaw _) _ law (law.done ∙ sym c.clear.ensures.rest), c.in_ok-write_all.ensures.law)
 
 pub returns-clause-passed : goal.returns-clause-passed
 returns-clause-passed g c = λ lines some e.

@@ -1,9 +1,8 @@
 -- The bytes that are gone from the front were accepted, and each try except the first has used up a mishap, if mishaps are told.
 use Rattle.std.proofs.Common.{◌++◌, ◌≤◌, map}
 use Rattle.framing.specs.Frames.{frames}
-use Rattle.framing.specs.Sending.{writer_tells, frame_room, still_to_go, TakesPayloads}
+use Rattle.framing.specs.Sending.{writer_tells, frame_room, still_to_go, TakesPayloads, Delivers}
 use Rattle.no_std_io2.specs.Retries.{HasSpentTries}
-use Rattle.framing.specs.Delivering.{Delivers}
 use Rattle.framing.proofs.writer.FrameWriter.send_all_with_retries.Given as goal
 
 abbrev pub invariant-tries : goal.invariant-tries
@@ -15,7 +14,7 @@ invariant-tries g l =
           (still_to_go l.self ++ frames (map (λ v. v.items) l.rest.now));
       room : frame_room l.initial.self ≤ frame_room l.self;
       off : TakesPayloads (map (λ v. v.items) l.initial.rest.now) (map (λ v. v.items) l.rest.now);
-      spent : HasSpentTries l.fn.tries l.left (writer_tells told l.initial.self).mishaps (writer_tells told l.self).mishaps;
+      spent : HasSpentTries l.fn.retries l.left (writer_tells told l.initial.self).mishaps (writer_tells told l.self).mishaps;
     }
 
 abbrev pub decreases-tries : goal.decreases-tries
