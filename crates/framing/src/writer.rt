@@ -121,7 +121,7 @@ impl<W: Write + Drop, const S: usize> FrameWriter<W, S> {
     /// let mut w = FrameWriter::<Vec<u8>, 64>::new(rt.alloc(), Vec::new(rt.alloc()));
     /// let mut rest = payloads.as_slice();
     /// if w.send_all(&mut rest).is_err() {
-    ///     w.send_all(&mut rest)?; // goes on where it stopped
+    ///     w.send_all(&mut rest)?; // continues where it stopped
     /// }
     /// assert!(rt; rest.is_empty());
     /// ```

@@ -62,7 +62,7 @@ fn frames_of_a_list_are_sent(rt: HostRuntime) -> std::result::Result<(), Fail> {
     let mut w = FrameWriter::<Vec<u8>, 64>::new(rt.alloc(), Vec::new(rt.alloc()));
     let mut rest = payloads.as_slice();
     if w.send_all(&mut rest).is_err() {
-        w.send_all(&mut rest)?; // goes on where it stopped
+        w.send_all(&mut rest)?; // continues where it stopped
     }
     assert!(rt; rest.is_empty());
     Ok(())
@@ -172,7 +172,7 @@ fn lines_of_a_list_are_logged(rt: HostRuntime) -> std::result::Result<(), Fail> 
     let mut log = LineLog::<Vec<u8>, 64>::new(rt.alloc(), Vec::new(rt.alloc()));
     let mut rest = lines.as_slice();
     if log.log_all(&mut rest).is_err() {
-        log.log_all(&mut rest)?; // goes on where it stopped
+        log.log_all(&mut rest)?; // continues where it stopped
     }
     assert!(rt; log.get_ref().as_slice() == b"one\ntwo\n".as_slice());
     Ok(())

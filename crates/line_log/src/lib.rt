@@ -177,7 +177,7 @@ impl<W: Write + Drop, const S: usize> LineLog<W, S> {
     /// let mut log = LineLog::<Vec<u8>, 64>::new(rt.alloc(), Vec::new(rt.alloc()));
     /// let mut rest = lines.as_slice();
     /// if log.log_all(&mut rest).is_err() {
-    ///     log.log_all(&mut rest)?; // goes on where it stopped
+    ///     log.log_all(&mut rest)?; // continues where it stopped
     /// }
     /// assert!(rt; log.get_ref().as_slice() == b"one\ntwo\n".as_slice());
     /// ```
