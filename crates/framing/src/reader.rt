@@ -157,7 +157,8 @@ impl<R: Read, const S: usize> FrameReader<R, S> {
             (map (λ v. v.items) (appended payloads.old.items payloads.new.items)) (frame_events R.events self.new) }
         ensures back { (sent : List (List ℕ)) → R.tells (reads_from self.old)
             → bytes (frame_events R.events self.old) ≡ frames sent → All (λ p. length p ≤ most self.old) sent
-            → ComesBack (LacksRoom (most self.old) (part_of self.new) ⊎ HasNoSpare payloads.new) sent (frame_events R.events self.old) result
+            → ComesBack (LacksRoom (most self.old) (part_of self.new) ⊎ HasNoSpare payloads.new) sent
+            (frame_events R.events self.old) result
             (map (λ v. v.items) (appended payloads.old.items payloads.new.items)) (bytes (frame_events R.events self.new)) }
         ensures limit { most self.new ≡ most self.old }
         ensures never_interrupted { IfErr result IsFault }

@@ -100,7 +100,8 @@ impl<W: Write + Drop, const S: usize> FrameWriter<W, S> {
     /// `resume` returns; the frame is then under way.
     pub fn send(&mut self, payload: &[u8]) -> Result<()>
         requires { under_way self.old ≡ [] }
-        ensures sends { SendsRecord (RestLaw ⟦<BufWriter<W, S> as Write>⟧) (frame payload.now) (IsPayloadRefusal (frame_room self.old) payload.now)
+        ensures sends { SendsRecord (RestLaw ⟦<BufWriter<W, S> as Write>⟧) (frame payload.now)
+            (IsPayloadRefusal (frame_room self.old) payload.now)
             (frame_writer self.old) result (under_way self.new) (still_to_go self.new) (frame_writer self.new) }
         ensures small { OnOk result (length payload.now < 2 ^ 32) }
     {
