@@ -83,7 +83,7 @@ calls! {
     object_write(source, room, calls) {
         let mut w: Box<dyn Write> = Box::new(Counter::default());
         if source.first() == Some(&u8::MAX) {
-            w = Box::new(Vec::new());
+            w = Box::new(Seven(Counter::default()));
         }
         write_often(&mut w, &source[..room.len()], calls)
     }
