@@ -20,21 +20,16 @@ fn reserve_ahead<A: Allocator>(buf: &mut Vec<u8, A>, coming: usize)
     }
 }
 
-/// Moves bytes from the front of a slice to the end of a vector: all of them, or as many as fit if an
-/// allocation fails. It first allocates for all of them and 32 more. If that fails, or if they are
-/// fewer than 32, it allocates like the `read_to_end` of any reader: for 32 bytes, and once these are
-/// full for the rest and 32 more.
-///
-/// # Errors
-/// Returns `OutOfMemory` if the vector could not grow; bytes that were not appended are still in the slice.
-pub fn append_rest<A: Allocator>(rest: &mut &[u8], buf: &mut Vec<u8, A>) -> Result<()>
+// Appends the bytes in at most two parts: as many as fit, once there is room for 32, and then the rest.
+#[cold]
+#[inline(never)]
+fn append_parts<A: Allocator>(rest: &mut &[u8], buf: &mut Vec<u8, A>) -> Result<()>
     ensures moved { HasMoved rest.old.now rest.new.now buf.old.items buf.new.items }
     ensures done { OnOk result (rest.new.now ≡ []) }
     ensures grows { vec_capacity buf.old ≤ vec_capacity buf.new }
     ensures refused { IfErr result IsOutOfMemory }
     ensures full { OnErr result (vec_capacity buf.old < vec_len buf.old + length rest.old.now + least_room) }
 {
-    reserve_ahead(buf, rest.len());
     reserve_room(buf, LEAST_ROOM)?;
     let all: &[u8] = *rest;
     let room = buf.capacity() - buf.len();
@@ -46,6 +41,32 @@ pub fn append_rest<A: Allocator>(rest: &mut &[u8], buf: &mut Vec<u8, A>) -> Resu
     }
     reserve_room(buf, rest.len().saturating_add(LEAST_ROOM))?;
     buf.extend_from_slice(rest)?;
+    *rest = &all[all.len()..];
+    Ok(())
+}
+
+/// Moves bytes from the front of a slice to the end of a vector: all of them, or as many as fit if an
+/// allocation fails. It first allocates for all of them and 32 more. If that fails, or if they are
+/// fewer than 32, it allocates like the `read_to_end` of any reader: for 32 bytes, and once these are
+/// full for the rest and 32 more.
+///
+/// # Errors
+/// Returns `OutOfMemory` if the vector could not grow; bytes that were not appended are still in the slice.
+#[inline(always)]
+pub fn append_rest<A: Allocator>(rest: &mut &[u8], buf: &mut Vec<u8, A>) -> Result<()>
+    ensures moved { HasMoved rest.old.now rest.new.now buf.old.items buf.new.items }
+    ensures done { OnOk result (rest.new.now ≡ []) }
+    ensures grows { vec_capacity buf.old ≤ vec_capacity buf.new }
+    ensures refused { IfErr result IsOutOfMemory }
+    ensures full { OnErr result (vec_capacity buf.old < vec_len buf.old + length rest.old.now + least_room) }
+{
+    reserve_ahead(buf, rest.len());
+    let all: &[u8] = *rest;
+    let room = buf.capacity() - buf.len();
+    if room < LEAST_ROOM || room <= all.len() {
+        return append_parts(rest, buf);
+    }
+    buf.extend_from_slice(all)?;
     *rest = &all[all.len()..];
     Ok(())
 }
@@ -93,6 +114,7 @@ impl Read for &[u8] {
         Ok(())
     }
 
+    #[inline]
     fn read_to_end<A: Allocator>(&mut self, buf: &mut Vec<u8, A>) -> Result<usize> {
         let len = self.len();
         append_rest(self, buf)?;

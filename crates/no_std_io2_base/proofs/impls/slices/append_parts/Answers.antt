@@ -1,30 +1,29 @@
 -- What is gone from the slice was appended, in one part or in two.
-use Rattle.std.proofs.Common.{◌-◌, length, take, drop, ◌∙◌, le_trans, le_refl}
+use Rattle.std.proofs.Common.{refl, ◌-◌, length, take, drop, ◌∙◌, le_trans, le_refl}
 use Rattle.std.proofs.lemmas.List.{take_rest, drop_all}
 use Rattle.std.proofs.lemmas.Result.{err_from_is_err_and}
 use Rattle.no_std_io2_base.proofs.SliceReads.{moved_none, moved_on, moved_first, moved_second, no_room, wants_least}
 use Rattle.no_std_io2_base.proofs.SliceReads.{wants_part, wants_rest, wants_bounded, least_first}
-use Rattle.no_std_io2_base.proofs.impls.slices.append_rest.Goals as goal
+use Rattle.no_std_io2_base.proofs.impls.slices.append_parts.Goals as goal
 
 pub returns-in_err-reserve_room : goal.returns-in_err-reserve_room
 returns-in_err-reserve_room g c =
     let p = err_from_is_err_and c.from_residual.result c.from_residual.ensures.1 in
-    let ahead = c.reserve_ahead.ensures in
     let room = c.in_err-reserve_room.ensures in
-    let none = moved_none c.args.rest.now.now ahead.items in
+    let none = moved_none c.args.rest.now.now room.items in
     rw (p.1, p.2) (record {
-      moved = moved_on _ none room.items;
+      moved = none;
       done = tt;
-      grows = le_trans ahead.grows room.grows;
+      grows = room.grows;
       refused = room.refused;
-      full = no_room _ none c.args.buf.now.ok.0 c.reserve_ahead.new.buf.ok.0 ahead.grows room.full (wants_least _);
+      full = no_room _ (moved_none c.args.rest.now.now refl) c.args.buf.now.ok.0 c.args.buf.now.ok.0 (le_refl _) room.full (wants_least _);
     })
 
 pub returns-in_err-extend_from_slice : goal.returns-in_err-extend_from_slice
 returns-in_err-extend_from_slice g c =
     let p = err_from_is_err_and c.from_residual-in_err-extend_from_slice.result c.from_residual-in_err-extend_from_slice.ensures.1 in
-    let kept = c.in_ok-reserve_room.ensures.items ∙ c.reserve_ahead.ensures.items in
-    let wider = le_trans c.reserve_ahead.ensures.grows c.in_ok-reserve_room.ensures.grows in
+    let kept = c.in_ok-reserve_room.ensures.items in
+    let wider = c.in_ok-reserve_room.ensures.grows in
     let same = c.in_err-extend_from_slice.ensures in
     let moved = moved_none c.args.rest.now.now kept in
     rw p.1 (record {
@@ -39,8 +38,8 @@ pub returns-then-n-room : goal.returns-then-n-room
 returns-then-n-room g c =
     let all = c.args.rest.now.now in
     let n = c.min-n.result in
-    let kept = c.in_ok-reserve_room.ensures.items ∙ c.reserve_ahead.ensures.items in
-    let wider = le_trans c.reserve_ahead.ensures.grows c.in_ok-reserve_room.ensures.grows in
+    let kept = c.in_ok-reserve_room.ensures.items in
+    let wider = c.in_ok-reserve_room.ensures.grows in
     let first = c.in_ok-extend_from_slice.ensures in
     let left = take_rest all n in
     record {
@@ -56,8 +55,8 @@ returns-in_err-reserve_room-2 g c =
     let p = err_from_is_err_and c.from_residual-in_err-reserve_room-2.result c.from_residual-in_err-reserve_room-2.ensures.1 in
     let all = c.args.rest.now.now in
     let n = c.min-n.result in
-    let kept = c.in_ok-reserve_room.ensures.items ∙ c.reserve_ahead.ensures.items in
-    let wider = le_trans c.reserve_ahead.ensures.grows c.in_ok-reserve_room.ensures.grows in
+    let kept = c.in_ok-reserve_room.ensures.items in
+    let wider = c.in_ok-reserve_room.ensures.grows in
     let first = c.in_ok-extend_from_slice.ensures in
     let more = c.in_err-reserve_room-2.ensures in
     let is = c.extend_from_slice.new.self.ok.0 in
@@ -78,8 +77,8 @@ returns-in_err-extend_from_slice-2 g c =
     let p = err_from_is_err_and c.from_residual-in_err-extend_from_slice-2.result c.from_residual-in_err-extend_from_slice-2.ensures.1 in
     let all = c.args.rest.now.now in
     let n = c.min-n.result in
-    let kept = c.in_ok-reserve_room.ensures.items ∙ c.reserve_ahead.ensures.items in
-    let wider = le_trans c.reserve_ahead.ensures.grows c.in_ok-reserve_room.ensures.grows in
+    let kept = c.in_ok-reserve_room.ensures.items in
+    let wider = c.in_ok-reserve_room.ensures.grows in
     let first = c.in_ok-extend_from_slice.ensures in
     let more = c.in_ok-reserve_room-2.ensures in
     let same = c.in_err-extend_from_slice-2.ensures in
@@ -99,8 +98,8 @@ pub returns : goal.returns
 returns g c =
     let all = c.args.rest.now.now in
     let n = c.min-n.result in
-    let kept = c.in_ok-reserve_room.ensures.items ∙ c.reserve_ahead.ensures.items in
-    let wider = le_trans c.reserve_ahead.ensures.grows c.in_ok-reserve_room.ensures.grows in
+    let kept = c.in_ok-reserve_room.ensures.items in
+    let wider = c.in_ok-reserve_room.ensures.grows in
     let first = c.in_ok-extend_from_slice.ensures in
     let more = c.in_ok-reserve_room-2.ensures in
     let second = c.in_ok-extend_from_slice-2.ensures in
