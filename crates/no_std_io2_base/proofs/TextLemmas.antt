@@ -64,6 +64,15 @@ module _ {W S : Type 0} (prints : S → List ℕ → W → Type 0) where
       (sym (concat-append xs (x ∷ []) ∙ ap (λ l. concat xs ++ l) (append-nil x))) (next old (concat xs) so_far))
       w.parts s t start w.calls)
 
+  -- a specified output was printed through a formatter, after `Ok`
+  pub prints_output : (f g : Formatter W) {s t : W} (old : S) (output : Option (List ℕ)) (formatted : Result (Unit {0}) FormatError)
+      → formatter_writer f ≡ s → IsPlainFormatter f → t ≡ formatter_writer g → DisplaysOnOk Then f formatted output g → IsOk formatted
+      → prints old [] s → IfSome output (λ bs. prints old bs t)
+  prints_output f g old None formatted over plain back shows ok start = tt
+  prints_output f g old (Some bs) formatted over plain back shows ok start =
+      subst (prints old bs) (sym back) (prints_calls (formatter_writer f) (formatter_writer g) old
+      (shows plain ok).wrote (subst (prints old []) (sym over) start))
+
   -- a text was printed through a formatter: whatever its `fmt` did, and its output if that is specified
   pub prints_shown : (f g : Formatter W) {s t : W} {old : S} (output : Option (List ℕ)) (formatted : Result (Unit {0}) FormatError)
       → formatter_writer f ≡ s → IsPlainFormatter f → t ≡ formatter_writer g → DisplaysOnOk Then f formatted output g → prints old [] s
@@ -73,9 +82,7 @@ module _ {W S : Type 0} (prints : S → List ℕ → W → Type 0) where
   prints_shown f g (Some bs) (Err e) over plain back shows start had =
       ∥∥₁_map had (λ p. (p.0, p.1, p.2, λ ok. absurd (true≢false (sym ok))))
   prints_shown f g {old = old} (Some bs) (Ok u) over plain back shows start had =
-      let said = prints_calls (formatter_writer f) (formatter_writer g) old (shows plain refl).wrote
-      (subst (prints old []) (sym over) start) in
-      ∣ (old, bs, subst (prints old bs) (sym back) said, λ ok. refl) ∣₁
+      ∣ (old, bs, prints_output f g old (Some bs) (Ok u) over plain back shows refl start, λ ok. refl) ∣₁
 
 -- ---- what is known behind any formatter
 
