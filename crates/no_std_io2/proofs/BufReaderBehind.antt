@@ -2,10 +2,9 @@
 use Rattle.std.proofs.lemmas.Grind.{common_steps}
 use Rattle.std.proofs.Common.{◌≡◌, ℕ, ◌+◌, ◌-◌, ◌≤◌, ◌<◌, ◌^◌, ℤ, pos, negsuc, ◌+ℤ◌, List, ◌++◌, length, take, drop, []}
 use Rattle.std.proofs.Common.{refl, sym, ap, ◌∙◌, subst, arith, length-take-le, length-drop, append_assoc}
-use Rattle.std.proofs.Common.{unsigned_abs, Ok}
+use Rattle.std.proofs.Common.{Ok}
 use Rattle.std.proofs.lemmas.List.{take-take}
 use Rattle.std.proofs.Math.Seq.{take-add, drop-append_seam, drop-append-add}
-use Rattle.std.specs.Int.{FitsUnsigned, w64}
 use Rattle.std.proofs.lemmas.List.{length-append, drop-append-le}
 use Rattle.no_std_io2_base.specs.declared.traits.seek.SeekFrom.{SeekFrom}
 use Rattle.no_std_io2_base.specs.declared.traits.seek.SeekFrom.TheVariants.{Current}
@@ -15,7 +14,7 @@ use Rattle.no_std_io2_base.proofs.EventLemmas.{events_of-append}
 use Rattle.no_std_io2.proofs.BufReaderSound.{give_events, give_sound}
 use Rattle.no_std_io2.specs.declared.buffered.buffer.Buffer.{Buffer}
 use Rattle.no_std_io2.specs.declared.buffered.buf_reader.BufReader.{BufReader}
-use Rattle.no_std_io2.specs.Buffer.{buffer_held, buffer_behind, IsSound, IsInBuffer, IsCutOn, MovesEvents}
+use Rattle.no_std_io2.specs.Buffer.{buffer_held, buffer_behind, IsSound, IsCutOn, MovesEvents}
 use Rattle.no_std_io2.specs.BufReader.{reader_held, reader_behind, reader_events, reader_turns, reader_has_store, reader_position}
 use Rattle.no_std_io2.specs.BufReader.{StaysSound, sound_drop}
 use Rattle.no_std_io2.proofs.BufReaderSeeks.{at_offset_sum}
@@ -30,14 +29,6 @@ whole l start end ordered =
 pub behind_more : (l : List ℕ) (start end n : ℕ) → n ≤ end - start
     → take (start + n) l ≡ take start l ++ take n (take (end - start) (drop start l))
 behind_more l start end n fits = grind (arith, common_steps, take-add, take-take)
-
--- a sum that fits is not negative
-pub not_negative : (z : ℤ) → FitsUnsigned w64 z → pos (unsigned_abs z) ≡ z
-not_negative = grind (arith, common_steps)
-
--- where the border goes
-pub border_within : (o : ℤ) (start end at : ℕ) → start ≤ end → pos at ≡ pos start +ℤ o → at ≤ end → IsInBuffer o start (end - start)
-border_within = grind (arith, common_steps)
 
 -- the border moved inside the same bytes
 pub cut_on : (l : List ℕ) (o : ℤ) (start end at : ℕ) → start ≤ end → at ≤ end → end ≤ length l → pos at ≡ pos start +ℤ o

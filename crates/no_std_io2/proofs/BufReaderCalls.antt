@@ -2,7 +2,7 @@
 use Rattle.std.proofs.lemmas.Grind.{common_steps}
 use Rattle.std.proofs.lemmas.List.{nil_from_length}
 use Rattle.std.proofs.Common.{◌≡◌, ℕ, zero, suc, ◌+◌, ◌*◌, ◌<◌, ◌≤◌, if◌then◌else◌, List, ◌∷◌, ◌++◌, Ok, []}
-use Rattle.std.proofs.Common.{Err, Result, length, refl, sym, ap, subst, ◌∙◌, arith}
+use Rattle.std.proofs.Common.{Err, Result, length, refl, sym, subst, ◌∙◌, arith}
 use Rattle.std.specs.Result.{OnOk, OnErr, IsOk}
 use Rattle.std.proofs.Math.Nat.{mul-le-mul_left}
 use Rattle.no_std_io2_base.specs.declared.error.Error.{Error}
@@ -10,11 +10,10 @@ use Rattle.no_std_io2_base.specs.Read.{Event, events_of, ReadCall, Gave, Gathers
 use Rattle.no_std_io2_base.specs.Read.{ToEndMade}
 use Rattle.no_std_io2_base.specs.Write.{Made}
 use Rattle.std.proofs.Common.{take, drop, min, length-take-le}
-use Rattle.std.proofs.lemmas.Bool.{lt-leb}
 use Rattle.no_std_io2.specs.declared.buffered.buf_reader.BufReader.{BufReader}
 use Rattle.no_std_io2.specs.BufReader.{reader_held, reader_inner, PassesOn, FillsBelow, ReaderMay}
 use Rattle.no_std_io2.specs.Buffer.{ReadsAhead, IsSound}
-use Rattle.no_std_io2.specs.BufReader.{FillsFrom, behind_anew}
+use Rattle.no_std_io2.specs.BufReader.{FillsFrom}
 
 -- if nothing is held before, nor after an error, a fill takes no event except the error that it returns
 pub fill_told : {A : Type 0} (r : Result A Error) (held held' : List ℕ) (E E' : List Event) → length held ≡ 0
@@ -40,10 +39,6 @@ fill_turn (Err e) room held held' t t' fits spent = more_turns room held held' t
 -- no held bytes are sound at any position
 pub sound_none : (held : List ℕ) (position : ℕ) (content : List ℕ) → held ≡ [] → IsSound held position content
 sound_none held position content empty = subst (λ l. IsSound l position content) (sym empty) (omega arith, refl)
-
--- after a read of less than a full buffer, the bytes that it gave lie behind
-pub behind_own : (room len : ℕ) (got behind : List ℕ) → len < room → behind ≡ got → behind ≡ behind_anew room len got
-behind_own room len got behind own is = is ∙ sym (ap (λ b. if b then [] else got) (lt-leb room len own))
 
 -- an error is no `Ok`
 pub not_ok : (e : Error) → IsOk {T = Unit {0}} {E = Error} (Err e) → ⊥

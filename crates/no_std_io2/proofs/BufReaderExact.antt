@@ -102,10 +102,6 @@ moved_length held held' got E E' n is long =
 pub gives_to_come : (held to_come : ℕ) → held ≡ 0 → held_or_to_come held to_come ≡ to_come
 gives_to_come held to_come h = ap (λ k. held_or_to_come k to_come) h
 
--- with some held, it gives of those
-pub gives_held : (held to_come : ℕ) → 0 < held → held_or_to_come held to_come ≡ held
-gives_held held to_come some = grind (arith, nat_tests)
-
 -- a read of no byte took nothing
 pub nothing_read : (E E' : List Event) (n : ℕ) (buf : List ℕ) → Reads E (Ok n) buf E' → n ≡ 0 → E ≡ E'
 nothing_read E E' n buf read zero = read.0 ∙ ap (λ m. events_of (take m buf) ++ E') zero

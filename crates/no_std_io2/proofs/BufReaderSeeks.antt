@@ -29,10 +29,6 @@ at_offset_sum = grind (arith, common_steps)
 pub at_offset_ahead : (at held n : ℕ) (o rest : ℤ) → held ≤ at → rest ≡ o -ℤ pos held → IsAtOffset at rest n → IsAtOffset (at - held) o n
 at_offset_ahead at held n o rest fits is h = grind (arith, common_steps)
 
--- and the other way round
-pub at_offset_behind : (at held n : ℕ) (o rest : ℤ) → held ≤ at → rest ≡ o -ℤ pos held → IsAtOffset (at - held) o n → IsAtOffset at rest n
-at_offset_behind at held n o rest fits is h = grind (arith, common_steps)
-
 -- an offset that does not fit one inner seek is too far back
 pub far_unless_fits : (o : ℤ) (held : ℕ) → FitsSigned w64 o → held < 2 ^ 63 → (FitsSigned w64 (o -ℤ pos held) → ⊥)
     → IsTooFarBack (Current o) held
@@ -57,7 +53,7 @@ pub sought_current : (o rest : ℤ) (r : Result ℕ Error) (held held' : List �
     → IsSound held at content → content' ≡ content → Seeks (length content) at (Current rest) r at'
     → OnOk r ((held' ≡ []) × X) → OnErr r ((held' ≡ held) × Y)
     → IsSound held' at' content' × Seeks (length content) (at - length held) (Current o) r (at' - length held')
-sought_current = grind (arith, common_steps, sought, at_offset_ahead, at_offset_behind)
+sought_current = grind (arith, common_steps, sought, at_offset_ahead)
 
 -- a seek back to where the held bytes begin arrives
 pub back_arrives : (o : ℤ) (r : Result ℕ Error) (len at at' held : ℕ) → o ≡ pos 0 -ℤ pos held → held ≤ at → at < 2 ^ 64

@@ -19,18 +19,10 @@ use Rattle.no_std_io2.specs.declared.buffered.sender.Sender.{Sender}
 use Rattle.no_std_io2.specs.BufWriter.{CallOf, stops, goes_on, with_buffer, Takes, sender_inner, sender_buffer, sender_with_inner}
 use Rattle.no_std_io2.specs.BufWriter.{SendCalls, WayCalls, PutCalls, Buffered, WriteCalls, WriteAllCalls, FlushCalls, PastEmpty, OneWrite}
 use Rattle.no_std_io2.specs.BufWriter.{OneWriteAll, OneFlush, way_calls, writing_calls, buffer_after, Buffers, BuffersAll, Flushes}
-use Rattle.no_std_io2.proofs.BufWriterLemmas.{Moves-kept, Moves-sent_part, Moves-emptied, MovesFront-emptied}
+use Rattle.no_std_io2.proofs.BufWriterLemmas.{Moves-kept, Moves-emptied, MovesFront-emptied}
 use Rattle.no_std_io2.proofs.AnswerLemmas.{onok_map}
 use Rattle.no_std_io2.proofs.StepLemmas.{no_ok, Stepped, Leaves, Tells, Sending, Counts, Counted, then_goes_on, then_leaves, then_tells}
 use Rattle.no_std_io2.proofs.StepLemmas.{then_counts}
-
--- making room takes no inner call if n more bytes fit beside the held bytes,
-way_calls-none : (S n : ℕ) (held : List ℕ) → length held + n ≤ S → way_calls S held n ≡ 0
-way_calls-none S n held h = grind (arith, nat_tests)
-
--- and the calls of a sending if they do not
-way_calls-over : (S n : ℕ) (held : List ℕ) → S < length held + n → way_calls S held n ≡ calls_for held
-way_calls-over S n held h = grind (arith, nat_tests)
 
 -- what is left once n more bytes have room,
 abbrev pub way_left : ℕ → ℕ → List ℕ → List ℕ
@@ -39,12 +31,6 @@ way_left S n held = if nat_le (length held + n) S then held else []
 -- and after x was put there
 abbrev pub put_left : ℕ → List ℕ → List ℕ → List ℕ
 put_left S x held = if nat_lt (length x) S then held ++ x else []
-
-way_left-fits : (S n : ℕ) (held : List ℕ) → length held + n ≤ S → way_left S n held ≡ held
-way_left-fits S n held h = grind (arith, nat_tests)
-
-way_left-over : (S n : ℕ) (held : List ℕ) → S < length held + n → way_left S n held ≡ []
-way_left-over S n held h = grind (arith, nat_tests)
 
 buffer_after-is : (S : ℕ) (held x : List ℕ) → put_left S x (way_left S (length x) held) ≡ buffer_after S held x
 buffer_after-is S held x = grind (arith, common_steps)
@@ -62,9 +48,6 @@ past_calls-all S len n h = grind (arith, nat_tests)
 -- how many inner calls a `write_all` makes, over an inner writer that takes all
 abbrev pub writing_all_calls : ℕ → List ℕ → List ℕ → ℕ
 writing_all_calls S x held = way_calls S held (length x) + past_calls S (length x) (calls_for x)
-
-writing_all-is : (S : ℕ) (x held : List ℕ) → 0 < S → writing_all_calls S x held ≡ writing_calls S held x
-writing_all-is S x held some = grind (arith, nat_tests)
 
 -- in front of fewer than S bytes there is room then,
 pub way_room : (S n : ℕ) {held left : List ℕ} {C : List WriteCall} → n < S → WayCalls S n held C (Ok tt) left → length left + n ≤ S
@@ -84,10 +67,6 @@ module _ {W : Type 0} {I : Writer W} (S : ℕ) where
       (λ over. ([], refl, inr (over, subst (λ l. SendCalls l [] (Ok tt) l) (sym empty) no_write)))
       (λ room. way_kept n room)
       (cases_lt S (length held + n))
-
-  pub way_sent : (n : ℕ) {held left : List ℕ} {reply : Result (Unit {0}) Error} {a b : W} → S < length held + n
-      → Stepped I SendCalls a held reply left b → Stepped I (WayCalls S n) a held reply left b
-  way_sent n over sent = (sent.0, sent.1, inr (over, sent.2))
 
   module _ {A : Type 0} (x : List ℕ) (v : A) (past : List WriteCall → Result A Error → Type 0) where
     -- x is held after the held bytes,
@@ -119,7 +98,7 @@ pub send_leaves : Leaves SendCalls (λ _. [])
 send_leaves = λ held C reply left writes. writes_whole writes
 
 way_leaves : (S n : ℕ) → Leaves (WayCalls S n) (way_left S n)
-way_leaves S n = grind (arith, common_steps, way_left-fits, onok_map, way_left-over, writes_whole)
+way_leaves S n = grind (arith, common_steps, onok_map, writes_whole)
 
 module _ {A : Type 0} (S : ℕ) (x : List ℕ) (v : A) (past : List WriteCall → Result A Error → Type 0) where
   put_leaves : Leaves (PutCalls S x v past) (put_left S x)
@@ -153,7 +132,7 @@ module _ {W : Type 0} (I : Writer W) where
 
   -- what each step tells
   pub send_tells : Tells I SendCalls (Sending I)
-  send_tells = grind (arith, common_steps, writes_sends, Moves-sent_part)
+  send_tells = grind (arith, common_steps, writes_sends)
 
   -- a sending, or no call
   pub kept_tells : (held left : List ℕ) (C : List WriteCall) (reply : Result (Unit {0}) Error) (a b : W) → C ≡ [] → reply ≡ Ok tt
@@ -174,7 +153,7 @@ module _ {W : Type 0} (I : Writer W) where
   idle_counts = grind (arith, common_steps)
 
   way_counts : (S n : ℕ) → Counts I (WayCalls S n) (λ held. way_calls S held n)
-  way_counts S n = grind (arith, common_steps, idle_counts, way_calls-none, send_counts, way_calls-over)
+  way_counts S n = grind (arith, common_steps, idle_counts, send_counts)
 
   module _ {A : Type 0} (S : ℕ) (x : List ℕ) (v : A) (past : List WriteCall → Result A Error → Type 0) where
     -- what goes through a buffer tells what it tells held, and past it
@@ -290,7 +269,7 @@ module _ {W : Type 0} (I : Writer W) (steady : (w : W) → I.takes_all w → (I.
 
     pub buffers_all_of : {x : List ℕ} {reply : Result (Unit {0}) Error} → Takes I inner buffer (WriteAllCalls S x) old reply new
         → BuffersAll I S inner buffer old x reply new
-    buffers_all_of {x} calls = grind (arith, common_steps, buffered_fits, buffered_leaves, write_all_counts, writing_all-is)
+    buffers_all_of {x} calls = grind (arith, common_steps, buffered_fits, buffered_leaves, write_all_counts)
 
     pub flushes_of : {reply : Result (Unit {0}) Error} → Takes I inner buffer FlushCalls old reply new
         → Flushes I inner buffer old reply new

@@ -18,11 +18,6 @@ Moves-buffered {a} {b} {x} old new y f e = grind (arith, common_steps)
 pub ok_same : {A E : Type 0} {x y : A} → ◌≡◌ {A = Result A E} (Ok x) (Ok y) → x ≡ y
 ok_same e = cc
 
--- after a part of the buffer was sent
-pub Moves-sent_part : {a b : Told} {k : List ErrorKind} (sent old new : List ℕ) → old ≡ sent ++ new → Moves a sent k b
-    → Moves (with_buffer a old) [] k (with_buffer b new)
-Moves-sent_part sent old new e f = Moves-buffered old new [] f (append-nil old ∙ e)
-
 -- past an empty buffer
 pub Moves-emptied : {a b : Told} {x : List ℕ} {k : List ErrorKind} {held left : List ℕ} → held ≡ [] → left ≡ [] → Moves a x k b
     → Moves (with_buffer a held) x k (with_buffer b left)
@@ -54,8 +49,3 @@ IsSuffix-trans old mid new f g = (f.0 ++ g.0, f.1 ∙ ap (λ l. f.0 ++ l) g.1 �
 pub Moves-kept : {W : Type 0} (told : W → Told) (inner next : W) (old new x : List ℕ) → next ≡ inner → new ≡ old ++ x
     → Moves (with_buffer (told inner) old) x [] (with_buffer (told next) new)
 Moves-kept told inner next old new x same e = grind (arith, common_steps)
-
--- after the whole buffer was sent, with no buffer left
-pub Moves-out : {a b : Told} {k : List ErrorKind} (old sent rest : List ℕ) → old ≡ sent ++ rest → rest ≡ []
-    → Moves a sent k b → Moves (with_buffer a old) [] k b
-Moves-out {a} {b} old sent rest e none f = grind (arith, common_steps)

@@ -102,28 +102,20 @@ copied_refused room n buf {rest} e t read some fits long w =
     bytes-append t.front (events_of got) ∙ ap (λ l. bytes t.front ++ l) (bytes-events_of got) in
     let front : bytes (t.front ++ events_of got) ≡ (bytes t.front ++ accepted) ++ lost =
     whole ∙ ap (λ l. bytes t.front ++ l) w.front.1 ∙ sym (append_assoc (bytes t.front) accepted lost) in
-    let short = length-take-le n buf fits in (
+    let count = ap length whole ∙ length-append (bytes t.front) got in
+    let kept = length-append (bytes t.front) accepted in
+    let few : length (bytes (t.front ++ events_of got)) ≤ length (bytes t.front ++ accepted) + room = omega (
+      arith,
+      count,
+      kept,
+      length-take-le n buf fits,
+    ) in (
       t.front ++ events_of got,
       t.split ∙ ap (λ l. t.front ++ l) read.0 ∙ sym (append_assoc t.front (events_of got) rest),
       λ zero. absurd (omega arith),
       inr (
         HasNoFault-append t.front (events_of got) t.no_fault (HasNoFault-events_of got),
-        (
-          omega arith,
-          (
-            bytes t.front ++ accepted,
-            (
-              (lost, front),
-              omega (
-                arith,
-                ap length whole ∙ length-append (bytes t.front) got,
-                length-append (bytes t.front) accepted,
-                short,
-              ),
-            ),
-            Moves-then t.moves w.moves,
-          ),
-        ),
+        (omega arith, (bytes t.front ++ accepted, ((lost, front), few), Moves-then t.moves w.moves)),
       ),
     )
 

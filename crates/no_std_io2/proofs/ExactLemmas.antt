@@ -1,7 +1,7 @@
 -- What a `read_exact` does if the events begin with some bytes.
 use Rattle.std.proofs.lemmas.Grind.{common_steps}
 use Rattle.std.proofs.Common.{◌≡◌, ◌⊎◌, ℕ, ◌≤◌, List, ◌∷◌, ◌++◌, length, Result, Ok, Err, IsOk, refl, ap, ◌∙◌, []}
-use Rattle.std.proofs.Common.{arith, append_assoc, append-nil, length-append}
+use Rattle.std.proofs.Common.{arith, append_assoc, length-append}
 use Rattle.no_std_io2_base.specs.declared.error.Error.{Error}
 use Rattle.no_std_io2_base.specs.Read.{Event, byte, fails, events_of, bytes, cut, Fills, StopsAtFault, FallsShort, ReadsExact}
 use Rattle.no_std_io2_base.proofs.EventLemmas.{bytes-append, bytes-events_of}
@@ -30,13 +30,10 @@ stands_behind (b ∷ bs) (byte c ∷ Q) R rest e is =
     let more : length bs ≤ length (bytes Q) = stands_behind bs Q R rest e (cc) in omega arith
 stands_behind (b ∷ bs) (fails d ∷ Q) R rest e is = absurd (cc)
 
-bytes_end : (Q : List Event) (e : Error) → bytes (Q ++ fails e ∷ []) ≡ bytes Q
-bytes_end Q e = bytes-append Q (fails e ∷ []) ∙ append-nil (bytes Q)
-
 -- a `read_exact` into no more room than there are bytes first does not fail
 pub ReadsExact-failed : {t : Type 0} {E after : List Event} {room : ℕ} {e : Error} (bs : List ℕ) (rest : List Event)
     → E ≡ events_of bs ++ rest → room ≤ length bs → StopsAtFault E room e after ⊎ FallsShort t E room e after → ⊥
-ReadsExact-failed = grind (arith, common_steps, append_assoc, stands_behind, bytes_end, bytes-append, length-append, bytes-events_of)
+ReadsExact-failed = grind (arith, common_steps, append_assoc, stands_behind, bytes-append, length-append, bytes-events_of)
 
 -- so its result is `Ok`
 pub ReadsExact-enough : (t : Type 0) {E : List Event} (after : List Event) (r : Result (Unit {0}) Error) (buf bs : List ℕ)

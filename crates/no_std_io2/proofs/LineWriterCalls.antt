@@ -28,7 +28,6 @@ use Rattle.no_std_io2.proofs.BufWriterCalls.{write_all_tells, write_all_fault, w
 use Rattle.no_std_io2.proofs.LineWriterLemmas.{MovesFront-ends, MovesFront-whole, MovesFront-part, MovesFront-rest}
 use Rattle.no_std_io2.proofs.LineWriterStates.{line_left, line_left-is, send_line_leaves, send_lines_leaves, lines_length, tail_whole}
 use Rattle.no_std_io2.proofs.LinesLast.{lines_len-some, lines_len-none, unfinished_line-drop, took_tail}
-use Rattle.no_std_io2.proofs.LinesLast.{tail_mishap}
 
 -- a sent line is one call at most
 abbrev pub line_calls : List ℕ → ℕ
@@ -65,6 +64,11 @@ writing_then_sending S x held = grind (arith, common_steps)
 at_ok : {A : Type 0} {P : Type 0} (r : Result A Error) → IsOk r → OnOk r P → P
 at_ok = grind (arith, common_steps)
 
+-- counted calls, at most three
+counted_keeps : {W A : Type 0} (I : Writer W) {n : ℕ} (reply : Result A Error) (a b : W) → Counted I reply a n b → n ≤ 3
+    → I.takes_all b × IsOk reply × (I.is_metered a → I.is_metered b × (I.cost b ≤ I.cost a + 3))
+counted_keeps I reply a b done few = (done.0, done.1, λ m. let spent = done.2 m in (spent.0, omega (arith, spent.1, few)))
+
 filled_plain : (S : ℕ) (held x : List ℕ) → lines_len x ≡ 0 → buffer_after S (unfinished_line held) x ≡ line_buffer_filled S held x
 filled_plain S held x none = grind (arith, nat_tests)
 
@@ -83,7 +87,7 @@ module _ {W : Type 0} (I : Writer W) where
     tail_tells : 0 < lines_len x → (answer reply : Result ℕ Error) (held left : List ℕ) → held ≡ [] → HoldsTail S x answer reply left
         → (a b : W) → CallOf I a (Wrote (lines_of x) answer) b
         → Writing I x (with_buffer (I.told a) held) reply (with_buffer (I.told b) left)
-    tail_tells = grind (arith, common_steps, Moves-emptied, tail_mishap, Moves-buffered, took_tail, take-take, lines_length)
+    tail_tells = grind (arith, common_steps, Moves-emptied, Moves-buffered, took_tail, take-take, lines_length)
 
     lines_tell : 0 < lines_len x → Tells I (LinesCalls S x) (Writing I x)
     lines_tell some = grind (arith, common_steps, tail_tells, one_call)
@@ -116,46 +120,25 @@ module _ {W : Type 0} (I : Writer W) where
         let law = one_call I parts.0 b q.2 parts.2 in
         (tail_whole S x q.1 reply left (law.all (send_counts I _ _ _ _ p a parts.0 parts.1 takes).0).1 some q.3).1
 
-  plain_bound : (S : ℕ) {x held left : List ℕ} {C : List WriteCall} {reply : Result ℕ Error}
-      → Then SendLineCalls (WriteCalls S x) held C reply left
-      → (a b : W) → Made (CallOf I) a C b → IfOk reply (λ n. n ≤ length x)
-  plain_bound = grind (arith, common_steps, made_split, write_bound)
-
-  lines_bound : (S : ℕ) (x : List ℕ) {held left : List ℕ} {C : List WriteCall} {reply : Result ℕ Error}
-      → Then SendCalls (LinesCalls S x) held C reply left
-      → (a b : W) → Made (CallOf I) a C b → IfOk reply (λ n. n ≤ length x)
-  lines_bound = grind (arith, nat_tests, made_split, tail_bound, one_call)
-
   -- no more is taken than was given
   pub line_write_bound : (S : ℕ) {x held left : List ℕ} {C : List WriteCall} {reply : Result ℕ Error} → LineWriteCalls S x held C reply left
       → (a b : W) → Made (CallOf I) a C b → IfOk reply (λ n. n ≤ length x)
-  line_write_bound S {x} write a b made = grind (arith, common_steps, plain_bound, lines_bound)
+  line_write_bound = grind (arith, nat_tests, made_split, write_bound, tail_bound, one_call)
 
   -- over an inner writer that takes all it makes three calls at most,
   pub line_write_keeps : (S : ℕ) {x held left : List ℕ} {C : List WriteCall} {reply : Result ℕ Error} → LineWriteCalls S x held C reply left
       → (a b : W) → Made (CallOf I) a C b → KeepsTaking I a reply b
-  line_write_keeps S {x} {held} write a b made takes = elim write [
+  line_write_keeps S {x} {held} {reply = reply} write a b made takes = elim write [
     | inl plain ↦
-        let all = then_counts I SendLineCalls (WriteCalls S x) line_left line_calls
-        (λ held. writing_calls S held x) send_line_leaves send_line_counts
-        (write_counts I S x) plain.1 a b made takes in (
-          all.0,
-          all.1,
-          λ m. let spent = all.2 m in (
-            spent.0,
-            omega (
-              arith,
-              spent.1,
-              line_calls-le held,
-              writing_calls-le S
-                  (line_left held) x,
-            ),
-          ),
-        )
+        counted_keeps I reply a b
+        (then_counts I SendLineCalls (WriteCalls S x) line_left line_calls (λ held. writing_calls S held x) send_line_leaves
+        send_line_counts (write_counts I S x) plain.1 a b made takes)
+        (omega (arith, line_calls-le held, writing_calls-le S (line_left held) x))
     | inr lines ↦
-        let all = then_counts I SendCalls (LinesCalls S x) (λ _. []) calls_for (λ _. 1) send_leaves (send_counts I)
-        (lines_count S x (lines_len-some x lines.0)) lines.1 a b made takes in
-        (all.0, all.1, λ m. let spent = all.2 m in (spent.0, omega (arith, spent.1, calls_for-le held)))
+        counted_keeps I reply a b
+        (then_counts I SendCalls (LinesCalls S x) (λ _. []) calls_for (λ _. 1) send_leaves (send_counts I)
+        (lines_count S x (lines_len-some x lines.0)) lines.1 a b made takes)
+        (omega (arith, calls_for-le held))
   ]
 
   -- and this is held then
@@ -267,47 +250,33 @@ module _ {W : Type 0} (I : Writer W) (steady : (w : W) → I.takes_all w → (I.
       → Then (SendLinesCalls S (lines_of x)) (WriteAllCalls S (unfinished_line x)) held C reply left → (a b : W) → Made (CallOf I) a C b
       → KeepsTaking I a reply b
   lines_keep S x (stops p) a b made takes = no_ok (send_lines_count S p a b made takes).2.1
-  lines_keep S x (goes_on {C = C} {D = D} {mid = mid} p q) a b made takes =
+  lines_keep S x (goes_on {C = C} {D = D} p q) a b made takes =
       let parts = made_split (CallOf I) C a D b made in
       let first = send_lines_count S p a parts.0 parts.1 takes in
-      let next = write_all_counts I steady S (unfinished_line x) _ _ _ _ q parts.0 b parts.2 first.2.0 in (
-        next.0,
-        next.1,
-        λ m.
-            let one = first.2.2 m in
-            let two = next.2 one.0 in (
-              two.0,
-              omega (
-                arith,
-                one.1,
-                two.1,
-                first.1,
-                ap (writing_all_calls S (unfinished_line x)) (send_lines_leaves S (lines_of x) _ _ _ _ p),
-                writing_all-none S (unfinished_line x),
-              ),
-            ),
-      )
+      let next = write_all_counts I steady S (unfinished_line x) _ _ _ _ q parts.0 b parts.2 first.2.0 in
+      let none = ap (writing_all_calls S (unfinished_line x)) (send_lines_leaves S (lines_of x) _ _ _ _ p) in
+      let last = writing_all-none S (unfinished_line x) in
+      let paid : I.is_metered a → I.is_metered b × (I.cost b ≤ I.cost a + 3) = λ m. (let one = first.2.2 m in let two = next.2 one.0 in (
+        two.0,
+        omega (
+          arith,
+          one.1,
+          two.1,
+          first.1,
+          none,
+          last,
+        ),
+      )) in
+      (next.0, next.1, paid)
 
   -- by three calls at most of an inner writer that takes all
   pub line_write_all_keeps : (S : ℕ) {x held left : List ℕ} {C : List WriteCall} {reply : Result (Unit {0}) Error}
       → LineWriteAllCalls S x held C reply left → (a b : W) → Made (CallOf I) a C b → KeepsTaking I a reply b
-  line_write_all_keeps S {x} {held} write a b made takes = elim write [
+  line_write_all_keeps S {x} {held} {reply = reply} write a b made takes = elim write [
     | inl plain ↦
-        let all = then_counts I SendLineCalls (WriteAllCalls S x) line_left line_calls (writing_all_calls S x) send_line_leaves
-        (send_line_counts I)
-        (write_all_counts I steady S x) plain.1 a b made takes in (
-          all.0,
-          all.1,
-          λ m. let spent = all.2 m in (
-            spent.0,
-            omega (
-              arith,
-              spent.1,
-              line_calls-le held,
-              writing_all-le S x
-                  (line_left held),
-            ),
-          ),
-        )
+        counted_keeps I reply a b
+        (then_counts I SendLineCalls (WriteAllCalls S x) line_left line_calls (writing_all_calls S x) send_line_leaves
+        (send_line_counts I) (write_all_counts I steady S x) plain.1 a b made takes)
+        (omega (arith, line_calls-le held, writing_all-le S x (line_left held)))
     | inr lines ↦ lines_keep S x lines.1 a b made takes
   ]

@@ -22,7 +22,6 @@ use Rattle.no_std_io2.proofs.BufWriterCalls.{buffered_leaves, buffered_fits, sen
 use Rattle.no_std_io2.proofs.LineWriterLemmas.{IsLineState-end, IsLineState-plain, IsLineState-ended, HasNoNewline-end, HasNoNewline-append}
 use Rattle.no_std_io2.proofs.LineWriterLemmas.{HasNoNewline-none}
 use Rattle.no_std_io2.proofs.LinesLast.{lines_are, lines_len-is, lines_len-some, lines_len-none, unfinished_line-none}
-use Rattle.no_std_io2.proofs.LinesLast.{unfinished_line-ended}
 use Rattle.no_std_io2.proofs.LinesLast.{unfinished_line-drop, unfinished_line-plain, none_or_some, tail_line}
 
 -- what is left of some bytes that were sent is an end of them
@@ -43,18 +42,12 @@ way_end S n {left = left} way = grind (arith, common_steps, writes_end)
 abbrev pub line_left : List ℕ → List ℕ
 line_left held = if lines_len held == 0 then held else []
 
-line_left-zero : (held : List ℕ) → lines_len held ≡ 0 → line_left held ≡ held
-line_left-zero held none = grind (arith, nat_tests)
-
-line_left-some : (held : List ℕ) → 0 < lines_len held → line_left held ≡ []
-line_left-some held some = grind (arith, nat_tests)
-
 -- of a line state that is what follows its lines
 pub line_left-is : (held : List ℕ) → IsLineState held → line_left held ≡ unfinished_line held
-line_left-is held line = grind (arith, common_steps, lines_are, line_left-some, unfinished_line-ended, line_left-zero, unfinished_line-drop)
+line_left-is held line = grind (arith, common_steps, lines_are, unfinished_line-drop)
 
 pub send_line_leaves : Leaves SendLineCalls line_left
-send_line_leaves = grind (arith, common_steps, line_left-zero, lines_len-none, onok_map, line_left-some, lines_len-some, writes_whole)
+send_line_leaves = grind (arith, common_steps, lines_len-none, onok_map, lines_len-some, writes_whole)
 
 -- and what is left then has no newline
 send_line_plain : {held left : List ℕ} {C : List WriteCall} → SendLineCalls held C (Ok tt) left → HasNoNewline left

@@ -1,5 +1,5 @@
 -- The lines of a list of bytes, and what follows them.
-use Rattle.std.proofs.Common.{rules, []}
+use Rattle.std.proofs.Common.{rules}
 use Rattle.std.proofs.lemmas.Grind.{common_steps}
 use Rattle.std.proofs.Common.{◌≡◌, ◌≢◌, ℕ, zero, suc, ◌+◌, ◌-◌, ◌<◌, ◌≤◌, ◌==◌, not, true, false, List, ◌++◌, length, take}
 use Rattle.std.proofs.Common.{drop, get_or, slice_index, refl, sym, ap, ◌∙◌, subst, arith, min, length-drop, length-take, ⊎_elim}
@@ -8,10 +8,9 @@ use lib.Seq.{take-add}
 use Rattle.std.proofs.lemmas.Bool.Decides.{nat_tests}
 use Rattle.std.proofs.lemmas.List.{get_or-drop, take_min, take-take, get_or_default}
 use Rattle.std.proofs.lemmas.List.Sums.{suffix_len_is}
-use Rattle.no_std_io2.specs.Lines.{HasNoNewline, IsLineState, HasNewline, IsLinesLen, unfinished_line, lines_of, lines_len, lines_or_all}
+use Rattle.no_std_io2.specs.Lines.{HasNoNewline, IsLineState, HasNewline, IsLinesLen, unfinished_line, lines_len, lines_or_all}
 use Rattle.no_std_io2.specs.Lines.{held_tail}
 use Rattle.std.specs.List.{slice_range}
-use Rattle.no_std_io2_base.specs.Write.{zero_write}
 use Rattle.no_std_io2.proofs.LineWriterLemmas.{IsLineState-plain, HasNoNewline-take, HasNoNewline-none}
 
 -- how a search from the end tests a byte: it skips each byte that is no newline,
@@ -88,13 +87,9 @@ none_or_some xs h has = h has.0 has.1 (get_or_default xs has.0 0 10 has.1 ∙ ha
 pub IsLinesLen-whole : (xs : List ℕ) → (0 < length xs → slice_index xs (length xs - 1) ≡ 10) → IsLinesLen xs (length xs)
 IsLinesLen-whole xs h = record { within = omega arith; ends = h; none_after = λ k lt. absurd (omega (arith, length-drop (length xs) xs)) }
 
--- the bytes after the lines are all bytes if there is no newline,
+-- the bytes after the lines are all bytes if there is no newline
 pub unfinished_line-none : (xs : List ℕ) → HasNoNewline xs → unfinished_line xs ≡ xs
 unfinished_line-none xs h = unfinished_line-is xs 0 (IsLinesLen-none xs h)
-
--- and none if the last byte is a newline
-pub unfinished_line-ended : (xs : List ℕ) → slice_index xs (length xs - 1) ≡ 10 → unfinished_line xs ≡ []
-unfinished_line-ended xs h = grind (arith, common_steps)
 
 -- the first n bytes, which end in a newline if there are some
 pub IsLineState-lines : (xs : List ℕ) (n : ℕ) → n ≤ length xs → (0 < n → slice_index xs (n - 1) ≡ 10) → IsLineState (take n xs)
@@ -131,28 +126,9 @@ part_front S l = ⊎_elim
     (λ none. (S, lines_or_all-none (take S l) (omega (arith, none))))
     (cases_lt 0 (lines_len (take S l)))
 
-tail_front : (S : ℕ) (x : List ℕ) (n : ℕ) → (m : ℕ) × (held_tail S x n ≡ take m (drop n x))
-tail_front S x n =
-    let len = lines_len x in
-    ⊎_elim
-    (λ some. ⊎_elim
-    (λ left. ⊎_elim
-    (λ over. let part = part_front S (drop n x) in (part.0, held_tail-part S x len n refl some left over ∙ part.1))
-    (λ fits. (len - n, held_tail-rest S x len n refl some left fits))
-    (cases_lt S (len - n)))
-    (λ all. (S, held_tail-all S x len n refl some all))
-    (cases_lt n len))
-    (λ none. (0, ap (held_tail S x) (let zero : n ≡ 0 = omega (arith, none) in zero)))
-    (cases_lt 0 n)
-
 -- the first n bytes and that tail are the first ones of x
 pub took_tail : (S : ℕ) (x : List ℕ) (n : ℕ) → take (n + length (held_tail S x n)) x ≡ take n x ++ held_tail S x n
-took_tail S x n = grind (arith, common_steps, tail_front, take-add, length-take, take_min)
-
--- none of some is the same mishap, of lines and of all
-pub tail_mishap : (S : ℕ) (x : List ℕ) (n : ℕ) → 0 < lines_len x
-    → zero_write n (lines_of x) ≡ zero_write (n + length (held_tail S x n)) x
-tail_mishap S x n lines = grind (arith, common_steps)
+took_tail S x n = grind (arith, common_steps, take-add, length-take, take_min)
 
 -- windows of x after its first n bytes
 pub window_all : (x : List ℕ) (n S m : ℕ) → m ≡ min (length x - n) S → slice_range x n (n + m) ≡ take S (drop n x)

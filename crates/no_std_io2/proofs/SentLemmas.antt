@@ -10,7 +10,6 @@ use Rattle.no_std_io2_base.proofs.WritesFacts.{writes_fault, writes_left, writes
 use Rattle.no_std_io2.specs.BufWriter.{CallOf, SendCalls, Takes, SendsFirst, SendsHeld, Unwraps}
 use Rattle.no_std_io2.specs.declared.buffered.into_inner_error.IntoInnerError.{IntoInnerError}
 use Rattle.no_std_io2.specs.BufWriter.{into_inner_error_writer, into_inner_error_cause}
-use Rattle.no_std_io2.proofs.BufWriterLemmas.{Moves-out}
 use Rattle.no_std_io2.proofs.BufWriterCalls.{send_tells, send_counts}
 use Rattle.no_std_io2.proofs.StepLemmas.{no_ok, Stepped}
 
@@ -25,7 +24,7 @@ module _ {W : Type 0} {I : Writer W} {a b : W} {held left : List ℕ} where
 
   -- all was sent
   pub sends_all : Stepped I SendCalls a held (Ok tt) left b → SendsHeld I a held b
-  sends_all calls = grind (arith, common_steps, writes_whole, writes_sends, Moves-out)
+  sends_all calls = grind (arith, common_steps, writes_whole, writes_sends)
 
 module _ {W B : Type 0} {I : Writer W} {inner : B → W} {buffer : B → List ℕ} {old : B} where
   -- a call that sends first: the sending failed

@@ -1,24 +1,8 @@
-use Rattle.std.proofs.Common.{◌≡◌, ◌<◌, ◌≤◌, length, take, sym, ◌∙◌, arith, inl, inr, length-take-le}
+use Rattle.std.proofs.Common.{◌≡◌, ◌<◌, ◌≤◌, length, take, sym, ◌∙◌, arith, length-take-le}
 use Rattle.no_std_io2.proofs.EventLemmas.{SkipsBytes-more, SkipsBytes-still, TakesBytes-interruption}
-use Rattle.no_std_io2.proofs.EventLemmas.{part_taken, none_taken, error_taken, is_empty, not_empty}
+use Rattle.no_std_io2.proofs.EventLemmas.{part_taken, error_taken, is_empty, not_empty}
 use Rattle.no_std_io2.proofs.PortionLemmas.{portions_waited, portions_took, skip_faults, skip_ends, skip_whole}
 use Rattle.no_std_io2.proofs.util.skip.Goals as goal
-
-pub returns-then-is_empty-clause-told : goal.returns-then-is_empty-clause-told
-returns-then-is_empty-clause-told g c = λ t.
-    let filled = c.fill_buf.follows.holds-at-none in
-    let so_far = c.pieces.invariant.told t in
-    let loan = filled.told so_far.0 in
-    let end = c.in-Ok.ensures.law.end so_far.0 (is_empty _ _ c.is_empty.ensures c.if-is_empty.true) in
-    (loan.0, (_, so_far.1, inr (end, none_taken c.in-Ok.lent c.in-Ok.is loan.1 ∙ end, c.failed_to_fill.ensures)))
-
-pub returns-in-Err-2-clause-told : goal.returns-in-Err-2-clause-told
-returns-in-Err-2-clause-told g c = λ t.
-    let filled = c.fill_buf.follows.holds-at-none in
-    let so_far = c.pieces.invariant.told t in
-    let loan = filled.told so_far.0 in
-    let fault = sym c.is_interrupted.ensures ∙ c.if-is_interrupted.false in
-    (loan.0, (_, so_far.1, inl (error_taken c.in-Err.is loan.1, fault)))
 
 pub returns-then-is_empty-clause-calls : goal.returns-then-is_empty-clause-calls
 returns-then-is_empty-clause-calls g c =

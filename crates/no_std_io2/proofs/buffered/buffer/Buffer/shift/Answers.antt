@@ -1,8 +1,8 @@
 use Rattle.std.proofs.lemmas.Grind.{common_steps}
 use Rattle.std.proofs.Common.{arith, length-take-le, length-drop}
 use Rattle.std.proofs.lemmas.Int.{to_z-of_z}
-use Rattle.no_std_io2.proofs.BufReaderBehind.{not_negative, border_within, cut_on}
+use Rattle.no_std_io2.proofs.BufReaderBehind.{cut_on}
 use Rattle.no_std_io2.proofs.buffered.buffer.Buffer.shift.Goals as goal
 
 pub returns-in-Some-clause-within : goal.returns-in-Some-clause-within
-returns-in-Some-clause-within g c = grind (arith, common_steps, not_negative, to_z-of_z, length-take-le, length-drop, border_within, cut_on)
+returns-in-Some-clause-within g c = grind (arith, common_steps, to_z-of_z, length-take-le, length-drop, cut_on)
