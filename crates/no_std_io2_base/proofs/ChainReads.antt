@@ -62,14 +62,9 @@ room_of_second E F len capacity n len' capacity' enough clean all grown more =
     omega (arith, enough, all, grown, more, both)
 
 -- the rest of a chain is that of the second reader if the first is done, and that of both if it is not
-pub room_when_done : {done : Bool} (E F : List Event) (len : ℕ) {capacity : ℕ} → done ≡ true
-    → HasRoom 32 ((if done then [] else E) ++ F) len capacity → HasRoom 32 F len capacity
-room_when_done E F len {capacity = capacity} is enough = subst (λ b. HasRoom 32 ((if b then [] else E) ++ F) len capacity) is enough
-
--- while the first is not done, room for what the chain has left is room for what both have
-pub room_while_going : {done : Bool} (E F : List Event) (len : ℕ) {capacity : ℕ} → done ≡ false
-    → HasRoom 32 ((if done then [] else E) ++ F) len capacity → HasRoom 32 (E ++ F) len capacity
-room_while_going E F len {capacity = capacity} is enough = subst (λ b. HasRoom 32 ((if b then [] else E) ++ F) len capacity) is enough
+pub room_when : {done : Bool} (is : Bool) (E F : List Event) (len : ℕ) {capacity : ℕ} → done ≡ is
+    → HasRoom 32 ((if done then [] else E) ++ F) len capacity → HasRoom 32 ((if is then [] else E) ++ F) len capacity
+room_when is E F len {capacity = capacity} same enough = subst (λ b. HasRoom 32 ((if b then [] else E) ++ F) len capacity) same enough
 
 -- what holds, holds after an `Ok`
 pub after_ok : {A E : Type 0} {P : Type 0} (reply : Result A E) → P → OnOk reply P

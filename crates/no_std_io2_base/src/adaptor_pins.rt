@@ -1,5 +1,5 @@
 //! What a `Chain` and a `Take` tell, and what their calls do. Nothing calls these functions either.
-ghost use Rattle.std.specs.Prelude.{◌≡◌, ◌+◌, ◌++◌, ℕ, List, length, take, true, false, OnOk, string_bytes};
+ghost use Rattle.std.specs.Prelude.{◌≡◌, ◌+◌, ◌++◌, ℕ, List, length, true, false, OnOk, string_bytes};
 ghost use Rattle.no_std_io2_base.specs.Chain.{chain_first, chain_second, chain_is_done, ChainMay, InTurn};
 ghost use Rattle.no_std_io2_base.specs.Read.{cut, ReadCall};
 ghost use Rattle.no_std_io2_base.specs.Take.{take_inner, take_limit, TakeGives, TakeMay};
@@ -55,12 +55,6 @@ fn chain_pieces<T: BufRead, U: BufRead, A: Allocator>(
     c.read_until(delim, buf)
 }
 
-// A `Chain` holds the bytes that the current reader holds.
-fn chain_lends<T: BufRead, U: BufRead>(c: &Chain<T, U>)
-    ensures held { chain_is_done c.now ≡ false → ⟦<Chain<T, U> as BufRead>⟧.held c.now ≡ T.held (chain_first c.now) }
-    ensures held_done { chain_is_done c.now ≡ true → ⟦<Chain<T, U> as BufRead>⟧.held c.now ≡ U.held (chain_second c.now) }
-{}
-
 // The events of a `Take` are the inner reader's, up to and including the byte at the limit.
 fn take_tells<T: Read>(t: &Take<T>)
     ensures tells { T.tells (take_inner t.now) → ⟦<Take<T> as Read>⟧.tells t.now }
@@ -108,8 +102,3 @@ fn take_lines<T: BufRead>(t: &mut Take<T>, alloc: Global, text: &mut String) -> 
 {
     t.read_line(alloc, text)
 }
-
-// A `Take` holds as many of the inner reader's held bytes as the limit allows.
-fn take_lends<T: BufRead>(t: &Take<T>)
-    ensures { ⟦<Take<T> as BufRead>⟧.held t.now ≡ take (take_limit t.now) (T.held (take_inner t.now)) }
-{}

@@ -2,7 +2,7 @@
 //! an implementation could tell less and still be proved, and every promise about it would be
 //! empty.
 ghost use Rattle.std.specs.Hash as fed;
-ghost use Rattle.std.specs.Prelude.{◌≡◌, ◌+◌, ◌-◌, ◌≤◌, ◌<◌, ◌++◌, ◌↔◌, length, take, drop, true, false, Ok, Some};
+ghost use Rattle.std.specs.Prelude.{◌≡◌, ◌+◌, ◌-◌, ◌≤◌, ◌<◌, ◌↔◌, length, drop, Ok, Some};
 ghost use Rattle.std.specs.Prelude.{IsTrue, IsOk, IsOkAnd, IfOk, IfErr, IfSome, OnSome};
 ghost use Rattle.std.specs.Box.{boxed_slice_items};
 ghost use Rattle.no_std_io2_base.specs.Cursor.{cursor_inner, cursor_position, bytes_before};
@@ -174,7 +174,6 @@ fn boxed_reader_tells<R: Read>(r: &Box<R>, new: &Box<R>)
 {}
 
 fn lent_lender_tells<'a, R: BufRead>(r: &&'a mut R)
-    ensures held { ⟦<&'a mut R as BufRead>⟧.held r.now ≡ R.held r.now.now }
     ensures counts { R.is_fill_metered r.now.now → ⟦<&'a mut R as BufRead>⟧.is_fill_metered r.now }
     ensures fills { ⟦<&'a mut R as BufRead>⟧.fills r.now ≡ R.fills r.now.now }
     ensures surely { R.knows_lent_length r.now.now → ⟦<&'a mut R as BufRead>⟧.knows_lent_length r.now }
@@ -182,7 +181,6 @@ fn lent_lender_tells<'a, R: BufRead>(r: &&'a mut R)
 {}
 
 fn boxed_lender_tells<R: BufRead>(r: &Box<R>)
-    ensures held { ⟦<Box<R> as BufRead>⟧.held r.now ≡ R.held r.now.value }
     ensures counts { R.is_fill_metered r.now.value → ⟦<Box<R> as BufRead>⟧.is_fill_metered r.now }
     ensures fills { ⟦<Box<R> as BufRead>⟧.fills r.now ≡ R.fills r.now.value }
     ensures surely { R.knows_lent_length r.now.value → ⟦<Box<R> as BufRead>⟧.knows_lent_length r.now }
@@ -203,7 +201,6 @@ fn lending_object_tells(r: &Box<dyn BufRead + Drop>)
     ensures events { ⟦<Box<dyn BufRead + Drop> as Read>⟧.events r.now ≡ events r.now }
     ensures turns { ⟦<Box<dyn BufRead + Drop> as Read>⟧.turns r.now ≡ turns r.now }
     ensures short { ⟦<Box<dyn BufRead + Drop> as Read>⟧.may_take_none r.now → may_take_none r.now }
-    ensures held { ⟦<Box<dyn BufRead + Drop> as BufRead>⟧.held r.now ≡ held r.now }
 {}
 
 // A slice tells its bytes as the events to come, and each read gives as many as fit.
@@ -218,9 +215,8 @@ fn slice_tells<'a>(s: &&'a [u8])
     ensures store { ⟦<&'a [u8] as Stored>⟧.has_store s.now → ⊥ }
 {}
 
-// A slice holds all of its bytes, and lends them at once.
+// A slice lends all of its bytes at once.
 fn slice_lends<'a>(s: &&'a [u8])
-    ensures held { ⟦<&'a [u8] as BufRead>⟧.held s.now ≡ s.now.now }
     ensures surely { ⟦<&'a [u8] as BufRead>⟧.knows_lent_length s.now }
     ensures length { ⟦<&'a [u8] as BufRead>⟧.lent_length s.now ≡ length s.now.now }
 {}
@@ -235,22 +231,6 @@ fn next_byte<R: Read + Drop>(bytes: &mut Bytes<R>) -> Option<Result<u8>>
 {
     bytes.next()
 }
-
-fn contents_tell<'a, A: Allocator, const N: usize>(
-    shared: &&'a [u8],
-    lent: &&'a mut [u8],
-    array: &[u8; N],
-    vector: &Vec<u8, A>,
-    lent_vector: &&'a mut Vec<u8, A>,
-    boxed: &BoxedSlice<u8, A>,
-)
-    ensures shared { ⟦<&'a [u8] as AsSlice<u8>>⟧.slice shared.now ≡ shared.now.now }
-    ensures lent { ⟦<&'a mut [u8] as AsSlice<u8>>⟧.slice lent.now ≡ lent.now.now }
-    ensures array { ⟦<[u8; N] as AsSlice<u8>>⟧.slice array.now ≡ array.now }
-    ensures vector { ⟦<Vec<u8, A> as AsSlice<u8>>⟧.slice vector.now ≡ vector.now.items }
-    ensures lent_vector { ⟦<&'a mut Vec<u8, A> as AsSlice<u8>>⟧.slice lent_vector.now ≡ lent_vector.now.now.items }
-    ensures boxed { ⟦<BoxedSlice<u8, A> as AsSlice<u8>>⟧.slice boxed.now ≡ boxed_slice_items boxed.now }
-{}
 
 // A cursor tells a store, whose length and position fit the numbers that the calls return.
 fn cursor_stores<T: AsSlice<u8>>(c: &Cursor<T>)
@@ -273,7 +253,6 @@ fn cursor_reads<T: AsSlice<u8>>(c: &Cursor<T>)
 {}
 
 fn cursor_lends<T: AsSlice<u8>>(c: &Cursor<T>)
-    ensures held { ⟦<Cursor<T> as BufRead>⟧.held c.now ≡ drop (cursor_position c.now) (T.slice (cursor_inner c.now)) }
     ensures knows_lent_length { ⟦<Cursor<T> as BufRead>⟧.knows_lent_length c.now }
     ensures lent_length { ⟦<Cursor<T> as BufRead>⟧.lent_length c.now
         ≡ length (T.slice (cursor_inner c.now)) - cursor_position c.now }

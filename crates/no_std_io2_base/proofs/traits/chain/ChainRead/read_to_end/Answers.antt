@@ -1,7 +1,7 @@
-use Rattle.std.proofs.Common.{◌≡◌, ◌+◌, ◌-◌, false, length, refl, ◌∙◌, arith, le_trans}
+use Rattle.std.proofs.Common.{◌≡◌, ◌+◌, ◌-◌, true, false, length, refl, ◌∙◌, arith, le_trans}
 use Rattle.std.proofs.lemmas.Result.{err_from_is_err_and}
-use Rattle.no_std_io2_base.proofs.ChainReads.{to_fault-first, room_of_second, room_when_done, first_fault-first}
-use Rattle.no_std_io2_base.proofs.ChainReads.{room_while_going, after_ok, drains_first, drains_second, drains_both, spent_then}
+use Rattle.no_std_io2_base.proofs.ChainReads.{to_fault-first, room_of_second, room_when, first_fault-first}
+use Rattle.no_std_io2_base.proofs.ChainReads.{after_ok, drains_first, drains_second, drains_both, spent_then}
 use Rattle.no_std_io2_base.proofs.Readers.{reader}
 use Rattle.no_std_io2_base.proofs.ReadToEndGathered.{gathered_first, gathered_all, gathered_stop}
 use Rattle.no_std_io2_base.proofs.GivenPieces.{first_fault-append}
@@ -19,7 +19,7 @@ returns-then-self g c =
         appends = read.appends;
         count = read.count;
         capacity = read.capacity;
-        room = λ t enough. rw c.if-self.true (read.room t.1 (room_when_done one two _ c.if-self.true enough));
+        room = λ t enough. rw c.if-self.true (read.room t.1 (room_when true one two _ c.if-self.true enough));
         never_interrupted = read.never_interrupted;
         turns_never_rise = omega (arith, read.turns_never_rise);
         spends_turn = λ more. let spent = read.spends_turn more in omega (arith, spent);
@@ -45,7 +45,7 @@ returns-in_err-read_to_end g c =
         count = tt;
         capacity = first.capacity;
         room = λ t enough.
-            let both = room_while_going one two _ going enough in
+            let both = room_when false one two _ going enough in
             let below = to_fault-first one two in
             rw going (first_fault-first one two (first.room (t.0 going) (omega (arith, both, below))));
         never_interrupted = first.never_interrupted;
@@ -78,7 +78,7 @@ returns-in_err-rest_to_end g c =
         count = tt;
         capacity = le_trans first.capacity second.capacity;
         room = λ t enough.
-            let both = room_while_going one two _ going enough in
+            let both = room_when false one two _ going enough in
             let before = (first.told (t.0 going)).1 in
             let behind = room_of_second one two _ _ _ _ _ both before.0 before.2 first.count first.capacity in
             rw going (first_fault-append one two before.0 ∙ second.room t.1 behind);
