@@ -56,18 +56,18 @@ passes_on n room read shown held is gave left = grind (arith, common_steps)
 
 -- what was held is given first, without a call of the inner reader
 pub gives_first : {R : Type 0} {S : ℕ} (may : R → ReadCall → R → Type 0) (old new : BufReader R S) (n size : ℕ) (buf : List ℕ)
-    → n ≤ length buf → length buf ≡ size → 0 < size → n ≡ length (reader_held old) → reader_inner new ≡ reader_inner old
-    → (reader_held old ≡ [] → new ≡ old)
+    → n ≤ length buf → length buf ≡ size → 0 < size → n ≡ length (reader_held old) → take n buf ≡ take n (reader_held old)
+    → reader_held new ≡ drop n (reader_held old) → reader_inner new ≡ reader_inner old → (reader_held old ≡ [] → new ≡ old)
     → (C : List ReadCall) × Made (ReaderMay may) old C new × Gathers (IsRest size) C (take n buf)
-gives_first may old new zero size buf within long some is same none = ([], none (nil_from_length _ (sym is)), no_read)
-gives_first may old new (suc k) size buf within long some is same none =
+gives_first may old new zero size buf within long some is gave left same none = ([], none (nil_from_length _ (sym is)), no_read)
+gives_first may old new (suc k) size buf within long some is gave left same none =
     let given = take (suc k) buf in
     let more : 0 < length given = omega (arith, length-take-le (suc k) buf within) in (
       Gave (length buf) (Ok given) ∷ [],
       (
         new,
         record {
-          held = λ h. same;
+          held = λ h. (same, passes_on (suc k) (length buf) (reader_held old) buf (reader_held new) (omega (arith, is, within)) gave left);
           direct = λ empty past. absurd (omega (arith, empty, is));
           filled = λ empty short. absurd (omega (arith, empty, is));
         },

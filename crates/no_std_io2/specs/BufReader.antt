@@ -1,6 +1,6 @@
 -- What a `BufReader` holds and tells, what its calls do, and the lemmas that are its laws.
 use Rattle.std.specs.Prelude.{◌≡◌, ℕ, ℤ, ◌^◌, ◌<◌, ◌≤◌, negsuc, pos, ◌+◌, ◌-◌, ◌-ℤ◌, ◌*◌, ◌&&◌, min, nat_lt, nat_le, if◌then◌else◌, List}
-use Rattle.std.specs.Prelude.{[], ◌∷◌, ◌++◌, Ok, Err, Result, IsOk, IsErr, OnOk, OnErr, IfOk, length, ◌⊎◌, take, drop, refl}
+use Rattle.std.specs.Prelude.{[], ◌∷◌, ◌++◌, Ok, Err, Result, IsOk, IsErr, IsErrAnd, OnOk, OnErr, IfOk, length, ◌⊎◌, take, drop, refl}
 use denote.Param.{param, number}
 use denote.RattleType.{RattleType}
 use Rattle.std.specs.Mem.{FitsInMemory}
@@ -144,11 +144,12 @@ abbrev pub PassesOn : Result (List ℕ) Error → ℕ → Result (List ℕ) Erro
 PassesOn (Ok x) room answer held = (answer ≡ Ok (take room x)) × (held ≡ drop room x)
 PassesOn (Err e) room answer held = (answer ≡ Err e) × (held ≡ [])
 
--- The inner call of a `read` of a `BufReader`. If bytes are held, there is none. If nothing is held, it reads once: into the caller's room
--- if that is as large as the buffer, and else into the buffer.
+-- The inner call of a `read` of a `BufReader`. If bytes are held, there is none, and it gives held bytes. If nothing is held, it reads once:
+-- into the caller's room if that is as large as the buffer, and else into the buffer.
 pub record ReadsBelow {R : Type 0} {S : ℕ} (may : R → ReadCall → R → Type 0) (old : BufReader R S) (room : ℕ)
     (answer : Result (List ℕ) Error) (new : BufReader R S) : Type 0 where
-  pub held : 0 < length (reader_held old) → reader_inner new ≡ reader_inner old
+  pub held : 0 < length (reader_held old) → (reader_inner new ≡ reader_inner old)
+      × PassesOn (Ok (reader_held old)) room answer (reader_held new)
   pub direct : length (reader_held old) ≡ 0 → S ≤ room → may (reader_inner old) (Gave room answer) (reader_inner new)
   pub filled : length (reader_held old) ≡ 0 → room < S → (read : Result (List ℕ) Error)
       × may (reader_inner old) (Gave S read) (reader_inner new) × PassesOn read room answer (reader_held new)
@@ -163,11 +164,12 @@ pub record FillsBelow {R : Type 0} {S : ℕ} (may : R → ReadCall → R → Typ
   pub failed : OnErr answer (reader_held new ≡ [])
 
 -- What a call may do to a `BufReader`. A `read_exact` of its own gives only held bytes. A `read_to_end` takes the held bytes, and then
--- calls the inner `read_to_end`. A `consume` drops held bytes.
+-- calls the inner `read_to_end`, unless the vector could not grow for them. A `consume` drops held bytes.
 abbrev pub ReaderMay : {R : Type 0} {S : ℕ} → (R → ReadCall → R → Type 0) → BufReader R S → ReadCall → BufReader R S → Type 0
 ReaderMay may old (Gave room answer) new = ReadsBelow may old room answer new
 ReaderMay may old (GaveExactly room answer) new = (room ≤ length (reader_held old)) × (reader_inner new ≡ reader_inner old)
-ReaderMay may old (GaveAll x answer) new = (reader_inner new ≡ reader_inner old)
+    × PassesOn (Ok (reader_held old)) room answer (reader_held new)
+ReaderMay may old (GaveAll x answer) new = (IsErrAnd answer IsOutOfMemory × (reader_inner new ≡ reader_inner old))
     ⊎ Drains may (reader_inner old) (reader_held old) answer x (reader_inner new)
 ReaderMay may old (Filled answer) new = FillsBelow may old answer new
 ReaderMay may old (Consumed amount) new = (reader_held new ≡ drop amount (reader_held old)) × (reader_inner new ≡ reader_inner old)

@@ -43,8 +43,8 @@ reads-init g c =
           store = λ s. let now = gave.store s in (now.0, refl, omega (arith, now.1, all, left, before, after));
         };
         turn = λ some. omega (arith, gave.turns, some);
-        calls = gives_first g.R.Read.may old _ n _ c.give-at.new.buf most (c.give-at.auto.buf) (omega (arith, c.requires)) all refl
-            (λ none. same_buffer old _ _ _ (is.none none));
+        calls = gives_first g.R.Read.may old _ n _ c.give-at.new.buf most (c.give-at.auto.buf) (omega (arith, c.requires)) all is.gave is.held
+            refl (λ none. same_buffer old _ _ _ (is.none none));
       };
       none = λ more. left;
       behind = λ more. absurd (omega (arith, more, all));

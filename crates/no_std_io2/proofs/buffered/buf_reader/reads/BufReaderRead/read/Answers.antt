@@ -92,7 +92,11 @@ returns-then-len-gt0-clause-law g c =
       counts = λ h. absurd h;
       fills = λ h. absurd h;
       call = record {
-        held = λ more. refl;
+        held = λ more. (
+          refl,
+          passes_on n (length c.give.new.buf) (reader_held c.args.self.now) c.give.new.buf _ (omega (arith, is.count, c.give.auto.buf))
+              is.gave is.held,
+        );
         direct = λ empty long. absurd (omega (arith, empty, some));
         filled = λ empty less. absurd (omega (arith, empty, some));
       };

@@ -1,5 +1,5 @@
 -- An exact read, by its two ends: past what is held, and out of it.
-use Rattle.std.proofs.Common.{◌≡◌, ◌-◌, ◌≤◌, ◌++◌, length, arith, ap, refl, ◌∙◌, length-drop, length-take-le}
+use Rattle.std.proofs.Common.{◌≡◌, ◌-◌, ◌≤◌, ◌++◌, length, take, drop, Ok, arith, ap, refl, ◌∙◌, length-drop, length-take-le}
 use Rattle.no_std_io2_base.specs.Read.{events_of}
 use Rattle.no_std_io2_base.proofs.ReadCalls.{exact_own}
 use Rattle.no_std_io2.specs.Buffer.{buffer_held}
@@ -20,6 +20,7 @@ returns g c =
     let most : n ≤ length old = omega arith in
     let left : length new ≡ length old - n = ap length gave.held ∙ length-drop n old in
     let moves = given (reader g.R.Stored g.R.Read) c.args.self.now c.give_whole.new.self n most gave.gave gave.held gave.behind in
+    let same : n ≡ length c.give_whole.new.buf = omega (arith, ap length gave.gave, length-take-le n old most) in
     record {
       law = record {
         told = λ t. (t, fills_front _ _ c.give_whole.new.buf moves.told);
@@ -32,7 +33,11 @@ returns g c =
             let now = moves.store s in
             (now.0, refl, omega (arith, now.1, left, most, length-events old inner, length-events new inner));
         empty = λ none. (refl, same_buffer c.args.self.now _ _ _ (gave.none none));
-        calls = exact_own (omega (arith, most, ap length gave.gave, length-take-le n old most), refl);
+        calls = exact_own (
+          omega (arith, most, same),
+          refl,
+          (ap Ok (gave.gave ∙ ap (λ k. take k old) same), gave.held ∙ ap (λ k. drop k old) same),
+        );
       };
       leaves = record {
         held = λ fits. (refl, gave.gave, gave.held, gave.behind, refl);

@@ -70,7 +70,7 @@ returns-in_err-append_to g c =
         metered = λ h. h;
         filling = λ h. h;
         store = λ s. ((s.0, part_sound held left _ _ moved s.1), refl, part_moved held left _ _ s.1.0 moved);
-        calls = to_end_own c.args.buf.now (part_front held left c.args.buf.now.ok.0 moved) (inl refl);
+        calls = to_end_own c.args.buf.now (part_front held left c.args.buf.now.ok.0 moved) (inl (refused.refused, refl));
       };
       empties = inr (refused.refused, refl, moved);
       sound = λ s. (s.0, sound_stayed _ _ _ _ _ _ refused.kept refl refl s.1);
