@@ -1,5 +1,6 @@
 //! The same programs over Rust's `std::io`, with its usual buffers; and `list` and `extract`, which are `tar_list`'s two. With `at`
 //! behind the word its buffers have the size of ours where that is another.
+use std::fmt::Write as _;
 use std::io::{self, BufRead, BufReader, BufWriter, Error, ErrorKind, Result, Write};
 
 const RECORDS: u64 = 1_000_000;
@@ -65,9 +66,10 @@ fn frames_out(mut output: impl Write) -> Result<u64> {
 
 // Standard output is a `LineWriter`.
 fn log(mut output: impl Write) -> Result<u64> {
+    let mut line = String::new();
     for at in 0..RECORDS {
-        let mut line = format!("{at} a line of a log, of some sixty bytes, with its number in front");
-        line.push('\n');
+        line.clear();
+        let _ = writeln!(line, "{at} a line of a log, of some sixty bytes, with its number in front");
         output.write_all(line.as_bytes())?;
     }
     output.flush().map(|()| 0)
