@@ -56,6 +56,7 @@ impl Pending {
     /// # Errors
     /// Returns `OutOfMemory` if an allocation failed. No record is then under way, and the room is
     /// as it was.
+    #[inline(always)] // so that a head or tail of a constant length is one move
     pub fn stage(&mut self, head: &[u8], tail: &[u8]) -> Result<()>
         ensures bytes { OnOk result (pending_bytes self.new ≡ head.now ++ tail.now) }
         ensures rest { OnOk result (pending_rest self.new ≡ head.now ++ tail.now) }
