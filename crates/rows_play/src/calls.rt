@@ -2,7 +2,7 @@
 // them.
 use super::fault::{Fault, Made};
 use super::journal::Journal;
-use super::line::{Line, unescape};
+use super::line::{Line, cut, unescape};
 use super::script::parse_answers;
 use no_std_io2::io::{Seek, SeekFrom, Write};
 use std::alloc::Global;
@@ -23,10 +23,7 @@ pub struct Call<'a> {
 impl<'a> Call<'a> {
     /// Reads a call. It fails if an escape is bad, or if an allocation fails.
     pub fn parse(alloc: Global, call: &'a str) -> Made<Call<'a>> {
-        let (word, rest) = match call.split_once(" ") {
-            Some(both) => both,
-            None => (call, ""),
-        };
+        let (word, rest) = cut(call, " ");
         Ok(Call {
             word,
             rest,
@@ -39,14 +36,12 @@ impl<'a> Call<'a> {
         match self.rest.parse::<usize>() {
             Ok(n) => n,
             Err(_) => {
-                line.malformed("no number behind a call");
+                line.tell(Fault::NoNumber);
                 0
             }
         }
     }
 }
-
-const IN_USE: &str = "the journal is in use";
 
 /// Makes the call of a row on any writer, and prints its result.
 pub fn make_call<W: Write>(w: &mut W, call: &Call<'_>, line: &mut Line) {
@@ -55,7 +50,7 @@ pub fn make_call<W: Write>(w: &mut W, call: &Call<'_>, line: &mut Line) {
         "write_all" => line.done(&w.write_all(&call.bytes)),
         "flush" => line.done(&w.flush()),
         "write_rest" => call_write_rest(w, &call.bytes, line),
-        _ => line.malformed("no such call"),
+        _ => line.tell(Fault::NoCall),
     }
 }
 
@@ -86,7 +81,7 @@ pub fn make_seek<S: Seek>(s: &mut S, call: &Call<'_>, line: &mut Line) -> bool {
     match call.word {
         "seek" => match target(call.rest) {
             Some(pos) => line.position(&s.seek(pos)),
-            None => line.malformed("no such target"),
+            None => line.tell(Fault::NoWord),
         },
         "stream_position" => line.position(&s.stream_position()),
         "rewind" => line.done(&s.rewind()),
@@ -111,7 +106,7 @@ pub fn show_out(journal: &RefCell<Journal>, line: &mut Line) {
     line.column();
     match journal.try_borrow() {
         Ok(journal) => journal.show_out(line),
-        Err(_) => line.malformed(IN_USE),
+        Err(_) => line.tell(Fault::NotReady),
     }
 }
 
@@ -120,7 +115,7 @@ pub fn show_calls(journal: &RefCell<Journal>, line: &mut Line) {
     line.column();
     match journal.try_borrow_mut() {
         Ok(mut journal) => journal.show_calls(line),
-        Err(_) => line.malformed(IN_USE),
+        Err(_) => line.tell(Fault::NotReady),
     }
 }
 
@@ -128,7 +123,7 @@ pub fn show_calls(journal: &RefCell<Journal>, line: &mut Line) {
 pub fn expect(alloc: Global, journal: &RefCell<Journal>, words: &str) -> Made<()> {
     let answers = parse_answers(alloc, words)?;
     let Ok(mut journal) = journal.try_borrow_mut() else {
-        return Err(Fault::Malformed(IN_USE));
+        return Err(Fault::NotReady);
     };
     journal.expect(answers);
     Ok(())

@@ -41,46 +41,39 @@ impl<'a> Count<'a> {
         }
     }
 
-    /// Returns these counts at another line.
-    pub fn at(self, line: u64) -> Count<'a> {
-        Count { line, ..self }
-    }
-
-    /// Returns these counts with one more table.
-    pub fn add_table(self) -> Count<'a> {
-        Count {
-            tables: self.tables.wrapping_add(1),
-            ..self
-        }
-    }
-
-    /// Returns these counts with one more group.
-    pub fn add_group(self) -> Count<'a> {
-        Count {
-            groups: self.groups.wrapping_add(1),
-            ..self
-        }
-    }
-
-    /// Returns these counts with those of the same rows with other faults.
-    pub fn add_turned(self, later: Count<'a>) -> Count<'a> {
-        Count {
-            turned: self.turned.wrapping_add(later.rows.wrapping_sub(self.rows)),
-            differing: later.differing,
-            malformed: later.malformed,
-            ..self
-        }
+    /// Adds the counts of the same rows with other faults.
+    pub fn add_turned(&mut self, later: &Count<'_>) {
+        let turned = later.rows.wrapping_sub(self.rows);
+        self.turned = self.turned.wrapping_add(turned);
+        self.differing = later.differing;
+        self.malformed = later.malformed;
     }
 
     /// Returns whether there were rows, and each came out as it says.
-    pub fn is_met(self) -> bool {
+    pub fn is_met(&self) -> bool {
         self.rows > 0 && self.differing == 0 && self.malformed == 0
     }
 
+    /// Prints how many tables, groups and rows were played.
+    pub fn print<R: Print>(&self, rt: &R) -> io::Result<()> {
+        let Count {
+            file,
+            tables,
+            groups,
+            rows,
+            turned,
+            ..
+        } = *self;
+        println!(rt; "{file}: {tables} tables, {groups} groups, {rows} rows")?;
+        if self.turns_faults {
+            println!(rt; "{file}: {turned} rows with other faults")?;
+        }
+        Ok(())
+    }
+
     // Prints the place in the file.
-    fn print_place<R: Print>(self, rt: &R) -> io::Result<()> {
-        let Count { file, line, .. } = self;
-        println!(rt; "{file}:{line}")
+    fn print_place<R: Print>(&self, rt: &R) -> io::Result<()> {
+        println!(rt; "{}:{}", self.file, self.line)
     }
 }
 
@@ -95,21 +88,16 @@ pub fn lines_of(text: &str) -> u64 {
 
 /// Prints what is wrong with a line, and counts it. A failed allocation is `OutOfMemory`, and ends the
 /// run.
-pub fn tell_fault<'a, R: Print>(
+pub fn tell_fault<R: Print>(
     rt: &R,
     fault: Fault,
     line: &str,
-    count: Count<'a>,
-) -> io::Result<Count<'a>> {
-    match fault {
-        Fault::Memory => Err(io::Error::from(io::ErrorKind::OutOfMemory)),
-        Fault::Malformed(what) => {
-            count.print_place(rt)?;
-            println!(rt; "     {what}: {line}")?;
-            Ok(Count {
-                malformed: count.malformed.wrapping_add(1),
-                ..count
-            })
-        }
+    count: &mut Count<'_>,
+) -> io::Result<()> {
+    if matches!(fault, Fault::Memory) {
+        return Err(io::Error::from(io::ErrorKind::OutOfMemory));
     }
+    count.malformed = count.malformed.wrapping_add(1);
+    count.print_place(rt)?;
+    println!(rt; "     {}: {line}", fault.text())
 }

@@ -1,9 +1,9 @@
 // Tables with other faults in place of those that they name.
 use super::count::lines_of;
-use super::fault::Made;
 use super::kinds::name_of_kind;
+use super::line::Line;
 use no_std_io2::io::{Error, ErrorKind};
-use std::alloc::{AllocError, Global};
+use std::alloc::Global;
 
 /// How the faults of one kind in a table are replaced.
 #[derive(Clone, Copy)]
@@ -28,6 +28,15 @@ pub enum Texts {
 }
 
 impl Turn {
+    /// Replaces one kind by another, and leaves the texts.
+    pub fn same(from: ErrorKind, to: ErrorKind) -> Turn {
+        Turn {
+            from,
+            to,
+            texts: Texts::Same,
+        }
+    }
+
     /// Returns whether it changes nothing.
     pub fn is_none(self) -> bool {
         self.from == self.to && self.texts == Texts::Same
@@ -52,6 +61,7 @@ impl Turn {
 }
 
 // What follows the name of a kind: the fault's text, whether it is printed once more in parentheses, and the rest.
+#[derive(Clone, Copy)]
 struct Behind<'a> {
     text: &'a str,
     has_aside: bool,
@@ -77,23 +87,12 @@ fn cut_text(words: &str) -> (&str, &str) {
 
 fn cut_behind(words: &str) -> Behind<'_> {
     let (mark, rest) = cut_text(words);
-    let (text, rest) = if mark.is_empty() {
-        ("", rest)
-    } else {
-        (mark.trim_start_matches(":").trim(), rest)
-    };
-    match rest.strip_prefix(" (") {
-        Some(aside) => match aside.split_once(")") {
-            Some((_, rest)) => Behind {
-                text,
-                has_aside: true,
-                rest,
-            },
-            None => Behind {
-                text,
-                has_aside: false,
-                rest,
-            },
+    let text = mark.trim_start_matches(":").trim();
+    match rest.strip_prefix(" (").unwrap_or("").split_once(")") {
+        Some((_, rest)) => Behind {
+            text,
+            has_aside: true,
+            rest,
         },
         None => Behind {
             text,
@@ -103,71 +102,72 @@ fn cut_behind(words: &str) -> Behind<'_> {
     }
 }
 
-// Appends a replaced fault, and what follows it.
-fn push_turned(alloc: Global, turned: &mut String, words: &str, turn: Turn) -> Made<()> {
-    let is_answer = turned.as_str().ends_with("fail ");
-    let Behind {
-        text,
-        has_aside,
-        rest,
-    } = cut_behind(words);
-    let text = turn.text(text);
-    turned.push_str(name_of_kind(turn.to))?;
+// Appends what an error prints, in parentheses.
+fn push_aside(alloc: Global, turned: &mut Line, kind: ErrorKind, text: &str) {
     if !text.is_empty() {
-        turned.push_str(if is_answer { " " } else { ": " })?;
-        turned.push_str(text)?;
+        turned.aside(text);
+        return;
     }
-    if has_aside {
-        let error = Error::from(turn.to);
-        let aside = if text.is_empty() {
-            format!(in alloc; " ({error})")?
-        } else {
-            format!(in alloc; " ({text})")?
-        };
-        turned.push_str(aside.as_str())?;
+    match format!(in alloc; "{}", Error::from(kind)) {
+        Ok(shown) => turned.aside(shown.as_str()),
+        Err(_) => turned.cut(),
     }
-    turned.push_str(rest)?;
-    Ok(())
 }
 
-// Returns a group with other faults.
-fn turn_group(alloc: Global, group: &str, turn: Turn) -> Made<String> {
-    let mut turned = String::new(alloc);
+// Appends a replaced fault, and what follows it.
+fn push_turned(alloc: Global, turned: &mut Line, words: &str, turn: Turn) {
+    let is_answer = turned.as_str().ends_with("fail ");
+    let behind = cut_behind(words);
+    let text = turn.text(behind.text);
+    turned.word(name_of_kind(turn.to));
+    if !text.is_empty() {
+        turned.word(if is_answer { " " } else { ": " });
+        turned.word(text);
+    }
+    if behind.has_aside {
+        push_aside(alloc, turned, turn.to, text);
+    }
+    turned.word(behind.rest);
+}
+
+// Appends a group with other faults.
+fn push_group(alloc: Global, turned: &mut Line, group: &str, turn: Turn) {
+    turned.word("\nnew");
     'faults: for (i, words) in group.split(name_of_kind(turn.from)).enumerate() {
         if i == 0 {
-            turned.push_str(words)?;
+            turned.word(words);
         } else {
-            push_turned(alloc, &mut turned, words, turn)?;
+            push_turned(alloc, turned, words, turn);
         }
     }
-    Ok(turned)
 }
 
 // Appends this many empty lines.
-fn push_empty(text: &mut String, count: u64) -> Result<(), AllocError> {
+fn push_empty(turned: &mut Line, count: u64) {
     'lines: for _ in 0..count {
-        text.push_str("\n")?;
+        turned.word("\n");
     }
-    Ok(())
 }
 
-/// Returns a table with other faults, on the same lines, without the groups that have no fault of the kind. Returns `None`
-/// if no group has one. It fails if an allocation fails.
-pub fn turn_table(alloc: Global, table: &str, turn: Turn) -> Made<Option<String>> {
-    let name = name_of_kind(turn.from);
-    let fault = format!(in alloc; "fail {name}")?;
-    let mut text = String::new(alloc);
-    let mut is_turned = false;
+/// Returns a table with other faults, on the same lines, without the groups that have no fault of the kind; nothing, if no
+/// group has one. It is cut if an allocation fails.
+pub fn turn_table(alloc: Global, table: &str, turn: Turn) -> Line {
+    let mut fault = Line::new(alloc);
+    fault.word("fail ");
+    fault.word(name_of_kind(turn.from));
+    if fault.is_cut() || !table.contains(fault.as_str()) {
+        fault.clear();
+        return fault;
+    }
+    let mut turned = Line::new(alloc);
     'groups: for (i, group) in table.split("\nnew").enumerate() {
         if i == 0 {
-            text.push_str(group)?;
+            turned.word(group);
         } else if turn.takes(group, fault.as_str()) {
-            text.push_str("\nnew")?;
-            text.push_str(turn_group(alloc, group, turn)?.as_str())?;
-            is_turned = true;
+            push_group(alloc, &mut turned, group, turn);
         } else {
-            push_empty(&mut text, lines_of(group))?;
+            push_empty(&mut turned, lines_of(group));
         }
     }
-    Ok(if is_turned { Some(text) } else { None })
+    turned
 }

@@ -3,142 +3,122 @@ use super::count::{Count, lines_of, tell_fault};
 use super::fault::Fault;
 use super::faults::{Texts, Turn, turn_table};
 use super::kinds::{ANY, NAMES};
-use super::player::{Streams, cut_line, play_streams};
+use super::line::cut;
+use super::player::{Streams, play_streams};
 use no_std_io2::io::ErrorKind;
 use std::alloc::Global;
 use std::process::ExitCode;
 use std::{env, fs, io};
 
 // Plays a table on each stream that its head names.
-fn play_table<'a, S: Streams, R: Print>(
+fn play_table<S: Streams, R: Print>(
     rt: &R,
     alloc: Global,
     table: &str,
-    count: Count<'a>,
-) -> io::Result<Count<'a>> {
+    count: &mut Count<'_>,
+) -> io::Result<()> {
     let line = count.line;
-    let mut count = count;
-    let (names, _) = cut_line(table);
+    let (names, _) = cut(table, "\n");
     'streams: for name in names.split(", ") {
         let groups = count.groups;
-        count = play_streams::<S, R>(rt, alloc, name, table, count.at(line).add_table())?;
+        count.tables = count.tables.wrapping_add(1);
+        play_streams::<S, R>(rt, alloc, name, table, count)?;
+        count.line = line;
         if count.groups == groups {
-            let fault = Fault::Malformed("a table without a group that can be played");
-            count = tell_fault(rt, fault, name, count.at(line))?;
+            tell_fault(rt, Fault::NoRow, name, count)?;
         } else if count.turns_faults {
-            count = play_faults::<S, R>(rt, alloc, name, table, count.at(line))?;
+            play_faults::<S, R>(rt, alloc, name, table, count)?;
         }
     }
-    Ok(count)
+    Ok(())
 }
 
 // Plays a table with other faults in place of those of each kind that it names.
-fn play_faults<'a, S: Streams, R: Print>(
+fn play_faults<S: Streams, R: Print>(
     rt: &R,
     alloc: Global,
     name: &str,
     table: &str,
-    count: Count<'a>,
-) -> io::Result<Count<'a>> {
-    let interruption = Turn {
-        from: ErrorKind::Interrupted,
-        to: ErrorKind::Interrupted,
-        texts: Texts::Same,
-    };
-    let mut count = play_texts::<S, R>(rt, alloc, name, table, interruption, count)?;
-    'kinds: for from in ANY {
-        count = play_kinds::<S, R>(rt, alloc, name, table, from, count)?;
+    count: &mut Count<'_>,
+) -> io::Result<()> {
+    let interruption = Turn::same(ErrorKind::Interrupted, ErrorKind::Interrupted);
+    play_texts::<S, R>(rt, alloc, name, table, interruption, count)?;
+    'kinds: for from in &ANY {
+        play_kinds::<S, R>(rt, alloc, name, table, *from, count)?;
     }
-    Ok(count)
+    Ok(())
 }
 
 // Plays a table with other faults in place of those of one kind.
-fn play_kinds<'a, S: Streams, R: Print>(
+fn play_kinds<S: Streams, R: Print>(
     rt: &R,
     alloc: Global,
     name: &str,
     table: &str,
     from: ErrorKind,
-    count: Count<'a>,
-) -> io::Result<Count<'a>> {
-    let mut count = count;
-    'kinds: for (to, _) in NAMES {
-        if to != ErrorKind::Interrupted {
-            let turn = Turn {
-                from,
-                to,
-                texts: Texts::Same,
-            };
-            count = play_texts::<S, R>(rt, alloc, name, table, turn, count)?;
+    count: &mut Count<'_>,
+) -> io::Result<()> {
+    'kinds: for (to, _) in &NAMES {
+        if *to != ErrorKind::Interrupted {
+            play_texts::<S, R>(rt, alloc, name, table, Turn::same(from, *to), count)?;
         }
     }
-    Ok(count)
+    Ok(())
 }
 
 // Plays a table with faults of another kind, with texts and without.
-fn play_texts<'a, S: Streams, R: Print>(
+fn play_texts<S: Streams, R: Print>(
     rt: &R,
     alloc: Global,
     name: &str,
     table: &str,
     turn: Turn,
-    count: Count<'a>,
-) -> io::Result<Count<'a>> {
-    let mut count = count;
+    count: &mut Count<'_>,
+) -> io::Result<()> {
     'texts: for texts in [Texts::Same, Texts::Added, Texts::Left] {
         let turn = Turn { texts, ..turn };
         if turn.is_none() || (texts == Texts::Added && !S::has_texts(name)) {
             continue;
         }
-        match turn_table(alloc, table, turn) {
-            Ok(None) => {}
-            Ok(Some(turned)) => {
-                let later = play_streams::<S, R>(rt, alloc, name, turned.as_str(), count)?;
-                count = count.add_turned(later);
-            }
-            Err(fault) => return tell_fault(rt, fault, table, count),
+        let turned = turn_table(alloc, table, turn);
+        if turned.is_cut() {
+            return tell_fault(rt, Fault::Memory, table, count);
+        }
+        if !turned.is_empty() {
+            let mut later = *count;
+            play_streams::<S, R>(rt, alloc, name, turned.as_str(), &mut later)?;
+            count.add_turned(&later);
         }
     }
-    Ok(count)
+    Ok(())
 }
 
 // Plays a file: tables that begin with a line `stream NAME`, or with the names of several.
-fn play_text<'a, S: Streams, R: Print>(
+fn play_text<S: Streams, R: Print>(
     rt: &R,
     alloc: Global,
     text: &str,
-    count: Count<'a>,
-) -> io::Result<Count<'a>> {
-    let mut count = count;
+    count: &mut Count<'_>,
+) -> io::Result<()> {
     'tables: for (i, table) in text.split("\nstream ").enumerate() {
         let next = count.line.wrapping_add(lines_of(table));
         if i > 0 {
-            count = play_table::<S, R>(rt, alloc, table, count)?;
+            play_table::<S, R>(rt, alloc, table, count)?;
         }
-        count = count.at(next);
+        count.line = next;
     }
     if count.rows == 0 {
-        return tell_fault(rt, Fault::Malformed("a file without a row"), "", count);
+        return tell_fault(rt, Fault::NoRow, "", count);
     }
-    Ok(count)
+    Ok(())
 }
 
 // Plays a file, and prints its counts. Returns whether each row came out as it says.
 fn play_file<S: Streams>(rt: &HostRuntime, file: &str, turns_faults: bool) -> io::Result<bool> {
     let text = fs::read_to_string(rt, file)?;
-    let count = Count::new(file, turns_faults);
-    let count = play_text::<S, HostRuntime>(rt, rt.alloc(), text.as_str(), count)?;
-    let Count {
-        tables,
-        groups,
-        rows,
-        turned,
-        ..
-    } = count;
-    println!(rt; "{file}: {tables} tables, {groups} groups, {rows} rows")?;
-    if turns_faults {
-        println!(rt; "{file}: {turned} rows with other faults")?;
-    }
+    let mut count = Count::new(file, turns_faults);
+    play_text::<S, HostRuntime>(rt, rt.alloc(), text.as_str(), &mut count)?;
+    count.print(rt)?;
     Ok(count.is_met())
 }
 

@@ -55,17 +55,13 @@ impl Line {
     }
 
     // Prints why a row cannot be played, in place of a result.
-    pub fn malformed(&mut self, why: &str) {
-        self.word(why);
-        self.is_malformed = true;
-    }
-
-    // Prints why a row is not played, in place of a result.
     pub fn tell(&mut self, fault: Fault) {
-        match fault {
-            Fault::Memory => self.cut(),
-            Fault::Malformed(why) => self.malformed(why),
+        if matches!(fault, Fault::Memory) {
+            self.cut();
+            return;
         }
+        self.word(fault.text());
+        self.is_malformed = true;
     }
 
     // Ends a column.
@@ -191,6 +187,22 @@ impl Line {
     }
 }
 
+/// Returns the texts on both sides of the first `mark`. If there is none, the second is empty.
+pub fn cut<'a>(text: &'a str, mark: &str) -> (&'a str, &'a str) {
+    match text.split_once(mark) {
+        Some(both) => both,
+        None => (text, ""),
+    }
+}
+
+/// Returns the texts on both sides of the last `mark`. If there is none, the first is empty.
+pub fn cut_last<'a>(text: &'a str, mark: &str) -> (&'a str, &'a str) {
+    match text.rsplit_once(mark) {
+        Some(both) => both,
+        None => ("", text),
+    }
+}
+
 // The length from which on a run is printed as one.
 const LONG: u64 = 24;
 
@@ -285,7 +297,7 @@ pub fn unescape(alloc: Global, text: &str) -> Made<Vec<u8>> {
     let mut escape = Escape::None;
     'bytes: for b in text.as_bytes() {
         let Some((now, run)) = step(escape, *b) else {
-            return Err(Fault::Malformed("a bad escape"));
+            return Err(Fault::NoEscape);
         };
         escape = now;
         if let Some(run) = run {
@@ -294,7 +306,7 @@ pub fn unescape(alloc: Global, text: &str) -> Made<Vec<u8>> {
     }
     match escape {
         Escape::None => Ok(bytes),
-        _ => Err(Fault::Malformed("an escape without an end")),
+        _ => Err(Fault::NoEscape),
     }
 }
 

@@ -2,7 +2,7 @@
 use super::calls::Call;
 use super::count::{Count, lines_of, tell_fault};
 use super::fault::{Fault, Made};
-use super::line::Line;
+use super::line::{Line, cut};
 use std::alloc::Global;
 use std::io;
 
@@ -35,11 +35,12 @@ pub struct Player<'r, 'a> {
 }
 
 impl<'r, 'a> Player<'r, 'a> {
-    /// Plays the rows on a stream. It stops at a row that cannot be played.
-    pub fn play<S: Stream>(&mut self, stream: &mut S) {
-        self.count = self.count.add_group();
+    /// Plays the rows on a stream. It stops at a row that cannot be played. The result is `Ok`, so that a stream's maker can end
+    /// with this call.
+    pub fn play<S: Stream>(&mut self, stream: &mut S) -> Made<()> {
+        self.count.groups = self.count.groups.wrapping_add(1);
         'rows: for row in self.rows.lines() {
-            self.count = self.count.at(self.count.line.wrapping_add(1));
+            self.count.line = self.count.line.wrapping_add(1);
             if row.is_empty() || row.starts_with("#") {
                 continue;
             }
@@ -50,6 +51,7 @@ impl<'r, 'a> Player<'r, 'a> {
                 break;
             }
         }
+        Ok(())
     }
 
     // Counts a row, and keeps it for printing if it came out differently or cannot be played.
@@ -76,7 +78,7 @@ impl<'r, 'a> Player<'r, 'a> {
 // Makes the call of a row. If there is no such call, the line says why.
 fn play_row<S: Stream>(alloc: Global, stream: &mut S, row: &str, line: &mut Line) {
     let Some((call, _)) = row.split_once(" | ") else {
-        line.malformed("a row without an answer");
+        line.tell(Fault::NoRow);
         return;
     };
     line.word(call);
@@ -88,50 +90,43 @@ fn play_row<S: Stream>(alloc: Global, stream: &mut S, row: &str, line: &mut Line
 }
 
 /// Plays the groups of a table, each on a new stream. A failed allocation is `OutOfMemory`.
-pub fn play_streams<'a, S: Streams, R: Print>(
+pub fn play_streams<S: Streams, R: Print>(
     rt: &R,
     alloc: Global,
     name: &str,
     table: &str,
-    count: Count<'a>,
-) -> io::Result<Count<'a>> {
-    let mut count = count;
+    count: &mut Count<'_>,
+) -> io::Result<()> {
     'groups: for (i, group) in table.split("\nnew").enumerate() {
         let next = count.line.wrapping_add(lines_of(group));
         if i > 0 {
-            count = play_rows::<S, R>(rt, alloc, name, group, count)?;
+            play_rows::<S, R>(rt, alloc, name, group, count)?;
         }
-        count = count.at(next);
+        count.line = next;
     }
-    Ok(count)
-}
-
-/// Returns the first line of a text, and the text after it.
-pub fn cut_line(text: &str) -> (&str, &str) {
-    text.split_once("\n").unwrap_or((text, ""))
+    Ok(())
 }
 
 // Plays a group: it makes the stream, and then plays the rows.
-fn play_rows<'a, S: Streams, R: Print>(
+fn play_rows<S: Streams, R: Print>(
     rt: &R,
     alloc: Global,
     name: &str,
     group: &str,
-    count: Count<'a>,
-) -> io::Result<Count<'a>> {
-    let (words, rows) = cut_line(group);
+    count: &mut Count<'_>,
+) -> io::Result<()> {
+    let (words, rows) = cut(group, "\n");
     let mut player = Player {
         alloc,
         rows,
-        count,
+        count: *count,
         differing: Line::new(alloc),
     };
-    if let Err(fault) = S::lend(name, words.trim(), &mut player) {
-        return tell_fault(rt, fault, words, player.count);
+    let lent = S::lend(name, words.trim(), &mut player);
+    *count = player.count;
+    match lent {
+        Err(fault) => tell_fault(rt, fault, words, count),
+        Ok(()) if player.differing.is_cut() => tell_fault(rt, Fault::Memory, words, count),
+        Ok(()) => print!(rt; "{}", player.differing.as_str()),
     }
-    if player.differing.is_cut() {
-        return Err(io::Error::from(io::ErrorKind::OutOfMemory));
-    }
-    print!(rt; "{}", player.differing.as_str())?;
-    Ok(player.count)
 }

@@ -1,6 +1,7 @@
 // The calls of rows on any reader. The columns of a call are its result and the bytes that it gave, with dots for bytes that
 // were not written.
 use super::calls::Call;
+use super::fault::Fault;
 use super::line::Line;
 use no_std_io2::io::{BufRead, Read, Result, skip};
 use std::alloc::Global;
@@ -119,7 +120,7 @@ pub fn make_read<R: Read>(alloc: Global, r: &mut R, call: &Call<'_>, line: &mut 
             let mut limited = r.by_ref().take(call.number(line) as u64);
             call_read_to_end(&mut limited, Vec::new(alloc), line);
         }
-        _ => line.malformed("no such call"),
+        _ => line.tell(Fault::NoCall),
     }
 }
 

@@ -1,7 +1,7 @@
 // The results that a device is to return.
 use super::fault::{Fault, Made};
 use super::kinds::kind_of_name;
-use super::line::unescape;
+use super::line::{cut, unescape};
 use no_std_io2::io::{Error, ErrorKind};
 use std::alloc::Global;
 
@@ -85,34 +85,34 @@ pub fn parse_answers(alloc: Global, words: &str) -> Made<Vec<Answer>> {
 }
 
 fn parse_answer(alloc: Global, words: &str) -> Made<Answer> {
-    let (word, rest) = words.split_once(" ").unwrap_or((words, ""));
+    let (word, rest) = cut(words, " ");
     match word {
         "all" | "end" => Ok(Answer::Plain),
-        "take" => match rest.parse::<usize>() {
-            Ok(n) => Ok(Answer::Take(n)),
-            Err(_) => Err(Fault::Malformed("no number behind `take`")),
+        "give" => match unescape(alloc, rest) {
+            Ok(bytes) => Ok(Answer::Give(bytes)),
+            Err(fault) => Err(fault),
         },
-        "give" => Ok(Answer::Give(unescape(alloc, rest)?)),
-        "at" => match rest.parse::<u64>() {
-            Ok(n) => Ok(Answer::At(n)),
-            Err(_) => Err(Fault::Malformed("no number behind `at`")),
+        "take" | "at" => match rest.parse::<u64>() {
+            Ok(n) if word == "at" => Ok(Answer::At(n)),
+            Ok(n) => Ok(Answer::Take(n as usize)),
+            Err(_) => Err(Fault::NoNumber),
         },
         "fail" => parse_failure(rest),
-        _ => Err(Fault::Malformed("no such answer of a device")),
+        _ => Err(Fault::NoWord),
     }
 }
 
 fn parse_failure(words: &str) -> Made<Answer> {
-    let (name, text) = words.split_once(" ").unwrap_or((words, ""));
+    let (name, text) = cut(words, " ");
     let Some(kind) = kind_of_name(name) else {
-        return Err(Fault::Malformed("no such kind of an error"));
+        return Err(Fault::NoWord);
     };
     if text.is_empty() {
         return Ok(Answer::Fail(kind, None));
     }
     match place_of(text) {
         Some(place) => Ok(Answer::Fail(kind, Some(place))),
-        None => Err(Fault::Malformed("no such text of an error")),
+        None => Err(Fault::NoWord),
     }
 }
 

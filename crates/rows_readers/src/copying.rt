@@ -2,14 +2,14 @@
 //
 // The columns after a call are its result, the bytes out, the state of each level of the reader, and the calls that reached the
 // two devices. If names are noted, there are only the calls, and in memory none.
-use crate::devices::{Columns, Devices, NO_STREAM};
+use crate::devices::{Columns, Devices};
 use crate::in_memory::scripts::{new_feed, new_text, new_writer};
 use crate::levels::Levels;
 use io_bench::{Faulty, Feed};
 use no_std_io2::io::{BufReader, Read, Write, copy};
 use rows_play::calls::Call;
-use rows_play::fault::Made;
-use rows_play::line::{Line, unescape};
+use rows_play::fault::{Fault, Made};
+use rows_play::line::{Line, cut, unescape};
 use rows_play::player::{Player, Stream};
 use rows_play::recorder::Recorder;
 use std::alloc::Global;
@@ -27,7 +27,7 @@ impl<'j, R: Read + Levels + Drop, W: Write + Levels + Drop, const S: usize> Stre
     fn play(&mut self, _alloc: Global, call: &Call<'_>, line: &mut Line) {
         // `copy` requires the second.
         if call.word != "copy" || S >= 1 << 63 {
-            line.malformed("no such call");
+            line.tell(Fault::NoCall);
             return;
         }
         line.position(&copy::<R, W, S>(&mut self.from, &mut self.to));
@@ -38,7 +38,7 @@ impl<'j, R: Read + Levels + Drop, W: Write + Levels + Drop, const S: usize> Stre
 pub fn lend(
     name: &str,
     words: &str,
-    devices: Devices<'_>,
+    devices: &Devices<'_>,
     player: &mut Player<'_, '_>,
 ) -> Made<()> {
     match name {
@@ -54,69 +54,66 @@ pub fn lend(
     }
 }
 
-fn lend_noted(devices: Devices<'_>, player: &mut Player<'_, '_>) -> Made<()> {
+fn lend_noted(devices: &Devices<'_>, player: &mut Player<'_, '_>) -> Made<()> {
     player.play(&mut Copying::<_, _, 4> {
         from: devices.noted()?,
         to: devices.noted()?,
         devices: Devices {
             columns: Columns::Calls,
-            ..devices
+            ..*devices
         },
-    });
-    Ok(())
+    })
 }
 
-fn lend_plain<const S: usize>(devices: Devices<'_>, player: &mut Player<'_, '_>) -> Made<()> {
+fn lend_plain<const S: usize>(devices: &Devices<'_>, player: &mut Player<'_, '_>) -> Made<()> {
     player.play(&mut Copying::<_, _, S> {
         from: devices.first()?,
         to: devices.first()?,
-        devices,
-    });
-    Ok(())
+        devices: *devices,
+    })
 }
 
 // Copies from a buffer of B bytes.
 fn lend_buffered<const B: usize, const S: usize>(
-    devices: Devices<'_>,
+    devices: &Devices<'_>,
     player: &mut Player<'_, '_>,
 ) -> Made<()> {
     let (from, to) = (devices.first()?, devices.first()?);
     if B > 0 && B < 1 << 32 {
-        player.play(&mut Copying::<_, _, S> {
+        return player.play(&mut Copying::<_, _, S> {
             from: BufReader::<Recorder, B>::new(from),
             to,
-            devices,
+            devices: *devices,
         });
     }
-    Ok(())
+    Err(Fault::NoStream)
 }
 
 // Copies to a vector, through a writer that fails as its acts say.
 fn lend_in_memory(
     name: &str,
     words: &str,
-    devices: Devices<'_>,
+    devices: &Devices<'_>,
     player: &mut Player<'_, '_>,
 ) -> Made<()> {
-    let (from, to) = words.split_once(" to ").unwrap_or((words, ""));
+    let (from, to) = cut(words, " to ");
     let to = new_writer(player.alloc, to)?;
     match name {
         "4 Cursor" => player.play(&mut Copying::<_, Faulty<Vec<u8>>, 4> {
             from: new_text(player.alloc, from)?,
             to,
-            devices,
+            devices: *devices,
         }),
         "0 &[u8]" => player.play(&mut Copying::<_, Faulty<Vec<u8>>, 0> {
             from: unescape(player.alloc, from)?.as_slice(),
             to,
-            devices,
+            devices: *devices,
         }),
         "0 BufReader 1 Feed" => player.play(&mut Copying::<_, Faulty<Vec<u8>>, 0> {
             from: BufReader::<Feed, 1>::new(new_feed(player.alloc, from)?),
             to,
-            devices,
+            devices: *devices,
         }),
-        _ => return Err(NO_STREAM),
+        _ => Err(Fault::NoStream),
     }
-    Ok(())
 }

@@ -1,7 +1,7 @@
 // The devices of a group, on one journal, and the columns of its rows.
 use crate::levels::Levels;
 use rows_play::calls::{show_calls, show_out};
-use rows_play::fault::{Fault, Made};
+use rows_play::fault::Made;
 use rows_play::journal::Journal;
 use rows_play::line::Line;
 use rows_play::noted::Noted;
@@ -9,8 +9,6 @@ use rows_play::recorder::{Name, Recorder};
 use std::alloc::Global;
 use std::cell::RefCell;
 use std::rc::Rc;
-
-pub const NO_STREAM: Fault = Fault::Malformed("no such stream");
 
 // The columns after a call's result and the bytes that it gave.
 #[derive(Clone, Copy, PartialEq)]
@@ -33,21 +31,21 @@ pub struct Devices<'j> {
 }
 
 impl<'j> Devices<'j> {
-    pub fn recorder(self, name: Name) -> Made<Recorder> {
+    pub fn recorder(&self, name: Name) -> Made<Recorder> {
         Ok(Recorder::new(self.alloc, self.journal.clone()?, name))
     }
 
-    pub fn first(self) -> Made<Recorder> {
+    pub fn first(&self) -> Made<Recorder> {
         self.recorder(Name::Only)
     }
 
     // Makes a device that notes the name of each call.
-    pub fn noted(self) -> Made<Noted<Recorder>> {
+    pub fn noted(&self) -> Made<Noted<Recorder>> {
         Ok(Noted::new(self.first()?, self.journal.clone()?))
     }
 
     // Prints the columns after a call.
-    pub fn show<T: Levels>(self, tower: &T, line: &mut Line) {
+    pub fn show<T: Levels>(&self, tower: &T, line: &mut Line) {
         if matches!(self.columns, Columns::Levels | Columns::Memory) {
             tower.show(self.columns, line);
         }
@@ -55,14 +53,14 @@ impl<'j> Devices<'j> {
     }
 
     // Prints the calls that reached the devices, if there are devices.
-    pub fn show_calls(self, line: &mut Line) {
+    pub fn show_calls(&self, line: &mut Line) {
         if matches!(self.columns, Columns::Calls | Columns::Levels) {
             show_calls(self.journal, line);
         }
     }
 
     // Prints the bytes that a writer took, and the state of each level of the reader.
-    pub fn show_copied<R: Levels, W: Levels>(self, from: &R, to: &W, line: &mut Line) {
+    pub fn show_copied<R: Levels, W: Levels>(&self, from: &R, to: &W, line: &mut Line) {
         match self.columns {
             Columns::Levels => show_out(self.journal, line),
             Columns::Memory => to.show(self.columns, line),
@@ -72,7 +70,7 @@ impl<'j> Devices<'j> {
     }
 
     // Prints the calls after an item, or in memory the item's capacity, if it has one.
-    pub fn show_room(self, capacity: Option<usize>, line: &mut Line) {
+    pub fn show_room(&self, capacity: Option<usize>, line: &mut Line) {
         match (self.columns == Columns::Memory, capacity) {
             (true, Some(capacity)) => {
                 line.column();

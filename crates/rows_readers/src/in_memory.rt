@@ -1,6 +1,7 @@
 // Rows of streams in memory, and of scripted devices.
-use crate::devices::{Devices, NO_STREAM};
-use rows_play::fault::Made;
+use crate::devices::Devices;
+use rows_play::fault::{Fault, Made};
+use rows_play::line::{cut, cut_last};
 use rows_play::player::Player;
 
 mod boxes;
@@ -13,8 +14,8 @@ mod wrapped;
 
 /// Returns whether a stream of this name is one of these; its first or last word says so.
 pub fn has(name: &str) -> bool {
-    let (word, _) = name.split_once(" ").unwrap_or((name, ""));
-    let (_, base) = name.rsplit_once(" ").unwrap_or(("", name));
+    let (word, _) = cut(name, " ");
+    let (_, base) = cut_last(name, " ");
     matches!(word, "boxed" | "cursor" | "grown" | "queue" | "room")
         || matches!(base, "Cursor" | "Feed" | "&[u8]")
 }
@@ -24,7 +25,7 @@ pub fn lend(
     word: &str,
     name: &str,
     words: &str,
-    devices: Devices<'_>,
+    devices: &Devices<'_>,
     player: &mut Player<'_, '_>,
 ) -> Made<()> {
     match word {
@@ -34,10 +35,7 @@ pub fn lend(
         "boxed" => boxes::lend(name, words, devices, player),
         "grown" => vectors::lend(name, words, player),
         "queue" => vectors::lend_queue(words, player),
-        "room" => {
-            player.play(&mut room::Room { name });
-            Ok(())
-        }
-        _ => Err(NO_STREAM),
+        "room" => player.play(&mut room::Room { name }),
+        _ => Err(Fault::NoStream),
     }
 }

@@ -2,14 +2,14 @@
 //
 // The columns after a call are the item (a piece or a line with its kind in front), and the calls that reached the devices, or in
 // memory the capacity of a piece or a line.
-use crate::devices::{Devices, NO_STREAM};
-use crate::in_memory::scripts::{cut, new_feed, new_text};
+use crate::devices::Devices;
+use crate::in_memory::scripts::{new_feed, new_text};
 use crate::streams::show_byte;
 use io_bench::Feed;
 use no_std_io2::io::{BufRead, BufReader, Bytes, Lines, Read, Result, Split};
 use rows_play::calls::Call;
-use rows_play::fault::Made;
-use rows_play::line::{Line, unescape};
+use rows_play::fault::{Fault, Made};
+use rows_play::line::{Line, cut_last, unescape};
 use rows_play::player::{Player, Stream};
 use rows_play::recorder::Name;
 use std::alloc::Global;
@@ -17,7 +17,7 @@ use std::alloc::Global;
 // Returns whether a row takes an item.
 fn is_next(call: &Call<'_>, line: &mut Line) -> bool {
     if call.word != "next" {
-        line.malformed("no such call");
+        line.tell(Fault::NoCall);
         return false;
     }
     true
@@ -38,15 +38,19 @@ impl<'j, T: Read + Drop> Stream for Singles<'j, T> {
     }
 }
 
-fn play_bytes<T: Read + Drop>(tower: T, devices: Devices<'_>, player: &mut Player<'_, '_>) {
+fn play_bytes<T: Read + Drop>(
+    tower: T,
+    devices: &Devices<'_>,
+    player: &mut Player<'_, '_>,
+) -> Made<()> {
     player.play(&mut Singles {
         bytes: tower.bytes(),
-        devices,
-    });
+        devices: *devices,
+    })
 }
 
 // Prints a piece or a line, and the columns after it.
-fn show_item(kind: &str, item: Option<Result<Vec<u8>>>, devices: Devices<'_>, line: &mut Line) {
+fn show_item(kind: &str, item: Option<Result<Vec<u8>>>, devices: &Devices<'_>, line: &mut Line) {
     let mut capacity = None;
     match item {
         None => line.word("-"),
@@ -69,7 +73,7 @@ struct Pieces<'j, T: Drop> {
 impl<'j, T: BufRead + Drop> Stream for Pieces<'j, T> {
     fn play(&mut self, _alloc: Global, call: &Call<'_>, line: &mut Line) {
         if is_next(call, line) {
-            show_item("piece ", self.pieces.next(), self.devices, line);
+            show_item("piece ", self.pieces.next(), &self.devices, line);
         }
     }
 }
@@ -77,13 +81,13 @@ impl<'j, T: BufRead + Drop> Stream for Pieces<'j, T> {
 fn play_pieces<T: BufRead + Drop>(
     tower: T,
     delim: u8,
-    devices: Devices<'_>,
+    devices: &Devices<'_>,
     player: &mut Player<'_, '_>,
-) {
+) -> Made<()> {
     player.play(&mut Pieces {
         pieces: tower.split(player.alloc, delim),
-        devices,
-    });
+        devices: *devices,
+    })
 }
 
 #[derive(Drop)]
@@ -100,56 +104,57 @@ impl<'j, T: BufRead + Drop> Stream for TextLines<'j, T> {
                 Some(Ok(text)) => Some(Ok(text.into_bytes())),
                 Some(Err(e)) => Some(Err(e)),
             };
-            show_item("line ", item, self.devices, line);
+            show_item("line ", item, &self.devices, line);
         }
     }
 }
 
-fn play_lines<T: BufRead + Drop>(tower: T, devices: Devices<'_>, player: &mut Player<'_, '_>) {
+fn play_lines<T: BufRead + Drop>(
+    tower: T,
+    devices: &Devices<'_>,
+    player: &mut Player<'_, '_>,
+) -> Made<()> {
     player.play(&mut TextLines {
         lines: tower.lines(player.alloc),
-        devices,
-    });
+        devices: *devices,
+    })
 }
 
 pub fn lend_bytes(
     tower: &str,
     words: &str,
-    devices: Devices<'_>,
+    devices: &Devices<'_>,
     player: &mut Player<'_, '_>,
 ) -> Made<()> {
     match tower {
         "Device" => play_bytes(devices.first()?, devices, player),
-        "Chain" => play_bytes(
-            devices.first()?.chain(devices.recorder(Name::Second)?),
-            devices,
-            player,
-        ),
+        "Chain" => {
+            let both = devices.first()?.chain(devices.recorder(Name::Second)?);
+            play_bytes(both, devices, player)
+        }
         "Feed" => play_bytes(new_feed(player.alloc, words)?, devices, player),
-        _ => return Err(NO_STREAM),
+        _ => Err(Fault::NoStream),
     }
-    Ok(())
 }
 
 // Lends the pieces between commas, or of a text those between the `3`s.
 pub fn lend_pieces(
     tower: &str,
     words: &str,
-    devices: Devices<'_>,
+    devices: &Devices<'_>,
     player: &mut Player<'_, '_>,
 ) -> Made<()> {
     match tower {
         "Device" => play_pieces(devices.first()?, b',', devices, player),
         "Cursor" => play_pieces(new_text(player.alloc, words)?, b'3', devices, player),
-        _ => return Err(NO_STREAM),
+        _ => Err(Fault::NoStream),
     }
-    Ok(())
 }
 
 pub fn lend_lines(
     tower: &str,
     words: &str,
-    devices: Devices<'_>,
+    devices: &Devices<'_>,
     player: &mut Player<'_, '_>,
 ) -> Made<()> {
     match tower {
@@ -157,20 +162,17 @@ pub fn lend_lines(
         "Cursor" => play_lines(new_text(player.alloc, words)?, devices, player),
         "BufReader 2 Feed" => {
             let reader = BufReader::<Feed, 2>::new(new_feed(player.alloc, words)?);
-            play_lines(reader, devices, player);
+            play_lines(reader, devices, player)
         }
-        "Chain &[u8] &[u8]" => lend_both(words, devices, player)?,
-        _ => return Err(NO_STREAM),
+        "Chain &[u8] &[u8]" => lend_both(words, devices, player),
+        _ => Err(Fault::NoStream),
     }
-    Ok(())
 }
 
 // Lends the lines of two slices.
-fn lend_both(words: &str, devices: Devices<'_>, player: &mut Player<'_, '_>) -> Made<()> {
-    let (first, second) = cut(words);
+fn lend_both(words: &str, devices: &Devices<'_>, player: &mut Player<'_, '_>) -> Made<()> {
+    let (first, second) = cut_last(words, " + ");
     let first = unescape(player.alloc, first)?;
     let second = unescape(player.alloc, second)?;
-    let both = first.as_slice().chain(second.as_slice());
-    play_lines(both, devices, player);
-    Ok(())
+    play_lines(first.as_slice().chain(second.as_slice()), devices, player)
 }

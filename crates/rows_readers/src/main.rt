@@ -12,10 +12,11 @@ mod noted;
 mod reading;
 mod streams;
 
-use devices::{Columns, Devices, NO_STREAM};
+use devices::{Columns, Devices};
 use rows_play::calls::new_journal;
-use rows_play::fault::Made;
+use rows_play::fault::{Fault, Made};
 use rows_play::files::play_files;
+use rows_play::line::cut;
 use rows_play::player::{Player, Streams};
 use std::process::ExitCode;
 
@@ -24,7 +25,7 @@ struct Readers;
 
 impl Streams for Readers {
     fn lend(name: &str, words: &str, player: &mut Player<'_, '_>) -> Made<()> {
-        let (word, tower) = name.split_once(" ").unwrap_or((name, ""));
+        let (word, tower) = cut(name, " ");
         let columns = match word {
             _ if in_memory::has(name) => Columns::Memory,
             "answers" => Columns::Answers,
@@ -43,14 +44,14 @@ impl Streams for Readers {
             journal: &journal,
         };
         match word {
-            "bytes" => items::lend_bytes(tower, words, devices, player),
-            "split" => items::lend_pieces(tower, words, devices, player),
-            "lines" => items::lend_lines(tower, words, devices, player),
-            "copy" => copying::lend(tower, words, devices, player),
+            "bytes" => items::lend_bytes(tower, words, &devices, player),
+            "split" => items::lend_pieces(tower, words, &devices, player),
+            "lines" => items::lend_lines(tower, words, &devices, player),
+            "copy" => copying::lend(tower, words, &devices, player),
             _ if columns == Columns::Memory => {
-                in_memory::lend(word, tower, words, devices, player)
+                in_memory::lend(word, tower, words, &devices, player)
             }
-            _ => lend_recorded(word, tower, devices, player),
+            _ => lend_recorded(word, tower, &devices, player),
         }
     }
 
@@ -64,7 +65,7 @@ impl Streams for Readers {
 fn lend_recorded(
     word: &str,
     tower: &str,
-    devices: Devices<'_>,
+    devices: &Devices<'_>,
     player: &mut Player<'_, '_>,
 ) -> Made<()> {
     match word {
@@ -72,7 +73,7 @@ fn lend_recorded(
         "noted" => noted::lend(tower, devices, player),
         "seeker" => reading::lend_seeker(devices, player),
         "moved" => moving::lend(devices, player),
-        _ => Err(NO_STREAM),
+        _ => Err(Fault::NoStream),
     }
 }
 

@@ -7,7 +7,7 @@ use crate::devices::Devices;
 use examples::records::{peek_header, read_record};
 use no_std_io2::io::BufReader;
 use rows_play::calls::{Call, make_seek};
-use rows_play::fault::Made;
+use rows_play::fault::{Fault, Made};
 use rows_play::line::Line;
 use rows_play::player::{Player, Stream};
 use rows_play::reads::make_lend;
@@ -48,12 +48,12 @@ impl<'j> Moving<'j> {
         match call.word {
             "seek_relative" => match call.rest.parse::<i64>() {
                 Ok(offset) => line.done(&self.reader.seek_relative(offset)),
-                Err(_) => line.malformed("no offset behind a call"),
+                Err(_) => line.tell(Fault::NoNumber),
             },
             "peek" => call_peek(&mut self.reader, line),
             "record" => match call.bytes.first() {
                 Some(tag) => call_record(alloc, &mut self.reader, *tag, line),
-                None => line.malformed("no tag behind a call"),
+                None => line.tell(Fault::NoWord),
             },
             _ => {
                 if !make_seek(&mut self.reader, call, line) {
@@ -75,8 +75,10 @@ impl<'j> Stream for Moving<'j> {
     }
 }
 
-pub fn lend(devices: Devices<'_>, player: &mut Player<'_, '_>) -> Made<()> {
+pub fn lend(devices: &Devices<'_>, player: &mut Player<'_, '_>) -> Made<()> {
     let reader = Reader::new(devices.first()?);
-    player.play(&mut Moving { reader, devices });
-    Ok(())
+    player.play(&mut Moving {
+        reader,
+        devices: *devices,
+    })
 }

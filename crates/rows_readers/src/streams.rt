@@ -1,9 +1,13 @@
 // Readers that are played by rows of calls. The columns after a call are its result, for a read the bytes that it gave, and
 // those of the table.
+ghost use Rattle.no_std_io2.specs.BufReader.{BufReaderFits};
+ghost use Rattle.std.specs.Prelude.{◌<◌, ◌^◌};
+
 use crate::devices::Devices;
 use crate::levels::Levels;
-use no_std_io2::io::{BufRead, Read, Result, Seek};
+use no_std_io2::io::{BufRead, BufReader, Read, Result, Seek};
 use rows_play::calls::{Call, make_seek};
+use rows_play::fault::{Fault, Made};
 use rows_play::line::Line;
 use rows_play::player::{Player, Stream};
 use rows_play::reads::{make_lend, make_read};
@@ -46,7 +50,7 @@ impl<'j, T: BufRead + Levels + Drop> Stream for Lending<'j, T> {
                 if self.tower.limit(call.number(line)) {
                     line.word("-");
                 } else {
-                    line.malformed("no limit");
+                    line.tell(Fault::NoCall);
                 }
             }
             "next" => show_byte(self.tower.by_ref().bytes().next(), line),
@@ -100,31 +104,70 @@ impl<'j, T: BufRead + Seek + Levels + Drop> Stream for Seeking<'j, T> {
 /// Plays the rows on a `Read`.
 pub fn play_reading<T: Read + Levels + Drop>(
     tower: T,
-    devices: Devices<'_>,
+    devices: &Devices<'_>,
     player: &mut Player<'_, '_>,
-) {
-    player.play(&mut Reading { tower, devices });
+) -> Made<()> {
+    player.play(&mut Reading {
+        tower,
+        devices: *devices,
+    })
 }
 
 /// Plays the rows on a `BufRead`.
 pub fn play_lending<T: BufRead + Levels + Drop>(
     tower: T,
-    devices: Devices<'_>,
+    devices: &Devices<'_>,
     player: &mut Player<'_, '_>,
-) {
-    player.play(&mut Lending { tower, devices });
+) -> Made<()> {
+    player.play(&mut Lending {
+        tower,
+        devices: *devices,
+    })
+}
+
+/// Plays the rows on a limit over a `BufRead`.
+pub fn play_limited<T: BufRead + Levels + Drop>(
+    inner: T,
+    limit: u64,
+    devices: &Devices<'_>,
+    player: &mut Player<'_, '_>,
+) -> Made<()> {
+    play_lending(inner.take(limit), devices, player)
+}
+
+/// Plays the rows on a chain.
+pub fn play_chain<A: BufRead + Levels + Drop, B: BufRead + Levels + Drop>(
+    first: A,
+    second: B,
+    devices: &Devices<'_>,
+    player: &mut Player<'_, '_>,
+) -> Made<()> {
+    play_lending(first.chain(second), devices, player)
+}
+
+/// Plays the rows on a buffer of S bytes.
+pub fn play_buffered<R: Read + Levels + Drop, const S: usize>(
+    inner: R,
+    devices: &Devices<'_>,
+    player: &mut Player<'_, '_>,
+) -> Made<()>
+    requires some_room { 0 < S }
+    requires in_memory { S < 2 ^ 63 }
+    requires fits { BufReaderFits R.row S }
+{
+    play_lending(BufReader::<R, S>::new(inner), devices, player)
 }
 
 /// Plays the rows on a `BufRead` that seeks, borrowed `lent` times for each call.
 pub fn play_seeking<T: BufRead + Seek + Levels + Drop>(
     tower: T,
     lent: usize,
-    devices: Devices<'_>,
+    devices: &Devices<'_>,
     player: &mut Player<'_, '_>,
-) {
+) -> Made<()> {
     player.play(&mut Seeking {
         tower,
         lent,
-        devices,
-    });
+        devices: *devices,
+    })
 }

@@ -4,7 +4,7 @@
 use crate::ops::{ops_of, parse_calls, parse_replies};
 use io_bench::joined;
 use rows_play::calls::Call;
-use rows_play::fault::Made;
+use rows_play::fault::{Fault, Made};
 use rows_play::line::Line;
 use rows_play::player::{Player, Stream};
 use std::alloc::Global;
@@ -16,7 +16,7 @@ struct Joining;
 impl Stream for Joining {
     fn play(&mut self, alloc: Global, call: &Call<'_>, line: &mut Line) {
         let Some((words, told)) = call.rest.split_once("->") else {
-            line.malformed("no replies behind an arrow");
+            line.tell(Fault::NoWord);
             return;
         };
         let calls = parse_calls(alloc, words.trim(), line);
@@ -31,6 +31,5 @@ impl Stream for Joining {
 }
 
 pub fn lend(player: &mut Player<'_, '_>) -> Made<()> {
-    player.play(&mut Joining);
-    Ok(())
+    player.play(&mut Joining)
 }

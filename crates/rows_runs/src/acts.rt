@@ -5,11 +5,11 @@ use io_bench::{Act, Event, Feed};
 use no_std_io2::io::ErrorKind;
 use rows_play::fault::{Fault, Made};
 use rows_play::kinds::kind_of_name;
-use rows_play::line::Line;
+use rows_play::line::{Line, cut};
 use std::alloc::Global;
 
 fn parse_act(words: &str) -> Option<Act> {
-    let (word, rest) = words.split_once(" ").unwrap_or((words, ""));
+    let (word, rest) = cut(words, " ");
     match word {
         "zero" => Some(Act::Zero),
         "take" => Some(Act::Take(rest.parse::<usize>().ok()?)),
@@ -27,7 +27,7 @@ pub fn parse_acts(alloc: Global, words: &str) -> Made<Vec<Act>> {
     'acts: for word in words.split(", ") {
         match parse_act(word) {
             Some(act) => acts.push(act)?,
-            None => return Err(Fault::Malformed("no such act")),
+            None => return Err(Fault::NoWord),
         }
     }
     Ok(acts)
@@ -69,12 +69,12 @@ pub fn events_of(alloc: Global, script: &[u8], line: &mut Line) -> Vec<Event> {
 
 /// Makes the feed of a line that says its piece and its events.
 pub fn parse_feed(alloc: Global, words: &str) -> Made<Feed> {
-    let (piece, script) = words.split_once(" ").unwrap_or((words, ""));
+    let (piece, script) = cut(words, " ");
     let mut line = Line::new(alloc);
     let events = events_of(alloc, script.as_bytes(), &mut line);
     match piece.parse::<usize>() {
         Ok(n) if n > 0 && !line.is_cut() => Ok(Feed::new(events, n)),
-        _ => Err(Fault::Malformed("no feed of such pieces")),
+        _ => Err(Fault::NoNumber),
     }
 }
 

@@ -4,13 +4,12 @@
 // is left below, and how many inner reads there were since the row before; for a filling reader also the bound on them.
 ghost use Rattle.io_bench.specs.Asks.{Fits};
 
-use crate::NO_STREAM;
 use crate::acts::{parse_feed, show_left};
 use io_bench::{Ask, Feed, ReadTotals, Tally, run_reads};
 use no_std_io2::io::{BufReader, Read};
 use rows_play::calls::Call;
 use rows_play::fault::{Fault, Made};
-use rows_play::line::Line;
+use rows_play::line::{Line, cut};
 use rows_play::player::{Player, Stream};
 use std::alloc::Global;
 
@@ -55,7 +54,7 @@ fn ask_of(word: &str, count: usize, line: &mut Line) -> Ask
         "exact" => Ask::Exact(count.min(ROOM)),
         "fill" => Ask::Fill(count),
         _ => {
-            line.malformed("no such ask");
+            line.tell(Fault::NoCall);
             Ask::Fill(0)
         }
     }
@@ -110,9 +109,9 @@ fn ask_all<T: Asked>(reader: &mut T, words: &str, line: &mut Line) -> ReadTotals
         return totals;
     }
     'asks: for words in words.split(", ") {
-        let (word, count) = words.split_once(" ").unwrap_or((words, ""));
+        let (word, count) = cut(words, " ");
         let Ok(count) = count.parse::<usize>() else {
-            line.malformed("no number of an ask");
+            line.tell(Fault::NoNumber);
             return totals;
         };
         let more = reader.ask(ask_of(word, count, line));
@@ -153,18 +152,17 @@ pub fn lend(name: &str, words: &str, player: &mut Player<'_, '_>) -> Made<()> {
     match name {
         "of a slice" => {
             let Ok(count) = words.parse::<usize>() else {
-                return Err(Fault::Malformed("no number of bytes"));
+                return Err(Fault::NoNumber);
             };
             let slice = &DIGITS[..count.min(10)];
             let reader = BufReader::<Tally<&'static [u8]>, 4>::new(Tally::new(slice));
-            player.play(&mut Asking { reader });
+            player.play(&mut Asking { reader })
         }
         "of a feed" => {
             let feed = parse_feed(player.alloc, words)?;
             let reader = BufReader::<Tally<Feed>, 4>::new(Tally::new(feed));
-            player.play(&mut Asking { reader });
+            player.play(&mut Asking { reader })
         }
-        _ => return Err(NO_STREAM),
+        _ => Err(Fault::NoStream),
     }
-    Ok(())
 }

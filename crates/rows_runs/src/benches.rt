@@ -2,12 +2,11 @@
 //
 // A row is a call; then its result, for a read the bytes that it gave, and the calls that reached the device. A line `new` of
 // a faulty device may have its acts before the device's results: `new take 2, zero; all, fail Other gone`.
-use crate::NO_STREAM;
 use crate::acts::parse_acts;
 use io_bench::{Faulty, Tally};
 use no_std_io2::io::Write;
 use rows_play::calls::{Call, make_call, new_journal, show_calls};
-use rows_play::fault::Made;
+use rows_play::fault::{Fault, Made};
 use rows_play::journal::Journal;
 use rows_play::line::Line;
 use rows_play::noted::Noted;
@@ -64,7 +63,6 @@ pub fn lend(name: &str, words: &str, player: &mut Player<'_, '_>) -> Made<()> {
             reader: Tally::new(device),
             journal: &journal,
         }),
-        _ => return Err(NO_STREAM),
+        _ => Err(Fault::NoStream),
     }
-    Ok(())
 }

@@ -4,12 +4,11 @@
 // inner writes, with `flush` for each inner flush. A run over just a sink has to make as many.
 ghost use Rattle.std.specs.Prelude.{⊤, refl, ◌<◌};
 
-use crate::NO_STREAM;
 use crate::ops::{ops_of, parse_calls, show_replies};
 use io_bench::{Op, Reply, Sink, Tally, run_closed};
 use no_std_io2::io::{Result, Write};
 use rows_play::calls::Call;
-use rows_play::fault::Made;
+use rows_play::fault::{Fault, Made};
 use rows_play::line::Line;
 use rows_play::player::{Player, Stream};
 use std::alloc::Global;
@@ -139,7 +138,6 @@ pub fn lend(name: &str, player: &mut Player<'_, '_>) -> Made<()> {
     match name {
         "8" => player.play(&mut Closing::<8> { device }),
         "1" => player.play(&mut Closing::<1> { device }),
-        _ => return Err(NO_STREAM),
+        _ => Err(Fault::NoStream),
     }
-    Ok(())
 }

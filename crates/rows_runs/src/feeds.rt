@@ -33,6 +33,5 @@ impl Stream for Feeding {
 
 pub fn lend(words: &str, player: &mut Player<'_, '_>) -> Made<()> {
     let reader = Tally::new(Tally::new(parse_feed(player.alloc, words)?));
-    player.play(&mut Feeding { reader });
-    Ok(())
+    player.play(&mut Feeding { reader })
 }

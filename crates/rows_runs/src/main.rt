@@ -16,19 +16,18 @@ mod runs;
 mod towers;
 mod write_sweeps;
 
-use rows_play::fault::{Fault, Made};
+use rows_play::fault::Made;
 use rows_play::files::play_files;
+use rows_play::line::cut;
 use rows_play::player::{Player, Streams};
 use std::process::ExitCode;
-
-pub const NO_STREAM: Fault = Fault::Malformed("no such stream");
 
 // The streams of this program. The first word says what a row runs.
 struct RunTables;
 
 impl Streams for RunTables {
     fn lend(name: &str, words: &str, player: &mut Player<'_, '_>) -> Made<()> {
-        let (word, rest) = name.split_once(" ").unwrap_or((name, ""));
+        let (word, rest) = cut(name, " ");
         match word {
             "run" => runs::lend(rest, words, player),
             "acts" => runs::lend_acts(rest, words, player),
@@ -39,10 +38,7 @@ impl Streams for RunTables {
             "joined" => accepted::lend(player),
             "pieces" => pieces::lend(rest, words, player),
             "sweep" => write_sweeps::lend(rest, player),
-            "reads1" | "reads2" | "reads8" => {
-                read_sweeps::lend(word, rest, player);
-                Ok(())
-            }
+            "reads1" | "reads2" | "reads8" => read_sweeps::lend(word, rest, player),
             _ => clients::lend(word, rest, words, player),
         }
     }

@@ -24,8 +24,7 @@ pub fn parse_calls<'a>(alloc: Global, words: &'a str, line: &mut Line) -> Vec<Ca
     'calls: for call in words.split(", ") {
         match Call::parse(alloc, call) {
             Ok(call) => push(&mut calls, call, line),
-            Err(Fault::Memory) => line.cut(),
-            Err(Fault::Malformed(why)) => line.malformed(why),
+            Err(fault) => line.tell(fault),
         }
     }
     calls
@@ -39,7 +38,7 @@ pub fn ops_of<'a>(alloc: Global, calls: &'a [Call<'_>], line: &mut Line) -> Vec<
             "write" => push(&mut ops, Op::Write(&call.bytes), line),
             "write_all" => push(&mut ops, Op::WriteAll(&call.bytes), line),
             "flush" => push(&mut ops, Op::Flush, line),
-            _ => line.malformed("no such call of a run"),
+            _ => line.tell(Fault::NoCall),
         }
     }
     ops
@@ -85,7 +84,7 @@ pub fn parse_replies(alloc: Global, words: &str, line: &mut Line) -> Vec<Reply> 
     'replies: for word in words.split(", ") {
         match parse_reply(word) {
             Some(reply) => push(&mut replies, reply, line),
-            None => line.malformed("no such reply"),
+            None => line.tell(Fault::NoWord),
         }
     }
     replies

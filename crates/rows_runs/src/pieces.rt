@@ -3,12 +3,11 @@
 // A row is `lines` or `split`, a delimiter and the text to come; then the items, a bar after each, and after the last the fault
 // that ended them: `!`, `#`, and `?` for a line that is not UTF-8. It is for all lengths, which have to give the same. Over a
 // device with the results of `new`, nothing follows the delimiter, and the calls of the device follow the items.
-use crate::NO_STREAM;
 use crate::acts::events_of;
 use io_bench::{Feed, run_lines, run_split};
 use no_std_io2::io::{BufRead, BufReader, ErrorKind, Read, Result};
 use rows_play::calls::{Call, new_journal, show_calls};
-use rows_play::fault::Made;
+use rows_play::fault::{Fault, Made};
 use rows_play::journal::Journal;
 use rows_play::line::Line;
 use rows_play::player::{Player, Stream};
@@ -102,7 +101,7 @@ struct Splitting;
 impl Stream for Splitting {
     fn play(&mut self, alloc: Global, call: &Call<'_>, line: &mut Line) {
         let Some((delim, script)) = script_of(call) else {
-            line.malformed("no such call");
+            line.tell(Fault::NoCall);
             return;
         };
         let mut first = Line::new(alloc);
@@ -130,7 +129,7 @@ impl Stream for Noting {
     fn play(&mut self, alloc: Global, call: &Call<'_>, line: &mut Line) {
         match script_of(call) {
             Some((delim, [])) => items(alloc, self.device.by_ref(), delim, line),
-            _ => line.malformed("no such call"),
+            _ => line.tell(Fault::NoCall),
         }
         show_calls(&self.journal, line);
     }
@@ -142,9 +141,8 @@ pub fn lend(name: &str, words: &str, player: &mut Player<'_, '_>) -> Made<()> {
         "Device" => {
             let journal = new_journal(player.alloc, words)?;
             let device = Recorder::new(player.alloc, journal.clone()?, Name::Only);
-            player.play(&mut Noting { device, journal });
+            player.play(&mut Noting { device, journal })
         }
-        _ => return Err(NO_STREAM),
+        _ => Err(Fault::NoStream),
     }
-    Ok(())
 }

@@ -7,6 +7,7 @@ use crate::ops::push;
 use io_bench::Feed;
 use no_std_io2::io::{BufRead, BufReader, Chain, ErrorKind, Read, Result, Take};
 use rows_play::calls::Call;
+use rows_play::fault::{Fault, Made};
 use rows_play::line::Line;
 use rows_play::player::{Player, Stream};
 use std::alloc::Global;
@@ -107,7 +108,7 @@ fn make<R: BufRead>(
         "next" => next_byte(r, got),
         "pass" => pass(r, got),
         _ => {
-            line.malformed("no such call");
+            line.tell(Fault::NoCall);
             Ok(true)
         }
     }
@@ -239,7 +240,7 @@ fn gives_by<const S: usize>(run: Run<'_>, call: &Call<'_>, all: &[u8], line: &mu
             gives(run.alloc, &mut tower, call, all, line)
         }
         _ => {
-            line.malformed("no such tower of readers");
+            line.tell(Fault::NoStream);
             false
         }
     }
@@ -292,6 +293,6 @@ impl<'n> Stream for Sweeping<'n> {
     }
 }
 
-pub fn lend(size: &str, kind: &str, player: &mut Player<'_, '_>) {
-    player.play(&mut Sweeping { size, kind });
+pub fn lend(size: &str, kind: &str, player: &mut Player<'_, '_>) -> Made<()> {
+    player.play(&mut Sweeping { size, kind })
 }

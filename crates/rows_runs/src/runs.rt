@@ -2,14 +2,13 @@
 //
 // A row is `run` and the calls; then their replies, the bytes out, what each level holds, the outer one first, and the
 // calls that reached the device, if it notes them.
-use crate::NO_STREAM;
 use crate::acts::parse_acts;
 use crate::ops::{ops_of, parse_calls, show_replies};
 use crate::towers::{Device, Tower};
 use io_bench::{Faulty, Sink, run_writes};
 use no_std_io2::io::{BufWriter, LineWriter, Write};
 use rows_play::calls::{Call, new_journal, show_calls, show_out};
-use rows_play::fault::Made;
+use rows_play::fault::{Fault, Made};
 use rows_play::journal::Journal;
 use rows_play::line::Line;
 use rows_play::player::{Player, Stream};
@@ -20,7 +19,7 @@ use std::cell::RefCell;
 // Makes the calls of a row, and prints their replies.
 fn run<W: Write>(alloc: Global, w: &mut W, call: &Call<'_>, line: &mut Line) {
     if call.word != "run" {
-        line.malformed("no run");
+        line.tell(Fault::NoCall);
         return;
     }
     let calls = parse_calls(alloc, call.rest, line);
@@ -67,12 +66,12 @@ fn play_running<T: Tower + Drop>(
     tower: T,
     journal: &RefCell<Journal>,
     player: &mut Player<'_, '_>,
-) {
-    player.play(&mut Running { tower, journal });
+) -> Made<()> {
+    player.play(&mut Running { tower, journal })
 }
 
-fn play_acting<T: Tower + Drop>(tower: T, player: &mut Player<'_, '_>) {
-    player.play(&mut Acting { tower });
+fn play_acting<T: Tower + Drop>(tower: T, player: &mut Player<'_, '_>) -> Made<()> {
+    player.play(&mut Acting { tower })
 }
 
 pub fn lend(name: &str, words: &str, player: &mut Player<'_, '_>) -> Made<()> {
@@ -91,9 +90,8 @@ fn lend_tower(
         "Device" => play_running(device, journal, player),
         "BufWriter 4" => play_running(BufWriter::<Recorder, 4>::new(device), journal, player),
         "LineWriter 8" => play_running(LineWriter::<Recorder, 8>::new(device), journal, player),
-        _ => return lend_levels(name, device, journal, player),
+        _ => lend_levels(name, device, journal, player),
     }
-    Ok(())
 }
 
 // Lends a tower of two levels.
@@ -107,16 +105,15 @@ fn lend_levels(
         "BufWriter 8 BufWriter 3" => {
             let inner = BufWriter::<Recorder, 3>::new(device);
             let tower = BufWriter::<BufWriter<Recorder, 3>, 8>::new(inner);
-            play_running(tower, journal, player);
+            play_running(tower, journal, player)
         }
         "LineWriter 8 BufWriter 8" => {
             let inner = BufWriter::<Recorder, 8>::new(device);
             let tower = LineWriter::<BufWriter<Recorder, 8>, 8>::new(inner);
-            play_running(tower, journal, player);
+            play_running(tower, journal, player)
         }
-        _ => return Err(NO_STREAM),
+        _ => Err(Fault::NoStream),
     }
-    Ok(())
 }
 
 type Object = Box<dyn Write + Drop>;
@@ -127,17 +124,16 @@ pub fn lend_acts(name: &str, words: &str, player: &mut Player<'_, '_>) -> Made<(
     match name {
         "LineWriter 8 Box dyn Sink" => {
             let object: Object = Box::new(player.alloc, Sink::new())?;
-            play_acting(LineWriter::<Object, 8>::new(object), player);
+            play_acting(LineWriter::<Object, 8>::new(object), player)
         }
         "LineWriter 8 BufWriter 8 Box dyn Device" => {
             let object: Object = Box::new(player.alloc, device)?;
             let inner = BufWriter::<Object, 8>::new(object);
-            play_acting(LineWriter::<BufWriter<Object, 8>, 8>::new(inner), player);
+            play_acting(LineWriter::<BufWriter<Object, 8>, 8>::new(inner), player)
         }
         "Vec" => play_acting(Vec::<u8>::new(player.alloc), player),
         "Device" => play_acting(device, player),
         "BufWriter 8" => play_acting(BufWriter::<Device, 8>::new(device), player),
-        _ => return Err(NO_STREAM),
+        _ => Err(Fault::NoStream),
     }
-    Ok(())
 }

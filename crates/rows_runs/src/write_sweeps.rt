@@ -7,8 +7,8 @@ use crate::towers::{Device, Tower, push_bytes};
 use io_bench::{Act, Faulty, Op, Reply, joined, run_writes};
 use no_std_io2::io::{BufWriter, ErrorKind, LineWriter};
 use rows_play::calls::Call;
-use rows_play::fault::Made;
-use rows_play::line::Line;
+use rows_play::fault::{Fault, Made};
+use rows_play::line::{Line, cut_last};
 use rows_play::player::{Player, Stream};
 use std::alloc::Global;
 
@@ -141,7 +141,7 @@ fn is_lawful_above<const S: usize>(
             is_lawful(alloc, &mut tower, line)
         }
         _ => {
-            line.malformed("no such tower of writers");
+            line.tell(Fault::NoStream);
             false
         }
     }
@@ -162,7 +162,7 @@ impl<'n> Sweeping<'n> {
             "1" => is_lawful_kind::<1>(alloc, self.kind, device, line),
             "8" => is_lawful_kind::<8>(alloc, self.kind, device, line),
             _ => {
-                line.malformed("no such size");
+                line.tell(Fault::NoStream);
                 false
             }
         }
@@ -172,7 +172,7 @@ impl<'n> Sweeping<'n> {
 impl<'n> Stream for Sweeping<'n> {
     fn play(&mut self, alloc: Global, call: &Call<'_>, line: &mut Line) {
         if call.word != "sweep" {
-            line.malformed("no sweep");
+            line.tell(Fault::NoCall);
             return;
         }
         'runs: for run in 0..RUNS {
@@ -188,7 +188,6 @@ impl<'n> Stream for Sweeping<'n> {
 }
 
 pub fn lend(name: &str, player: &mut Player<'_, '_>) -> Made<()> {
-    let (kind, size) = name.rsplit_once(" ").unwrap_or((name, ""));
-    player.play(&mut Sweeping { kind, size });
-    Ok(())
+    let (kind, size) = cut_last(name, " ");
+    player.play(&mut Sweeping { kind, size })
 }

@@ -3,14 +3,14 @@
 ghost use Rattle.no_std_io2.specs.BufWriter.{BufWriterFits};
 
 use crate::devices::lend_object;
-use crate::levels::{self, FAULTY, NO_STREAM, play_level};
+use crate::levels::{self, FAULTY, play_level};
 use crate::tower::Object;
 use crate::writing::{Columns, play};
 use io_bench::{Act, Faulty, Sink, Tally};
 use no_std_io2::io::{BufWriter, Write};
 use rows_play::calls::{Call, make_call};
 use rows_play::fault::{Fault, Made};
-use rows_play::line::{Line, unescape};
+use rows_play::line::{Line, cut_last, unescape};
 use rows_play::player::{Player, Stream};
 use rows_play::script::{Answer, parse_answers};
 use std::alloc::Global;
@@ -24,7 +24,7 @@ fn parse_acts(alloc: Global, words: &str) -> Made<Vec<Act>> {
             Answer::Take(0) => Act::Zero,
             Answer::Take(most) => Act::Take(*most),
             Answer::Fail(kind, None) => Act::Fail(*kind),
-            _ => return Err(Fault::Malformed("no act of a bench")),
+            _ => return Err(Fault::NoWord),
         })?;
     }
     Ok(acts)
@@ -40,16 +40,15 @@ pub fn lend(name: &str, words: &str, player: &mut Player<'_, '_>) -> Made<()> {
     if let Some((levels, device)) = name.split_once(" Box dyn ") {
         return lend_boxed(levels, device, words, player);
     }
-    let (level, device) = name.rsplit_once(" ").unwrap_or(("", name));
+    let (level, device) = cut_last(name, " ");
     match device {
         "Vec" => lend_vector(level, words, player),
         "Tally" => lend_tally(level, player),
         "Faulty" if level.is_empty() => {
-            play(new_faulty(player.alloc, words)?, Columns::State, player);
-            Ok(())
+            play(new_faulty(player.alloc, words)?, Columns::State, player)
         }
         "Faulty" => levels::lend::<FAULTY>(level, words, player),
-        _ => Err(NO_STREAM),
+        _ => Err(Fault::NoStream),
     }
 }
 
@@ -68,7 +67,7 @@ fn lend_boxed(levels: &str, device: &str, words: &str, player: &mut Player<'_, '
             let object: Object = Box::new(alloc, Sink::new())?;
             lend_object(levels, object, Columns::State, player)
         }
-        _ => Err(NO_STREAM),
+        _ => Err(Fault::NoStream),
     }
 }
 
@@ -76,20 +75,14 @@ fn lend_vector(level: &str, words: &str, player: &mut Player<'_, '_>) -> Made<()
     let content = unescape(player.alloc, words)?;
     match level {
         "" => play(content, Columns::State, player),
-        "BufWriter 8" => return play_level::<_, 8>("BufWriter", content, Columns::State, player),
-        "LineWriter 64" => return play_level::<_, 64>(
-            "LineWriter",
-            content,
-            Columns::State,
-            player,
-        ),
-        "BufWriter 8 &mut" => {
-            let content = Vec::new(player.alloc);
-            player.play(&mut Buffered { content, words });
-        }
-        _ => return Err(NO_STREAM),
+        "BufWriter 8" => play_level::<_, 8>("BufWriter", content, Columns::State, player),
+        "LineWriter 64" => play_level::<_, 64>("LineWriter", content, Columns::State, player),
+        "BufWriter 8 &mut" => player.play(&mut Buffered {
+            content: Vec::new(player.alloc),
+            words,
+        }),
+        _ => Err(Fault::NoStream),
     }
-    Ok(())
 }
 
 fn lend_tally(level: &str, player: &mut Player<'_, '_>) -> Made<()> {
@@ -97,7 +90,7 @@ fn lend_tally(level: &str, player: &mut Player<'_, '_>) -> Made<()> {
     match level {
         "BufWriter 0" => play_level::<_, 0>("BufWriter", device, Columns::State, player),
         "LineWriter 4" => play_level::<_, 4>("LineWriter", device, Columns::State, player),
-        _ => Err(NO_STREAM),
+        _ => Err(Fault::NoStream),
     }
 }
 
@@ -123,7 +116,7 @@ fn buffer<W: Write + Drop>(mut w: BufWriter<W, 8>, word: &str, call: &Call<'_>, 
                 line.error(&e.into());
             }
         }
-        _ => line.malformed("no such call"),
+        _ => line.tell(Fault::NoCall),
     }
 }
 

@@ -1,10 +1,10 @@
 // Devices with a journal, by themselves and below towers.
-use crate::levels::{NO_STREAM, NOTED, RECORDER, lend, play_level};
+use crate::levels::{NOTED, RECORDER, lend, play_level};
 use crate::tower::{Device, Object};
 use crate::writing::{Columns, make_any_call, play, play_seeking};
 use no_std_io2::io::{BufWriter, Seek};
 use rows_play::calls::{Call, make_seek, new_journal, show_calls};
-use rows_play::fault::Made;
+use rows_play::fault::{Fault, Made};
 use rows_play::journal::Journal;
 use rows_play::line::Line;
 use rows_play::noted::Noted;
@@ -38,11 +38,10 @@ pub fn lend_recorder(name: &str, words: &str, player: &mut Player<'_, '_>) -> Ma
         "Box Device" => play_seeking(Box::new(player.alloc, recorder)?, columns, player),
         "BufWriter 8 BufWriter 3" => {
             let below = BufWriter::<Recorder, 3>::new(recorder);
-            return play_level::<_, 8>("BufWriter", below, columns, player);
+            play_level::<_, 8>("BufWriter", below, columns, player)
         }
-        _ => return lend_tower(name, recorder, columns, words, player),
+        _ => lend_tower(name, recorder, columns, words, player),
     }
-    Ok(())
 }
 
 // Lends a level over a recorder, possibly with a buffer of 8 bytes between them.
@@ -73,10 +72,7 @@ pub fn lend_object(
     player: &mut Player<'_, '_>,
 ) -> Made<()> {
     match levels {
-        "" => {
-            play(object, columns, player);
-            Ok(())
-        }
+        "" => play(object, columns, player),
         "BufWriter 4" => play_level::<_, 4>("BufWriter", object, columns, player),
         "LineWriter 8" => play_level::<_, 8>("LineWriter", object, columns, player),
         "BufWriter 8 BufWriter 3" => {
@@ -87,7 +83,7 @@ pub fn lend_object(
             let below = BufWriter::<Object, 8>::new(object);
             play_level::<_, 8>("LineWriter", below, columns, player)
         }
-        _ => Err(NO_STREAM),
+        _ => Err(Fault::NoStream),
     }
 }
 
@@ -103,19 +99,18 @@ pub fn lend_device(name: &str, words: &str, player: &mut Player<'_, '_>) -> Made
         }),
         "Box dyn Seek" => {
             let seeker = Box::new(player.alloc, device)?;
-            player.play(&mut Boxed { seeker, journal });
+            player.play(&mut Boxed { seeker, journal })
         }
         "Box dyn Write" => {
             let object: Object = Box::new(player.alloc, device)?;
-            play(object, Columns::Calls(journal), player);
+            play(object, Columns::Calls(journal), player)
         }
         "Box Device" => {
             let boxed = Box::new(player.alloc, device)?;
-            play_seeking(boxed, Columns::Calls(journal), player);
+            play_seeking(boxed, Columns::Calls(journal), player)
         }
-        _ => return lend::<NOTED>(name, words, player),
+        _ => lend::<NOTED>(name, words, player),
     }
-    Ok(())
 }
 
 // A boxed seeker, and the journal of its device.
@@ -128,7 +123,7 @@ struct Boxed {
 impl Stream for Boxed {
     fn play(&mut self, _alloc: Global, call: &Call<'_>, line: &mut Line) {
         if !make_seek(&mut self.seeker, call, line) {
-            line.malformed("no such call");
+            line.tell(Fault::NoCall);
         }
         show_calls(&self.journal, line);
     }

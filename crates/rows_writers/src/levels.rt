@@ -9,9 +9,8 @@ use crate::writing::{Columns, play, play_seeking};
 use no_std_io2::io::{BufWriter, LineWriter, Seek};
 use rows_play::calls::new_journal;
 use rows_play::fault::{Fault, Made};
+use rows_play::line::cut;
 use rows_play::player::Player;
-
-pub const NO_STREAM: Fault = Fault::Malformed("no such stream");
 
 /// A recorder.
 pub const RECORDER: usize = 0;
@@ -24,7 +23,7 @@ pub const FAULTY: usize = 2;
 
 /// Lends a level over one of these devices.
 pub fn lend<const BASE: usize>(level: &str, words: &str, player: &mut Player<'_, '_>) -> Made<()> {
-    let (kind, size) = level.split_once(" ").unwrap_or((level, ""));
+    let (kind, size) = cut(level, " ");
     match size {
         "0" => lend_size::<BASE, 0>(kind, words, player),
         "1" => lend_size::<BASE, 1>(kind, words, player),
@@ -36,7 +35,7 @@ pub fn lend<const BASE: usize>(level: &str, words: &str, player: &mut Player<'_,
         "1030" => lend_size::<BASE, 1030>(kind, words, player),
         "8192" => lend_size::<BASE, 8192>(kind, words, player),
         "65536" => lend_size::<BASE, 65536>(kind, words, player),
-        _ => Err(NO_STREAM),
+        _ => Err(Fault::NoStream),
     }
 }
 
@@ -65,9 +64,8 @@ pub fn play_level<W: Tower, const S: usize>(
     match kind {
         "BufWriter" => play(BufWriter::<W, S>::new(base), columns, player),
         "LineWriter" => play(LineWriter::<W, S>::new(base), columns, player),
-        _ => return Err(NO_STREAM),
+        _ => Err(Fault::NoStream),
     }
-    Ok(())
 }
 
 // Plays the rows on a level over a base that seeks, so that a buffer seeks too.
@@ -83,9 +81,8 @@ fn play_seeking_level<W: Tower + Seek, const S: usize>(
     match kind {
         "BufWriter" => play_seeking(BufWriter::<W, S>::new(base), columns, player),
         "LineWriter" => play(LineWriter::<W, S>::new(base), columns, player),
-        _ => return Err(NO_STREAM),
+        _ => Err(Fault::NoStream),
     }
-    Ok(())
 }
 
 fn lend_recorder<const S: usize>(kind: &str, words: &str, player: &mut Player<'_, '_>) -> Made<()> {
@@ -94,7 +91,7 @@ fn lend_recorder<const S: usize>(kind: &str, words: &str, player: &mut Player<'_
     if S < 1 << 32 {
         return play_seeking_level::<_, S>(kind, recorder, Columns::All(journal, 1), player);
     }
-    Err(NO_STREAM)
+    Err(Fault::NoStream)
 }
 
 fn lend_device<const S: usize>(kind: &str, words: &str, player: &mut Player<'_, '_>) -> Made<()> {
@@ -103,7 +100,7 @@ fn lend_device<const S: usize>(kind: &str, words: &str, player: &mut Player<'_, 
     if S < 1 << 32 {
         return play_seeking_level::<_, S>(kind, device, Columns::Calls(journal), player);
     }
-    Err(NO_STREAM)
+    Err(Fault::NoStream)
 }
 
 fn lend_faulty<const S: usize>(kind: &str, words: &str, player: &mut Player<'_, '_>) -> Made<()> {
@@ -111,5 +108,5 @@ fn lend_faulty<const S: usize>(kind: &str, words: &str, player: &mut Player<'_, 
     if S < 1 << 32 {
         return play_level::<_, S>(kind, device, Columns::State, player);
     }
-    Err(NO_STREAM)
+    Err(Fault::NoStream)
 }

@@ -9,8 +9,9 @@ mod refused;
 mod tower;
 mod writing;
 
-use rows_play::fault::Made;
+use rows_play::fault::{Fault, Made};
 use rows_play::files::play_files;
+use rows_play::line::cut;
 use rows_play::player::{Player, Streams};
 use std::process::ExitCode;
 
@@ -19,13 +20,13 @@ struct Writers;
 
 impl Streams for Writers {
     fn lend(name: &str, words: &str, player: &mut Player<'_, '_>) -> Made<()> {
-        let (word, rest) = name.split_once(" ").unwrap_or((name, ""));
+        let (word, rest) = cut(name, " ");
         match word {
             "writer" | "seeker" => devices::lend_recorder(rest, words, player),
             "noted" => devices::lend_device(rest, words, player),
             "bench" => benches::lend(rest, words, player),
             "heap" => refused::lend(rest, words, player),
-            _ => Err(levels::NO_STREAM),
+            _ => Err(Fault::NoStream),
         }
     }
 

@@ -14,7 +14,6 @@ pub fn lend(name: &str, words: &str, player: &mut Player<'_, '_>) -> Made<()> {
     match name {
         "reads" => player.play(&mut Reading { forms: words }),
         "runs" => player.play(&mut Running),
-        _ => writes::lend(name, words, player)?,
+        _ => writes::lend(name, words, player),
     }
-    Ok(())
 }

@@ -2,6 +2,7 @@
 use io_bench::{Faulty, Sink, Tally};
 use no_std_io2::io::{BufWriter, Error, IntoInnerError, LineWriter, Write};
 use rows_play::calls::Call;
+use rows_play::fault::Fault;
 use rows_play::line::Line;
 use rows_play::noted::Noted;
 use rows_play::recorder::Recorder;
@@ -34,7 +35,7 @@ pub trait Tower: Write + Drop {
     where
         Self: Sized,
     {
-        line.malformed("no level above");
+        line.tell(Fault::NoStream);
     }
 }
 

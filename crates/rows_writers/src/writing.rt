@@ -5,6 +5,7 @@
 use crate::tower::{Part, Tower};
 use no_std_io2::io::{Seek, Write};
 use rows_play::calls::{Call, expect, make_call, make_seek, show_calls, show_out};
+use rows_play::fault::{Fault, Made};
 use rows_play::journal::Journal;
 use rows_play::line::Line;
 use rows_play::player::{Player, Stream};
@@ -40,17 +41,17 @@ pub fn make_any_call<T: Write + Seek>(stream: &mut T, call: &Call<'_>, line: &mu
 }
 
 /// Plays the rows on a tower.
-pub fn play<T: Tower>(tower: T, columns: Columns, player: &mut Player<'_, '_>) {
+pub fn play<T: Tower>(tower: T, columns: Columns, player: &mut Player<'_, '_>) -> Made<()> {
     player.play(&mut Writing {
         tower: Some(tower),
         columns,
-    });
+    })
 }
 
 impl<T: Tower> Writing<T> {
     fn expect(&self, alloc: Global, words: &str, line: &mut Line) {
         let Columns::All(journal, _) = &self.columns else {
-            line.malformed("no such call");
+            line.tell(Fault::NoCall);
             return;
         };
         match expect(alloc, journal, words) {
@@ -62,7 +63,7 @@ impl<T: Tower> Writing<T> {
     // Makes a call, and prints its result.
     fn call(&mut self, alloc: Global, call: &Call<'_>, line: &mut Line) {
         let Some(tower) = &mut self.tower else {
-            line.malformed("the tower is gone");
+            line.tell(Fault::NotReady);
             return;
         };
         match call.word {
@@ -115,11 +116,15 @@ impl<T: Tower> Stream for Writing<T> {
 }
 
 /// Plays the rows on a tower that seeks.
-pub fn play_seeking<T: Tower + Seek>(tower: T, columns: Columns, player: &mut Player<'_, '_>) {
+pub fn play_seeking<T: Tower + Seek>(
+    tower: T,
+    columns: Columns,
+    player: &mut Player<'_, '_>,
+) -> Made<()> {
     let tower = Some(tower);
     player.play(&mut Seeking {
         writing: Writing { tower, columns },
-    });
+    })
 }
 
 // A tower that seeks, with the calls of a seeker.

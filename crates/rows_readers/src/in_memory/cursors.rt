@@ -8,7 +8,7 @@ use crate::devices::Devices;
 use crate::streams::make_seeking_call;
 use no_std_io2::io::{BufRead, BufReader, BufWriter, Cursor, Seek, Write};
 use rows_play::calls::{Call, make_call};
-use rows_play::fault::Made;
+use rows_play::fault::{Fault, Made};
 use rows_play::line::{Line, unescape};
 use rows_play::player::{Player, Stream};
 use std::alloc::Global;
@@ -117,7 +117,7 @@ impl<'a> OnLent<'a> {
                 cursor.position()
             }
             _ => {
-                line.malformed("no such stream");
+                line.tell(Fault::NoStream);
                 0
             }
         }
@@ -147,7 +147,7 @@ impl<'j> Stream for Moving<'j> {
         match call.word {
             "seek_relative" => match call.rest.parse::<i64>() {
                 Ok(offset) => line.done(&self.reader.seek_relative(offset)),
-                Err(_) => line.malformed("no offset behind a call"),
+                Err(_) => line.tell(Fault::NoNumber),
             },
             "place" => self.reader.get_mut().set_position(place_of(call, line)),
             _ => make_seeking_call(alloc, &mut self.reader, call, line),
@@ -171,11 +171,12 @@ pub fn lend(name: &str, words: &str, player: &mut Player<'_, '_>) -> Made<()> {
             position: 0,
         }),
     }
-    Ok(())
 }
 
-pub fn lend_moved(words: &str, devices: Devices<'_>, player: &mut Player<'_, '_>) -> Made<()> {
+pub fn lend_moved(words: &str, devices: &Devices<'_>, player: &mut Player<'_, '_>) -> Made<()> {
     let reader = BufReader::<Text, 4>::new(new_text(player.alloc, words)?);
-    player.play(&mut Moving { reader, devices });
-    Ok(())
+    player.play(&mut Moving {
+        reader,
+        devices: *devices,
+    })
 }

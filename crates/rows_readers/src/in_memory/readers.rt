@@ -1,27 +1,27 @@
 // Readers in memory, and over scripted events.
-use super::scripts::{cut, new_feed, new_text};
-use crate::devices::{Devices, NO_STREAM};
-use crate::streams::{play_lending, play_reading};
+use super::scripts::{new_feed, new_text};
+use crate::devices::Devices;
+use crate::streams::{play_buffered, play_chain, play_lending, play_limited, play_reading};
 use io_bench::{Feed, Tally};
 use no_std_io2::io::{BufReader, Chain, Read};
 use rows_play::fault::{Fault, Made};
-use rows_play::line::unescape;
+use rows_play::line::{cut_last, unescape};
 use rows_play::player::Player;
 
 // Lends the stream of this name, which ends with the name of its device.
 pub fn lend(
     name: &str,
     words: &str,
-    devices: Devices<'_>,
+    devices: &Devices<'_>,
     player: &mut Player<'_, '_>,
 ) -> Made<()> {
-    let (tower, device) = name.rsplit_once(" ").unwrap_or(("", name));
+    let (tower, device) = cut_last(name, " ");
     match device {
         "Feed" => lend_feed(tower, words, devices, player),
         "Cursor" => lend_text(tower, words, devices, player),
         "&[u8]" if tower.starts_with("Chain of") => lend_slices(tower, words, devices, player),
         "&[u8]" => lend_slice(tower, words, devices, player),
-        _ => Err(NO_STREAM),
+        _ => Err(Fault::NoStream),
     }
 }
 
@@ -29,101 +29,94 @@ pub fn lend(
 fn lend_feed(
     tower: &str,
     words: &str,
-    devices: Devices<'_>,
+    devices: &Devices<'_>,
     player: &mut Player<'_, '_>,
 ) -> Made<()> {
     let (limit, words) = words.split_once(" of ").unwrap_or(("2", words));
     let Ok(limit) = limit.parse::<u64>() else {
-        return Err(Fault::Malformed("no limit in front of `of`"));
+        return Err(Fault::NoNumber);
     };
     let feed = new_feed(player.alloc, words)?;
     match tower {
         "" => play_reading(feed, devices, player),
         "Take" => play_reading(feed.take(limit), devices, player),
-        "BufReader 2" => play_lending(BufReader::<Feed, 2>::new(feed), devices, player),
-        "BufReader 4" => play_lending(BufReader::<Feed, 4>::new(feed), devices, player),
-        "Take BufReader 1" => play_lending(
-            BufReader::<Feed, 1>::new(feed).take(limit),
-            devices,
-            player,
-        ),
-        _ => return Err(NO_STREAM),
+        "BufReader 2" => play_buffered::<Feed, 2>(feed, devices, player),
+        "BufReader 4" => play_buffered::<Feed, 4>(feed, devices, player),
+        "Take BufReader 1" => {
+            play_limited(BufReader::<Feed, 1>::new(feed), limit, devices, player)
+        }
+        _ => Err(Fault::NoStream),
     }
-    Ok(())
 }
 
 fn lend_text(
     tower: &str,
     words: &str,
-    devices: Devices<'_>,
+    devices: &Devices<'_>,
     player: &mut Player<'_, '_>,
 ) -> Made<()> {
-    let (first, second) = cut(words);
+    let (first, second) = cut_last(words, " + ");
     let second = new_text(player.alloc, second)?;
     match tower {
         "" => play_lending(second, devices, player),
-        "Take" => play_lending(second.take(2), devices, player),
-        "Chain Cursor" => play_lending(
-            new_text(player.alloc, first)?.chain(second),
-            devices,
-            player,
-        ),
-        _ => return Err(NO_STREAM),
+        "Take" => play_limited(second, 2, devices, player),
+        "Chain Cursor" => play_chain(new_text(player.alloc, first)?, second, devices, player),
+        _ => Err(Fault::NoStream),
     }
-    Ok(())
 }
 
 fn lend_slice(
     tower: &str,
     words: &str,
-    devices: Devices<'_>,
+    devices: &Devices<'_>,
     player: &mut Player<'_, '_>,
 ) -> Made<()> {
-    let (first, second) = cut(words);
+    let (first, second) = cut_last(words, " + ");
     let bytes = unescape(player.alloc, second)?;
     let slice = bytes.as_slice();
     match tower {
         "" => play_lending(slice, devices, player),
-        "BufReader 4 Tally" => play_lending(
-            BufReader::<Tally<&[u8]>, 4>::new(Tally::new(slice)),
-            devices,
-            player,
-        ),
-        "Chain Feed" => play_reading(new_feed(player.alloc, first)?.chain(slice), devices, player),
-        "Chain &[u8]" => play_lending(
-            unescape(player.alloc, first)?.as_slice().chain(slice),
-            devices,
-            player,
-        ),
-        _ => return Err(NO_STREAM),
+        "BufReader 4 Tally" => {
+            play_buffered::<Tally<&[u8]>, 4>(Tally::new(slice), devices, player)
+        }
+        "Chain Feed" => {
+            let feed = new_feed(player.alloc, first)?;
+            play_reading(feed.chain(slice), devices, player)
+        }
+        "Chain &[u8]" => {
+            let first = unescape(player.alloc, first)?;
+            play_chain(first.as_slice(), slice, devices, player)
+        }
+        _ => Err(Fault::NoStream),
     }
-    Ok(())
 }
 
-type Three<'a> = Chain<Chain<&'a [u8], &'a [u8]>, &'a [u8]>;
+type Two<'a> = Chain<&'a [u8], &'a [u8]>;
 
-fn three<'a>(words: &'a str) -> Three<'a> {
-    let (words, third) = cut(words);
-    let (first, second) = cut(words);
-    let two = first.as_bytes().chain(second.as_bytes());
-    two.chain(third.as_bytes())
+fn two<'a>(words: &'a str) -> Two<'a> {
+    let (first, second) = cut_last(words, " + ");
+    first.as_bytes().chain(second.as_bytes())
 }
 
 // Lends a chain of three or four slices.
 fn lend_slices(
     tower: &str,
     words: &str,
-    devices: Devices<'_>,
+    devices: &Devices<'_>,
     player: &mut Player<'_, '_>,
 ) -> Made<()> {
+    let (words, last) = cut_last(words, " + ");
     match tower {
-        "Chain of 3" => play_lending(three(words), devices, player),
+        "Chain of 3" => play_chain(two(words), last.as_bytes(), devices, player),
         "Chain of 4" => {
-            let (words, fourth) = cut(words);
-            let tower = three(words).chain(fourth.as_bytes());
-            play_lending(tower, devices, player);
+            let (words, third) = cut_last(words, " + ");
+            play_chain(
+                two(words).chain(third.as_bytes()),
+                last.as_bytes(),
+                devices,
+                player,
+            )
         }
-        _ => return Err(NO_STREAM),
+        _ => Err(Fault::NoStream),
     }
-    Ok(())
 }

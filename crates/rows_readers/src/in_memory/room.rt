@@ -6,7 +6,8 @@ use super::scripts::push_bytes;
 use io_bench::{Feed, Tally};
 use no_std_io2::io::{BufRead, BufReader, Cursor, Read};
 use rows_play::calls::Call;
-use rows_play::line::Line;
+use rows_play::fault::Fault;
+use rows_play::line::{Line, cut};
 use rows_play::player::Stream;
 use std::alloc::Global;
 
@@ -26,15 +27,15 @@ fn number_of(word: &str, line: &mut Line) -> usize {
     match word.parse::<usize>() {
         Ok(number) => number,
         Err(_) => {
-            line.malformed("no such number");
+            line.tell(Fault::NoNumber);
             0
         }
     }
 }
 
 fn parse_trial<'a>(call: &Call<'a>, line: &mut Line) -> Trial<'a> {
-    let (capacity, rest) = call.rest.split_once(" ").unwrap_or(("", ""));
-    let (len, to_come) = rest.split_once(" ").unwrap_or(("", ""));
+    let (capacity, rest) = cut(call.rest, " ");
+    let (len, to_come) = cut(rest, " ");
     Trial {
         word: call.word,
         capacity: number_of(capacity, line),
@@ -96,7 +97,7 @@ fn read_all<R: Read>(alloc: Global, trial: Trial<'_>, r: &mut R, line: &mut Line
     let mut room = room_of(alloc, trial, line);
     match trial.word {
         "read_to_end" => line.length(&r.read_to_end(&mut room)),
-        _ => line.malformed("no such call"),
+        _ => line.tell(Fault::NoCall),
     }
     show(alloc, room.len(), room.capacity(), r, line);
 }
@@ -163,7 +164,7 @@ fn read_box(
 fn read_buffer(alloc: Global, trial: Trial<'_>, bytes: &[u8], is_full: bool, line: &mut Line) {
     let mut reader = BufReader::<Cursor<&[u8]>, 4>::new(Cursor::new(bytes));
     if is_full && reader.fill_buf().is_err() {
-        line.malformed("a buffer that is not filled");
+        line.tell(Fault::NotReady);
     }
     read_some(alloc, trial, &mut reader, line);
 }
@@ -175,7 +176,7 @@ fn read_limit(alloc: Global, trial: Trial<'_>, bytes: &[u8], limit: &str, line: 
     };
     match most {
         Ok(most) => read_some(alloc, trial, &mut Cursor::new(bytes).take(most), line),
-        Err(_) => line.malformed("no such limit"),
+        Err(_) => line.tell(Fault::NoNumber),
     }
 }
 
@@ -214,7 +215,7 @@ impl<'a> Room<'a> {
             }
             _ => match self.name.split_once(" ") {
                 Some(("Take", limit)) => read_limit(alloc, trial, bytes, limit, line),
-                _ => line.malformed("no such stream"),
+                _ => line.tell(Fault::NoStream),
             },
         }
     }

@@ -3,14 +3,9 @@ use io_bench::{Act, Event, Faulty, Feed};
 use no_std_io2::io::Cursor;
 use rows_play::fault::{Fault, Made};
 use rows_play::kinds::name_of_kind;
-use rows_play::line::{Line, unescape};
+use rows_play::line::{Line, cut, unescape};
 use rows_play::script::{Answer, parse_answers};
 use std::alloc::{AllocError, Global};
-
-// Returns the two texts on both sides of a plus. If there is no plus, the first is empty.
-pub fn cut(words: &str) -> (&str, &str) {
-    words.rsplit_once(" + ").unwrap_or(("", words))
-}
 
 pub fn new_text(alloc: Global, words: &str) -> Made<Cursor<Vec<u8>>> {
     Ok(Cursor::new(unescape(alloc, words)?))
@@ -28,7 +23,7 @@ pub fn push_bytes(events: &mut Vec<Event>, bytes: &[u8]) -> Result<(), AllocErro
 // front says how many bytes a read gives at most, and the default is 4.
 pub fn new_feed(alloc: Global, words: &str) -> Made<Feed> {
     let (piece, words) = match words.strip_prefix("by ") {
-        Some(rest) => rest.split_once(", ").unwrap_or((rest, "")),
+        Some(rest) => cut(rest, ", "),
         None => ("4", words),
     };
     let mut answers = parse_answers(alloc, words)?;
@@ -39,12 +34,12 @@ pub fn new_feed(alloc: Global, words: &str) -> Made<Feed> {
             Answer::Plain => {}
             Answer::Give(bytes) => push_bytes(&mut events, bytes)?,
             Answer::Fail(kind, None) => events.push(Event::Fail(*kind))?,
-            _ => return Err(Fault::Malformed("no such event of a feed")),
+            _ => return Err(Fault::NoWord),
         }
     }
     match piece.parse::<usize>() {
         Ok(piece) if piece > 0 => Ok(Feed::new(events, piece)),
-        _ => Err(Fault::Malformed("no piece behind `by`")),
+        _ => Err(Fault::NoNumber),
     }
 }
 
@@ -87,7 +82,7 @@ pub fn new_writer(alloc: Global, words: &str) -> Made<Faulty<Vec<u8>>> {
         match answer {
             Answer::Take(most) => acts.push(Act::Take(*most))?,
             Answer::Fail(kind, None) => acts.push(Act::Fail(*kind))?,
-            _ => return Err(Fault::Malformed("no such act of a device")),
+            _ => return Err(Fault::NoWord),
         }
     }
     Ok(Faulty::new(Vec::new(alloc), acts))

@@ -1,6 +1,5 @@
 // Vectors that grow, a buffer over a cursor on one, and a queue.
 use super::cursors::{place_of, show};
-use crate::devices::NO_STREAM;
 use no_std_io2::io::{BufWriter, Cursor};
 use rows_play::calls::{Call, make_call, make_seek};
 use rows_play::fault::{Fault, Made};
@@ -77,20 +76,18 @@ impl Stream for Queue {
 
 pub fn lend_queue(words: &str, player: &mut Player<'_, '_>) -> Made<()> {
     let bytes = VecDeque::from_vec(unescape(player.alloc, words)?);
-    player.play(&mut Queue { bytes });
-    Ok(())
+    player.play(&mut Queue { bytes })
 }
 
 // Lends a stream with room for as many bytes as a row's `new` says.
 pub fn lend(name: &str, words: &str, player: &mut Player<'_, '_>) -> Made<()> {
     let is_cursor = name == "Cursor";
     let Ok(room) = words.parse::<usize>() else {
-        return Err(Fault::Malformed("no room behind `new`"));
+        return Err(Fault::NoNumber);
     };
     if !is_cursor && name != "Vec" {
-        return Err(NO_STREAM);
+        return Err(Fault::NoStream);
     }
     let cursor = Cursor::new(Vec::with_capacity(player.alloc, room)?);
-    player.play(&mut Grown { cursor, is_cursor });
-    Ok(())
+    player.play(&mut Grown { cursor, is_cursor })
 }

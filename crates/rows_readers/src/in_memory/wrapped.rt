@@ -9,7 +9,7 @@ use rows_play::fault::{Fault, Made};
 pub fn slice_of(words: &str) -> Made<&'static [u8]> {
     match words {
         "cd" => Ok(b"cd"),
-        _ => Err(Fault::Malformed("no such slice")),
+        _ => Err(Fault::NoStream),
     }
 }
 

@@ -8,7 +8,7 @@ ghost use Rattle.no_std_io2.specs.BufReader.{BufReaderFits};
 use io_bench::{Event, Feed};
 use no_std_io2::io::Read;
 use rows_play::calls::{Call, new_journal, show_calls};
-use rows_play::fault::Made;
+use rows_play::fault::{Fault, Made};
 use rows_play::journal::Journal;
 use rows_play::line::Line;
 use rows_play::player::{Player, Stream};
@@ -69,13 +69,12 @@ impl Stream for Ends {
             }
             "from" => copy(&mut self.input, &mut self.output, call.rest, line),
             "buf" | "line" => copy(call.bytes.as_slice(), &mut self.output, call.word, line),
-            _ => line.malformed("no such copy"),
+            _ => line.tell(Fault::NoCall),
         }
         show_calls(&self.journal, line);
     }
 }
 
 pub fn lend(words: &str, player: &mut Player<'_, '_>) -> Made<()> {
-    player.play(&mut Ends::new(player.alloc, words)?);
-    Ok(())
+    player.play(&mut Ends::new(player.alloc, words)?)
 }

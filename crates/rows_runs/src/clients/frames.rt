@@ -33,7 +33,7 @@ struct Sending {
 
 fn send(to: &mut FrameWriter<Recorder, 4>, payload: &[u8], line: &mut Line) {
     if to.is_under_way() {
-        line.malformed("a frame is under way");
+        line.tell(Fault::NotReady);
     } else {
         line.done(&to.send(payload));
     }
@@ -44,14 +44,14 @@ fn send_by(to: &mut FrameWriter<Recorder, 4>, call: &Call<'_>, line: &mut Line) 
         "send" => send(to, &call.bytes, line),
         "resume" => line.done(&to.resume()),
         "flush" => line.done(&to.flush()),
-        _ => line.malformed("no such call"),
+        _ => line.tell(Fault::NoCall),
     }
 }
 
 // Unwraps the writer, and shows only the calls of that; what an error contains is dropped after them.
 fn unwrap(w: FrameWriter<Recorder, 4>, journal: &RefCell<Journal>, line: &mut Line) {
     if w.is_under_way() {
-        line.malformed("a frame is under way");
+        line.tell(Fault::NotReady);
         return;
     }
     match w.into_inner() {
@@ -80,7 +80,7 @@ impl Stream for Sending {
                 show_sent(w.is_under_way(), &self.journal, line);
                 self.writer = Some(w);
             }
-            (_, None) => line.malformed("nothing is left"),
+            (_, None) => line.tell(Fault::NotReady),
         }
     }
 }
@@ -111,7 +111,7 @@ impl Stream for Receiving {
                 self.reader.set_limit(call.number(line).min(1 << 31) as u32);
                 line.word("-");
             }
-            _ => line.malformed("no such call"),
+            _ => line.tell(Fault::NoCall),
         }
         show_calls(&self.journal, line);
     }
@@ -139,14 +139,14 @@ impl fmt::Display for Broken {
 // `log_broken`.
 fn log(to: &mut LineLog<Recorder, 4>, call: &Call<'_>, line: &mut Line) {
     match std::str::from_utf8(&call.bytes) {
-        Ok(_) if to.is_under_way() => line.malformed("a line is under way"),
+        Ok(_) if to.is_under_way() => line.tell(Fault::NotReady),
         Ok(text) if call.word == "log_text" => line.done(&to.log_text(format_args!(
             "{text}={}",
             5
         ))),
         Ok(_) if call.word == "log_broken" => line.done(&to.log_text(Broken)),
         Ok(text) => line.done(&to.log(text)),
-        Err(_) => line.malformed("no text"),
+        Err(_) => line.tell(Fault::NoWord),
     }
 }
 
@@ -155,14 +155,14 @@ fn log_by(to: &mut LineLog<Recorder, 4>, call: &Call<'_>, line: &mut Line) {
         "log" | "log_text" | "log_broken" => log(to, call, line),
         "resume" => line.done(&to.resume()),
         "flush" => line.done(&to.flush()),
-        _ => line.malformed("no such call"),
+        _ => line.tell(Fault::NoCall),
     }
 }
 
 // Unwraps the log, as `unwrap` does for a writer of frames.
 fn unwrap_log(log: LineLog<Recorder, 4>, journal: &RefCell<Journal>, line: &mut Line) {
     if log.is_under_way() {
-        line.malformed("a line is under way");
+        line.tell(Fault::NotReady);
         return;
     }
     match log.into_inner() {
@@ -191,7 +191,7 @@ impl Stream for Logging {
                 show_sent(log.is_under_way(), &self.journal, line);
                 self.log = Some(log);
             }
-            (_, None) => line.malformed("nothing is left"),
+            (_, None) => line.tell(Fault::NotReady),
         }
     }
 }
@@ -203,17 +203,16 @@ pub fn lend(name: &str, words: &str, player: &mut Player<'_, '_>) -> Made<()> {
     match name {
         "FrameWriter" => {
             let writer = Some(FrameWriter::new(alloc, device));
-            player.play(&mut Sending { writer, journal });
+            player.play(&mut Sending { writer, journal })
         }
         "FrameReader" => {
             let reader = FrameReader::new(alloc, device, 5);
-            player.play(&mut Receiving { reader, journal });
+            player.play(&mut Receiving { reader, journal })
         }
         "LineLog" => {
             let log = Some(LineLog::new(alloc, device));
-            player.play(&mut Logging { log, journal });
+            player.play(&mut Logging { log, journal })
         }
-        _ => return Err(Fault::Malformed("no such stream")),
+        _ => Err(Fault::NoStream),
     }
-    Ok(())
 }

@@ -5,7 +5,7 @@
 use rows_play::calls::{Call, make_call, new_journal, show_calls};
 use rows_play::fault::{Fault, Made};
 use rows_play::journal::Journal;
-use rows_play::line::Line;
+use rows_play::line::{Line, cut};
 use rows_play::player::{Player, Stream};
 use rows_play::reads::make_read;
 use rows_play::recorder::{Name, Recorder};
@@ -33,13 +33,12 @@ impl Stream for Patience {
 }
 
 pub fn lend(words: &str, player: &mut Player<'_, '_>) -> Made<()> {
-    let (turns, answers) = words.split_once(": ").unwrap_or((words, ""));
+    let (turns, answers) = cut(words, ": ");
     let Ok(turns) = turns.parse::<u64>() else {
-        return Err(Fault::Malformed("no number of turns"));
+        return Err(Fault::NoNumber);
     };
     let journal = new_journal(player.alloc, answers)?;
     let device = Recorder::new(player.alloc, journal.clone()?, Name::Only);
     let patient = Patient::new(ToStd::new(device), turns);
-    player.play(&mut Patience { patient, journal });
-    Ok(())
+    player.play(&mut Patience { patient, journal })
 }

@@ -12,7 +12,7 @@ use no_std_io2::io::{ErrorKind, Read};
 use rows_play::calls::{Call, show_calls};
 use rows_play::fault::{Fault, Made};
 use rows_play::kinds::kind_of_name;
-use rows_play::line::Line;
+use rows_play::line::{Line, cut};
 use rows_play::player::{Player, Stream};
 use std::alloc::Global;
 use tower_play::{Fault as PlayFault, Shape, play};
@@ -46,7 +46,7 @@ fn show_play<R: Read + Drop>(alloc: Global, input: R, shape: Shape, line: &mut L
 
 fn play_feed(alloc: Global, kind: &str, shape: Shape, line: &mut Line) {
     let Some(kind) = kind_of_name(kind) else {
-        line.malformed("no such kind of an error");
+        line.tell(Fault::NoWord);
         return;
     };
     match Vec::from_slice(alloc, &[Event::Fail(kind)]) {
@@ -116,17 +116,16 @@ impl Stream for Playing {
                 let script = flushes(alloc, call.number(line), line);
                 play_flushes(alloc, &script, self.shape, line);
             }
-            _ => line.malformed("no such call"),
+            _ => line.tell(Fault::NoCall),
         }
     }
 }
 
 pub fn lend(words: &str, player: &mut Player<'_, '_>) -> Made<()> {
-    let (shape, answers) = words.split_once(": ").unwrap_or((words, ""));
+    let (shape, answers) = cut(words, ": ");
     let Some(shape) = parse_shape(shape) else {
-        return Err(Fault::Malformed("no such shape"));
+        return Err(Fault::NoStream);
     };
     let ends = Ends::new(player.alloc, answers)?;
-    player.play(&mut Playing { shape, ends });
-    Ok(())
+    player.play(&mut Playing { shape, ends })
 }

@@ -8,7 +8,7 @@ use io_bench::{Act, Event, Faulty, Feed};
 use line_log::LineLog;
 use no_std_io2::io::{self, ErrorKind};
 use rows_play::calls::Call;
-use rows_play::fault::Made;
+use rows_play::fault::{Fault, Made};
 use rows_play::kinds::name_of_kind;
 use rows_play::line::Line;
 use rows_play::player::{Player, Stream};
@@ -265,7 +265,7 @@ impl<'a> Stream for Sweep<'a> {
             "FrameWriter" | "FrameReader" => WIRE.len(),
             "LineLog" => LINES.len(),
             _ => {
-                line.malformed("no such sweep");
+                line.tell(Fault::NoCall);
                 return;
             }
         };
@@ -289,6 +289,5 @@ pub fn lend(name: &str, player: &mut Player<'_, '_>) -> Made<()> {
         payloads,
         lines,
         runs: 0,
-    });
-    Ok(())
+    })
 }

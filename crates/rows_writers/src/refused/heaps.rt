@@ -2,6 +2,7 @@
 // does not fit fails. A block that grows is in the heap together with its copy until the copy is made.
 use linked_list_allocator::LocalHeap;
 use rows_play::fault::{Fault, Made};
+use rows_play::line::cut;
 
 /// A vector in a heap.
 pub type HeapVec<'a> = Vec<u8, &'a LocalHeap>;
@@ -21,12 +22,12 @@ pub fn vector_of<'a>(heap: &'a LocalHeap, capacity: usize, bytes: &[u8]) -> Made
 pub fn number(word: &str) -> Made<usize> {
     match word.parse::<usize>() {
         Ok(n) => Ok(n),
-        Err(_) => Err(Fault::Malformed("no number")),
+        Err(_) => Err(Fault::NoNumber),
     }
 }
 
 /// Returns the number that is the first word of a line, and the rest of the line.
 pub fn cut_number(words: &str) -> Made<(usize, &str)> {
-    let (word, rest) = words.split_once(" ").unwrap_or((words, ""));
+    let (word, rest) = cut(words, " ");
     Ok((number(word)?, rest))
 }

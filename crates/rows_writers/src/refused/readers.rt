@@ -39,7 +39,7 @@ fn read_boxed(trial: Trial, form: &str, line: &mut Line) -> Made<Outcome> {
 fn read_buffer(trial: Trial, is_held: bool, line: &mut Line) -> Made<Outcome> {
     let mut reader = BufReader::<Cursor<&[u8]>, 4>::new(Cursor::new(trial.text()));
     if is_held && reader.fill_buf().is_err() {
-        line.malformed("no bytes are held");
+        line.tell(Fault::NotReady);
     }
     read(trial, &mut reader, line)
 }
@@ -57,7 +57,7 @@ fn read_both<A: BufRead, B: BufRead>(
 fn read_limit(trial: Trial, form: &str, line: &mut Line) -> Made<Outcome> {
     match form.strip_prefix("limit ").unwrap_or("").parse::<u64>() {
         Ok(limit) => read(trial, &mut Cursor::new(trial.text()).take(limit), line),
-        Err(_) => Err(Fault::Malformed("no such reader")),
+        Err(_) => Err(Fault::NoStream),
     }
 }
 

@@ -11,7 +11,7 @@ use linked_list_allocator::LocalHeap;
 use no_std_io2::io::{BufRead, ErrorKind, Read, Result};
 use rows_play::calls::Call;
 use rows_play::fault::{Fault, Made};
-use rows_play::line::Line;
+use rows_play::line::{Line, cut};
 use rows_play::player::Stream;
 use std::alloc::Global;
 
@@ -37,7 +37,7 @@ fn is_until(word: &str) -> Made<bool> {
     match word {
         "read_to_end" => Ok(false),
         "read_until" => Ok(true),
-        _ => Err(Fault::Malformed("no such call")),
+        _ => Err(Fault::NoCall),
     }
 }
 
@@ -46,7 +46,7 @@ impl Trial {
         let is_within = call.word == "within";
         let (heap, rest) = cut_number(call.rest)?;
         let (word, capacity, held, bytes) = if is_within {
-            let (word, bytes) = rest.split_once(" ").unwrap_or((rest, ""));
+            let (word, bytes) = cut(rest, " ");
             (word, 0, 0, bytes)
         } else {
             let (capacity, rest) = cut_number(rest)?;
@@ -85,7 +85,7 @@ impl Trial {
     ) -> Outcome {
         let (front, given) = all.split_at(self.held.min(all.len()));
         if front != self.dots() || given != text_of(given.len()) {
-            line.malformed("another vector");
+            line.tell(Fault::Otherwise);
         }
         Outcome {
             is_refused: is_refused(answer, given.len(), line),
@@ -106,13 +106,13 @@ fn is_refused(answer: &Result<usize>, given: usize, line: &mut Line) -> bool {
     match answer {
         Ok(n) => {
             if *n != given {
-                line.malformed("another length");
+                line.tell(Fault::Otherwise);
             }
             false
         }
         Err(e) => {
             if e.kind() != ErrorKind::OutOfMemory || e.get_ref().is_some() {
-                line.malformed("another error than the refusal");
+                line.tell(Fault::Otherwise);
             }
             true
         }
@@ -125,7 +125,7 @@ fn left_of<R: Read>(alloc: Global, r: &mut R, line: &mut Line) -> usize {
     match r.read_to_end(&mut rest) {
         Ok(left) if rest.as_slice() == text_of(left) => left,
         _ => {
-            line.malformed("another rest");
+            line.tell(Fault::Otherwise);
             0
         }
     }
@@ -177,7 +177,7 @@ fn show_need(trial: Trial, form: &str, line: &mut Line) -> Made<()> {
         let heap = 16 * units;
         let outcome = read_form(Trial { heap, ..trial }, form, line)?;
         if outcome.len.wrapping_add(outcome.left) != trial.bytes {
-            return Err(Fault::Malformed("bytes that are lost"));
+            return Err(Fault::Otherwise);
         }
         if !outcome.is_refused {
             if heap <= trial.heap {
@@ -188,7 +188,7 @@ fn show_need(trial: Trial, form: &str, line: &mut Line) -> Made<()> {
             return Ok(());
         }
     }
-    Err(Fault::Malformed("no heap is enough"))
+    Err(Fault::Otherwise)
 }
 
 fn try_form(trial: Trial, form: &str, line: &mut Line) -> Made<()> {
@@ -215,7 +215,7 @@ fn append(shown: &Line, line: &mut Line) {
         line.cut();
     }
     if shown.is_malformed() {
-        line.malformed("");
+        line.tell(Fault::Otherwise);
     }
 }
 

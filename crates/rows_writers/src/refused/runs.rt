@@ -76,12 +76,12 @@ fn run(word: &str, bytes: &RefCell<Vec<u8>>, replies: &mut Replies<'_>, line: &m
     let sink = Sink::new();
     let mut w = BufWriter::<Kept<'_>, 8>::new(Kept { sink, bytes });
     if w.write_all(b"held").is_err() {
-        line.malformed("nothing is held");
+        line.tell(Fault::NotReady);
     }
     match word {
         "run" => line.done(&run_writes(&mut w, &OPS, replies)),
         "closed" => line.done(&close(w, replies)),
-        _ => line.malformed("no such run"),
+        _ => line.tell(Fault::NoCall),
     }
 }
 

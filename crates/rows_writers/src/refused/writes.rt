@@ -105,7 +105,7 @@ struct Writing<'h, W: Drop> {
 fn fill(filler: &mut HeapVec<'_>, heap: &LocalHeap, line: &mut Line) {
     line.word("-");
     if filler.reserve(heap.free()).is_err() {
-        line.malformed("a heap whose room is not one block");
+        line.tell(Fault::NotReady);
     }
 }
 
@@ -126,13 +126,17 @@ impl<'h, W: HeapWriter + Drop> Stream for Writing<'h, W> {
     }
 }
 
-fn play<W: HeapWriter + Drop>(writer: W, heap: &LocalHeap, player: &mut Player<'_, '_>) {
+fn play<W: HeapWriter + Drop>(
+    writer: W,
+    heap: &LocalHeap,
+    player: &mut Player<'_, '_>,
+) -> Made<()> {
     let filler = Vec::new(heap);
     player.play(&mut Writing {
         writer,
         heap,
         filler,
-    });
+    })
 }
 
 // Lends the writer of this name over a vector.
@@ -149,11 +153,10 @@ fn lend_writer<'h>(
         "Cursor Vec" => play(Cursor::new(vector), heap, player),
         "Cursor &mut Vec" => {
             let mut vector = vector;
-            play(Cursor::new(&mut vector), heap, player);
+            play(Cursor::new(&mut vector), heap, player)
         }
-        _ => return Err(Fault::Malformed("no such stream")),
+        _ => Err(Fault::NoStream),
     }
-    Ok(())
 }
 
 pub fn lend(name: &str, words: &str, player: &mut Player<'_, '_>) -> Made<()> {
