@@ -1,6 +1,5 @@
 // The examples in the comments of the buffers, of `copy` and of `skip`.
 use examples::Narrow;
-use io_bench::{Act, Faulty, Tally};
 use no_std_io2::io::{
     BufRead, BufReader, BufWriter, Cursor, ErrorKind, LineWriter, Read, SeekFrom, Write, copy,
     read_exact_at, skip, write_with_retries,
@@ -158,35 +157,6 @@ fn a_slice_is_written_with_retries(rt: HostRuntime) -> Result<(), Fail> {
     let mut rest = b"abc".as_slice();
     write_with_retries(&mut w, &mut rest, 3)?; // tries again after each of the first three faults
     assert!(rt; w.get_ref().as_slice() == b"abc".as_slice());
-    Ok(())
-}
-
-// A try that is missing, one too many, and a byte that goes out twice.
-#[test]
-fn so_many_retries_are_made(rt: HostRuntime) -> Result<(), Fail> {
-    let fault = Act::Fail(ErrorKind::BrokenPipe);
-    'budgets: for (retries, is_enough, writes) in [
-        (0, false, 2),
-        (1, false, 3),
-        (2, false, 4),
-        (3, true, 5),
-        (4, true, 5),
-    ] {
-        let acts = Vec::from_array(rt.alloc(), [Act::Take(1), fault, fault, fault])?;
-        let mut w = Tally::new(Faulty::new(Vec::<u8>::new(rt.alloc()), acts));
-        let mut rest = b"abc".as_slice();
-        assert!(rt;
-            write_with_retries(&mut w, &mut rest, retries).is_ok() == is_enough,
-            "{retries}"
-        );
-        assert!(rt; w.writes() == writes, "{retries}");
-        assert!(rt; rest.is_empty() == is_enough, "{retries}");
-        write_with_retries(&mut w, &mut rest, 2)?;
-        assert!(rt;
-            w.get_ref().get_ref().as_slice() == b"abc".as_slice(),
-            "{retries}"
-        );
-    }
     Ok(())
 }
 

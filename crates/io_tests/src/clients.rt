@@ -1,13 +1,12 @@
 // The examples in the comments of `framing`, `line_log`, `system_streams` and `io_bench`: one that no longer does what it says.
 use examples::save;
 use framing::{FrameReader, FrameWriter, Shown, round_trip};
-use io_bench::{Op, Reply, Tally, joined};
+use io_bench::{Op, Reply, joined};
 use line_log::LineLog;
-use no_std_io2::io::{BufReader, BufWriter, Cursor, Read, Result, Write};
+use no_std_io2::io::{BufWriter, Cursor, Read, Result, Write};
 use std::alloc::Global;
 use std::test::Fail;
 use system_streams::{Patient, copy_through};
-use tar_reader::Archive;
 
 fn payloads(alloc: Global) -> Result<Vec<Vec<u8>>> {
     let mut payloads = Vec::new(alloc);
@@ -219,15 +218,5 @@ fn what_a_run_accepted(rt: HostRuntime) -> std::result::Result<(), Fail> {
 fn a_record_is_saved(rt: HostRuntime) -> std::result::Result<(), Fail> {
     let device = save(Vec::new(rt.alloc()), b"a record")?;
     assert!(rt; device.as_slice() == b"a record".as_slice());
-    Ok(())
-}
-
-// A reader that is called again after its end.
-#[test]
-fn an_archive_of_no_bytes_asks_its_reader_once(rt: HostRuntime) -> std::result::Result<(), Fail> {
-    let input = BufReader::<Tally<&[u8]>, 64>::new(Tally::new(b""));
-    let mut archive = Archive::new(rt.alloc(), input);
-    assert!(rt; archive.next()?.is_none());
-    assert!(rt; archive.member().get_ref().get_ref().reads() == 1);
     Ok(())
 }

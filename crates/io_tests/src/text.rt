@@ -1,7 +1,6 @@
 // What `write!` prints to each writer, and what it does if a device or the text's own `fmt` fails.
 ghost use Rattle.no_std_io2.specs.Write.{told_out};
 
-use line_log::LineLog;
 use no_std_io2::io::{Cursor, Error, ErrorKind, LineWriter, Result as IoResult, Write};
 use std::fmt;
 use std::test::Fail;
@@ -150,23 +149,5 @@ fn a_text_that_fails_is_told(rt: HostRuntime) -> Result<(), Fail> {
             assert!(rt; e.get_ref().copied() == Some("formatter error"));
         }
     }
-    Ok(())
-}
-
-#[test]
-fn a_text_that_fails_is_not_logged(rt: HostRuntime) -> Result<(), Fail> {
-    let mut log = LineLog::<Vec<u8>, 64>::new(rt.alloc(), Vec::new(rt.alloc()));
-    match log.log_text(Broken) {
-        Ok(()) => assert!(rt; false),
-        Err(e) => assert!(rt; e.kind() == ErrorKind::Other),
-    }
-    assert!(rt; !log.is_under_way());
-    match log.log_text(format_args!("a\nb")) {
-        Ok(()) => assert!(rt; false),
-        Err(e) => assert!(rt; e.kind() == ErrorKind::InvalidInput),
-    }
-    assert!(rt; !log.is_under_way());
-    log.log_text(Deaf)?;
-    assert!(rt; log.get_ref().as_slice() == b"abcdef\n".as_slice());
     Ok(())
 }
