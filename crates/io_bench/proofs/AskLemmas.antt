@@ -1,5 +1,5 @@
 -- Asks in a row.
-use Rattle.std.proofs.Common.{Bor, Result, Ok, ◌⊎◌, inl, inr, Err, append-nil, nat_eq, ◌≡◌, ℕ, zero, suc, ◌+◌, ◌-◌, ◌<◌}
+use Rattle.std.proofs.Common.{Result, Ok, ◌⊎◌, inl, inr, Err, append-nil, nat_eq, ◌≡◌, ℕ, zero, suc, ◌+◌, ◌-◌, ◌<◌}
 use Rattle.std.proofs.Common.{◌≤◌, min, nat_lt, if◌then◌else◌, false, Bool, List, [], ◌∷◌, ◌++◌, length, take, drop}
 use Rattle.std.proofs.Common.{get_or, refl, sym, ap, subst, ◌∙◌, arith, ⊎_elim, drop_of_length-le, length-take-le}
 use Rattle.std.proofs.Common.{length-drop, append_assoc, take_all, length-append}
@@ -14,7 +14,6 @@ use Rattle.io_bench.specs.declared.asks.Ask.TheVariants.{Read, Exact, Fill}
 use Rattle.no_std_io2.specs.declared.io.Error.{Error}
 use Rattle.no_std_io2.specs.declared.io.ErrorKind.TheVariants.{UnexpectedEof}
 use Rattle.no_std_io2.specs.Errors.{error_kind}
-use Rattle.no_std_io2.specs.BufRead.{Lends, LendsFrom}
 use Rattle.no_std_io2.proofs.EventLemmas.{bytes-events_of, length-events_of, events_of-append, HasNoFault-events_of, HasNoFault-front}
 use Rattle.no_std_io2.proofs.BufReaderExact.{length-events}
 use Rattle.no_std_io2.proofs.CopyLemmas.{no_fault_at_end}
@@ -142,32 +141,18 @@ falls_short bs {E} e buf {E'} is (inr short) =
     let long : length E ≡ length (bytes E) = ap length is ∙ length-events_of bs ∙ sym (ap length (ap bytes is ∙ bytes-events_of bs)) in
     (short.answer.0, omega (arith, short.short, long), taken_whole E E' short.left)
 
--- a `read_exact` of that many bytes failed
-pub fell : {E : List Event} {e : Error} (buf : List ℕ) {len : ℕ} {E' : List Event} → length buf ≡ len
-    → ReadsExact {A = Unit {0}} ⊥ E (Err e) buf E' → StopsAtFault E len e E' ⊎ FallsShort ⊥ E len e E'
-fell {E} {e} buf {E' = E'} same t = subst (λ len. StopsAtFault E len e E' ⊎ FallsShort ⊥ E len e E') same t
-
 -- held bytes followed by events that are only bytes are only bytes
 pub bytes_behind : (held bs : List ℕ) (E : List Event) → E ≡ events_of bs → events_of held ++ E ≡ events_of (held ++ bs)
 bytes_behind held bs E is = ap (λ l. events_of held ++ l) is ∙ sym (events_of-append held bs)
 
--- what it lent is held, and still to come
-pub lent_held : (reply : Result (Bor (List ℕ)) Error) (s : Bor (List ℕ)) (held : List ℕ) → reply ≡ Ok s → Lends reply held → held ≡ s.now
-lent_held reply s held is lends = subst (λ r. Lends r held) is lends
-
 -- with any other error than an early end it stopped at a fault
 pub stopped : {E : List Event} {e : Error} (buf : List ℕ) {len : ℕ} {E' : List Event} → length buf ≡ len → error_kind e ≢ UnexpectedEof
     → ReadsExact {A = Unit {0}} ⊥ E (Err e) buf E' → StopsAtFault E len e E'
-stopped {E} {e} buf {len} {E'} same other t = by_case (fell buf same t)
+stopped {E} {e} buf {len} {E'} same other t = by_case (rw same at t)
   where
     by_case : StopsAtFault E len e E' ⊎ FallsShort ⊥ E len e E' → StopsAtFault E len e E'
     by_case (inl stops) = stops
     by_case (inr short) = absurd (other short.answer.0)
-
--- an error that `fill_buf` returned was the first event, and is gone
-pub lent_error : {reply : Result (Bor (List ℕ)) Error} (e : Error) {E after : List Event} → reply ≡ Err e → LendsFrom E reply after
-    → E ≡ fails e ∷ after
-lent_error e {E} {after} is lends = subst (λ r. LendsFrom E r after) is lends
 
 -- of what it lent the first are gone
 pub lent_taken : {E mid : List Event} (after : List Event) (most n : ℕ) {held lent : List ℕ} → mid ≡ E
@@ -224,9 +209,8 @@ module _ {R : Type 0} {S : ℕ} (inner : Reader R) where
       → Answered inner (get_or asks i d) mid answer new
       → ends ≡ at_end + (if met_end answer then 1 else 0) → failures ≡ failed + (if is_err answer then 1 else 0)
       → CameTo inner (take (i + 1) asks) old ends failures new
-  came_more asks i d answer old mid new at_end failed {ends} {failures} within t one e f =
-      subst (λ made. CameTo inner made old ends failures new) (sym (take_more asks i d within))
-      (came_then (take i asks) (get_or asks i d) answer old mid new at_end failed t one e f)
+  came_more asks i d answer old mid new at_end failed within t one e f =
+      rw (take_more asks i d within) (came_then (take i asks) (get_or asks i d) answer old mid new at_end failed t one e f)
 
   -- if there are no more than i asks, the first i are all
   pub came_all : (asks : List Ask) (i : ℕ) (old new : BufReader (Tally R) S) (at_end failed : ℕ) → length asks ≤ i

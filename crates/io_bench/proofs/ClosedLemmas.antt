@@ -3,8 +3,6 @@ use Rattle.std.proofs.Common.{◌≡◌, ℕ, ◌+◌, ◌<◌, ◌≤◌, ◌*�
 use Rattle.std.proofs.Common.{length, take, get_or, List, [], ◌∷◌, ◌++◌, refl, sym, ap, ◌∙◌, subst, append_assoc}
 use Rattle.std.proofs.Common.{append-nil}
 use Rattle.std.proofs.lemmas.List.{take_more, length-append}
-use Rattle.no_std_io2.specs.BufWriter.{writing_calls, buffer_after}
-use Rattle.no_std_io2.specs.Write.{calls_for}
 use Rattle.io_bench.specs.declared.runs.Op.{Op}
 use Rattle.io_bench.specs.declared.runs.Op.TheVariants.{Write, WriteAll, Flush}
 use Rattle.io_bench.specs.declared.runs.Reply.{Reply}
@@ -48,14 +46,9 @@ flushes-more (o ∷ ops) op = omega (arith, flushes-more ops op)
 -- one more call, and what it costs
 Paid-call : (S c f n : ℕ) (buffer : List ℕ) (op : Op) → 0 < S → length buffer ≤ S → Paid S c f n (length buffer)
     → Paid S (c + op_calls S buffer op) (f + op_flushes op) (n + length (op_bytes op)) (length (op_buffer S buffer op))
-Paid-call S c f n buffer (Write x) some fits p =
-    subst (λ m. Paid S (c + writing_calls S buffer x.now) m (n + length x.now) (length (buffer_after S buffer x.now)))
-    (sym (add-zero f)) (Paid-write S c f n buffer x.now some fits p)
-Paid-call S c f n buffer (WriteAll x) some fits p =
-    subst (λ m. Paid S (c + writing_calls S buffer x.now) m (n + length x.now) (length (buffer_after S buffer x.now)))
-    (sym (add-zero f)) (Paid-write S c f n buffer x.now some fits p)
-Paid-call S c f n buffer Flush some fits p =
-    subst (λ m. Paid S (c + calls_for buffer) (f + 1) m 0) (sym (add-zero n)) (Paid-flush S c f n buffer p)
+Paid-call S c f n buffer (Write x) some fits p = rw add-zero (Paid-write S c f n buffer x.now some fits p)
+Paid-call S c f n buffer (WriteAll x) some fits p = rw add-zero (Paid-write S c f n buffer x.now some fits p)
+Paid-call S c f n buffer Flush some fits p = rw add-zero (Paid-flush S c f n buffer p)
 
 -- if the count holds after the first i calls, it holds after the next one too, with the inner writes that this one takes and the buffer
 -- that it leaves
@@ -65,17 +58,8 @@ pub Paid-next : (S c d : ℕ) (ops : List Op) (i : ℕ) (o : Op) (buffer next : 
     → Paid S d (flushes (take (i + 1) ops)) (length (given_bytes (take (i + 1) ops))) (length next)
 Paid-next S c d ops i o buffer next some fits h p e g =
     let made = take i ops in let op = get_or ops i o in
-    let more = take_more ops i o h in
-    let f = ap flushes more ∙ flushes-more made op in
-    let n = ap (λ l. length (given_bytes l)) more ∙ ap length (given_bytes-more made op) ∙ length-append (given_bytes made) (op_bytes op) in
-    subst (λ m. Paid S m (flushes (take (i + 1) ops)) (length (given_bytes (take (i + 1) ops))) (length next)) (sym e)
-    (subst
-    (λ l. Paid S (c + op_calls S buffer op) (flushes (take (i + 1) ops)) (length (given_bytes (take (i + 1) ops)))
-    (length l))
-    (sym g)
-    (subst (λ m. Paid S (c + op_calls S buffer op) m (length (given_bytes (take (i + 1) ops))) (length (op_buffer S buffer op))) (sym f)
-    (subst (λ m. Paid S (c + op_calls S buffer op) (flushes made + op_flushes op) m (length (op_buffer S buffer op))) (sym n)
-    (Paid-call S c (flushes made) (length (given_bytes made)) buffer op some fits p))))
+    rw (e, g, take_more ops i o h, flushes-more made op, given_bytes-more made op, length-append)
+    (Paid-call S c (flushes made) (length (given_bytes made)) buffer op some fits p)
 
 -- the same beside a count that began at some number
 pub Paid-on : (S start : ℕ) {old new : ℕ} (ops : List Op) (i : ℕ) (o : Op) (buffer next : List ℕ) → 0 < S → length buffer ≤ S

@@ -1,8 +1,8 @@
 -- What a feed's events give to a reader.
 use Rattle.std.proofs.Common.{◌≡◌, ℕ, zero, suc, ◌+◌, ◌<◌, ◌≤◌, min, List, [], ◌∷◌, ◌++◌, length, take, drop, set}
-use Rattle.std.proofs.Common.{None, Ok, refl, sym, ap, ◌∙◌, arith, add-one, length-drop}
+use Rattle.std.proofs.Common.{None, Ok, refl, sym, ap, ◌∙◌, arith, length-drop}
 use Rattle.std.proofs.Math.Seq.{take-add}
-use Rattle.std.proofs.lemmas.List.{take_more_set}
+use Rattle.std.proofs.lemmas.List.{take_more_set, drop-drop}
 use Rattle.no_std_io2.specs.Read.{byte, events_of, Reads}
 use Rattle.io_bench.specs.declared.feed.Event.{Event}
 use Rattle.io_bench.specs.declared.feed.Event.TheVariants.{Byte, Fail}
@@ -35,12 +35,6 @@ nothing_left [] h f = refl
 nothing_left (Byte b ∷ left) h f = absurd (omega arith)
 nothing_left (Fail kind ∷ left) h f = absurd (cc)
 
--- if x follows the first n elements, the rest after x follows the first n + 1
-drop_next : {A : Type 0} (n : ℕ) (xs : List A) (x : A) (rest : List A) → drop n xs ≡ x ∷ rest → drop (suc n) xs ≡ rest
-drop_next zero xs x rest e = ap (drop 1) e
-drop_next (suc n) [] x rest e = absurd (cc)
-drop_next (suc n) (y ∷ xs) x rest e = drop_next n xs x rest e
-
 -- one more byte was given
 pub given_next : (n b : ℕ) (left rest : List Event) (buf : List ℕ) → n < length buf → n ≤ length (leading_bytes left)
     → take n buf ≡ take n (leading_bytes left) → drop n left ≡ Byte b ∷ rest
@@ -50,7 +44,7 @@ given_next n b left rest buf room enough same e =
       omega (arith, ap length tail, length-drop n (leading_bytes left)),
       take_more_set buf n b room ∙ ap (λ l. l ++ b ∷ []) same
           ∙ ap (λ l. take n (leading_bytes left) ++ take 1 l) (sym tail) ∙ sym (take-add n 1 (leading_bytes left)),
-      sym (ap (λ m. drop m left) (add-one n) ∙ drop_next n left (Byte b) rest e),
+      ap (drop 1) (sym e) ∙ drop-drop 1 n left,
     )
 
 -- the first event is no byte

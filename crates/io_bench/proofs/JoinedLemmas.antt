@@ -1,5 +1,5 @@
 -- A run whose replies say what was accepted, call by call.
-use Rattle.std.proofs.Common.{◌≡◌, ℕ, zero, suc, arith, min, ◌+◌, ◌<◌, ◌≤◌, take_all, length, take, get_or, List, []}
+use Rattle.std.proofs.Common.{◌≡◌, ℕ, zero, suc, arith, ◌+◌, ◌<◌, ◌≤◌, take_all, length, take, get_or, List, []}
 use Rattle.std.proofs.Common.{◌∷◌, ◌++◌, refl, sym, ap, ◌∙◌, subst, append_assoc, append-nil, inl, inr, Result, Ok, Err}
 use Rattle.std.specs.Result.{IsErrAnd, IfErr}
 use Rattle.no_std_io2.specs.declared.io.Error.{Error}
@@ -56,11 +56,8 @@ pub joined_next : (ops : List Op) (replies : List Reply) {i : ℕ} (p : Op) (q :
     → IsJoined (take i ops) (take i replies) xs → IsClear (get_or ops i p) (get_or replies i q)
     → Accepts (get_or ops i p) (get_or replies i q) ys
     → IsJoined (take (i + 1) ops) (take (i + 1) replies) (xs ++ ys)
-joined_next ops replies {i} p q {xs} ys h e j c a =
-    subst (λ made. IsJoined made (take (i + 1) replies) (xs ++ ys)) (sym (take_more ops i p h))
-    (subst (λ made. IsJoined (take i ops ++ get_or ops i p ∷ []) made (xs ++ ys)) (sym (take_more replies i q (subst (λ n. i < n) e h)))
-    (joined_more (take i ops) (take i replies) xs (get_or ops i p) (get_or replies i q) ys
-    (length-take i ops ∙ ap (min i) e ∙ sym (length-take i replies)) j c a))
+joined_next ops replies {i} p q ys h e j c a = rw (take_more ops i p h, take_more replies i q (omega (arith, h, e)))
+    (joined_more (take i ops) (take i replies) _ _ _ ys (omega (arith, e, length-take i ops, length-take i replies)) j c a)
 
 -- if all replies are clear, each reply is
 pub clear_at : (ops : List Op) (replies : List Reply) (i : ℕ) (p : Op) (q : Reply)
@@ -90,10 +87,8 @@ pub clear_next : (ops : List Op) (replies : List Reply) {i : ℕ} (p : Op) (q : 
     → i < length ops → length ops ≡ length replies
     → AreClear (take i ops) (take i replies) → IsClear (get_or ops i p) (get_or replies i q)
     → AreClear (take (i + 1) ops) (take (i + 1) replies)
-clear_next ops replies {i = i} p q h e c d =
-    subst (λ made. AreClear made (take (i + 1) replies)) (sym (take_more ops i p h))
-    (subst (λ made. AreClear (take i ops ++ get_or ops i p ∷ []) made) (sym (take_more replies i q (subst (λ n. i < n) e h)))
-    (clear_more (take i ops) (take i replies) (get_or ops i p) (get_or replies i q) c d))
+clear_next ops replies {i = i} p q h e c d = rw (take_more ops i p h, take_more replies i q (omega (arith, h, e)))
+    (clear_more (take i ops) (take i replies) _ _ c d)
 
 -- what holds of the calls gone through holds of all, once all are
 pub all_through : (P : List Op → List Reply → Type 0) (ops : List Op) (replies : List Reply) (i : ℕ)

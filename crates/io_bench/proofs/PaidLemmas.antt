@@ -1,6 +1,6 @@
 -- The count of inner writes: two in a row carry more than S bytes, unless a flush made the first.
 use Rattle.std.proofs.Common.{◌≡◌, ℕ, ◌+◌, ◌*◌, ◌/◌, ◌<◌, ◌≤◌, min, zero, suc, List, [], length, sym, ⊎_elim, subst, refl, arith}
-use Rattle.std.proofs.Math.Nat.{le-div_iff_mul-le}
+use Rattle.std.proofs.lemmas.Nat.{le-div}
 use Rattle.std.proofs.lemmas.List.{length-append}
 use Rattle.no_std_io2.specs.BufWriter.{writing_calls, buffer_after}
 use Rattle.no_std_io2.specs.Write.{calls_for}
@@ -47,15 +47,11 @@ pub Paid-idle : (S c f n : ℕ) → Paid S c f n 0 → Paid S c (f + 1) n 0
 Paid-idle S c f n (pairs p a b) = pairs p (omega arith) b
 Paid-idle S c f n (open_one p a b) = open_one p (omega arith) b
 
--- p full pairs are no more than the quotient
-le_quotient : (S n p : ℕ) → p * (S + 1) ≤ n → p ≤ n / (S + 1)
-le_quotient S n p h = (le-div_iff_mul-le {k = S + 1} {x = p} {y = n} (omega arith)).1 h
-
 -- the bound, with the last sending
 pub Paid-bound : (S c f n h : ℕ) → Paid S c f n h → c + min h 1 ≤ 2 * (n / (S + 1)) + f + 1
-Paid-bound S c f n h (pairs p a b) = let q = le_quotient S n p (omega arith) in omega arith
-Paid-bound S c f n zero (open_one p a b) = let q = le_quotient S n p (omega arith) in omega arith
-Paid-bound S c f n (suc h) (open_one p a b) = let q = le_quotient S n (p + 1) (omega arith) in omega arith
+Paid-bound S c f n h (pairs p a b) = let q = le-div p n (S + 1) (omega arith) (omega arith) in omega arith
+Paid-bound S c f n zero (open_one p a b) = let q = le-div p n (S + 1) (omega arith) (omega arith) in omega arith
+Paid-bound S c f n (suc h) (open_one p a b) = let q = le-div (p + 1) n (S + 1) (omega arith) (omega arith) in omega arith
 
 -- the count holds for equal numbers of writes and of held bytes too
 Paid-same : {S c f n h d k : ℕ} → c ≡ d → h ≡ k → Paid S c f n h → Paid S d f n k

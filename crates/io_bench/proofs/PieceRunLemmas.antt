@@ -3,6 +3,7 @@ use Rattle.std.proofs.Common.{◌≡◌, ℕ, true, false, Bool, if◌then◌els
 use Rattle.std.proofs.Common.{◌∷◌, ◌++◌, map, filter, refl, sym, ap, ◌∙◌, subst, append-nil, append_assoc, inl, inr}
 use Rattle.std.proofs.Common.{⊎_elim, ◌<◌, length, length-append, arith}
 use Rattle.std.specs.List.{concat}
+use Rattle.std.proofs.lemmas.List.{map-append}
 use Rattle.std.proofs.lemmas.List.Folds.{concat-append}
 use Rattle.no_std_io2.specs.declared.io.Error.{Error}
 use Rattle.no_std_io2.specs.Errors.{error_kind, is_interruption, IsFault}
@@ -25,15 +26,10 @@ pub record GatheredSoFar (trim : List ℕ → List ℕ) (d : ℕ) (E : List Even
 pub none_gathered : (trim : List ℕ → List ℕ) (d : ℕ) (E : List Event) → GatheredSoFar trim d E [] E
 none_gathered trim d E = record { before = []; given = refl; fault = refl; bytes = refl; are = refl }
 
--- mapping a list with p at its end gives the mapped list with the mapped p at its end
-map-end : {T : Type 0} (trim : T → List ℕ) (ps : List T) (p : T) → map trim (ps ++ p ∷ []) ≡ map trim ps ++ trim p ∷ []
-map-end trim [] p = refl
-map-end trim (q ∷ ps) p = ap (λ l. trim q ∷ l) (map-end trim ps p)
-
 -- what is shown of one item more
 pub shown-one : {T : Type 0} (view : T → List ℕ) (old : List T) {mid new : List T} (x : T) → mid ≡ old ++ appended old mid
     → new ≡ mid ++ x ∷ [] → map view (appended old new) ≡ map view (appended old mid) ++ view x ∷ []
-shown-one view old {mid} {new} x h is = ap (map view) (appended-one old mid new x h is) ∙ map-end view (appended old mid) x
+shown-one view old {mid} {new} x h is = ap (map view) (appended-one old mid new x h is) ∙ map-append view (appended old mid) (x ∷ [])
 
 -- the same holds for an equal delimiter and an equal result
 pub yields_at : {T : Type 0} (view : T → List ℕ) (trim : ℕ → List ℕ → List ℕ) (refuses : List ℕ → Error → Type 0)
@@ -65,7 +61,8 @@ one_gathered view trim refuses d E items shown mid item after same t (piece, tak
           ∙ sym (append_assoc (concat t.before) piece (bytes_to_fault after))
           ∙ ap (λ l. l ++ bytes_to_fault after)
           (sym (concat-append t.before (piece ∷ []) ∙ ap (λ l. concat t.before ++ l) (append-nil piece)));
-      are = same ∙ ap (λ l. l ++ view item ∷ []) t.are ∙ ap (λ x. map trim t.before ++ x ∷ []) trimmed ∙ sym (map-end trim t.before piece);
+      are = same ∙ ap (λ l. l ++ view item ∷ []) t.are
+          ∙ ap (λ x. map trim t.before ++ x ∷ []) trimmed ∙ sym (map-append trim t.before (piece ∷ []));
     }
 
 -- if there is no first fault, there is no fault

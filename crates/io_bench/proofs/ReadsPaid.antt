@@ -1,7 +1,7 @@
 -- The count of inner reads: all but one give S bytes at least, or find the end.
 use Rattle.std.proofs.Common.{◌≡◌, ℕ, zero, suc, ◌+◌, ◌-◌, ◌*◌, ◌/◌, ◌<◌, ◌≤◌, min, refl, sym, ⊎_elim, arith, true}
 use Rattle.std.proofs.Common.{false, nat_le, if◌then◌else◌}
-use Rattle.std.proofs.Math.Nat.{le-div_iff_mul-le}
+use Rattle.std.proofs.lemmas.Nat.{le-div}
 use Rattle.std.proofs.lemmas.Bool.Decides.{nat_tests}
 use Rattle.std.proofs.lemmas.Bool.{cases_lt}
 use Rattle.io_bench.specs.declared.asks.Ask.{Ask}
@@ -54,15 +54,11 @@ paid_got S c n z all k h' all' room some within short whole paid = ⊎_elim
     (λ much. paid_full S c n z all (k + h') k h' all' (omega arith) within much refl whole paid)
     (cases_lt (k + h') S)
 
--- full reads are no more than the quotient
-quotient : (S n f : ℕ) → 0 < S → f * S ≤ n → f ≤ n / S
-quotient S n f some h = (le-div_iff_mul-le {k = S} {x = f} {y = n} some).1 h
-
 -- the bound
 pub paid_bound : (S c : ℕ) {n z h all : ℕ} → 0 < S → h ≤ S → ReadsPaid S c n z h all → c ≤ n / S + 1 + z
 paid_bound S c some fits (full zero a b) = omega arith
-paid_bound S c {n = n} some fits (full (suc f) a b) = let q = quotient S n f some (omega arith) in omega arith
-paid_bound S c {n = n} some fits (last f a b e) = let q = quotient S n f some b in omega arith
+paid_bound S c {n = n} some fits (full (suc f) a b) = let q = le-div f n S some (omega arith) in omega arith
+paid_bound S c {n = n} some fits (last f a b e) = let q = le-div f n S some b in omega arith
 
 -- the count after one more ask
 abbrev After : (S c n z : ℕ) (ask : Ask) (h all : ℕ) → Type 0

@@ -69,37 +69,30 @@ Ran-none a = record { accepted = []; run = refl; moves = Moves-refl a }
 -- a run, and one more call from the state that it left, are a run together
 pub Ran-more : {a b c : Told} {op : Op} {reply : Reply} (ops : List Op) (replies : List Reply) → Ran a ops replies b
     → CallReplies b op reply c → Ran a (ops ++ op ∷ []) (replies ++ reply ∷ []) c
-Ran-more {a} {b} {c} {op} {reply} ops replies r s = record {
+Ran-more ops replies r s = record {
   accepted = r.accepted ++ s.accepted;
-  run = JoinsEach-more Accepts ops replies r.accepted op reply s.accepted r.run s.accepts;
-  moves =
-      subst (λ k. Moves a (r.accepted ++ s.accepted) k c) (sym (mishaps_of-more ops replies r.accepted op reply r.run))
-      (Moves-trans r.moves s.moves);
+  run = JoinsEach-more Accepts ops replies _ _ _ _ r.run s.accepts;
+  moves = rw (mishaps_of-more ops replies _ _ _ r.run) (Moves-trans r.moves s.moves);
 }
 
 -- the next of a list of calls
 pub Ran-next : {a b c : Told} {reply : Reply} (ops : List Op) (i : ℕ) (d : Op) (replies : List Reply) → i < length ops
     → Ran a (take i ops) replies b → CallReplies b (get_or ops i d) reply c
     → Ran a (take (i + 1) ops) (replies ++ reply ∷ []) c
-Ran-next {a} {b} {c} {reply} ops i d replies h r s =
-    subst (λ made. Ran a made (replies ++ reply ∷ []) c) (sym (take_more ops i d h)) (Ran-more (take i ops) replies r s)
+Ran-next ops i d replies h r s = rw (take_more ops i d h) (Ran-more (take i ops) replies r s)
 
 -- if the first i calls of a list are whole, and the next one is, the first i + 1 are
 pub AreWhole-next : (reply : Reply) (ops : List Op) (i : ℕ) (d : Op) (replies : List Reply) → i < length ops
     → AreWhole (take i ops) replies → IsWhole (get_or ops i d) reply
     → AreWhole (take (i + 1) ops) (replies ++ reply ∷ [])
-AreWhole-next reply ops i d replies h r s =
-    subst (λ made. AreWhole made (replies ++ reply ∷ [])) (sym (take_more ops i d h))
-    (AreWhole-more (take i ops) replies (get_or ops i d) reply r s)
+AreWhole-next reply ops i d replies h r s = rw (take_more ops i d h) (AreWhole-more (take i ops) replies _ reply r s)
 
 -- a last flush that succeeded is the last call
 pub EndsFlushed-next : {a b c : Told} {reply : Reply} (ops : List Op) (i : ℕ) (d : Op) (replies : List Reply)
     → i < length ops → Ran a (take i ops) replies b → CallReplies b (get_or ops i d) reply c
     → EndsFlushed (take (i + 1) ops) (replies ++ reply ∷ []) → c.held ≡ []
-EndsFlushed-next {reply} ops i d replies h r s e =
-    s.flushed
-    (EndsFlushed-more (take i ops) replies r.accepted (get_or ops i d) reply r.run
-    (subst (λ made. EndsFlushed made (replies ++ reply ∷ [])) (take_more ops i d h) e))
+EndsFlushed-next ops i d replies h r s e =
+    s.flushed (EndsFlushed-more (take i ops) replies _ _ _ r.run (rw (take_more ops i d h) at e))
 
 -- what holds of the calls made holds of all, once all are made
 pub all_made : (P : List Op → List Reply → Type 0) {ops : List Op} (i : ℕ) (old : List Reply) {new : List Reply} (more : List Reply)
@@ -127,12 +120,11 @@ pub RunCalls-next : {W : Type 0} {I : Writer W} {a b c : W} (reply : Reply) (ops
     → i < length ops → RunCalls I a (take i ops) replies b
     → (C : List WriteCall) × Made (CallOf I) b C c × OpCalls (get_or ops i d) reply C
     → RunCalls I a (take (i + 1) ops) (replies ++ reply ∷ []) c
-RunCalls-next {I = I} {a} {b} {c} reply ops i d replies h r s =
-    subst (λ made. RunCalls I a made (replies ++ reply ∷ []) c) (sym (take_more ops i d h)) (record {
-      calls = r.calls ++ s.0;
-      made = made_then (CallOf I) r.calls a s.0 b c r.made s.1;
-      joined = JoinsEach-more OpCalls (take i ops) replies r.calls (get_or ops i d) reply s.0 r.joined s.2;
-    })
+RunCalls-next {I = I} {a} {b} {c} reply ops i d replies h r s = rw (take_more ops i d h) (record {
+  calls = r.calls ++ s.0;
+  made = made_then (CallOf I) r.calls a s.0 b c r.made s.1;
+  joined = JoinsEach-more OpCalls (take i ops) replies r.calls _ reply s.0 r.joined s.2;
+})
 
 -- a run is one of the writer itself
 pub below_none : {W : Type 0} {I : Writer W} {a b : W} {ops : List Op} {replies : List Reply} → RunCalls I a ops replies b

@@ -3,7 +3,7 @@ use Rattle.no_std_io2.specs.Errors.{error_kind}
 use Rattle.no_std_io2.specs.declared.io.ErrorKind.TheVariants.{UnexpectedEof}
 use Rattle.no_std_io2.specs.BufReader.{reader_held}
 use Rattle.io_bench.specs.Asks.{asked_events}
-use Rattle.io_bench.proofs.AskLemmas.{exact_filled, exact_short, falls_short, bytes_behind, fell, stopped}
+use Rattle.io_bench.proofs.AskLemmas.{exact_filled, exact_short, falls_short, bytes_behind, stopped}
 use Rattle.io_bench.proofs.asks.ask_exact.Goals as goal
 
 pub returns-in-Ok : goal.returns-in-Ok
@@ -27,7 +27,7 @@ returns-in-UnexpectedEof g c =
     record {
       told = λ t.
           let after = failed.law.told t in
-          (after.0, (e, sym c.kind.ensures ∙ c.in-UnexpectedEof.is, fell _ c.read_exact.auto.buf after.1));
+          (after.0, (e, sym c.kind.ensures ∙ c.in-UnexpectedEof.is, rw c.read_exact.auto.buf at after.1));
       filling = λ f.
           let left = failed.leaves.left f in
           let tells = g.met.R.Read.filling_tells _ f in

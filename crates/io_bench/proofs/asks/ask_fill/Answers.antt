@@ -7,7 +7,7 @@ use Rattle.no_std_io2.proofs.BufReaderRoom.{some_room}
 use Rattle.no_std_io2.proofs.BufReaderExact.{length-events}
 use Rattle.io_bench.specs.Tally.{tally_reads}
 use Rattle.io_bench.specs.Asks.{asked_reader, asked_events}
-use Rattle.io_bench.proofs.AskLemmas.{fill_asked, lent_error, lent_held, lent_taken}
+use Rattle.io_bench.proofs.AskLemmas.{fill_asked, lent_taken}
 use Rattle.no_std_io2.proofs.PieceLemmas.{none_taken}
 use Rattle.io_bench.proofs.asks.ask_fill.Goals as goal
 
@@ -15,7 +15,7 @@ pub returns-in_err-lent : goal.returns-in_err-lent
 returns-in_err-lent g c =
     let p = err_from_is_err_and c.from_residual.result c.from_residual.ensures.1 in
     rw (p.1, p.2) (record {
-      told = λ t. let after = c.fill_buf.follows.holds-at-none.law.told t in (after.0, lent_error _ c.in_err-lent.was after.1);
+      told = λ t. let after = c.fill_buf.follows.holds-at-none.law.told t in (after.0, rw c.in_err-lent.was at after.1);
       filling = λ f. absurd (c.in_err-lent.ensures.law.knows_lent_length f);
       calls =
           let reply = c.fill_buf.result in (
@@ -35,7 +35,7 @@ returns g c =
     let law = c.in_ok-lent.ensures.law in
     let after = c.fill_buf.follows.holds-at-none.law in
     let dropped = c.consume.ensures.law in
-    let held = lent_held _ c.in_ok-lent.field-0 _ c.in_ok-lent.was after.lends in
+    let held = rw c.in_ok-lent.was at after.lends in
     record {
       told = λ t.
           let told = after.told t in
@@ -55,7 +55,8 @@ returns g c =
             fill_asked g.row.S c.args.most (length (reader_held r)) (length inner) (tally_reads (reader_inner r)) (length (reader_held new))
                 (length lent) (some_room r) (events_of (take n (reader_held mid)), sym same ∙ rest.1)
                 (omega (arith, ap length same, gone, within, c.min.ensures)) (length-events (reader_held r) inner)
-                (law.knows_lent_length f) (omega (arith, left, ap length held, c.min.ensures)) ((dropped.counts counted.0).1 ∙ counted.1) refl,
+                (law.knows_lent_length f) (omega (arith, left, ap length held, c.min.ensures))
+                ((dropped.counts counted.0).1 ∙ counted.1) refl,
           );
       calls =
           let all : n ≡ min c.args.most (length lent) = omega (arith, c.min.ensures) in (

@@ -51,17 +51,14 @@ asks-preserved-in_default g c =
           (omega arith) before.came call.answered (omega arith) (omega arith);
     }
 
-pub returns-clause-came_to : goal.returns-clause-came_to
-returns-clause-came_to g c =
-    came_all (reader g.R.Stored g.R.Read) c.args.asks.now c.asks.ask-index _ _ _ _ (omega arith) c.asks.invariant.came
-
-pub returns-clause-told : goal.returns-clause-told
-returns-clause-told g c = came_front (reader g.R.Stored g.R.Read) _ _ _ _ _ c.asks.invariant.came
-
-pub returns-clause-steps : goal.returns-clause-steps
-returns-clause-steps g c =
-    came_steps (reader g.R.Stored g.R.Read) _ _ _ _ _
-    (came_all (reader g.R.Stored g.R.Read) c.args.asks.now c.asks.ask-index _ _ _ _ (omega arith) c.asks.invariant.came)
-
-pub returns-clause-bound : goal.returns-clause-bound
-returns-clause-bound g c = came_bound (reader g.R.Stored g.R.Read) _ _ _ _ _ c.asks.invariant.came
+pub returns : goal.returns
+returns g c =
+    let R = reader g.R.Stored g.R.Read in
+    let came = c.asks.invariant.came in
+    let all = came_all R c.args.asks.now c.asks.ask-index _ _ _ _ (omega arith) came in
+    record {
+      came_to = all;
+      told = came_front R _ _ _ _ _ came;
+      steps = came_steps R _ _ _ _ _ all;
+      bound = came_bound R _ _ _ _ _ came;
+    }

@@ -18,11 +18,8 @@ returns-in-Ok-clause-all g c =
 pub returns-in-Ok-clause-calls : goal.returns-in-Ok-clause-calls
 returns-in-Ok-clause-calls g c = rw c.in-Write.is (c.in-Ok.ensures.buffer.counts tt c.requires.all).1
 
-pub returns-in-Err-clause-all : goal.returns-in-Err-clause-all
-returns-in-Err-clause-all g c = absurd (Moves-steady (g.met.W.Write.steady _ c.requires.all) c.in-Err.ensures.law.moves)
-
-pub returns-in-Err-clause-calls : goal.returns-in-Err-clause-calls
-returns-in-Err-clause-calls g c = absurd (Moves-steady (g.met.W.Write.steady _ c.requires.all) c.in-Err.ensures.law.moves)
+pub returns-in-Err : goal.returns-in-Err
+returns-in-Err g c = absurd (Moves-steady (g.met.W.Write.steady _ c.requires.all) c.in-Err.ensures.law.moves)
 
 pub returns-in-Ok-write_all-clause-answers : goal.returns-in-Ok-write_all-clause-answers
 returns-in-Ok-write_all-clause-answers g c =
@@ -32,21 +29,8 @@ pub returns-in-Ok-write_all-clause-calls : goal.returns-in-Ok-write_all-clause-c
 returns-in-Ok-write_all-clause-calls g c =
     rw c.in-WriteAll.is (c.in-Ok-write_all.ensures.buffer.counts c.requires.some tt c.requires.all).1
 
-pub returns-in-Err-write_all-clause-answers : goal.returns-in-Err-write_all-clause-answers
-returns-in-Err-write_all-clause-answers g c =
-    absurd (Moves-steady (g.met.W.Write.steady _ c.requires.all) c.in-Err-write_all.ensures.law.moves.moves)
-
-pub returns-in-Err-write_all-clause-all : goal.returns-in-Err-write_all-clause-all
-returns-in-Err-write_all-clause-all g c =
-    absurd (Moves-steady (g.met.W.Write.steady _ c.requires.all) c.in-Err-write_all.ensures.law.moves.moves)
-
-pub returns-in-Err-write_all-clause-calls : goal.returns-in-Err-write_all-clause-calls
-returns-in-Err-write_all-clause-calls g c =
-    absurd (Moves-steady (g.met.W.Write.steady _ c.requires.all) c.in-Err-write_all.ensures.law.moves.moves)
-
-pub returns-in-Err-write_all-clause-buffer : goal.returns-in-Err-write_all-clause-buffer
-returns-in-Err-write_all-clause-buffer g c =
-    absurd (Moves-steady (g.met.W.Write.steady _ c.requires.all) c.in-Err-write_all.ensures.law.moves.moves)
+pub returns-in-Err-write_all : goal.returns-in-Err-write_all
+returns-in-Err-write_all g c = absurd (Moves-steady (g.met.W.Write.steady _ c.requires.all) c.in-Err-write_all.ensures.law.moves.moves)
 
 pub returns-in-Ok-flush-clause-calls : goal.returns-in-Ok-flush-clause-calls
 returns-in-Ok-flush-clause-calls g c = rw c.in-Flush.is (c.in-Ok-flush.ensures.buffer.counts tt c.requires.all).1
@@ -54,11 +38,5 @@ returns-in-Ok-flush-clause-calls g c = rw c.in-Flush.is (c.in-Ok-flush.ensures.b
 pub returns-in-Ok-flush-clause-buffer : goal.returns-in-Ok-flush-clause-buffer
 returns-in-Ok-flush-clause-buffer g c = rw c.in-Flush.is (none_behind _ _ c.in-Ok-flush.ensures.law.empty)
 
-pub returns-in-Err-flush-clause-all : goal.returns-in-Err-flush-clause-all
-returns-in-Err-flush-clause-all g c = absurd (Moves-steady (g.met.W.Write.steady _ c.requires.all) c.in-Err-flush.ensures.law.moves)
-
-pub returns-in-Err-flush-clause-calls : goal.returns-in-Err-flush-clause-calls
-returns-in-Err-flush-clause-calls g c = absurd (Moves-steady (g.met.W.Write.steady _ c.requires.all) c.in-Err-flush.ensures.law.moves)
-
-pub returns-in-Err-flush-clause-buffer : goal.returns-in-Err-flush-clause-buffer
-returns-in-Err-flush-clause-buffer g c = absurd (Moves-steady (g.met.W.Write.steady _ c.requires.all) c.in-Err-flush.ensures.law.moves)
+pub returns-in-Err-flush : goal.returns-in-Err-flush
+returns-in-Err-flush g c = absurd (Moves-steady (g.met.W.Write.steady _ c.requires.all) c.in-Err-flush.ensures.law.moves)

@@ -1,4 +1,7 @@
-use Rattle.std.proofs.Common.{◌≡◌, ◌<◌, ◌++◌, ◌∷◌, [], length, rules, arith, ap, ◌∙◌, sym, append-nil, append_assoc}
+use Rattle.std.proofs.Common.{List, take, ◌≡◌, ◌<◌, ◌++◌, ◌∷◌, [], length, rules, arith, ap, ◌∙◌, sym, append-nil, append_assoc}
+use Rattle.io_bench.specs.declared.runs.Op.{Op}
+use Rattle.io_bench.specs.declared.runs.Reply.{Reply}
+use Rattle.no_std_io2.specs.Appended.{appended}
 use Rattle.io_bench.proofs.RunLemmas.{Ran-none, Ran-next, AreWhole-next, EndsFlushed-next, RunCalls-none, RunCalls-next, all_made}
 use Rattle.io_bench.specs.Runs.{Ran, EndsFlushed, AreWhole, RunCalls, failures, failures_of, IsShorterBy, HasFewer}
 use Rattle.io_bench.proofs.FailureLemmas.{failures_told, failures_none, fewer_of}
@@ -39,50 +42,25 @@ calls-preserved g c =
       room = omega (arith, c.push_reserved.ensures.len, c.push_reserved.ensures.capacity, before.room);
     }
 
-pub returns-clause-ran : goal.returns-clause-ran
-returns-clause-ran g c =
+pub returns : goal.returns
+returns g c =
     let ran = c.calls.invariant.ran in
-    let told = g.W.Write.told in
-    all_made (λ o r. Ran (told c.args.w.now) o r (told c.calls.w)) c.calls.op-index _ ran.0 (omega arith) ran.1
-    ran.2
-
-pub returns-clause-flushed : goal.returns-clause-flushed
-returns-clause-flushed g c =
-    let ran = c.calls.invariant.ran in
-    let told = g.W.Write.told in
-    all_made (λ o r. EndsFlushed o r → (told c.calls.w).held ≡ []) c.calls.op-index _ ran.0 (omega arith) ran.1
-    ran.3
-
-pub returns-clause-failures : goal.returns-clause-failures
-returns-clause-failures g c =
-    let ran = c.calls.invariant.ran in
-    let told = g.W.Write.told in
-    all_made (λ o r. IsShorterBy (failures o r) (told c.args.w.now).mishaps (told c.calls.w).mishaps) c.calls.op-index
-    _ ran.0 (omega arith) ran.1
-    (failures_told _ ran.0 _ _ ran.2.moves.mishaps)
-
-pub returns-clause-kinds : goal.returns-clause-kinds
-returns-clause-kinds g c = λ kind.
-    let ran = c.calls.invariant.ran in
-    let told = g.W.Write.told in
-    all_made (λ o r. HasFewer kind (failures_of kind o r) (told c.args.w.now).mishaps (told c.calls.w).mishaps) c.calls.op-index _
-    ran.0 (omega arith) ran.1
-    (fewer_of kind _ ran.0 _ _ ran.2.moves.mishaps)
-
-pub returns-clause-steady : goal.returns-clause-steady
-returns-clause-steady g c = λ none.
-    let ran = c.calls.invariant.ran in
-    all_made (λ o r. failures o r ≡ 0) c.calls.op-index _ ran.0 (omega arith) ran.1
-    (failures_none _ ran.0 _ ran.2.moves.mishaps none)
-
-pub returns-clause-all : goal.returns-clause-all
-returns-clause-all g c =
-    let ran = c.calls.invariant.ran in
-    all_made (λ o r. g.W.Write.takes_all c.args.w.now → g.W.Write.takes_all c.calls.w × AreWhole o r) c.calls.op-index _ ran.0
-    (omega arith) ran.1
-    ran.4
-
-pub returns-clause-calls : goal.returns-clause-calls
-returns-clause-calls g c =
-    let ran = c.calls.invariant.ran in
-    all_made (λ o r. RunCalls g.W.Write c.args.w.now o r c.calls.w) c.calls.op-index _ ran.0 (omega arith) ran.1 ran.5
+    let old = g.W.Write.told c.args.w.now in
+    let new = g.W.Write.told c.calls.w in
+    let spent = ran.2.moves.mishaps in
+    let replies = appended c.args.replies.now.items c.calls.replies.items in
+    let made : (P : List Op → List Reply → Type 0) → P (take c.calls.op-index c.args.ops.now) ran.0 → P c.args.ops.now replies =
+    λ P p. all_made P c.calls.op-index _ ran.0 (omega arith) ran.1 p in
+    record {
+      appends = made (λ o r. c.calls.replies.items ≡ c.args.replies.now.items ++ r) ran.1;
+      ran = made (λ o r. Ran old o r new) ran.2;
+      calls = made (λ o r. RunCalls g.W.Write c.args.w.now o r c.calls.w) ran.5;
+      flushed = made (λ o r. EndsFlushed o r → new.held ≡ []) ran.3;
+      failures = made (λ o r. IsShorterBy (failures o r) old.mishaps new.mishaps) (failures_told _ ran.0 _ _ spent);
+      kinds = λ kind. made (λ o r. HasFewer kind (failures_of kind o r) old.mishaps new.mishaps) (fewer_of kind _ ran.0 _ _ spent);
+      steady = λ none. made (λ o r. failures o r ≡ 0) (failures_none _ ran.0 _ spent none);
+      all = made (λ o r. g.W.Write.takes_all c.args.w.now → g.W.Write.takes_all c.calls.w × AreWhole o r) ran.4;
+      kind = search rules;
+      full = search rules;
+      err = search rules;
+    }
