@@ -13,7 +13,7 @@ type Reader<'a> = FrameReader<Torn<'a>, 64>;
 
 fn try_send(w: &mut Writer<'_>, payload: &[u8]) -> Outcome {
     if w.is_under_way() {
-        return Outcome::Wrong("a frame is under way");
+        return Outcome::UnderWay;
     }
     Outcome::of(&w.send(payload))
 }
@@ -53,7 +53,7 @@ pub fn by_send(alloc: Global, text: &[u8], first: usize, second: usize) -> Outco
 fn take(r: &mut Reader<'_>, payload: &[u8]) -> Outcome {
     match r.next() {
         Ok(Some(given)) => Outcome::Whole.if_right(given.as_slice() == payload),
-        Ok(None) => Outcome::Wrong("no frame"),
+        Ok(None) => Outcome::NoItem,
         Err(e) => Outcome::of_error(&e),
     }
 }
@@ -69,7 +69,7 @@ fn next(r: &mut Reader<'_>, payload: &[u8]) -> Outcome {
 pub fn by_next(alloc: Global, text: &[u8], first: usize, second: usize) -> Outcome {
     let mut wire = [0u8; 150_000];
     let Ok(len) = put_both(&mut wire, front(text, first), front(text, second)) else {
-        return Outcome::Wrong("frames that are too long");
+        return Outcome::NoCall;
     };
     let wire = &wire[..(len as usize).min(wire.len())];
     let mut r = Reader::new(alloc, Torn::new(b"", wire), 100_000);
@@ -81,7 +81,7 @@ fn faults(r: &mut Reader<'_>) -> Outcome {
     match r.next() {
         Err(e) if e.kind() == ErrorKind::WouldBlock => Outcome::Whole,
         Err(e) => Outcome::of_error(&e),
-        Ok(_) => Outcome::Wrong("a frame"),
+        Ok(_) => Outcome::OtherBytes,
     }
 }
 
@@ -96,7 +96,7 @@ fn fault(r: &mut Reader<'_>) -> Outcome {
 pub fn by_torn(alloc: Global, text: &[u8], len: usize) -> Outcome {
     let mut wire = [0u8; 150_000];
     let Ok(end) = put_both(&mut wire, front(text, len), b"") else {
-        return Outcome::Wrong("a frame that is too long");
+        return Outcome::NoCall;
     };
     let wire = &wire[..(end as usize).min(wire.len())];
     let (first, second) = wire.split_at(wire.len() / 2);

@@ -10,7 +10,7 @@ use std::alloc::Global;
 
 const TEXT: &[u8] = b"one\ntwo\nthree\nfour\nfive and more\nsix\nseven\neight\nnine\nten";
 
-const OTHERS: Outcome = Outcome::Wrong("other items");
+const OTHERS: Outcome = Outcome::OtherBytes;
 
 fn reader() -> BufReader<Cursor<&'static [u8]>, 4> {
     BufReader::new(Cursor::new(TEXT))

@@ -46,7 +46,7 @@ pub fn by_split(alloc: Global, text: &[u8], len: usize) -> Outcome {
     match pieces.next() {
         Some(Ok(piece)) => Outcome::Whole.if_right(piece.len() == len),
         Some(Err(e)) => Outcome::of_error(&e),
-        None => Outcome::Wrong("no piece"),
+        None => Outcome::NoItem,
     }
 }
 
@@ -56,7 +56,7 @@ pub fn by_lines(alloc: Global, text: &[u8], len: usize) -> Outcome {
     match lines.next() {
         Some(Ok(line)) => Outcome::Whole.if_right(line.len() == len),
         Some(Err(e)) => Outcome::of_error(&e),
-        None => Outcome::Wrong("no line"),
+        None => Outcome::NoItem,
     }
 }
 

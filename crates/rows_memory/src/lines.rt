@@ -11,7 +11,7 @@ type Log<'a> = LineLog<Cursor<&'a mut [u8]>, 64>;
 // Logs a line as a string, or as a printed text.
 fn try_log(to: &mut Log<'_>, line: &str, is_printed: bool) -> Outcome {
     if to.is_under_way() {
-        return Outcome::Wrong("a line is under way");
+        return Outcome::UnderWay;
     }
     if is_printed {
         return Outcome::of(&to.log_text(format_args!("{line}")));
@@ -35,10 +35,10 @@ fn log_both(alloc: Global, room: &mut [u8], lines: [&str; 2], is_printed: bool) 
 pub fn by_log(alloc: Global, text: &[u8], lens: [usize; 2], is_printed: bool) -> Outcome {
     let mut room = [0u8; 150_000];
     let Ok(line) = std::str::from_utf8(front(text, lens[0])) else {
-        return Outcome::Wrong("no text");
+        return Outcome::NoCall;
     };
     let Ok(other) = std::str::from_utf8(front(text, lens[1])) else {
-        return Outcome::Wrong("no text");
+        return Outcome::NoCall;
     };
     let logged = log_both(alloc, &mut room, [line, other], is_printed);
     logged.if_right(is_line(&room, line.as_bytes()))

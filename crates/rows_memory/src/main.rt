@@ -41,7 +41,7 @@ fn play_long(alloc: Global, text: &[u8], word: &str, first: usize, second: usize
         "read_line" => large::by_read_line(alloc, text, first),
         "split" => large::by_split(alloc, text, first),
         "lines" => large::by_lines(alloc, text, first),
-        _ => Outcome::Wrong("no such call"),
+        _ => Outcome::NoCall,
     }
 }
 
@@ -58,7 +58,7 @@ fn play(alloc: Global, text: &[u8], call: &str) -> Outcome {
             let (first, second) = numbers.split_once(" ").unwrap_or((numbers, "0"));
             match (first.parse::<usize>(), second.parse::<usize>()) {
                 (Ok(first), Ok(second)) => play_long(alloc, text, word, first, second),
-                _ => Outcome::Wrong("no numbers"),
+                _ => Outcome::NoCall,
             }
         }
     }

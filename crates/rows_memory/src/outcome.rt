@@ -1,13 +1,17 @@
 // The outcome of a row.
 use no_std_io2::io::{Error, ErrorKind, Result};
 
+// It has no text of its own, because a type with a lifetime makes each move dear to prove.
 #[derive(Clone, Copy, PartialEq, Eq)]
 pub enum Outcome {
     Whole,
     // An allocation failed, and nothing else went wrong.
     Refused,
-    // Something else was returned.
-    Wrong(&'static str),
+    NoCall,
+    UnderWay,
+    NoItem,
+    OtherError,
+    OtherBytes,
 }
 
 impl Outcome {
@@ -16,7 +20,7 @@ impl Outcome {
         if error.kind() == ErrorKind::OutOfMemory && error.get_ref().is_none() {
             Outcome::Refused
         } else {
-            Outcome::Wrong("an error of another kind")
+            Outcome::OtherError
         }
     }
 
@@ -30,20 +34,16 @@ impl Outcome {
 
     /// Returns the outcome of two calls, one after the other.
     pub fn and(self, next: Outcome) -> Outcome {
-        match (self, next) {
-            (Outcome::Wrong(what), _) | (_, Outcome::Wrong(what)) => Outcome::Wrong(what),
-            (Outcome::Whole, Outcome::Whole) => Outcome::Whole,
-            _ => Outcome::Refused,
+        match self {
+            Outcome::Whole => next,
+            Outcome::Refused if next != Outcome::Whole => next,
+            _ => self,
         }
     }
 
     /// Returns this outcome if the data is right, and else an error.
     pub fn if_right(self, is_right: bool) -> Outcome {
-        if is_right {
-            self
-        } else {
-            Outcome::Wrong("other bytes")
-        }
+        if is_right { self } else { Outcome::OtherBytes }
     }
 
     /// Returns this outcome if the length is right, and else an error.
@@ -59,7 +59,11 @@ impl Outcome {
         match self {
             Outcome::Whole => "whole",
             Outcome::Refused => "refused",
-            Outcome::Wrong(what) => what,
+            Outcome::NoCall => "no such call",
+            Outcome::UnderWay => "still under way",
+            Outcome::NoItem => "no such item",
+            Outcome::OtherError => "an error of another kind",
+            Outcome::OtherBytes => "other bytes",
         }
     }
 }

@@ -21,7 +21,7 @@ fn reader() -> Reader {
 // whole text.
 fn after_refusal<R: Read>(alloc: Global, r: &mut R, text: &str, len: usize) -> Outcome {
     if text.len() != len || !TEXT.starts_with(text) {
-        return Outcome::Wrong("a text that a refusal has changed");
+        return Outcome::OtherBytes;
     }
     let mut rest = Vec::new(alloc);
     match r.read_to_end(&mut rest) {
@@ -58,7 +58,7 @@ pub fn by_split(alloc: Global) -> Outcome {
         match pieces.next() {
             Some(Ok(piece)) if piece.as_slice() == want.as_bytes() => {}
             Some(Err(e)) if pieces.next().is_none() => return Outcome::of_error(&e),
-            _ => return Outcome::Wrong("another piece"),
+            _ => return Outcome::OtherBytes,
         }
     }
     Outcome::Whole.if_right(pieces.next().is_none())
@@ -71,7 +71,7 @@ pub fn by_lines(alloc: Global) -> Outcome {
         match lines.next() {
             Some(Ok(line)) if line.as_str() == want => {}
             Some(Err(e)) if lines.next().is_none() => return Outcome::of_error(&e),
-            _ => return Outcome::Wrong("another line"),
+            _ => return Outcome::OtherBytes,
         }
     }
     Outcome::Whole.if_right(lines.next().is_none())
@@ -83,7 +83,7 @@ pub fn by_joined(alloc: Global) -> Outcome {
     let replies = [Reply::Took(2), Reply::Done, Reply::Done];
     match joined(alloc, &ops, &replies) {
         Ok(Some(bytes)) => Outcome::Whole.if_right(bytes.as_slice() == b"abde".as_slice()),
-        Ok(None) => Outcome::Wrong("no bytes of a run"),
+        Ok(None) => Outcome::NoItem,
         Err(e) => Outcome::of_error(&e),
     }
 }
