@@ -1,6 +1,6 @@
-use Rattle.std.proofs.Common.{◌≡◌, ◌<◌, ℕ, zero, suc, length, refl, sym, ◌∙◌, inl, rules, arith, length-take}
+use Rattle.std.proofs.Common.{◌≡◌, ◌<◌, ℕ, zero, suc, length, refl, sym, ◌∙◌, inl, arith, length-take}
 use borrow.Rule.Slice.PartMut.{same_len_mid}
-use Rattle.no_std_io2.proofs.EventLemmas.{Gathered-none, Gathered-still, Gathered-at, TakesBytes-interruption}
+use Rattle.no_std_io2.proofs.EventLemmas.{Gathered-still, Gathered-at, TakesBytes-interruption}
 use Rattle.framing.specs.Part.{part_bytes}
 use Rattle.framing.proofs.FrameLemmas.{header_more, header_still, header_short, header_long, some_part}
 use Rattle.framing.proofs.reader.part.Part.fill_header.Goals as goal
@@ -9,16 +9,6 @@ use Rattle.framing.proofs.reader.part.Part.fill_header.Goals as goal
 some : (n : ℕ) → (n ≡ 0 → ⊥) → 0 < n
 some zero not = absurd (not refl)
 some (suc n) not = omega arith
-
-pub bytes-init : goal.bytes-init
-bytes-init g c = record {
-  told = λ t. (t, Gathered-none _ _);
-  payload = refl;
-  size = search rules;
-  grows = omega arith;
-  turns = omega arith;
-  turn = λ more. absurd (omega (arith, more));
-}
 
 pub bytes-preserved-in-Ok : goal.bytes-preserved-in-Ok
 bytes-preserved-in-Ok g c =
