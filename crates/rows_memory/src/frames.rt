@@ -76,18 +76,18 @@ pub fn by_next(alloc: Global, text: &[u8], first: usize, second: usize) -> Outco
     next(&mut r, front(text, first)).and(next(&mut r, front(text, second)))
 }
 
-// Makes a call that has to fail with the reader's fault.
-fn faults(r: &mut Reader<'_>) -> Outcome {
+// Makes a call that has to fail with this kind, which is not `OutOfMemory`.
+fn faults(r: &mut Reader<'_>, kind: ErrorKind) -> Outcome {
     match r.next() {
-        Err(e) if e.kind() == ErrorKind::WouldBlock => Outcome::Whole,
+        Err(e) if e.kind() == kind => Outcome::Whole,
         Err(e) => Outcome::of_error(&e),
         Ok(_) => Outcome::OtherBytes,
     }
 }
 
-fn fault(r: &mut Reader<'_>) -> Outcome {
-    match faults(r) {
-        Outcome::Refused => Outcome::Refused.and(faults(r)),
+fn fault(r: &mut Reader<'_>, kind: ErrorKind) -> Outcome {
+    match faults(r, kind) {
+        Outcome::Refused => Outcome::Refused.and(faults(r, kind)),
         other => other,
     }
 }
@@ -101,7 +101,14 @@ pub fn by_torn(alloc: Global, text: &[u8], len: usize) -> Outcome {
     let wire = &wire[..(end as usize).min(wire.len())];
     let (first, second) = wire.split_at(wire.len() / 2);
     let mut r = Reader::new(alloc, Torn::new(first, second), 100_000);
-    fault(&mut r).and(next(&mut r, front(text, len)))
+    fault(&mut r, ErrorKind::WouldBlock).and(next(&mut r, front(text, len)))
+}
+
+/// Reads a header that says 2^32 - 1 bytes, which is above the limit.
+pub fn by_above(alloc: Global) -> Outcome {
+    let wire = b"\xff\xff\xff\xffabc".as_slice();
+    let mut r = Reader::new(alloc, Torn::new(b"", wire), 5);
+    faults(&mut r, ErrorKind::InvalidData).and(faults(&mut r, ErrorKind::InvalidData))
 }
 
 fn make_round(alloc: Global, first: &[u8], second: &[u8]) -> Result<bool> {

@@ -1,8 +1,8 @@
 //! Plays rows of calls that allocate. `scripts/check_memory` runs it so that in each run one allocation fails, and once to measure
 //! how much each call allocates.
 //!
-//! A row of standard input is a call with one or two numbers, followed by a bar and the sizes of its allocations, which the script
-//! compares. The program prints the call and how it ended: `whole`; `refused`, if an allocation failed and nothing else went wrong
+//! A row of standard input is a call with one or two numbers, followed by a bar and the sizes of its allocations, or `none`, which the
+//! script compares. The program prints the call and how it ended: `whole`; `refused`, if an allocation failed and nothing else went wrong
 //! (then the call was made once more, if it can continue); or what it returned instead. Each line is one write, so that the script
 //! knows which row allocated.
 #![tactic(auto)]
@@ -47,6 +47,7 @@ fn play_long(alloc: Global, text: &[u8], word: &str, first: usize, second: usize
 
 fn play(alloc: Global, text: &[u8], call: &str) -> Outcome {
     match call {
+        "above" => frames::by_above(alloc),
         "short read_line" => small::by_read_lines(alloc),
         "short split" => small::by_split(alloc),
         "short lines" => small::by_lines(alloc),
