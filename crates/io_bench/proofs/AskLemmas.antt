@@ -1,14 +1,14 @@
 -- Asks in a row.
+use Rattle.std.proofs.lemmas.Grind.{common_steps}
 use Rattle.std.proofs.Common.{Result, Ok, ◌⊎◌, inl, inr, Err, append-nil, nat_eq, ◌≡◌, ℕ, zero, suc, ◌+◌, ◌-◌, ◌<◌}
 use Rattle.std.proofs.Common.{◌≤◌, min, nat_lt, if◌then◌else◌, false, Bool, List, [], ◌∷◌, ◌++◌, length, take, drop}
 use Rattle.std.proofs.Common.{get_or, refl, sym, ap, subst, ◌∙◌, arith, ⊎_elim, drop_of_length-le, length-take-le}
 use Rattle.std.proofs.Common.{length-drop, append_assoc, take_all, length-append}
 use Rattle.std.proofs.lemmas.List.{take_more, take_min, nil_from_length}
-use Rattle.std.proofs.lemmas.Bool.Decides.{nat_tests}
 use Rattle.std.proofs.lemmas.Bool.{cases_lt}
 use Rattle.std.proofs.Math.Seq.{drop-append_seam}
-use Rattle.no_std_io2.specs.Read.{Event, byte, fails, cut, events_of, bytes, HasNoFault, Reads, ReadsExact, Fills}
-use Rattle.no_std_io2.specs.Read.{Reader, StopsAtFault, FallsShort}
+use Rattle.no_std_io2.specs.Read.{Event, byte, fails, cut, events_of, bytes, Reads, ReadsExact, Fills}
+use Rattle.no_std_io2.specs.Read.{Reader, StopsAtFault}
 use Rattle.io_bench.specs.declared.asks.Ask.{Ask}
 use Rattle.io_bench.specs.declared.asks.Ask.TheVariants.{Read, Exact, Fill}
 use Rattle.no_std_io2.specs.declared.io.Error.{Error}
@@ -39,9 +39,7 @@ front_more {E = E} {after = after} s t = (s.0 ++ t.0, s.1 ∙ ap (λ l. s.0 ++ l
 
 -- the rest after a front, by its length
 pub front_gone : (E after : List Event) (k : ℕ) → TakesFront E after → length E ≡ k + length after → after ≡ drop k E
-front_gone E after k t long =
-    let short : k ≡ length t.0 = omega (arith, ap length t.1, length-append t.0 after) in
-    sym (ap (λ l. drop k l) t.1 ∙ ap (λ n. drop n (t.0 ++ after)) short ∙ drop-append_seam t.0 after)
+front_gone E after k t long = grind (arith, common_steps, length-append, drop-append_seam)
 
 -- if `ready` events can be taken, at most `most` of them are, and at least one if there are any
 drops : (S most h : ℕ) (E E' : List Event) (ready : ℕ) → (0 < length E → 0 < ready) → E' ≡ drop (min most ready) E → Drops most E E'
@@ -55,12 +53,7 @@ asked_by : (S : ℕ) (ask : Ask) (h r h' r' : ℕ) (E E' : List Event) (is_end :
     → length E ≡ k + length E' → k ≡ asked_bytes S ask h (length E)
     → is_end ≡ meets_end ask (length E) → r' ≡ r + asked_reads ask h (length E) → h' ≡ asked_left S ask h (length E)
     → Asked S ask h r E is_end h' r' E'
-asked_by S ask h r h' r' E E' is_end k front long count end reads left = record {
-  events = front_gone E E' _ front (omega (arith, count));
-  end = end;
-  reads = reads;
-  left = left;
-}
+asked_by S ask h r h' r' E E' is_end k front long count end reads left = grind (arith, common_steps, front_gone)
 
 -- a read that gave n bytes
 pub read_asked : (S : ℕ) {len r r' : ℕ} (n : ℕ) (held held' buf : List ℕ) (inner : List Event) {E' : List Event} {is_end : Bool} → 0 < S
@@ -70,26 +63,14 @@ pub read_asked : (S : ℕ) {len r r' : ℕ} (n : ℕ) (held held' buf : List ℕ
     → r' ≡ r + (1 - length held) → is_end ≡ (nat_eq n 0 && nat_eq (length held') 0)
     → Asked S (Read len) (length held) r (events_of held ++ inner) is_end (length held') r' E'
 read_asked S {len} {r} {r'} n held held' buf inner {E'} {is_end} room read fits is gave straight filled reads end =
-    let all = length-events held inner in
-    let long = ap length read.0 ∙ length-events (take n buf) E' in
-    let within = length-take-le n buf fits in
-    let left : 0 < length held → length held' ≡ length held - n = λ some. ap length (gave some) ∙ length-drop n held in
-    let direct : length held ≡ 0 → S ≤ len → length held' ≡ 0 = λ none wide. ap length (straight (nil_from_length held none) wide) in
-    let kept : length held ≡ 0 → len < S → length held' + n ≡ min S (length inner) = λ none. filled (nil_from_length held none) in
-    asked_by S (Read len) (length held) r (length held') r' (events_of held ++ inner) E' is_end n
-    (events_of (take n buf), read.0) (omega (arith, long, within))
-    (grind (arith, nat_tests, all)) (grind (arith, nat_tests, all)) reads (grind (arith, nat_tests, all))
+    grind (arith, common_steps, length-events, length-take-le, length-drop, nil_from_length, min, asked_by)
 
 -- a fill that lent some bytes, of which so many were consumed
 pub fill_asked : (S most h e r h' : ℕ) {r' : ℕ} (lent : ℕ) {E E' : List Event} {is_end : Bool} → 0 < S → TakesFront E E'
     → length E ≡ min most lent + length E' → length E ≡ h + e
     → lent ≡ filled_length S h e → h' ≡ lent - min most lent → r' ≡ r + (1 - h) → is_end ≡ nat_eq lent 0
     → Asked S (Fill most) h r E is_end h' r' E'
-fill_asked S most h e r h' {r'} lent {E} {E'} {is_end} room front long all is left reads end =
-    let rest : length E - h ≡ e = omega arith in
-    let same : filled_length S h (length E - h) ≡ lent = ap (filled_length S h) rest ∙ sym is in
-    asked_by S (Fill most) h r h' r' E E' is_end (min most lent) front long (ap (min most) (sym same))
-    (grind (arith, nat_tests)) reads (left ∙ (omega (arith, same)))
+fill_asked S most h e r h' {r'} lent {E} {E'} {is_end} room front long all is left reads end = grind (arith, common_steps, asked_by, min)
 
 -- there are no more bytes among some events than there are events
 bytes-le : (E : List Event) → length (bytes E) ≤ length E
@@ -99,30 +80,19 @@ bytes-le (fails e ∷ E) = omega (arith, bytes-le E)
 
 -- a filled buffer is no longer than what was to come
 pub filled-le : {E : List Event} {buf : List ℕ} {E' : List Event} → Fills E buf E' → length buf ≤ length E
-filled-le {E} {buf} {E'} f =
-    omega (
-      arith,
-      bytes-le (cut (length buf) E),
-      ap length f.filled,
-      ap length f.split,
-      length-append (cut (length buf) E) E',
-    )
+filled-le {E} {buf} {E'} f = grind (arith, common_steps, bytes-le, length-append)
 
 -- an exact read that was filled
 pub exact_filled : (S len : ℕ) {h r h' r' : ℕ} (buf : List ℕ) {E E' : List Event} → length buf ≡ len → Fills E buf E'
     → length E' ≡ length E - len → r' ≡ r + exact_reads len h (length E) → h' ≡ exact_left S len h (length E)
     → Asked S (Exact len) h r E false h' r' E'
-exact_filled S len {h} {r} {h'} {r'} buf {E} {E'} same filled left reads held =
-    let within = filled-le filled in
-    asked_by S (Exact len) h r h' r' E E' false (min len (length E)) (cut _ _, filled.split) (omega (arith, same, within)) refl
-    (grind (arith, nat_tests, same, within)) reads held
+exact_filled S len {h} {r} {h'} {r'} buf {E} {E'} same filled left reads held = grind (arith, common_steps, filled-le, asked_by, min)
 
 -- an exact read that fell short
 pub exact_short : (S len : ℕ) {h r h' r' : ℕ} {E E' : List Event} → length E < len → TakesFront E E'
     → length E' ≡ length E - len → r' ≡ r + exact_reads len h (length E) → h' ≡ exact_left S len h (length E)
     → Asked S (Exact len) h r E true h' r' E'
-exact_short S len {h} {r} {h'} {r'} {E} {E'} short front left reads held =
-    asked_by S (Exact len) h r h' r' E E' true (min len (length E)) front (omega arith) refl (grind (arith, nat_tests, short)) reads held
+exact_short S len {h} {r} {h'} {r'} {E} {E'} short front left reads held = grind (arith, common_steps, asked_by, min)
 
 -- if a read fell short, and may not leave the bytes, all of them are taken
 taken_whole : (E E' : List Event) → (E' ≡ [] ⊎ (⊥ × (E' ≡ E))) → TakesFront E E'
@@ -133,13 +103,8 @@ taken_whole E E' (inr n) = absurd n.0
 pub falls_short : (bs : List ℕ) {E : List Event} (e : Error) (buf : List ℕ) {E' : List Event} → E ≡ events_of bs
     → ReadsExact {A = Unit {0}} ⊥ E (Err e) buf E'
     → (error_kind e ≡ UnexpectedEof) × (length E < length buf) × TakesFront E E'
-falls_short bs {E} e buf {E'} is (inl stops) =
-    let none : HasNoFault E = subst HasNoFault (sym is) (HasNoFault-events_of bs) in
-    let ends = stops.ends in
-    absurd (no_fault_at_end ends.0 e (subst HasNoFault ends.1 (HasNoFault-front stops.taken E' (subst HasNoFault stops.split none))) ends.3)
-falls_short bs {E} e buf {E'} is (inr short) =
-    let long : length E ≡ length (bytes E) = ap length is ∙ length-events_of bs ∙ sym (ap length (ap bytes is ∙ bytes-events_of bs)) in
-    (short.answer.0, omega (arith, short.short, long), taken_whole E E' short.left)
+falls_short bs e buf is h =
+    grind (arith, common_steps, HasNoFault-events_of, no_fault_at_end, HasNoFault-front, length-events_of, bytes-events_of, taken_whole)
 
 -- held bytes followed by events that are only bytes are only bytes
 pub bytes_behind : (held bs : List ℕ) (E : List Event) → E ≡ events_of bs → events_of held ++ E ≡ events_of (held ++ bs)
@@ -148,18 +113,13 @@ bytes_behind held bs E is = ap (λ l. events_of held ++ l) is ∙ sym (events_of
 -- with any other error than an early end it stopped at a fault
 pub stopped : {E : List Event} {e : Error} (buf : List ℕ) {len : ℕ} {E' : List Event} → length buf ≡ len → error_kind e ≢ UnexpectedEof
     → ReadsExact {A = Unit {0}} ⊥ E (Err e) buf E' → StopsAtFault E len e E'
-stopped {E} {e} buf {len} {E'} same other t = by_case (rw same at t)
-  where
-    by_case : StopsAtFault E len e E' ⊎ FallsShort ⊥ E len e E' → StopsAtFault E len e E'
-    by_case (inl stops) = stops
-    by_case (inr short) = absurd (other short.answer.0)
+stopped {E} {e} buf {len} {E'} same other t = grind (arith, common_steps)
 
 -- of what it lent the first are gone
 pub lent_taken : {E mid : List Event} (after : List Event) (most n : ℕ) {held lent : List ℕ} → mid ≡ E
     → mid ≡ events_of (take n held) ++ after
     → held ≡ lent → n ≡ min most (length lent) → E ≡ events_of (take most lent) ++ after
-lent_taken after most n {lent = lent} same rest held is =
-    sym same ∙ rest ∙ ap (λ l. events_of l ++ after) (ap (take n) held ∙ ap (λ k. take k lent) is ∙ take_min most lent)
+lent_taken after most n {lent = lent} same rest held is = grind (arith, common_steps, take_min)
 
 -- an ask takes a front of what was to come
 front_answered : (ask : Ask) (E : List Event) (answer : Result Bool Error) (held : List ℕ) (after : List Event)
@@ -176,14 +136,7 @@ front_answered (Fill most) E (Err e) held after t = (fails e ∷ [], t)
 -- the step that an ask took
 asked_step : (S : ℕ) (ask : Ask) (h r h' r' : ℕ) (E E' : List Event) (is_end : Bool) → 0 < S → h ≤ length E
     → Asked S ask h r E is_end h' r' E' → AskStep ask E E'
-asked_step S (Read len) h r h' r' E E' is_end room fits a =
-    drops S len h E E' (if nat_lt 0 h then h else length E) (grind (arith, nat_tests)) a.events
-asked_step S (Fill most) h r h' r' E E' is_end room fits a =
-    drops S most h E E' (filled_length S h (length E - h)) (grind (arith, nat_tests)) a.events
-asked_step S (Exact len) h r h' r' E E' is_end room fits a = ⊎_elim
-    (λ short. a.events ∙ drop_of_length-le E (omega arith) ∙ sym (drop_of_length-le E (omega arith)))
-    (λ long. a.events ∙ ap (λ n. drop n E) (omega arith))
-    (cases_lt (length E) len)
+asked_step S ask h r h' r' E E' is_end room fits a = grind (arith, common_steps, drops, nat_lt, drop_of_length-le)
 
 -- runs of asks
 module _ {R : Type 0} {S : ℕ} (inner : Reader R) where

@@ -1,4 +1,5 @@
 -- The bytes that a list of calls is given, and what the calls cost.
+use Rattle.std.proofs.lemmas.Grind.{common_steps}
 use Rattle.std.proofs.Common.{◌≡◌, ℕ, ◌+◌, ◌<◌, ◌≤◌, ◌*◌, ◌/◌, min, le_of_eq, take_all, add-zero, add_assoc, arith}
 use Rattle.std.proofs.Common.{length, take, get_or, List, [], ◌∷◌, ◌++◌, refl, sym, ap, ◌∙◌, subst, append_assoc}
 use Rattle.std.proofs.Common.{append-nil}
@@ -6,22 +7,13 @@ use Rattle.std.proofs.lemmas.List.{take_more, length-append}
 use Rattle.io_bench.specs.declared.runs.Op.{Op}
 use Rattle.io_bench.specs.declared.runs.Op.TheVariants.{Write, WriteAll, Flush}
 use Rattle.io_bench.specs.declared.runs.Reply.{Reply}
-use Rattle.io_bench.specs.declared.runs.Reply.TheVariants.{Took, Done, Failed}
 use Rattle.io_bench.specs.Runs.{Accepts, Run, IsWhole, AreWhole}
 use Rattle.io_bench.specs.Closed.{op_bytes, given_bytes, op_flushes, flushes, op_calls, op_buffer}
 use Rattle.io_bench.proofs.PaidLemmas.{Paid, Paid-write, Paid-flush, Paid-bound}
 
 -- if each call is whole, the accepted bytes are the bytes of the calls
 whole_accepts : (op : Op) (reply : Reply) (xs : List ℕ) → Accepts op reply xs → IsWhole op reply → xs ≡ op_bytes op
-whole_accepts (Write x) (Took n) xs a w = a.1 ∙ take_all n x.now (le_of_eq (sym w))
-whole_accepts (WriteAll x) Done xs a w = a
-whole_accepts Flush Done xs a w = a
-whole_accepts (Write x) Done xs a w = absurd w
-whole_accepts (WriteAll x) (Took n) xs a w = absurd w
-whole_accepts Flush (Took n) xs a w = absurd w
-whole_accepts (Write x) (Failed e) xs a w = absurd w
-whole_accepts (WriteAll x) (Failed e) xs a w = absurd w
-whole_accepts Flush (Failed e) xs a w = absurd w
+whole_accepts op reply xs a w = grind (arith, common_steps, take_all, le_of_eq)
 
 -- if each call of a run is whole, the run accepted all bytes of its calls
 pub whole_run : (ops : List Op) (replies : List Reply) (xs : List ℕ) → Run ops replies xs → AreWhole ops replies → xs ≡ given_bytes ops

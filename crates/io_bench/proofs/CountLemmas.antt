@@ -1,10 +1,10 @@
 -- How many reads a `Tally` counts in the trait's loops.
+use Rattle.std.proofs.lemmas.Grind.{common_steps}
 use Rattle.std.proofs.Common.{◌≡◌, ℕ, ◌+◌, ◌-◌, ◌<◌, ◌≤◌, List, [], ◌∷◌, ◌++◌, Result, Ok, Err, min, length, length-take-le, arith}
 use Rattle.std.proofs.Common.{refl, sym, subst, inl, inr}
-use Rattle.std.proofs.lemmas.Bool.{cases_lt}
 use Rattle.no_std_io2.specs.declared.io.Error.{Error}
 use Rattle.no_std_io2.specs.Write.{Made}
-use Rattle.no_std_io2.specs.Read.{Reader, ReadCall, Gave, GaveExactly, GaveAll, gave, gave_whole, ended, ReadLaw, Gathers, no_read}
+use Rattle.no_std_io2.specs.Read.{Reader, ReadCall, Gave, GaveAll, gave, ended, ReadLaw, Gathers, no_read}
 use Rattle.no_std_io2.specs.Read.{and_gave, and_again, GathersUntil, FillCalls, ExactMade, ToEndCalls, ToEndMade}
 use Rattle.no_std_io2.proofs.CallsLemmas.{made_split}
 use Rattle.io_bench.specs.Calls.{stopped, CountsToEnd}
@@ -16,23 +16,7 @@ pub read_counts : {T : Type 0} {I : Reader T} {old new : Tally T} {buf buf' : Li
     → ReadLaw I (tally_inner old) buf reply buf' (tally_inner new) → length buf' ≡ length buf
     → tally_reads new ≡ tally_reads old + min 1 (length buf) → tally_writes new ≡ tally_writes old
     → ReadCounted I old (length buf') (gave reply buf') new
-read_counts {buf' = buf'} (Ok n) law long reads writes = record {
-  handed = law.call;
-  reads = omega (arith, reads, long);
-  writes = writes;
-  turns = elim (cases_lt 0 n) [
-    | inl some ↦ let spent = law.spends_turn some in omega (arith, spent)
-    | inr none ↦ omega (arith, none, law.turns_never_rise, length-take-le n buf' law.bound)
-  ];
-  cost = λ m. let now = law.counts m in (now.0, omega (arith, now.1, long));
-}
-read_counts (Err e) law long reads writes = record {
-  handed = law.call;
-  reads = omega (arith, reads, long);
-  writes = writes;
-  turns = omega (arith, law.spends_turn);
-  cost = λ m. let now = law.counts m in (now.0, omega (arith, now.1, long));
-}
+read_counts reply law long reads writes = grind (arith, common_steps, length-take-le)
 
 -- Reads in a row: at least so many, and at most one for each turn that is gone and so many more.
 pub record Counted {T : Type 0} (I : Reader T) (fewest more : ℕ) (old new : Tally T) : Type 0 where
@@ -46,30 +30,18 @@ module _ {T : Type 0} (I : Reader T) where
   -- reads, and one more
   counted_more : {l l' m m' room : ℕ} {a b c : Tally T} (answer : Result (List ℕ) Error) → Counted I l m a b → ReadCounted I b room answer c
       → 0 < room → l' ≤ l + 1 → m + (1 - turns_spent answer) ≤ m' → Counted I l' m' a c
-  counted_more answer so_far read some fewer slack = record {
-    least = omega (arith, so_far.least, read.reads, some, fewer);
-    most = omega (arith, so_far.most, read.reads, read.turns, some, slack);
-    handed = λ m.
-        let before = so_far.handed m in
-        let now = read.cost before.0 in
-        (now.0, omega (arith, before.1, now.1, read.reads));
-    writes = omega (arith, read.writes, so_far.writes);
-  }
+  counted_more answer so_far read some fewer slack = grind (arith, common_steps)
 
   -- calls, and one more read
   last_counts : (C : List ReadCall) {l l' m m' room : ℕ} (answer : Result (List ℕ) Error) (a b : Tally T)
       → ((mid : Tally T) → Made (ReadsCounted I) a C mid → Counted I l m a mid) → 0 < room → l' ≤ l + 1
       → m + (1 - turns_spent answer) ≤ m' → Made (ReadsCounted I) a (C ++ Gave room answer ∷ []) b → Counted I l' m' a b
-  last_counts C {room = room} answer a b before some fewer slack made =
-      let parts = made_split (ReadsCounted I) C a (Gave room answer ∷ []) b made in
-      let last = parts.2 in
-      counted_more answer (before parts.0 parts.1) (subst (ReadCounted I parts.0 room answer) (sym last.2) last.1) some fewer slack
+  last_counts C {room = room} answer a b before some fewer slack made = grind (arith, common_steps, made_split, counted_more)
 
   -- no call is one of its own
   no_other : (C : List ReadCall) (call : ReadCall) (a b : Tally T) → ((c d : Tally T) → ReadsCounted I c call d → ⊥)
       → Made (ReadsCounted I) a (C ++ call ∷ []) b → ⊥
-  no_other C call a b none made =
-      let parts = made_split (ReadsCounted I) C a (call ∷ []) b made in none parts.0 parts.2.0 parts.2.1
+  no_other C call a b none made = grind (arith, common_steps, made_split)
 
   -- reads that gave x
   gathers_count : {asks : ℕ → ℕ → Type 0} {C : List ReadCall} {x : List ℕ} → ((at room : ℕ) → asks at room → 0 < room) → Gathers asks C x
@@ -92,12 +64,7 @@ module _ {T : Type 0} (I : Reader T) where
 
   -- less is so too
   counted_less : {l l' m m' : ℕ} {a b : Tally T} → Counted I l m a b → l' ≤ l → m ≤ m' → Counted I l' m' a b
-  counted_less c fewer more = record {
-    least = omega (arith, c.least, fewer);
-    most = omega (arith, c.most, more);
-    handed = c.handed;
-    writes = c.writes;
-  }
+  counted_less c fewer more = grind (arith, common_steps)
 
   fill_counts : (C : List ReadCall) (buf : List ℕ) (reply : Result (Unit {0}) Error) (a b : Tally T) → FillCalls C reply buf
       → Made (ReadsCounted I) a C b → Counted I (min 1 (length buf)) (stopped reply) a b
@@ -110,12 +77,7 @@ module _ {T : Type 0} (I : Reader T) where
   -- the reads of a `read_exact`
   pub exact_counts : {buf : List ℕ} (reply : Result (Unit {0}) Error) (a b : Tally T) → ExactMade (ReadsCounted I) a reply buf b
       → Counted I (min 1 (length buf)) (stopped reply) a b
-  exact_counts {buf} reply a b m = elim (m.are) [
-    | inl own ↦
-        absurd (no_other [] (GaveExactly (length buf) (gave_whole reply buf)) a b (λ c d no. no)
-        (subst (λ K. Made (ReadsCounted I) a K b) own m.made))
-    | inr reads ↦ fill_counts m.calls buf reply a b reads m.made
-  ]
+  exact_counts {buf} reply a b m = grind (arith, common_steps, no_other, fill_counts)
 
   -- how often a `read_to_end` reads, and what else the reads do
   abbrev DrainCounts : Result ℕ Error → Tally T → Tally T → Type 0

@@ -1,14 +1,12 @@
 -- Mishaps that were told are enough for the calls that failed.
-use Rattle.std.proofs.Common.{◌≡◌, ℕ, true, if◌then◌else◌, List, [], ◌∷◌, length, Option, None, Some, refl, sym, subst, arith, count_by}
-use Rattle.std.proofs.lemmas.Bool.Decides.{nat_tests}
+use Rattle.std.proofs.lemmas.Grind.{common_steps}
+use Rattle.std.proofs.Common.{◌≡◌, ℕ, true, if◌then◌else◌, List, [], ◌∷◌, length, Option, Some, refl, arith, count_by}
 use Rattle.std.proofs.lemmas.List.{length-append}
 use Rattle.std.proofs.lemmas.List.Sums.{sum_by-cons}
 use Rattle.no_std_io2.specs.declared.io.ErrorKind.{ErrorKind}
 use Rattle.no_std_io2.specs.Write.{HasSpent}
 use Rattle.io_bench.specs.declared.runs.Op.{Op}
-use Rattle.io_bench.specs.declared.runs.Op.TheVariants.{Write, WriteAll, Flush}
 use Rattle.io_bench.specs.declared.runs.Reply.{Reply}
-use Rattle.io_bench.specs.declared.runs.Reply.TheVariants.{Took, Done, Failed}
 use Rattle.io_bench.specs.Runs.{mishap_of, mishaps_of, is_failure, failures, failures_of, IsShorterBy, HasFewer}
 
 -- if every element is counted, the count is the length
@@ -18,15 +16,7 @@ count_by-all (x ∷ xs) = omega (arith, sum_by-cons (λ _. 1) x xs, count_by-all
 
 -- a call has one mishap if it failed, and else none
 length-mishap_of : (op : Op) (reply : Reply) → length (mishap_of op reply) ≡ (if is_failure op reply then 1 else 0)
-length-mishap_of (Write x) (Took n) = grind (arith, nat_tests)
-length-mishap_of (WriteAll x) (Took n) = refl
-length-mishap_of Flush (Took n) = refl
-length-mishap_of (Write x) Done = refl
-length-mishap_of (WriteAll x) Done = refl
-length-mishap_of Flush Done = refl
-length-mishap_of (Write x) (Failed e) = refl
-length-mishap_of (WriteAll x) (Failed e) = refl
-length-mishap_of Flush (Failed e) = refl
+length-mishap_of op reply = grind (arith, common_steps)
 
 -- as many calls of a run failed as it had mishaps
 pub failures-length : (ops : List Op) (replies : List Reply) → failures ops replies ≡ length (mishaps_of ops replies)
@@ -38,31 +28,24 @@ failures-length (op ∷ ops) (reply ∷ replies) =
 -- told mishaps stay told, and there are fewer of them by at least as many as happened
 shorter : (old : Option (List ErrorKind)) (happened : List ErrorKind) (new : Option (List ErrorKind))
     → HasSpent old happened new → IsShorterBy (length happened) old new
-shorter None happened new h = tt
-shorter (Some old) happened None h = absurd h
-shorter (Some old) happened (Some new) h = omega (arith, h (λ _. true), count_by-all old, count_by-all happened, count_by-all new)
+shorter old happened new h = grind (arith, common_steps, count_by-all)
 
 -- so there are fewer of them by at least as many as calls of a run failed
 pub failures_told : (ops : List Op) (replies : List Reply) (old new : Option (List ErrorKind))
     → HasSpent old (mishaps_of ops replies) new → IsShorterBy (failures ops replies) old new
-failures_told ops replies old new h =
-    subst (λ n. IsShorterBy n old new) (sym (failures-length ops replies)) (shorter old (mishaps_of ops replies) new h)
+failures_told ops replies old new h = grind (arith, common_steps, failures-length, shorter)
 
 -- an empty list of mishaps can become shorter by 0 only
 none_left : (n : ℕ) (new : Option (List ErrorKind)) → IsShorterBy n (Some []) new → n ≡ 0
-none_left n None h = absurd h
-none_left n (Some new) h = omega (arith, h)
+none_left n new h = grind (arith, common_steps)
 
 -- over no mishap to come no call fails
 pub failures_none : (ops : List Op) (replies : List Reply) {old : Option (List ErrorKind)} (new : Option (List ErrorKind))
     → HasSpent old (mishaps_of ops replies) new → old ≡ Some [] → failures ops replies ≡ 0
-failures_none ops replies {old = old} new h e =
-    none_left _ new (subst (λ o. IsShorterBy (failures ops replies) o new) e (failures_told ops replies old new h))
+failures_none ops replies {old = old} new h e = grind (arith, common_steps, none_left, failures_told)
 
 -- and of each kind there are fewer to come by those that failed with it
 pub fewer_of : (kind : ErrorKind) (ops : List Op) (replies : List Reply) (old new : Option (List ErrorKind))
     → HasSpent old (mishaps_of ops replies) new
     → HasFewer kind (failures_of kind ops replies) old new
-fewer_of kind ops replies None new h = tt
-fewer_of kind ops replies (Some old) None h = absurd h
-fewer_of kind ops replies (Some old) (Some new) h = h _
+fewer_of kind ops replies old new h = grind (arith, common_steps)

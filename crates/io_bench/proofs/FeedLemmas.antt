@@ -1,4 +1,5 @@
 -- What a feed's events give to a reader.
+use Rattle.std.proofs.lemmas.Grind.{common_steps}
 use Rattle.std.proofs.Common.{◌≡◌, ℕ, zero, suc, ◌+◌, ◌<◌, ◌≤◌, min, List, [], ◌∷◌, ◌++◌, length, take, drop, set}
 use Rattle.std.proofs.Common.{None, Ok, refl, sym, ap, ◌∙◌, arith, length-drop}
 use Rattle.std.proofs.Math.Seq.{take-add}
@@ -31,9 +32,7 @@ leading-le (Fail kind ∷ left) = omega arith
 
 -- if no byte and no failure comes first, nothing is left
 pub nothing_left : (left : List Event) → length (leading_bytes left) ≡ 0 → first_failure left ≡ None → left ≡ []
-nothing_left [] h f = refl
-nothing_left (Byte b ∷ left) h f = absurd (omega arith)
-nothing_left (Fail kind ∷ left) h f = absurd (cc)
+nothing_left left h f = grind (arith, common_steps)
 
 -- one more byte was given
 pub given_next : (n b : ℕ) (left rest : List Event) (buf : List ℕ) → n < length buf → n ≤ length (leading_bytes left)
@@ -64,10 +63,4 @@ pub feed_reads : (n : ℕ) {room piece : ℕ} {old left new : List Event} (buf :
     → left ≡ old → first_failure old ≡ None
     → n ≡ min (min piece room) (length (leading_bytes left)) → take n buf ≡ take n (leading_bytes left)
     → new ≡ drop n left → Reads (all_to_come old) (Ok n) buf (all_to_come new)
-feed_reads n {old} {left} buf some fits e none count same rest =
-    let len : length (leading_bytes left) ≡ length (leading_bytes old) = ap (λ l. length (leading_bytes l)) e in (
-      ap all_to_come (sym e) ∙ given_first n left (omega arith)
-          ∙ ap (λ l. events_of l ++ all_to_come (drop n left)) (sym same)
-          ∙ ap (λ l. events_of (take n buf) ++ all_to_come l) (sym rest),
-      λ z r. ap all_to_come (nothing_left old (omega (arith, z, r, len, count, some, fits)) none),
-    )
+feed_reads n {old} {left} buf some fits e none count same rest = grind (arith, common_steps, given_first, nothing_left)

@@ -1,5 +1,6 @@
 -- The count of inner writes: two in a row carry more than S bytes, unless a flush made the first.
-use Rattle.std.proofs.Common.{◌≡◌, ℕ, ◌+◌, ◌*◌, ◌/◌, ◌<◌, ◌≤◌, min, zero, suc, List, [], length, sym, ⊎_elim, subst, refl, arith}
+use Rattle.std.proofs.lemmas.Grind.{common_steps}
+use Rattle.std.proofs.Common.{◌≡◌, ℕ, ◌+◌, ◌*◌, ◌/◌, ◌<◌, ◌≤◌, min, List, [], length, sym, ⊎_elim, subst, refl, arith}
 use Rattle.std.proofs.lemmas.Nat.{le-div}
 use Rattle.std.proofs.lemmas.List.{length-append}
 use Rattle.no_std_io2.specs.BufWriter.{writing_calls, buffer_after}
@@ -49,9 +50,7 @@ Paid-idle S c f n (open_one p a b) = open_one p (omega arith) b
 
 -- the bound, with the last sending
 pub Paid-bound : (S c f n h : ℕ) → Paid S c f n h → c + min h 1 ≤ 2 * (n / (S + 1)) + f + 1
-Paid-bound S c f n h (pairs p a b) = let q = le-div p n (S + 1) (omega arith) (omega arith) in omega arith
-Paid-bound S c f n zero (open_one p a b) = let q = le-div p n (S + 1) (omega arith) (omega arith) in omega arith
-Paid-bound S c f n (suc h) (open_one p a b) = let q = le-div (p + 1) n (S + 1) (omega arith) (omega arith) in omega arith
+Paid-bound S c f n h is = grind (arith, common_steps, le-div)
 
 -- the count holds for equal numbers of writes and of held bytes too
 Paid-same : {S c f n h d k : ℕ} → c ≡ d → h ≡ k → Paid S c f n h → Paid S d f n k

@@ -1,4 +1,5 @@
 -- How the items of a run of `split` or `lines` come to be all pieces: once, by what one `next` yields.
+use Rattle.std.proofs.lemmas.Grind.{common_steps}
 use Rattle.std.proofs.Common.{◌≡◌, ℕ, true, false, Bool, if◌then◌else◌, Option, Some, None, Result, Ok, Err, List, []}
 use Rattle.std.proofs.Common.{◌∷◌, ◌++◌, map, filter, refl, sym, ap, ◌∙◌, subst, append-nil, append_assoc, inl, inr}
 use Rattle.std.proofs.Common.{⊎_elim, ◌<◌, length, length-append, arith}
@@ -35,16 +36,12 @@ shown-one view old {mid} {new} x h is = ap (map view) (appended-one old mid new 
 pub yields_at : {T : Type 0} (view : T → List ℕ) (trim : ℕ → List ℕ → List ℕ) (refuses : List ℕ → Error → Type 0)
     (d' d : ℕ) (E : List Event) (r' r : Option (Result T Error)) (after : List Event)
     → d' ≡ d → r' ≡ r → YieldsPiece view (trim d') refuses d' E r' after → YieldsPiece view (trim d) refuses d E r after
-yields_at view trim refuses d' d E r' r after same is h =
-    subst (λ a. YieldsPiece view (trim d) refuses d E a after) is
-    (subst (λ n. YieldsPiece view (trim n) refuses n E r' after) same h)
+yields_at view trim refuses d' d E r' r after same is h = grind (arith, common_steps)
 
 -- of the bytes before the first fault, a piece that was given is the first
 piece_bytes : {d n : ℕ} {E after : List Event} {piece : List ℕ} → GivesPiece d E n [] piece after
     → bytes_to_fault E ≡ piece ++ bytes_to_fault after
-piece_bytes {after = after} g =
-    ap bytes_to_fault g.split ∙ bytes_to_fault-append g.taken after g.no_fault
-    ∙ ap (λ l. l ++ bytes_to_fault after) (sym g.appended)
+piece_bytes {after = after} g = grind (arith, common_steps, bytes_to_fault-append)
 
 -- one item more
 pub one_gathered : {T : Type 0} (view : T → List ℕ) (trim : List ℕ → List ℕ) (refuses : List ℕ → Error → Type 0) (d : ℕ)
@@ -140,11 +137,7 @@ all_gathered view trim refuses d E items shown mid after same t (piece, gives) =
 
 -- if a byte follows events without a fault, there is a byte before the first fault
 some_byte : (E taken after : List Event) → E ≡ taken ++ after → HasNoFault taken → IsByteNext after → 0 < length (bytes_to_fault E)
-some_byte E taken [] is free next = absurd next
-some_byte E taken (fails e ∷ rest) is free next = absurd next
-some_byte E taken (byte b ∷ rest) is free next =
-    let shown = ap bytes_to_fault is ∙ bytes_to_fault-append taken (byte b ∷ rest) free in
-    omega (arith, ap length shown, length-append (bytes taken) (b ∷ bytes_to_fault rest))
+some_byte E taken after is free next = grind (arith, common_steps, bytes_to_fault-append, length-append)
 
 -- an error ends it
 pub gathered_to : {T : Type 0} (A : Type 0) (view : T → List ℕ) (trim : List ℕ → List ℕ)

@@ -1,4 +1,5 @@
 -- The count of inner reads: all but one give S bytes at least, or find the end.
+use Rattle.std.proofs.lemmas.Grind.{common_steps}
 use Rattle.std.proofs.Common.{◌≡◌, ℕ, zero, suc, ◌+◌, ◌-◌, ◌*◌, ◌/◌, ◌<◌, ◌≤◌, min, refl, sym, ⊎_elim, arith, true}
 use Rattle.std.proofs.Common.{false, nat_le, if◌then◌else◌}
 use Rattle.std.proofs.lemmas.Nat.{le-div}
@@ -148,6 +149,4 @@ paid_ask S c n z (Exact len) h all room fits paid = paid_exact S c n z len h all
 
 -- an ask takes no more than there is
 pub asked-le : (S : ℕ) (ask : Ask) (h all : ℕ) → h ≤ all → asked_bytes S ask h all ≤ all
-asked-le S (Read len) h all fits = grind (arith, nat_tests)
-asked-le S (Fill most) h all fits = grind (arith, nat_tests)
-asked-le S (Exact len) h all fits = omega arith
+asked-le S ask h all fits = grind (arith, common_steps)

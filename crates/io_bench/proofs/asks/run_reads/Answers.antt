@@ -1,7 +1,7 @@
-use Rattle.std.proofs.Common.{Bool, true, false, Ok, Err, if◌then◌else◌, ◌≡◌, get_or, rules, arith, refl, sym, subst, ◌∙◌}
+use Rattle.std.proofs.lemmas.Grind.{common_steps}
+use Rattle.std.proofs.Common.{Bool, true, false, Ok, Err, if◌then◌else◌, ◌≡◌, get_or, arith, refl, ◌∙◌}
 use Rattle.io_bench.specs.declared.asks.Ask.TheVariants.{Read}
 use Rattle.no_std_io2.proofs.Readers.{reader}
-use Rattle.io_bench.specs.Asks.{Fits}
 use Rattle.io_bench.proofs.AskLemmas.{fits_at, came_more, came_all, came_front, came_steps, came_bound}
 use mir.Val.{bool_byte}
 use Rattle.io_bench.proofs.asks.run_reads.Goals as goal
@@ -11,20 +11,10 @@ byte_is true = refl
 byte_is false = refl
 
 pub make_ask-requires : goal.make_ask-requires
-make_ask-requires g c =
-    let ask = get_or c.args.asks.now c.asks.ask-index (Read 0) in (
-      search rules,
-      subst (λ room. Fits room ask) (sym c.asks.invariant.long)
-          (fits_at _ c.args.asks.now c.asks.ask-index (Read 0) (omega arith) c.requires),
-    )
+make_ask-requires g c = grind (arith, common_steps, get_or, fits_at)
 
 pub asks-init : goal.asks-init
-asks-init g c = record {
-  long = refl;
-  at_end = omega arith;
-  failed = omega arith;
-  came = (refl, refl, refl);
-}
+asks-init g c = grind (arith, common_steps)
 
 pub asks-preserved : goal.asks-preserved
 asks-preserved g c =

@@ -1,4 +1,4 @@
-use Rattle.std.proofs.Common.{◌≡◌, ◌<◌, ◌+◌, ◌∙◌, ap, refl, map, string_bytes, Global, [], ◌∷◌, ◌++◌, Some, Ok}
+use Rattle.std.proofs.Common.{◌≡◌, ◌∙◌, ap, refl, map, string_bytes, Global, [], ◌∷◌, ◌++◌, Some, Ok}
 use Rattle.no_std_io2.specs.Pieces.{line_text, RefusesLine, ends_at}
 use Rattle.no_std_io2.specs.Appended.{appended}
 use Rattle.no_std_io2.proofs.AppendedLemmas.{appended-more}

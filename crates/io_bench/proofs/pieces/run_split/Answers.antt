@@ -1,4 +1,4 @@
-use Rattle.std.proofs.Common.{◌≡◌, ◌<◌, ◌+◌, ◌∙◌, ap, map, vec_items, Global, [], ◌∷◌, ◌++◌, Some, Ok}
+use Rattle.std.proofs.Common.{◌≡◌, ◌∙◌, ap, map, vec_items, Global, [], ◌∷◌, ◌++◌, Some, Ok}
 use Rattle.no_std_io2.specs.Pieces.{without, split_delim, ends_at}
 use Rattle.no_std_io2.specs.Appended.{appended}
 use Rattle.no_std_io2.proofs.AppendedLemmas.{appended-more}
