@@ -109,7 +109,7 @@ impl<T: Read, U: Read> Read for Chain<T, U> {
 
     ghost may = { ChainMay T.Read U.Read };
 
-    #[inline]
+    #[inline(always)]
     fn read(&mut self, buf: &mut [u8]) -> Result<usize> {
         if self.done_first {
             return self.second.read(buf);
