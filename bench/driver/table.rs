@@ -28,10 +28,9 @@ fn ratio(values: &[Option<f64>; SIDES]) -> Option<f64> {
     Some(values[0]? / better)
 }
 
-/// Prints a line for each class, and then one for each case, or for each that is `far_alone` off: above its class's limit, where a `*`
-/// stands, or more than a quarter slower than the better of the others. A case's line has nanoseconds and instructions a call on each
-/// side, and of both the ratio.
-pub fn print(cases: &[Case], times: &Measured, counts: &Measured, far_alone: bool) {
+/// Prints a line for each class, and then one for each case, with a `*` if it is above its class's limit, or for these alone. A case's
+/// line has nanoseconds and instructions a call on each side, and of both the ratio.
+pub fn print(cases: &[Case], times: &Measured, counts: &Measured, above_alone: bool) {
     println!("| class | limit | cases | above | mean, instr. | most, instr. | mean, ns |\n|---|---|---:|---:|---:|---:|---:|");
     for (class, limit) in CLASSES {
         let of = |values: &Measured| -> Vec<(f64, f64)> {
@@ -55,8 +54,7 @@ pub fn print(cases: &[Case], times: &Measured, counts: &Measured, far_alone: boo
     println!("|---|---|---:|---:|---:|---:|---:|---:|---:|---:|---:|---:|---|");
     for ((case, times), counts) in cases.iter().zip(times).zip(counts) {
         let is_above = ratio(counts).is_some_and(|it| it > most(case) + 0.005);
-        let is_slow = ratio(times).is_some_and(|it| it > 1.25) && case.class != "whole";
-        if far_alone && !is_above && !is_slow {
+        if above_alone && !is_above {
             continue;
         }
         let mark = if is_above { "*" } else { "" };
