@@ -12,6 +12,14 @@ macro_rules! calls {
     )*};
 }
 
+// Writes six values, whose lengths no compiler knows.
+#[inline(always)]
+fn write_values<W: Write>(w: &mut W, at: u64) -> Result<()> {
+    let even = at & 1 == 0;
+    let low = at as u8;
+    write!(w, "{at} {even} {low}: {} {} {}\n", "name", at >> 3, low >> 1)
+}
+
 // Streams in memory, and what stands right before them.
 calls! {
     slice_read(source, room, calls) { read_often(&mut source, room, calls) }
@@ -175,6 +183,29 @@ calls! {
     text_vec(source, room, calls) {
         let mut content = Vec::with_capacity(32 * calls as usize);
         text_often(&mut content, calls).wrapping_add(sample(&content))
+    }
+    values_writer(source, room, calls) {
+        let mut w = buffered_writer::<_, 1024>(Counter::default());
+        let mut sum = 0u64;
+        for at in 0..calls {
+            if write_values(&mut w, at).is_err() {
+                return FAILED;
+            }
+            sum = sum.wrapping_add(1);
+        }
+        flushed(&mut w, sum).wrapping_add(w.get_ref().sum())
+    }
+    values_cursor(source, room, calls) {
+        let mut content = [0u8; 128];
+        let mut sum = 0u64;
+        for at in 0..calls {
+            let mut w = Cursor::new(&mut content[..]);
+            if write_values(&mut w, at).is_err() {
+                return FAILED;
+            }
+            sum = sum.wrapping_add(w.position());
+        }
+        sum
     }
     line_writer(source, room, calls) {
         let mut w = new_line_writer::<_, 1024>(Counter::default());

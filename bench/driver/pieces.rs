@@ -1,7 +1,8 @@
 //! The calls that the original crate lacks, over the streams of the standard library.
 use super::often::first_byte;
 use super::streams::*;
-use crate::cases::FAILED;
+use crate::cases::{FAILED, sample};
+use std::collections::VecDeque;
 
 fn until_often<R: BufRead>(r: &mut R, calls: u64) -> u64 {
     let mut piece = Vec::new();
@@ -25,6 +26,19 @@ fn line_often<R: BufRead>(r: &mut R, calls: u64) -> u64 {
             Ok(n) => sum = sum.wrapping_add(n as u64).wrapping_add(first_byte(line.as_bytes())),
             Err(_) => return FAILED,
         }
+    }
+    sum
+}
+
+// Reads so many streams into new texts, and samples these.
+fn strings<R: Read>(made: impl Fn() -> R, calls: u64) -> u64 {
+    let mut sum = 0u64;
+    for _ in 0..calls {
+        let mut text = String::new();
+        if made().read_to_string(&mut text).is_err() {
+            return FAILED;
+        }
+        sum = sum.wrapping_add(sample(text.as_bytes()));
     }
     sum
 }
@@ -60,6 +74,37 @@ calls! {
     slice_line(source, room, calls) { line_often(&mut source, calls) }
     cursor_line(source, room, calls) { line_often(&mut Cursor::new(source), calls) }
     reader_line_1024(source, room, calls) { line_often(&mut buffered_reader::<_, 1024>(source), calls) }
+    lent_line(source, room, calls) { line_often(&mut &mut buffered_reader::<_, 1024>(source), calls) }
+    chain_line(source, room, calls) {
+        let (first, second) = source.split_at(source.len() / 2);
+        line_often(&mut Read::chain(first, second), calls)
+    }
+    take_line(source, room, calls) { line_often(&mut Read::take(source, u64::MAX), calls) }
+    slice_to_string(source, room, calls) { strings(|| &source[..room.len()], calls) }
+    reader_to_string(source, room, calls) { strings(|| buffered_reader::<_, 1024>(&source[..room.len()]), calls) }
+    queue_turns(source, room, calls) {
+        let mut queue = VecDeque::new();
+        let mut sum = 0u64;
+        for _ in 0..calls {
+            if queue.write_all(&source[..room.len()]).is_err() || queue.read_exact(room).is_err() {
+                return FAILED;
+            }
+            sum = sum.wrapping_add(sample(room));
+        }
+        sum
+    }
+    queue_to_end(source, room, calls) {
+        let mut sum = 0u64;
+        for _ in 0..calls {
+            let mut queue = VecDeque::new();
+            let mut content = Vec::new();
+            if queue.write_all(&source[..room.len()]).is_err() || queue.read_to_end(&mut content).is_err() {
+                return FAILED;
+            }
+            sum = sum.wrapping_add(sample(&content));
+        }
+        sum
+    }
     reader_split_1024(source, room, calls) { items_often(buffered_reader::<_, 1024>(source).split(b'\n'), calls) }
     reader_moves(source, room, calls) {
         let mut r = buffered_reader::<_, 1024>(Cursor::new(source));

@@ -3,7 +3,7 @@
 use std::{cell::RefCell, collections::VecDeque, env, fs, io, io::*, panic, rc::Rc};
 
 #[derive(Default)]
-struct Journal { answers: VecDeque<String>, pending: Vec<u8>, out: Vec<u8>, calls: Vec<String>, writes: usize }
+struct Journal { answers: VecDeque<String>, pending: Vec<u8>, out: Vec<u8>, calls: Vec<String> }
 
 // A device that answers as it is told and notes each call; if it is noted, also those that the traits could make of others.
 #[derive(Clone, Default)]
@@ -15,7 +15,7 @@ fn kind_of(name: &str) -> ErrorKind {
         .into_iter().find(|kind| format!("{kind:?}") == name).unwrap()
 }
 
-// Long runs of letters, each behind the one before it, or of dots are a count and the first byte.
+// Long runs of letters, each following the one before it, or of dots are a count and the first byte.
 fn bytes(bytes: &[u8]) -> String {
     let next = |b: u8| match b { b'a'..=b'v' => b + 1, b'w' => b'a', b'.' => b, _ => 0 };
     let one = |b: u8| match b {
@@ -93,7 +93,6 @@ impl Device {
 impl Write for Device {
     fn write(&mut self, buf: &[u8]) -> io::Result<usize> {
         let answer = self.answer().map(|(word, n)| if word == "take" { buf.len().min(n.parse().unwrap()) } else { buf.len() });
-        self.journal.borrow_mut().writes += 1;
         if let Ok(n) = answer { self.journal.borrow_mut().out.extend(&buf[..n]); }
         self.note(format!("write {} = {}", bytes(buf), number(&answer)));
         answer
@@ -157,7 +156,8 @@ impl Seek for Device {
 fn write_call<W: Write + ?Sized>(w: &mut W, word: &str, rest: &str) -> Option<String> {
     let b = unescape(rest);
     Some(match word {
-        "write" => number(&w.write(&b)), "write_all" => done(&w.write_all(&b)), "flush" => done(&w.flush()), _ => return None })
+        "write" => number(&w.write(&b)), "write_all" => done(&w.write_all(&b)), "flush" => done(&w.flush()),
+        "print" => done(&w.write_fmt(format_args!("{}", String::from_utf8(b).ok()?))), _ => return None })
 }
 fn seek_call<S: Seek + ?Sized>(s: &mut S, word: &str, rest: &str) -> Option<String> {
     Some(match word {
@@ -236,10 +236,11 @@ fn level(names: &[&str], device: Device, content: Option<Vec<u8>>) -> Option<Box
         (["Vec"] | [], Some(content)) => Box::new(Cursor::new(content)),
         (["VecDeque"], Some(content)) => Box::new(VecDeque::from(content)),
         (["[u8]" | "&[u8]"], Some(content)) => Box::new(Cursor::new(content.into_boxed_slice())),
+        (["[u8;2]"], Some(content)) => Box::new(Cursor::new(<[u8; 2]>::try_from(content).ok()?)),
         (["BufWriter", n, rest @ ..], content) => Box::new(BufWriter::with_capacity(n.parse().ok()?, level(rest, device, content)?)),
         (["LineWriter", n, rest @ ..], content) => Box::new(LineWriter::with_capacity(n.parse().ok()?, level(rest, device, content)?)),
         (["Box" | "&mut", rest @ ..], content) => level(rest, device, content)?,
-        (["Device" | "Faulty" | "Tally" | "Vec"] | ["dyn", "Write" | "Seek"] | ["dyn"] | [], None) => Box::new(device),
+        (["Device" | "Vec"] | ["dyn", "Write" | "Seek"] | ["dyn"] | [], None) => Box::new(device),
         _ => return None })
 }
 
@@ -272,8 +273,7 @@ impl Stream for Tower<'_> {
     }
     fn columns(&self) -> String {
         let (top, journal) = (self.top.as_ref().unwrap(), self.device.journal.borrow());
-        let taken = if self.names.contains(&"Tally") { journal.writes.to_string() } else { top.taken(&journal) };
-        if self.device.is_noted { String::new() } else { format!(" | {taken}{}", top.held()) }
+        if self.device.is_noted { String::new() } else { format!(" | {}{}", top.taken(&journal), top.held()) }
     }
 }
 // A vector with so much room, at its end or through a cursor.
@@ -344,7 +344,7 @@ fn source(names: &[&str], device: &Device, words: &str) -> Option<Any> {
         ["Chain", "Text"] => Box::new(source(&[], device, "")?.chain(source(&["Text"], device, "")?)),
         ["Chain", "Take"] => Box::new(source(&["Take"], device, "")?.chain(source(&[], &second, "")?)),
         ["Chain", "Chain"] => Box::new(source(&[], device, "")?.chain(source(&["Chain"], &second, "")?)),
-        ["Chain", one, two] if *one != "Feed" => Box::new(source(&[one], device, first)?.chain(source(&[two], device, behind)?)),
+        ["Chain", one, two] => Box::new(source(&[one], device, first)?.chain(source(&[two], device, behind)?)),
         _ => return None })
 }
 struct Reader { top: Any, shows: fn(&Any) -> String }

@@ -25,6 +25,4 @@ impl Write for Narrow {
     fn flush(&mut self) -> Result<()> {
         Ok(())
     }
-
-    ghost steady = { λ w h. absurd h };
 }

@@ -37,6 +37,4 @@ impl<P: Port> Write for Serial<P> {
     fn flush(&mut self) -> Result<()> {
         Ok(())
     }
-
-    ghost steady = { λ w h. absurd h };
 }

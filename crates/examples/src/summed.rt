@@ -50,8 +50,6 @@ impl<W: Write> Write for Summed<W> {
     fn flush(&mut self) -> Result<()> {
         self.inner.flush()
     }
-
-    ghost steady = { λ s h. absurd h };
 }
 
 /// Writes the bytes of `rest` by the trait's loop. The bytes that are gone from `rest` are in the sum, also after

@@ -1,39 +1,90 @@
 //! Reads frames from standard input, and prints a line for each: its payload, with each byte escaped that is not
 //! printable ASCII. A frame is a length, as a little-endian `u32`, followed by that many bytes.
 //!
-//! The status is 0 if the input ends after a frame, and 1 after a fault, whose text is printed to standard
-//! error.
+//! The status is 0 if the input ends after a frame, 1 after a fault, whose text is printed to standard error, and 2 if there is an
+//! argument.
 #![tactic(auto)]
+
+ghost use Rattle.std.specs.Prelude.{◌≡◌, [], OnOk, OnErr};
+ghost use Rattle.std.specs.Process.{exit_status};
+ghost use Rattle.line_log.specs.Log.{log_tells};
+ghost use Rattle.frame_lines.specs.Fits.{FramesFit, LogFits};
 
 use framing::FrameReader;
 use line_log::LineLog;
-use no_std_io2::io::Result;
-use std::io;
+use no_std_io2::io::{Error, ErrorKind, Read, Result, Write};
+use std::alloc::Global;
 use std::process::ExitCode;
+use std::rt::Env;
+use std::{env, io};
 use system_streams::Patient;
 
 // The longest payload, in bytes.
-const LIMIT: u32 = 65_536;
+const LIMIT: usize = 4096;
 
-fn print_frames(rt: &HostRuntime) -> Result<()> {
-    let input = Patient::new(rt.reader(), u64::MAX);
-    let output = Patient::new(io::writer(rt), u64::MAX);
-    let mut frames = FrameReader::<_, 512>::new(rt.alloc(), input, LIMIT);
-    let mut lines = LineLog::<_, 512>::new(rt.alloc(), output);
-    'frames: while let Some(payload) = frames.next()? {
-        let text = payload.escape_ascii();
-        let line = format!(in rt.alloc(); "{text}")?;
-        lines.log(line.as_str())?;
+// The buffer of the log: four bytes for each of a payload, a newline, and one more.
+const LINE: usize = 4 * LIMIT + 2;
+
+// Returns whether there is an argument after the program's name.
+fn has_argument<R: Env + Alloc<A = Global>>(rt: &R) -> Result<bool> {
+    match env::args(rt) {
+        Ok(mut words) => {
+            let _program = words.next();
+            Ok(words.next().is_some())
+        }
+        Err(e) if e.kind() == io::ErrorKind::OutOfMemory => {
+            Err(Error::from(ErrorKind::OutOfMemory))
+        }
+        Err(_) => Ok(true),
+    }
+}
+
+// Prints a line for each frame.
+fn print_frames<R: Read + Drop, W: Write + Drop>(
+    frames: &mut FrameReader<R, 512>,
+    lines: &mut LineLog<W, LINE>,
+) -> Result<()>
+    requires frames { FramesFit R.row }
+    requires log { LogFits W.row }
+    // After `Ok`, the log and the writer below it have sent all that they held.
+    ensures flushed { OnOk result ((log_tells W.told lines.new).held ≡ []) }
+{
+    let mut room = [0u8; LIMIT];
+    'frames: while let Some(len) = frames.next(&mut room)? {
+        lines.log_text(room[..len].escape_ascii())?;
     }
     lines.flush()
 }
 
-fn main(rt: HostRuntime) -> ExitCode {
-    match print_frames(&rt) {
+fn run(rt: &HostRuntime) -> Result<()> {
+    let input = Patient::new(rt.reader(), u64::MAX);
+    let output = Patient::new(io::writer(rt), u64::MAX);
+    let mut frames = FrameReader::<_, 512>::new(input);
+    let mut lines = LineLog::<_, LINE>::new(output);
+    print_frames(&mut frames, &mut lines)
+}
+
+// Returns the status of a run, and prints its fault to standard error.
+fn report(rt: &HostRuntime, answer: Result<()>) -> ExitCode
+    ensures done { OnOk answer (exit_status result ≡ 0) }
+    ensures failed { OnErr answer (exit_status result ≡ 1) }
+{
+    match answer {
         Ok(()) => ExitCode::SUCCESS,
         Err(error) => {
             let _ = eprintln!(rt; "frame_lines: {error}");
             ExitCode::FAILURE
         }
+    }
+}
+
+fn main(rt: HostRuntime) -> ExitCode {
+    match has_argument(&rt) {
+        Ok(false) => report(&rt, run(&rt)),
+        Ok(true) => {
+            let _ = eprintln!(rt; "usage: frame_lines");
+            ExitCode::from(2)
+        }
+        Err(error) => report(&rt, Err(error)),
     }
 }

@@ -1,5 +1,4 @@
-pub mod DeliveryLemmas
-pub mod FrameLemmas
-pub mod RunLemmas
-pub mod RoundTrip
-pub mod WentOut
+pub mod SendingLemmas
+pub mod DropsLemmas
+pub mod TakingLemmas
+pub mod BackLemmas

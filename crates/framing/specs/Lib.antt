@@ -1,4 +1,4 @@
 pub mod Frames
 pub mod Sending
 pub mod Taking
-pub mod Part
+pub mod Back

@@ -1,48 +1,69 @@
--- What a writer of frames holds and tells, and what its calls do.
-use Rattle.std.specs.Prelude.{◌<◌, ◌≤◌, ◌+◌, ◌^◌, All, List, ℕ, length, Ok}
-use Rattle.no_std_io2.specs.Write.{Told, Sends}
-use Rattle.no_std_io2.specs.BufWriter.{writer_inner, writer_buffer, writer_told}
-use Rattle.pending.specs.Pending.{pending_bytes, pending_rest, pending_room}
-use Rattle.pending.specs.Pending as records
+-- What a writer of frames holds and tells, and what its calls do. I are the ghost members of the writer below.
+use Rattle.std.specs.Prelude.{◌≡◌, ◌⊎◌, ℕ, ◌+◌, ◌<◌, ◌≤◌, ◌^◌, List, ◌++◌, length, codes, [], ◌∷◌, Result, Ok, Err, IsErrAnd}
+use Rattle.no_std_io2.specs.Errors.{SaysError}
+use Rattle.no_std_io2.specs.Write.{Told, Moves}
+use Rattle.no_std_io2.specs.BufWriter.{writer_inner, writer_buffer, writer_told, Puts}
+use Rattle.no_std_io2.specs.Writers.{Writer}
 use Rattle.no_std_io2.specs.declared.io.BufWriter.{BufWriter}
+use Rattle.no_std_io2.specs.declared.io.Error.{Error}
+use Rattle.no_std_io2.specs.declared.io.ErrorKind.TheVariants.{InvalidInput}
+use Rattle.framing.specs.Frames.{frame, frames}
 use Rattle.framing.specs.declared.writer.FrameWriter.{FrameWriter}
-
--- the writer below
-abbrev pub writes_to : {W : Type 0} {S : ℕ} → FrameWriter W S → W
-writes_to w = writer_inner w.inner
 
 -- the buffered writer, which has the writer below in it
 abbrev pub frame_writer : {W : Type 0} {S : ℕ} → FrameWriter W S → BufWriter W S
 frame_writer w = w.inner
 
+-- the writer below
+abbrev pub writes_to : {W : Type 0} {S : ℕ} → FrameWriter W S → W
+writes_to w = writer_inner w.inner
+
 -- the bytes in the buffer
 abbrev pub frames_held : {W : Type 0} {S : ℕ} → FrameWriter W S → List ℕ
 frames_held w = writer_buffer w.inner
 
--- what the buffered writer tells if the writer below tells `told`
+-- what it tells if the writer below tells `told`
 abbrev pub writer_tells : {W : Type 0} {S : ℕ} → (W → Told) → FrameWriter W S → Told
 writer_tells told w = writer_told told w.inner
 
--- the frame that is under way, or no byte if there is none
-abbrev pub under_way : {W : Type 0} {S : ℕ} → FrameWriter W S → List ℕ
-under_way w = pending_bytes w.pending
+-- the frame of this payload is shorter than a buffer of S bytes
+abbrev pub IsShort : ℕ → List ℕ → Type 0
+IsShort S payload = (length payload + 4 < S) × (length payload < 2 ^ 32)
 
--- the unsent rest of that frame
-abbrev pub still_to_go : {W : Type 0} {S : ℕ} → FrameWriter W S → List ℕ
-still_to_go w = pending_rest w.pending
+-- it is not, or there is no such frame
+abbrev pub IsLong : ℕ → List ℕ → Type 0
+IsLong S payload = (S ≤ length payload + 4) ⊎ (2 ^ 32 ≤ length payload)
 
--- the number of bytes of a frame for which there is room
-abbrev pub frame_room : {W : Type 0} {S : ℕ} → FrameWriter W S → ℕ
-frame_room w = pending_room w.pending
+-- e is the error of a frame that is not shorter than the buffer
+abbrev pub SaysTooLong : Error → Type 0
+SaysTooLong e = SaysError InvalidInput (codes "a frame is longer than the buffer") e
 
--- the frame of one of these payloads is longer than the room
-abbrev pub HasLongFrame : ℕ → List (List ℕ) → Type 0
-HasLongFrame room payloads = All (λ p. 4 + length p ≤ room) payloads → ⊥
+-- a frame was put into the buffer, whole or not at all
+abbrev pub PutsFrame : {W : Type 0} {S : ℕ} → Writer W → List ℕ → FrameWriter W S → Result (Unit {0}) Error → FrameWriter W S → Type 0
+PutsFrame {S = S} I payload old reply new = Puts I writer_inner writer_buffer S (frame payload) (frame_writer old) reply (frame_writer new)
 
--- the payloads that are gone from the front are short enough for a frame
-abbrev pub TakesPayloads : List (List ℕ) → List (List ℕ) → Type 0
-TakesPayloads = records.TakesOff (λ p. length p < 2 ^ 32)
+-- `send(payload)`: its frame was put; or it is too long, and the writer is unchanged
+abbrev pub SendsFrame : {W : Type 0} {S : ℕ} → Writer W → List ℕ → FrameWriter W S → Result (Unit {0}) Error → FrameWriter W S → Type 0
+SendsFrame {S = S} I payload old reply new =
+    (IsShort S payload × PutsFrame I payload old reply new) ⊎ (IsLong S payload × IsErrAnd reply SaysTooLong × (new ≡ old))
 
--- The bytes that are gone from the front of `to_go` were accepted, each once, in order, by calls that may have failed.
-abbrev pub Delivers : Told → List ℕ → Told → List ℕ → Type 0
-Delivers old to_go new left = Sends old to_go (Ok tt) new left
+-- the frames of these payloads were put, one after another
+abbrev pub PutsEach : {W : Type 0} {S : ℕ} → Writer W → FrameWriter W S → List (List ℕ) → FrameWriter W S → Type 0
+PutsEach I old [] new = new ≡ old
+PutsEach {W} {S} I old (p ∷ ps) new = (mid : FrameWriter W S) × SendsFrame I p old (Ok tt) mid × PutsEach I mid ps new
+
+-- how `send_all` ended: no payload is left; or the first that is left met this error
+abbrev pub Ends : {W : Type 0} {S : ℕ} → Writer W → FrameWriter W S → List (List ℕ) → Result (Unit {0}) Error → FrameWriter W S → Type 0
+Ends I mid left (Ok u) new = (left ≡ []) × (new ≡ mid)
+Ends I mid [] (Err e) new = ⊥
+Ends I mid (p ∷ ps) (Err e) new = SendsFrame I p mid (Err e) new
+
+-- The payloads that are gone from the front were sent, and the last call ended like this.
+pub record SendsFrames {W : Type 0} {S : ℕ} (I : Writer W) (old : FrameWriter W S) (payloads : List (List ℕ)) (reply : Result (Unit {0}) Error)
+    (new : FrameWriter W S) (left : List (List ℕ)) : Type 0 where
+  pub sent : List (List ℕ)
+  pub split : payloads ≡ sent ++ left
+  pub mid : FrameWriter W S
+  pub each : PutsEach I old sent mid
+  pub moves : Moves (writer_tells I.told old) (frames sent) [] (writer_tells I.told mid)
+  pub ends : Ends I mid left reply new

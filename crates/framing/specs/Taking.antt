@@ -1,103 +1,106 @@
--- Which events a reader of frames takes.
-use Rattle.std.specs.Prelude.{◌≡◌, ◌⊎◌, ℕ, ◌<◌, ◌≤◌, ◌+◌, List, [], ◌∷◌, ◌++◌, length, drop, All, codes, vec_len, vec_capacity}
-use Rattle.std.specs.Global.{Vec}
-use Rattle.std.specs.Prelude.{Bool, true, false, Option, Some, None, Result, Ok, Err, OnOk, IfErr}
-use Rattle.no_std_io2.specs.Errors.{IsFault, IsOutOfMemory, SaysError}
-use Rattle.no_std_io2.specs.Read.{Event, fails, events_of}
-use Rattle.no_std_io2.specs.Passing.{TakesBytes, Gathered}
+-- What a reader of frames has, and which events it takes.
+use Rattle.std.specs.Prelude.{◌≡◌, ◌⊎◌, ℕ, zero, suc, ◌+◌, ◌<◌, ◌≤◌, ◌^◌, List, [], ◌∷◌, ◌++◌, length, take, min, codes}
+use Rattle.std.specs.Prelude.{true, Option, Some, None, Result, Ok, Err}
+use Rattle.std.specs.Int.{w32, to_le_bytes}
+use Rattle.no_std_io2.specs.Errors.{IsFault, IsInterruption, SaysError}
+use Rattle.no_std_io2.specs.Read.{Event, byte, fails, events_of, ReadCall}
+use Rattle.no_std_io2.specs.BufReader.{reader_held, reader_inner, reader_events, reader_turns}
+use Rattle.no_std_io2.specs.FillTo.{FillToMade}
 use Rattle.no_std_io2.specs.declared.io.Error.{Error}
-use Rattle.no_std_io2.specs.declared.io.ErrorKind.TheVariants.{InvalidData, UnexpectedEof}
-use Rattle.framing.specs.Frames.{frame, frames, told_length, IsPart}
+use Rattle.no_std_io2.specs.declared.io.BufReader.{BufReader}
+use Rattle.no_std_io2.specs.declared.io.ErrorKind.TheVariants.{InvalidInput}
+use Rattle.framing.specs.Frames.{frame, told_length, IsPart, SaysEnded}
+use Rattle.framing.specs.declared.reader.FrameReader.{FrameReader}
 
--- A part was read up to `want` bytes: it has them; or the end or a fault came before; or an allocation failed, and the room was too small.
-abbrev pub GathersPart : ℕ → Type 0 → List Event → Result Bool Error → List ℕ → List ℕ → List Event → Type 0
-GathersPart want short E (Ok true) old new after = Gathered E old new after × (want ≤ length new)
-GathersPart want short E (Ok false) old new after = Gathered E old new after × (length new < want) × (after ≡ [])
-GathersPart want short E (Err e) old new after =
-    (Gathered E old new (fails e ∷ after) × (length new < want) × IsFault e) ⊎ (Gathered E old new after × IsOutOfMemory e × short)
+-- the buffered reader, which has the reader below in it
+abbrev pub frame_reader : {R : Type 0} {S : ℕ} → FrameReader R S → BufReader R S
+frame_reader r = r.inner
+
+-- the reader below
+abbrev pub reads_from : {R : Type 0} {S : ℕ} → FrameReader R S → R
+reads_from r = reader_inner r.inner
+
+-- a header that says this length, with more bytes; or no byte if the length is 0
+abbrev pub begun : ℕ → List ℕ → List ℕ
+begun zero more = []
+begun (suc n) more = to_le_bytes w32 (suc n) ++ more
+
+-- the part that was read of a frame that is longer than the buffer: its header, and the bytes of its payload that are in the room
+abbrev pub long_part : {R : Type 0} {S : ℕ} → FrameReader R S → List ℕ → List ℕ
+long_part r room = begun r.len (take r.given room)
+
+-- the bytes to come that were read: that part, and then the held bytes
+abbrev pub seen_bytes : {R : Type 0} {S : ℕ} → FrameReader R S → List ℕ → List ℕ
+seen_bytes r room = long_part r room ++ reader_held r.inner
+
+-- the events to come, with this room, if the reader below tells `events`
+abbrev pub frame_events : {R : Type 0} {S : ℕ} → (R → List Event) → FrameReader R S → List ℕ → List Event
+frame_events events r room = events_of (long_part r room) ++ reader_events events r.inner
+
+-- a number that each frame lowers, if the reader below tells `turns`
+abbrev pub frame_turns : {R : Type 0} {S : ℕ} → (R → ℕ) → FrameReader R S → ℕ
+frame_turns turns r = reader_turns turns r.inner + min 1 r.len
+
+-- F is E without some interruptions that have no fault before them
+pub data Drops : List Event → List Event → Type 0 where
+  same : {E : List Event} → Drops E E
+  keeps : {b : ℕ} {E F : List Event} → Drops E F → Drops (byte b ∷ E) (byte b ∷ F)
+  drops : {e : Error} {E F : List Event} → IsInterruption e → Drops E F → Drops (fails e ∷ E) F
 
 -- A fault came before the next frame was whole. The fault is taken, and the bytes before it are still to come.
-pub record Stops (limit : ℕ) (E : List Event) (e : Error) (after : List Event) : Type 0 where
+pub record Stops (E : List Event) (e : Error) (after : List Event) : Type 0 where
   pub seen : List ℕ
   pub rest : List Event
-  pub passes : TakesBytes E seen (fails e ∷ rest)
+  pub is : E ≡ events_of seen ++ fails e ∷ rest
   pub kept : after ≡ events_of seen ++ rest
   pub part : IsPart seen
   pub fault : IsFault e
+
+-- e is the error of a payload that is longer than the room
+abbrev pub SaysNoRoom : Error → Type 0
+SaysNoRoom e = SaysError InvalidInput (codes "a payload is longer than the room") e
 
 -- The bytes end inside a frame. They are still to come.
 pub record EndsInside (E : List Event) (e : Error) (after : List Event) : Type 0 where
   pub seen : List ℕ
-  pub passes : TakesBytes E seen []
-  pub kept : after ≡ events_of seen
+  pub is : E ≡ events_of seen
+  pub kept : after ≡ E
   pub some : 0 < length seen
   pub part : IsPart seen
-  pub says : SaysError UnexpectedEof (codes "the bytes end inside a frame") e
+  pub says : SaysEnded e
 
--- The next frame is longer than the limit. It is still to come.
+-- The payload of the next frame is longer than `limit`. The frame is still to come.
 pub record IsTooLong (limit : ℕ) (E : List Event) (e : Error) (after : List Event) : Type 0 where
   pub seen : List ℕ
   pub rest : List Event
-  pub passes : TakesBytes E seen rest
-  pub kept : after ≡ events_of seen ++ rest
+  pub is : E ≡ events_of seen ++ rest
+  pub kept : after ≡ E
   pub header : 4 ≤ length seen
   pub above : limit < told_length seen
-  pub says : SaysError InvalidData (codes "a frame is longer than the limit") e
-
--- An allocation failed, and the room was too small. The next frame is still to come.
-pub record KeepsFrame (lacks : Type 0) (E : List Event) (e : Error) (after : List Event) : Type 0 where
-  pub seen : List ℕ
-  pub rest : List Event
-  pub passes : TakesBytes E seen rest
-  pub kept : after ≡ events_of seen ++ rest
-  pub memory : IsOutOfMemory e
-  pub short : lacks
+  pub says : SaysNoRoom e
 
 -- no frame was taken, and no byte is lost
-abbrev pub TakesNone : ℕ → Type 0 → List Event → Error → List Event → Type 0
-TakesNone limit short E e after =
-    (Stops limit E e after ⊎ EndsInside E e after) ⊎ (IsTooLong limit E e after ⊎ KeepsFrame short E e after)
+abbrev pub TakesNone : ℕ → List Event → Error → List Event → Type 0
+TakesNone limit E e after = (Stops E e after ⊎ EndsInside E e after) ⊎ IsTooLong limit E e after
 
--- The next frame was read whole, with this payload; or there is none; or an error came.
-abbrev pub GathersFrame : ℕ → Type 0 → List Event → Result Bool Error → List ℕ → List ℕ → List Event → Type 0
-GathersFrame limit short E (Ok true) part payload after = TakesBytes E (frame payload) after × (length payload ≤ limit)
-GathersFrame limit short E (Ok false) part payload after = TakesBytes E [] after × (after ≡ []) × (part ≡ [])
-GathersFrame limit short E (Err e) part payload after = TakesNone limit short E e (events_of part ++ after)
+-- a frame was taken, and its payload is at the front of the room; or there is none; or an error came
+abbrev pub TakesNext : ℕ → List Event → Result (Option ℕ) Error → List ℕ → List Event → Type 0
+TakesNext limit E (Ok (Some n)) room after = (E ≡ events_of (frame (take n room)) ++ after) × (n ≤ limit) × (n < 2 ^ 32)
+TakesNext limit E (Ok None) room after = (E ≡ []) × (after ≡ [])
+TakesNext limit E (Err e) room after = TakesNone limit E e after
 
--- `next` returned a payload; or the end; or an error
-abbrev pub TakesFrame : {X : Type 0} → (X → List ℕ) → ℕ → Type 0 → List Event → Result (Option X) Error → List Event → Type 0
-TakesFrame items limit short E (Ok (Some x)) after = TakesBytes E (frame (items x)) after × (length (items x) ≤ limit)
-TakesFrame items limit short E (Ok None) after = TakesBytes E [] after × (after ≡ [])
-TakesFrame items limit short E (Err e) after = TakesNone limit short E e after
+-- some interruptions were ignored, and then this happened to the events
+abbrev pub TakesFrame : ℕ → List Event → Result (Option ℕ) Error → List ℕ → List Event → Type 0
+TakesFrame limit E reply room after = (F : List Event) × Drops E F × TakesNext limit F reply room after
 
--- the frames of these payloads are gone from the front of E, and each payload is within the limit
-pub record PassesFrames (limit : ℕ) (E : List Event) (payloads : List (List ℕ)) (after : List Event) : Type 0 where
-  pub passes : TakesBytes E (frames payloads) after
-  pub each : All (λ p. length p ≤ limit) payloads
+-- the length of the next payload was read; or there is no next frame; or an error came. No byte is taken
+abbrev pub SeesLength : List Event → Result (Option ℕ) Error → List Event → Type 0
+SeesLength E (Ok (Some len)) after = Drops E after
+SeesLength E (Ok None) after = Drops E [] × (after ≡ [])
+SeesLength E (Err e) after = (F : List Event) × Drops E F × (Stops F e after ⊎ EndsInside F e after)
 
--- `read_all` appended these payloads, up to the end or an error
-abbrev pub TakesFrames : ℕ → Type 0 → List Event → Result (Unit {0}) Error → List (List ℕ) → List Event → Type 0
-TakesFrames limit short E (Ok u) payloads after = PassesFrames limit E payloads after × (after ≡ [])
-TakesFrames limit short E (Err e) payloads after =
-    (mid : List Event) × PassesFrames limit E payloads mid × TakesNone limit short mid e after
-
--- the first fault of E
-pub record IsFirstFault (E : List Event) (e : Error) : Type 0 where
-  pub seen : List ℕ
-  pub rest : List Event
-  pub passes : TakesBytes E seen (fails e ∷ rest)
-  pub fault : IsFault e
-
--- If the frames of `sent` were to come, these payloads were given, and the others are still to come: none after `Ok`. An error is the first
--- fault, or a failed allocation if the room was too small.
-pub record ComesBack (short : Type 0) (sent : List (List ℕ)) (E : List Event) (reply : Result (Unit {0}) Error)
-    (given : List (List ℕ)) (left : List ℕ) : Type 0 where
-  pub more : List (List ℕ)
-  pub split : sent ≡ given ++ more
-  pub rest : left ≡ frames more
-  pub ok : OnOk reply (more ≡ [])
-  pub err : IfErr reply (λ e. IsFirstFault E e ⊎ (IsOutOfMemory e × short))
-
--- there is no room for one more element
-abbrev pub HasNoSpare : {X : Type 0} → Vec X → Type 0
-HasNoSpare v = vec_capacity v < vec_len v + 1
+-- If the next frame is known to have a payload that is longer than `limit`, only the reads were made that its header needs: each with fewer
+-- than four bytes held.
+abbrev pub LeavesUnread : {R : Type 0} {S : ℕ} → (R → ReadCall → R → Type 0) → ℕ → FrameReader R S → FrameReader R S → List ℕ → Type 0
+LeavesUnread may limit old new room = 4 ≤ length (seen_bytes new room) → limit < told_length (seen_bytes new room)
+    → FillToMade may 4 (frame_reader old) (Ok true) (frame_reader new)

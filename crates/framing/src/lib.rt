@@ -1,11 +1,12 @@
-//! Frames over byte streams: payloads with their length in front, over any `Write` and any `Read`.
+//! Frames over byte streams: payloads with their length in front, over any `Write` and any `Read`. Nothing is
+//! allocated.
 //!
 //! A frame is the length of its payload, as a little-endian `u32`, followed by the payload.
-//! [`FrameWriter`] sends each payload exactly once, whatever its device does. [`FrameReader`] reads them
-//! back in order, and a fault loses none. [`round_trip`] does both.
+//! [`FrameWriter`] sends each frame whole or not at all. [`FrameReader`] reads them back in order, and a fault
+//! loses none.
 //!
 //! ```rust
-//! let mut w = FrameWriter::<Vec<u8>, 64>::new(rt.alloc(), Vec::new(rt.alloc()));
+//! let mut w = FrameWriter::<Vec<u8>, 64>::new(Vec::new(rt.alloc()));
 //! w.send(b"ab")?;
 //! w.flush()?;
 //! assert!(rt; w.get_ref().as_slice() == b"\x02\0\0\0ab".as_slice());
@@ -13,9 +14,7 @@
 #![tactic(auto)]
 
 mod reader;
-mod round;
 mod writer;
 
 pub use reader::FrameReader;
-pub use round::{Shown, round_trip};
 pub use writer::FrameWriter;

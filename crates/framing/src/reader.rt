@@ -1,184 +1,252 @@
 //! [`FrameReader`], which reads frames. A fault loses no frame, and no frame is given twice.
-ghost use Rattle.std.specs.Prelude.{◌≡◌, ◌⊎◌, ◌<◌, ◌≤◌, ◌^◌, [], ◌++◌, true, map, All, ℕ, List, length, codes};
-ghost use Rattle.std.specs.Prelude.{IfOk, IfErr, OnOk, OnErr, IfSome};
-ghost use Rattle.no_std_io2.specs.Errors.{IsFault, SaysError};
-ghost use Rattle.no_std_io2.specs.Read.{bytes};
-ghost use Rattle.framing.specs.Frames.{frames};
-ghost use Rattle.framing.specs.Part.{reads_from, frame_events, frame_turns, most, part_of, part_bytes, part_payload};
-ghost use Rattle.framing.specs.Part.{told_by, payload_room, LacksRoom};
-ghost use Rattle.no_std_io2.specs.BufReader.{reader_events, reader_turns};
-ghost use Rattle.no_std_io2.specs.Appended.{appended};
-ghost use Rattle.framing.specs.Taking.{GathersFrame, TakesFrame, TakesFrames, HasNoSpare, ComesBack};
+ghost use Rattle.std.specs.Prelude.{◌≡◌, ◌+◌, ◌<◌, ◌≤◌, ◌^◌, ℕ, List, ◌++◌, All, true, take, length, Ok, IfOk, IfErr, OnErr, IfSome, IfNone};
+ghost use Rattle.no_std_io2.specs.Errors.{IsFault};
+ghost use Rattle.no_std_io2.specs.Read.{bytes, events_of};
+ghost use Rattle.no_std_io2.specs.Write.{Told};
+ghost use Rattle.no_std_io2.specs.BufReader.{reader_held};
+ghost use Rattle.no_std_io2.specs.FillTo.{FillToMade};
+ghost use Rattle.framing.specs.Frames.{frame, frames, told_length, HasHeader};
 
-mod part;
+mod parts;
 
-use no_std_io2::io::{BufReader, Error, ErrorKind, Read, Result};
-use part::Part;
-use std::alloc::Global;
+use no_std_io2::io::{BufRead, BufReader, Error, ErrorKind, Read, Result};
+use parts::{HEADER, ended_inside, fill_rest, told_len};
 
 /// A reader of frames, with a buffer of `S` bytes in front of any reader.
 ///
-/// If the reader below fails inside a frame, this reader keeps the part of the frame that it has, and the
-/// next call continues with it. So an error loses no byte. After `Ok(None)` and after an error the same
-/// call may be made again.
+/// A frame of at most `S` bytes is gathered in the buffer, and taken whole. The payload of a longer one is read past
+/// the buffer into the caller's room. If a fault comes inside it, the bytes before the fault are at the front of the
+/// room, and the next call continues behind them. So after `Ok(None)` and after an error, the same call with the same
+/// room may be made again, and no byte is lost.
 ///
 /// ```rust
 /// let wire = Cursor::new(*b"\x02\0\0\0ab\x01\0\0\0c");
-/// let mut r = FrameReader::<_, 64>::new(rt.alloc(), wire, 1024);
-/// assert!(rt; r.next()?.is_some_and(|payload| payload.as_slice() == b"ab".as_slice()));
-/// assert!(rt; r.next()?.is_some_and(|payload| payload.as_slice() == b"c".as_slice()));
-/// assert!(rt; r.next()?.is_none());
+/// let mut r = FrameReader::<_, 64>::new(wire);
+/// let mut room = [0u8; 16];
+/// assert!(rt; r.next(&mut room)? == Some(2));
+/// assert!(rt; &room[..2] == b"ab".as_slice());
+/// assert!(rt; r.next(&mut room)? == Some(1));
+/// assert!(rt; r.next(&mut room)?.is_none());
 /// ```
 #[derive(Drop)]
-pub struct FrameReader<R: Read, const S: usize> {
+pub struct FrameReader<R, const S: usize> {
     inner: BufReader<R, S>,
-    part: Part,
-    limit: u32,
+    // The length of the payload that is read past the buffer, or 0 if none is.
+    len: usize,
+    // How many of its bytes are in the caller's room.
+    given: usize,
+    ghost header_fits: { 4 ≤ S },
+    ghost is_u32: { len < 2 ^ 32 },
+    ghost within: { given ≤ len },
 }
 
 impl<R: Read, const S: usize> FrameReader<R, S> {
-    /// Makes a reader of the frames of `inner`, whose payloads have at most `limit` bytes. `S` is from 1
-    /// to 2^63 - 1. Payloads are allocated from `alloc`.
-    pub fn new(alloc: Global, inner: R, limit: u32) -> FrameReader<R, S>
-        requires some_room { 0 < S }
+    ghost use Rattle.framing.specs.Taking.{frame_reader, reads_from, seen_bytes, frame_events, frame_turns};
+    ghost use Rattle.framing.specs.Taking.{SeesLength, TakesFrame, LeavesUnread};
+    ghost use Rattle.framing.specs.Back.{GivesBack, WentOut};
+
+    /// Makes a reader of the frames of `inner`. `S` is from 4 to 2^63 - 1.
+    pub fn new(inner: R) -> FrameReader<R, S>
+        requires header_fits { 4 ≤ S }
         requires in_memory { S < 2 ^ 63 }
-        ensures events { frame_events R.events result ≡ R.events inner }
         ensures inner { reads_from result ≡ inner }
-        ensures limit { most result ≡ limit }
-        ensures room { payload_room (part_of result) ≡ 0 }
+        ensures events { (room : List ℕ) → frame_events R.events result room ≡ R.events inner }
     {
         FrameReader {
             inner: BufReader::new(inner),
-            part: Part::new(alloc),
-            limit,
+            len: 0,
+            given: 0,
         }
     }
 
-    /// Gets a reference to the reader below, which is ahead by the bytes in the buffer and the part
-    /// of a frame that this reader keeps.
+    /// Gets a reference to the reader below, which is ahead by the bytes that were read and not yet given.
     pub fn get_ref(&self) -> &R
         ensures { result.now ≡ reads_from self.now }
     {
         self.inner.get_ref()
     }
 
-    /// Sets the limit for payloads from now on. A frame that was refused for its length is given if it
-    /// is within the new limit.
-    ///
-    /// ```rust
-    /// let wire = Cursor::new(*b"\x02\0\0\0ab");
-    /// let mut r = FrameReader::<_, 64>::new(rt.alloc(), wire, 1);
-    /// assert!(rt; r.next().is_err());
-    /// r.set_limit(2);
-    /// assert!(rt; r.next()?.is_some()); // no byte of it was lost
-    /// ```
-    pub fn set_limit(&mut self, limit: u32)
-        ensures limit { most self.new ≡ limit }
-        ensures inner { reads_from self.new ≡ reads_from self.old }
-        ensures events { frame_events R.events self.new ≡ frame_events R.events self.old }
-    {
-        self.limit = limit;
-    }
-
-    // Reads until the next frame is whole. `false` means that the bytes ended right before a frame.
-    fn gather_frame(&mut self) -> Result<bool>
-        ensures told { R.tells (reads_from self.old) → R.tells (reads_from self.new)
-            × GathersFrame (most self.old) (LacksRoom (most self.old) self.new.part) (frame_events R.events self.old) result
-            (part_bytes self.new.part) (part_payload self.new.part) (reader_events R.events self.new.inner) }
-        ensures unasked { OnErr result (most self.old < told_by self.new.part
-            → payload_room self.new.part ≡ payload_room self.old.part) }
-        ensures limit { most self.new ≡ most self.old }
-        ensures never_interrupted { IfErr result IsFault }
-        ensures within { IfOk result (λ b. b ≡ true → length (part_payload self.new.part) ≤ most self.old) }
-        ensures spends_turn { IfOk result (λ b. b ≡ true → reader_turns R.turns self.new.inner < frame_turns R.turns self.old) }
-    {
-        if !self.part.fill_header(&mut self.inner)? {
-            if self.part.is_empty() {
-                return Ok(false);
-            }
-            return Err(ended_inside());
-        }
-        let len = self.part.told_len();
-        if len > self.limit {
-            let text = "a frame is longer than the limit";
-            return Err(Error::new(ErrorKind::InvalidData, text));
-        }
-        if !self.part.fill_payload(&mut self.inner, len as usize)? {
-            return Err(ended_inside());
-        }
-        Ok(true)
-    }
-
-    /// Returns the payload of the next frame, or `None` if the bytes end after a whole frame. It
-    /// ignores interruptions.
+    /// Gives the payload of the next frame into the front of `room`, and returns its length. Returns `None` if the
+    /// bytes end after a whole frame. It ignores interruptions.
     ///
     /// # Errors
-    /// Returns the first fault of the reader below; the next call continues after it. Returns `UnexpectedEof` if
-    /// the bytes end inside a frame. Returns `InvalidData` if the next payload is longer than the limit; nothing
-    /// is allocated for it. Returns `OutOfMemory` if there is no room for the payload; nothing of it is read. After
-    /// each of these errors the frame is still to come, with all its bytes. Never returns `Interrupted`.
-    pub fn next(&mut self) -> Result<Option<Vec<u8>>>
+    /// Returns the first fault of the reader below; the next call continues after it. Returns `UnexpectedEof` if the
+    /// bytes end inside a frame. Returns `InvalidInput` if the payload is longer than `room`; no read is made for it
+    /// once its header is held. After each of these errors the frame is still to come, with all its bytes, if the next
+    /// call gets the same room, or a longer one that begins with the same bytes. Never returns `Interrupted`.
+    pub fn next(&mut self, room: &mut [u8]) -> Result<Option<usize>>
         ensures told { R.tells (reads_from self.old) → R.tells (reads_from self.new)
-            × TakesFrame (λ v. v.items) (most self.old) (LacksRoom (most self.old) (part_of self.new))
-            (frame_events R.events self.old) result (frame_events R.events self.new) }
-        ensures unasked { OnErr result (most self.old < told_by (part_of self.new)
-            → payload_room (part_of self.new) ≡ payload_room (part_of self.old)) }
-        ensures within { IfOk result (λ o. IfSome o (λ payload. length payload.items ≤ most self.old)) }
-        ensures kept { R.tells (reads_from self.old)
-            → IfErr result (λ _. bytes (frame_events R.events self.new) ≡ bytes (frame_events R.events self.old)) }
-        ensures limit { most self.new ≡ most self.old }
+            × TakesFrame (length room.old) (frame_events R.events self.old room.old) result room.new
+            (frame_events R.events self.new room.new) }
+        ensures kept { R.tells (reads_from self.old) → IfErr result (λ _.
+            bytes (frame_events R.events self.new room.new) ≡ bytes (frame_events R.events self.old room.old)) }
+        ensures back { (sent : List (List ℕ)) → R.tells (reads_from self.old)
+            → bytes (frame_events R.events self.old room.old) ≡ frames sent → All (λ p. length p < 2 ^ 32) sent
+            → GivesBack (length room.old) sent (frame_events R.events self.old room.old) result room.new
+            (bytes (frame_events R.events self.new room.new)) }
+        ensures round { (old new : Told) (sent : List (List ℕ))
+            → WentOut old sent new (bytes (frame_events R.events self.old room.old)) → R.tells (reads_from self.old)
+            → All (λ p. length p < 2 ^ 32) sent → GivesBack (length room.old) sent (frame_events R.events self.old room.old) result
+            room.new (bytes (frame_events R.events self.new room.new)) }
+        ensures unread { OnErr result (LeavesUnread R.may (length room.old) self.old self.new room.new) }
+        ensures within { IfOk result (λ o. IfSome o (λ n. n ≤ length room.new)) }
         ensures never_interrupted { IfErr result IsFault }
         ensures spends_turn { IfOk result (λ o. IfSome o (λ _. frame_turns R.turns self.new < frame_turns R.turns self.old)) }
     {
-        if !self.gather_frame()? {
+        if let Some(len) = self.give_held(room) {
+            return Ok(Some(len));
+        }
+        self.take_next(room)
+    }
+
+    // Gives the next payload if its frame is held and it fits: the hot path of `next`.
+    #[inline(always)]
+    fn give_held(&mut self, room: &mut [u8]) -> Option<usize>
+        ensures events { IfSome result (λ n. (frame_events R.events self.old room.old
+            ≡ events_of (frame (take n room.new)) ++ frame_events R.events self.new room.new) × (n ≤ length room.old) × (n < 2 ^ 32)) }
+        ensures within { IfSome result (λ n. n ≤ length room.new) }
+        ensures inner { IfSome result (λ n. reads_from self.new ≡ reads_from self.old) }
+        ensures spends_turn { IfSome result (λ n. frame_turns R.turns self.new < frame_turns R.turns self.old) }
+        ensures none { IfNone result ((self.new ≡ self.old) × (room.new ≡ room.old)) }
+    {
+        let held = self.inner.buffer();
+        if self.len > 0 || held.len() < HEADER {
+            return None;
+        }
+        let len = told_len(held);
+        if len > room.len() || held.len() - HEADER < len {
+            return None;
+        }
+        self.give(len, room);
+        Some(len)
+    }
+
+    // Gives a payload of this length, whose frame is held.
+    #[inline(always)]
+    fn give(&mut self, len: usize, room: &mut [u8])
+        requires whole { self.old.len ≡ 0 }
+        requires header { HasHeader len (reader_held (frame_reader self.old)) }
+        requires held { 4 + len ≤ length (reader_held (frame_reader self.old)) }
+        requires fits { len ≤ length room.old }
+        ensures events { frame_events R.events self.old room.old
+            ≡ events_of (frame (take len room.new)) ++ frame_events R.events self.new room.new }
+        ensures inner { reads_from self.new ≡ reads_from self.old }
+        ensures long { length room.new ≡ length room.old }
+        ensures spends_turn { frame_turns R.turns self.new < frame_turns R.turns self.old }
+    {
+        let held = self.inner.buffer();
+        room[..len].copy_from_slice(&held[HEADER..HEADER + len]);
+        self.inner.consume(HEADER + len);
+    }
+
+    // The whole of `next`.
+    #[cold]
+    #[inline(never)]
+    fn take_next(&mut self, room: &mut [u8]) -> Result<Option<usize>>
+        ensures told { R.tells (reads_from self.old) → R.tells (reads_from self.new)
+            × TakesFrame (length room.old) (frame_events R.events self.old room.old) result room.new
+            (frame_events R.events self.new room.new) }
+        ensures unread { OnErr result (LeavesUnread R.may (length room.old) self.old self.new room.new) }
+        ensures within { IfOk result (λ o. IfSome o (λ n. n ≤ length room.new)) }
+        ensures never_interrupted { IfErr result IsFault }
+        ensures spends_turn { IfOk result (λ o. IfSome o (λ _. frame_turns R.turns self.new < frame_turns R.turns self.old)) }
+    {
+        let Some(len) = self.next_len()? else {
+            return Ok(None);
+        };
+        if len > room.len() {
+            let text = "a payload is longer than the room";
+            return Err(Error::new(ErrorKind::InvalidInput, text));
+        }
+        if self.len == 0 && len <= S - HEADER {
+            return self.next_short(len, room);
+        }
+        self.begin_long(len);
+        self.next_long(room)
+    }
+
+    // Returns the length of the next payload, for which it reads until the header is held. `None` means that the bytes
+    // end after a whole frame.
+    fn next_len(&mut self) -> Result<Option<usize>>
+        ensures told { (room : List ℕ) → R.tells (reads_from self.old) → R.tells (reads_from self.new)
+            × SeesLength (frame_events R.events self.old room) result (frame_events R.events self.new room) }
+        ensures length { IfOk result (λ o. IfSome o (λ len. (len < 2 ^ 32) × ((room : List ℕ) → HasHeader len (seen_bytes self.new room)))) }
+        ensures none { OnErr result ((room : List ℕ) → length (seen_bytes self.new room) < 4) }
+        ensures reads { IfOk result (λ o. IfSome o (λ _. FillToMade R.may 4 (frame_reader self.old) (Ok true) (frame_reader self.new))) }
+        ensures same { (self.new.len ≡ self.old.len) × (self.new.given ≡ self.old.given) }
+        ensures never_interrupted { IfErr result IsFault }
+        ensures turns_never_rise { frame_turns R.turns self.new ≤ frame_turns R.turns self.old }
+    {
+        if self.len > 0 {
+            return Ok(Some(self.len));
+        }
+        if self.inner.fill_to(HEADER)? {
+            return Ok(Some(told_len(self.inner.buffer())));
+        }
+        if self.inner.buffer().is_empty() {
             return Ok(None);
         }
-        Ok(Some(self.part.take_payload()))
+        Err(ended_inside())
     }
 
-    /// Appends the payloads of all remaining frames to `payloads`.
-    ///
-    /// # Errors
-    /// Returns the errors that [`next`](FrameReader::next) returns. The payloads before the error are
-    /// appended, and all other frames are still to come, so the same call continues.
-    ///
-    /// ```rust
-    /// let wire = Cursor::new(*b"\x02\0\0\0ab\x01\0\0\0c");
-    /// let mut r = FrameReader::<_, 64>::new(rt.alloc(), wire, 1024);
-    /// let mut payloads = Vec::new(rt.alloc());
-    /// r.read_all(&mut payloads)?;
-    /// assert!(rt; payloads.len() == 2);
-    /// ```
-    pub fn read_all(&mut self, payloads: &mut Vec<Vec<u8>>) -> Result<()>
-        ensures appends { payloads.new.items ≡ payloads.old.items ++ appended payloads.old.items payloads.new.items }
+    // Takes the next frame, of at most `S` bytes and with a payload of this length, once all of it is held.
+    fn next_short(&mut self, len: usize, room: &mut [u8]) -> Result<Option<usize>>
+        requires whole { self.old.len ≡ 0 }
+        requires header { HasHeader len (reader_held (frame_reader self.old)) }
+        requires short { 4 + len ≤ S }
+        requires small { len < 2 ^ 32 }
+        requires fits { len ≤ length room.old }
         ensures told { R.tells (reads_from self.old) → R.tells (reads_from self.new)
-            × TakesFrames (most self.old) (LacksRoom (most self.old) (part_of self.new) ⊎ HasNoSpare payloads.new)
-            (frame_events R.events self.old) result
-            (map (λ v. v.items) (appended payloads.old.items payloads.new.items)) (frame_events R.events self.new) }
-        ensures back { (sent : List (List ℕ)) → R.tells (reads_from self.old)
-            → bytes (frame_events R.events self.old) ≡ frames sent → All (λ p. length p ≤ most self.old) sent
-            → ComesBack (LacksRoom (most self.old) (part_of self.new) ⊎ HasNoSpare payloads.new) sent
-            (frame_events R.events self.old) result
-            (map (λ v. v.items) (appended payloads.old.items payloads.new.items)) (bytes (frame_events R.events self.new)) }
-        ensures limit { most self.new ≡ most self.old }
+            × TakesFrame (length room.old) (frame_events R.events self.old room.old) result room.new
+            (frame_events R.events self.new room.new) }
+        ensures header { OnErr result (told_length (seen_bytes self.new room.new) ≤ length room.old) }
+        ensures within { IfOk result (λ o. IfSome o (λ n. n ≤ length room.new)) }
         ensures never_interrupted { IfErr result IsFault }
+        ensures spends_turn { IfOk result (λ o. IfSome o (λ _. frame_turns R.turns self.new < frame_turns R.turns self.old)) }
     {
-        // Read here so that the proof knows its range.
-        let _limit = self.limit;
-        'frames: loop {
-            payloads.reserve(1)?;
-            match self.next()? {
-                None => return Ok(()),
-                Some(payload) => payloads.push_reserved(payload),
-            }
+        if !self.inner.fill_to(HEADER + len)? {
+            return Err(ended_inside());
+        }
+        self.give(len, room);
+        Ok(Some(len))
+    }
+
+    // Takes the header of a frame whose payload has this length, if it is not taken yet.
+    fn begin_long(&mut self, len: usize)
+        requires small { len < 2 ^ 32 }
+        requires some { 0 < len }
+        requires header { (room : List ℕ) → HasHeader len (seen_bytes self.old room) }
+        ensures len { self.new.len ≡ len }
+        ensures some { 0 < self.new.len }
+        ensures inner { reads_from self.new ≡ reads_from self.old }
+        ensures events { (room : List ℕ) → frame_events R.events self.new room ≡ frame_events R.events self.old room }
+        ensures turns_never_rise { frame_turns R.turns self.new ≤ frame_turns R.turns self.old }
+    {
+        if self.len == 0 {
+            self.inner.consume(HEADER);
+            self.len = len;
+            self.given = 0;
         }
     }
-}
 
-// Makes the error of bytes that end inside a frame.
-fn ended_inside() -> Error
-    ensures { SaysError ErrorKind.UnexpectedEof (codes "the bytes end inside a frame") result }
-{
-    let text = "the bytes end inside a frame";
-    Error::new(ErrorKind::UnexpectedEof, text)
+    // Reads the rest of a payload into the room, past the buffer.
+    fn next_long(&mut self, room: &mut [u8]) -> Result<Option<usize>>
+        requires some { 0 < self.old.len }
+        requires fits { self.old.len ≤ length room.old }
+        ensures told { R.tells (reads_from self.old) → R.tells (reads_from self.new)
+            × TakesFrame (length room.old) (frame_events R.events self.old room.old) result room.new
+            (frame_events R.events self.new room.new) }
+        ensures header { OnErr result (told_length (seen_bytes self.new room.new) ≤ length room.old) }
+        ensures within { IfOk result (λ o. IfSome o (λ n. n ≤ length room.new)) }
+        ensures never_interrupted { IfErr result IsFault }
+        ensures spends_turn { IfOk result (λ o. IfSome o (λ _. frame_turns R.turns self.new < frame_turns R.turns self.old)) }
+    {
+        if !fill_rest(&mut self.inner, room, &mut self.given, self.len)? {
+            return Err(ended_inside());
+        }
+        let len = self.len;
+        self.len = 0;
+        self.given = 0;
+        Ok(Some(len))
+    }
 }

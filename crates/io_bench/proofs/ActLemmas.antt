@@ -1,19 +1,20 @@
 -- What a call does with its act, and the acts that are left.
+use Rattle.no_std_io2.specs.Writers.{CallOf}
 use Rattle.std.proofs.lemmas.Grind.{common_steps}
 use Rattle.std.proofs.Common.{◌≡◌, ℕ, ◌<◌, List, [], ◌∷◌, ◌++◌, drop, Option, None, Some}
-use Rattle.std.proofs.Common.{subst, arith, append-nil, ◌≤◌, min, length, take, Result}
+use Rattle.std.proofs.Common.{ap, ◌∙◌, subst, arith, append-nil, ◌≤◌, min, length, take, Result}
 use Rattle.std.proofs.Common.{IfOk, length-take, take-take, take_all}
 use Rattle.no_std_io2.specs.declared.io.Error.{Error}
 use Rattle.no_std_io2.specs.declared.io.ErrorKind.TheVariants.{WriteZero}
 use Rattle.std.specs.Option.{option_map}
 use Rattle.no_std_io2.specs.declared.io.ErrorKind.{ErrorKind}
 use Rattle.no_std_io2.specs.Write.{Told, Moves, HasSpent, taken, write_mishap, zero_write, Wrote}
-use Rattle.no_std_io2.specs.declared.io.Write.{Ghosts as Writer}
-use Rattle.no_std_io2.specs.BufWriter.{CallOf}
+use Rattle.no_std_io2.specs.Writers.{Writer}
 use Rattle.no_std_io2.proofs.MovesLemmas.{Moves-refl, Moves-forget, count_by-append}
 use Rattle.io_bench.specs.declared.faulty.Act.{Act}
 use Rattle.io_bench.specs.declared.faulty.Act.TheVariants.{Take}
-use Rattle.io_bench.specs.Faulty.{act_mishap, first_act, with_acts, WritesBehind}
+use Rattle.io_bench.specs.declared.faulty.Faulty.{Faulty}
+use Rattle.io_bench.specs.Faulty.{act_mishap, act_mishaps, acts_left, faulty_inner, faulty_told, first_act, with_acts, WritesBehind}
 
 -- the mishaps that happened and those that acts made are gone
 spent_mishaps : (old : Option (List ErrorKind)) (k l m : List ErrorKind) (new : Option (List ErrorKind)) → HasSpent old k new
@@ -81,3 +82,8 @@ behind I {act} {a' = a'} b x reply same kept done = grind (arith, common_steps)
 pub behind_take : {W : Type 0} (I : Writer W) {a b : W} (n : ℕ) {most : ℕ} (buf : List ℕ) (reply : Result ℕ Error) → 0 < n
     → most ≡ min n (length buf) → CallOf I a (Wrote (take most buf) reply) b → WritesBehind I (Some (Take n)) a buf reply b
 behind_take I {a} {b} n {most} buf reply some is wrote = grind (arith, common_steps, take_all)
+
+-- with no act left, and no mishap to come from the inner writer, no mishap is to come
+pub faulty_steady : {W : Type 0} (told : W → Told) (f : Faulty W) → (told (faulty_inner f)).mishaps ≡ Some []
+    → acts_left f ≡ [] → (faulty_told told f).mishaps ≡ Some []
+faulty_steady told f e g = ap (option_map (λ kinds. kinds ++ act_mishaps (acts_left f))) e ∙ ap (λ acts. Some (act_mishaps acts)) g

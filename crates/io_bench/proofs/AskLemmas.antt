@@ -23,7 +23,7 @@ use Rattle.no_std_io2.proofs.BufReaderRoom.{some_room, held-le}
 use Rattle.io_bench.specs.declared.tally.Tally.{Tally}
 use Rattle.io_bench.specs.Tally.{tally_reads}
 use Rattle.io_bench.proofs.ReadsPaid.{ReadsPaid, paid_none, paid_ask, paid_same, paid_bound, asked-le}
-use Rattle.io_bench.specs.Asks.{Drops, AskStep, Steps, TakesFront, Fits, AllFit, Asked, meets_end, asked_bytes, asked_reads, asked_left}
+use Rattle.io_bench.specs.Asks.{DropsFront, AskStep, Steps, TakesFront, Fits, AllFit, Asked, meets_end, asked_bytes, asked_reads, asked_left}
 use Rattle.io_bench.specs.Asks.{AskTakes, Answered, CameTo, met_end, asked_reader, asked_events}
 use Rattle.std.proofs.Common.{◌/◌, ◌≢◌, true, ◌&&◌, is_err}
 
@@ -42,7 +42,7 @@ pub front_gone : (E after : List Event) (k : ℕ) → TakesFront E after → len
 front_gone E after k t long = grind (arith, common_steps, length-append, drop-append_seam)
 
 -- if `ready` events can be taken, at most `most` of them are, and at least one if there are any
-drops : (S most h : ℕ) (E E' : List Event) (ready : ℕ) → (0 < length E → 0 < ready) → E' ≡ drop (min most ready) E → Drops most E E'
+drops : (S most h : ℕ) (E E' : List Event) (ready : ℕ) → (0 < length E → 0 < ready) → E' ≡ drop (min most ready) E → DropsFront most E E'
 drops S most h E E' ready some is = ⊎_elim
     (λ none. (most, omega arith, omega arith, is ∙ drop_of_length-le E (omega arith) ∙ sym (drop_of_length-le E (omega arith))))
     (λ many. let least = some many in (min most ready, omega arith, omega arith, is))

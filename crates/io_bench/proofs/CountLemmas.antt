@@ -22,8 +22,6 @@ read_counts reply law long reads writes = grind (arith, common_steps, length-tak
 pub record Counted {T : Type 0} (I : Reader T) (fewest more : ℕ) (old new : Tally T) : Type 0 where
   pub least : tally_reads old + fewest ≤ tally_reads new
   pub most : tally_reads new + I.turns (tally_inner new) ≤ tally_reads old + I.turns (tally_inner old) + more
-  pub handed : I.is_metered (tally_inner old) → I.is_metered (tally_inner new)
-      × (I.cost (tally_inner new) + tally_reads old ≡ I.cost (tally_inner old) + tally_reads new)
   pub writes : tally_writes new ≡ tally_writes old
 
 module _ {T : Type 0} (I : Reader T) where
@@ -48,7 +46,7 @@ module _ {T : Type 0} (I : Reader T) where
       → (a b : Tally T) → Made (ReadsCounted I) a C b → Counted I (min 1 (length x)) 0 a b
   gathers_count into no_read a b made =
       subst (Counted I 0 0 a) (sym made)
-      (record { least = omega arith; most = omega arith; handed = λ m. (m, refl); writes = refl })
+      (record { least = omega arith; most = omega arith; writes = refl })
   gathers_count into (and_gave C x y room before asked some) a b made =
       last_counts C (Ok y) a b (λ mid m. gathers_count into before a mid m) (into _ _ asked) (omega arith) (omega (arith, some)) made
   gathers_count into (and_again C x room e before asked interrupted) a b made =

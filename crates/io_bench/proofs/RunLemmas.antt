@@ -1,12 +1,12 @@
 -- A run and one more call.
+use Rattle.no_std_io2.specs.Writers.{CallOf}
 use Rattle.std.proofs.Common.{◌≡◌, ℕ, Bor, Ok, ◌+◌, ◌<◌, ◌≤◌, take_all, length, take, drop, get_or, List, [], ◌∷◌, ◌++◌}
 use Rattle.std.proofs.Common.{refl, sym, ap, ◌∙◌, subst, append_assoc, append-nil}
 use Rattle.std.proofs.Math.Seq.{drop-append_seam}
 use Rattle.std.proofs.lemmas.List.{take_more}
-use Rattle.no_std_io2.specs.declared.io.Write.{Ghosts as Writer}
+use Rattle.no_std_io2.specs.Writers.{Writer}
 use Rattle.no_std_io2.specs.Write.{Told, Moves, MovesFront, WriteCall, Made}
 use Rattle.no_std_io2.proofs.CallsLemmas.{made_then}
-use Rattle.no_std_io2.specs.BufWriter.{CallOf}
 use Rattle.no_std_io2.specs.Towers.{Through}
 use Rattle.no_std_io2.proofs.TowerCalls.{through}
 use Rattle.no_std_io2.proofs.MovesLemmas.{Moves-trans, Moves-refl}

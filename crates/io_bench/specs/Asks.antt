@@ -34,13 +34,13 @@ AskTakes (Fill most) E (Ok is_end) held after =
 AskTakes (Fill most) E (Err e) held after = E ≡ fails e ∷ after
 
 -- at most `most` events are gone from the front, and at least one if `most` is above 0 and there are any
-abbrev pub Drops : ℕ → List Event → List Event → Type 0
-Drops most E after = (n : ℕ) × (min 1 most ≤ n) × (n ≤ most) × (after ≡ drop n E)
+abbrev pub DropsFront : ℕ → List Event → List Event → Type 0
+DropsFront most E after = (n : ℕ) × (min 1 most ≤ n) × (n ≤ most) × (after ≡ drop n E)
 
 -- one ask took the events of E up to `after`
 abbrev pub AskStep : Ask → List Event → List Event → Type 0
-AskStep (Read len) E after = Drops len E after
-AskStep (Fill most) E after = Drops most E after
+AskStep (Read len) E after = DropsFront len E after
+AskStep (Fill most) E after = DropsFront most E after
 AskStep (Exact len) E after = after ≡ drop len E
 
 -- whether an ask meets the end, with this many events to come

@@ -1,4 +1,5 @@
 -- What a `Faulty` tells, and what its acts do to a call.
+use Rattle.no_std_io2.specs.Writers.{CallOf}
 use Rattle.std.proofs.Common.{ap, ◌∙◌}
 use Rattle.std.specs.Prelude.{◌≡◌, Some, None, Option, List, [], ◌∷◌, ◌++◌, drop, if◌then◌else◌, ◌==◌, ℕ, ◌+◌, ◌<◌}
 use Rattle.std.specs.Prelude.{count_by, take, Result, Ok}
@@ -6,10 +7,9 @@ use Rattle.std.specs.Option.{option_map}
 use Rattle.no_std_io2.specs.declared.io.Error.{Error}
 use Rattle.no_std_io2.specs.declared.io.ErrorKind.{ErrorKind}
 use Rattle.no_std_io2.specs.declared.io.ErrorKind.TheVariants.{WriteZero}
-use Rattle.no_std_io2.specs.declared.io.Write.{Ghosts as Writer}
+use Rattle.no_std_io2.specs.Writers.{Writer}
 use Rattle.no_std_io2.specs.Errors.{is_interruption}
 use Rattle.no_std_io2.specs.Write.{Told, WriteCall, Wrote, WroteAll, WroteRest, Flushed}
-use Rattle.no_std_io2.specs.BufWriter.{CallOf}
 use Rattle.io_bench.specs.Calls.{FailsWith}
 use Rattle.io_bench.specs.declared.faulty.Act.{Act}
 use Rattle.io_bench.specs.declared.faulty.Act.TheVariants.{Take, Zero, Fail}
@@ -77,8 +77,3 @@ with_acts told acts = record told {
 -- what a `Faulty` tells if its inner writer tells `told`
 abbrev pub faulty_told : {W : Type 0} → (W → Told) → Faulty W → Told
 faulty_told told f = with_acts (told f.inner) (acts_left f)
-
--- with no act left, and no mishap to come from the inner writer, no mishap is to come
-pub faulty_steady : {W : Type 0} (told : W → Told) (f : Faulty W) → (told (faulty_inner f)).mishaps ≡ Some []
-    → acts_left f ≡ [] → (faulty_told told f).mishaps ≡ Some []
-faulty_steady told f e g = ap (option_map (λ kinds. kinds ++ act_mishaps (acts_left f))) e ∙ ap (λ acts. Some (act_mishaps acts)) g

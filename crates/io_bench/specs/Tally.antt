@@ -1,10 +1,10 @@
 -- What a `Tally` tells.
+use Rattle.no_std_io2.specs.Writers.{CallOf}
 use Rattle.std.specs.Prelude.{◌≡◌, ℕ, ◌+◌, ◌≤◌, min, List, length, Result, Ok, Err}
-use Rattle.no_std_io2.specs.declared.io.Write.{Ghosts as Writer}
+use Rattle.no_std_io2.specs.Writers.{Writer}
 use Rattle.no_std_io2.specs.Write.{WriteCall, Wrote, WroteAll, WroteRest, Flushed}
 use Rattle.no_std_io2.specs.declared.io.Error.{Error}
 use Rattle.no_std_io2.specs.Read.{Reader, ReadCall, Gave}
-use Rattle.no_std_io2.specs.BufWriter.{CallOf}
 use Rattle.io_bench.specs.declared.tally.Tally.{Tally}
 
 -- `t.get_ref()`
@@ -44,8 +44,6 @@ pub record ReadCounted {T : Type 0} (I : Reader T) (old : Tally T) (room : ℕ) 
   pub reads : tally_reads new ≡ tally_reads old + min 1 room
   pub writes : tally_writes new ≡ tally_writes old
   pub turns : I.turns (tally_inner new) + turns_spent answer ≤ I.turns (tally_inner old)
-  pub cost : I.is_metered (tally_inner old) → I.is_metered (tally_inner new)
-      × (I.cost (tally_inner new) ≡ I.cost (tally_inner old) + min 1 room)
 
 -- what one call of a `Tally` as a reader does: its calls are its own reads
 abbrev pub ReadsCounted : {T : Type 0} → Reader T → Tally T → ReadCall → Tally T → Type 0

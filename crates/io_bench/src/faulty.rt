@@ -1,4 +1,5 @@
 // [`Faulty`], a writer that fails as its list of acts says.
+ghost use Rattle.no_std_io2.specs.Writers.{TakesAll};
 ghost use Rattle.std.specs.Prelude.{◌≡◌, ◌≤◌, [], drop, vec_len};
 
 use no_std_io2::io::{Error, ErrorKind, Result, Write};
@@ -67,16 +68,14 @@ impl<W> Faulty<W> {
 }
 
 /// Tells what the inner writer tells. If the inner writer tells its mishaps, those of the acts that are left are added. It
-/// takes all if the inner writer does and no act is left. Its cost is the inner writer's, and it is not metered. Each call
+/// takes all if the inner writer does and no act is left. Each call
 /// makes at most one inner call, the one that its act lets through.
 impl<W: Write> Write for Faulty<W> {
-    ghost use Rattle.io_bench.specs.Faulty.{faulty_inner, faulty_told, faulty_steady, acts_left, FaultyMay};
+    ghost use Rattle.io_bench.specs.Faulty.{faulty_inner, faulty_told, acts_left, FaultyMay};
 
     ghost told = { faulty_told W.told };
 
-    ghost takes_all = { λ f. W.takes_all (faulty_inner f) × (acts_left f ≡ []) };
-
-    ghost cost = { λ f. W.cost (faulty_inner f) };
+    ghost takes_all = { λ f. TakesAll W.Write (faulty_inner f) × (acts_left f ≡ []) };
 
     ghost may = { FaultyMay W.Write };
 
@@ -98,6 +97,4 @@ impl<W: Write> Write for Faulty<W> {
             _ => self.inner.flush(),
         }
     }
-
-    ghost steady = { λ f h. faulty_steady W.told f (W.steady (faulty_inner f) h.0) h.1 };
 }

@@ -1,5 +1,5 @@
 // [`Feed`], a reader that gives the events of a list.
-ghost use Rattle.std.specs.Prelude.{◌≡◌, ◌<◌, ◌≤◌, ◌+◌, ◌∷◌, [], Some, None, Ok, IfOk, IfErr, IsOkAnd, MatchOption};
+ghost use Rattle.std.specs.Prelude.{◌≡◌, ◌<◌, ◌≤◌, ◌+◌, ◌∷◌, [], Some, None, Ok, MatchOption};
 ghost use Rattle.std.specs.Prelude.{length, take, drop, min, vec_len};
 ghost use Rattle.no_std_io2.specs.declared.io.ErrorKind.{ErrorKind};
 ghost use Rattle.io_bench.specs.Calls.{FailsWith};

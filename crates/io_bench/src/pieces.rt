@@ -3,7 +3,6 @@ ghost use Rattle.std.specs.Prelude.{◌≡◌, ◌+◌, ◌<◌, ◌++◌, map, 
 ghost use Rattle.no_std_io2.specs.Errors.{IsFault, IsOutOfMemory};
 ghost use Rattle.no_std_io2.specs.Pieces.{newline, line_text, without};
 ghost use Rattle.no_std_io2.specs.Pieces.{split_reader, split_delim, split_is_ended, lines_reader, lines_is_ended, RefusesLine};
-ghost use Rattle.no_std_io2.specs.Write.{IsFront};
 ghost use Rattle.io_bench.specs.PieceRuns.{GathersPieces};
 ghost use Rattle.no_std_io2.specs.Appended.{appended};
 

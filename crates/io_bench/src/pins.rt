@@ -5,6 +5,9 @@ ghost use Rattle.std.specs.Option.{option_map};
 ghost use Rattle.io_bench.specs.Feed.{feed_left, all_to_come};
 ghost use Rattle.no_std_io2.specs.Read.{ReadCall};
 ghost use Rattle.no_std_io2.specs.Write.{WriteCall};
+ghost use Rattle.no_std_io2.specs.Writers.{TakesAll};
+ghost use Rattle.no_std_io2.specs.Meter.{IsMeter};
+ghost use Rattle.no_std_io2.specs.ReadMeter.{IsReadMeter};
 ghost use Rattle.io_bench.specs.Calls.{CountsLoop, CountsToEnd};
 ghost use Rattle.io_bench.specs.Tally.{tally_inner, tally_writes, tally_reads, TallyMay, ReadsCounted};
 ghost use Rattle.io_bench.specs.Faulty.{faulty_inner, acts_left, act_mishaps, FaultyMay};
@@ -18,8 +21,7 @@ use std::alloc::Allocator;
 fn tally_tells<T: Write>(t: &Tally<T>)
     ensures told { ⟦<Tally<T> as Write>⟧.told t.now ≡ T.told (tally_inner t.now) }
     ensures all { T.takes_all (tally_inner t.now) → ⟦<Tally<T> as Write>⟧.takes_all t.now }
-    ensures cost { ⟦<Tally<T> as Write>⟧.cost t.now ≡ tally_writes t.now }
-    ensures metered { ⟦<Tally<T> as Write>⟧.is_metered t.now }
+    ensures meter { IsMeter ⟦<Tally<T> as Write>⟧.may tally_writes }
 {}
 
 // A `Tally` passes each call on, and counts each `write`.
@@ -34,10 +36,8 @@ fn faulty_tells<W: Write>(f: &Faulty<W>)
     ensures mishaps { (⟦<Faulty<W> as Write>⟧.told f.now).mishaps
         ≡ option_map (λ kinds. kinds ++ act_mishaps (acts_left f.now))
         (W.told (faulty_inner f.now)).mishaps }
-    ensures all { W.takes_all (faulty_inner f.now) → acts_left f.now ≡ []
+    ensures all { TakesAll W.Write (faulty_inner f.now) → acts_left f.now ≡ []
         → ⟦<Faulty<W> as Write>⟧.takes_all f.now }
-    ensures cost { ⟦<Faulty<W> as Write>⟧.cost f.now ≡ W.cost (faulty_inner f.now) }
-    ensures plain { ¬ (⟦<Faulty<W> as Write>⟧.is_metered f.now) }
 {}
 
 // Each call of a `Faulty` uses up one act, and does what the act says.
@@ -49,8 +49,6 @@ fn faulty_calls<W: Write>(old: &Faulty<W>, new: &Faulty<W>)
 fn feed_tells(f: &Feed)
     ensures tells { ⟦<Feed as Read>⟧.tells f.now }
     ensures events { ⟦<Feed as Read>⟧.events f.now ≡ all_to_come (feed_left f.now) }
-    ensures cost { ⟦<Feed as Read>⟧.cost f.now ≡ 0 }
-    ensures plain { ¬ (⟦<Feed as Read>⟧.is_metered f.now) }
     ensures takes { ¬ (⟦<Feed as Read>⟧.may_take_none f.now) }
     ensures store { ¬ (⟦<Feed as Stored>⟧.has_store f.now) }
 {}
@@ -64,8 +62,6 @@ fn tally_reads_tell<T: Read>(old: &Tally<T>, new: &Tally<T>)
 fn tally_fills<T: Read>(t: &mut Tally<T>, buf: &mut [u8]) -> Result<()>
     ensures counts { CountsLoop (length buf.old) (T.turns (tally_inner t.old)) (tally_reads t.old) result
         (T.turns (tally_inner t.new)) (tally_reads t.new) }
-    ensures handed { T.is_metered (tally_inner t.old) → T.is_metered (tally_inner t.new)
-        × (T.cost (tally_inner t.new) + tally_reads t.old ≡ T.cost (tally_inner t.old) + tally_reads t.new) }
     ensures writes { tally_writes t.new ≡ tally_writes t.old }
 {
     t.read_exact(buf)
@@ -74,8 +70,6 @@ fn tally_fills<T: Read>(t: &mut Tally<T>, buf: &mut [u8]) -> Result<()>
 fn tally_drains<T: Read, A: Allocator>(t: &mut Tally<T>, buf: &mut Vec<u8, A>) -> Result<usize>
     ensures counts { CountsToEnd (tally_reads t.old) (T.turns (tally_inner t.old)) result
         (T.turns (tally_inner t.new)) (tally_reads t.new) }
-    ensures handed { T.is_metered (tally_inner t.old) → T.is_metered (tally_inner t.new)
-        × (T.cost (tally_inner t.new) + tally_reads t.old ≡ T.cost (tally_inner t.old) + tally_reads t.new) }
     ensures writes { tally_writes t.new ≡ tally_writes t.old }
 {
     t.read_to_end(buf)
@@ -84,8 +78,7 @@ fn tally_drains<T: Read, A: Allocator>(t: &mut Tally<T>, buf: &mut Vec<u8, A>) -
 fn tally_reader_tells<T: Read>(t: &Tally<T>)
     ensures tells { T.tells (tally_inner t.now) → ⟦<Tally<T> as Read>⟧.tells t.now }
     ensures events { ⟦<Tally<T> as Read>⟧.events t.now ≡ T.events (tally_inner t.now) }
-    ensures cost { ⟦<Tally<T> as Read>⟧.cost t.now ≡ tally_reads t.now }
-    ensures metered { ⟦<Tally<T> as Read>⟧.is_metered t.now }
+    ensures meter { IsReadMeter ⟦<Tally<T> as Read>⟧.may tally_reads }
     ensures filling { T.is_filling (tally_inner t.now) → ⟦<Tally<T> as Read>⟧.is_filling t.now }
     ensures takes { ¬ (⟦<Tally<T> as Read>⟧.may_take_none t.now) }
 {}

@@ -1,8 +1,8 @@
 // [`run_writes`], a list of calls on any writer.
+ghost use Rattle.no_std_io2.specs.Writers.{TakesAll, CallOf};
 ghost use Rattle.std.specs.Prelude.{◌≡◌, ◌+◌, ◌<◌, List, [], ◌++◌, Some, OnOk, OnErr, IfErr, length, vec_len, vec_capacity};
 ghost use Rattle.no_std_io2.specs.Errors.{IsOutOfMemory};
 ghost use Rattle.no_std_io2.specs.Write.{WriteCall, Made};
-ghost use Rattle.no_std_io2.specs.BufWriter.{CallOf};
 ghost use Rattle.no_std_io2.specs.declared.io.ErrorKind.{ErrorKind};
 ghost use Rattle.no_std_io2.specs.Appended.{appended};
 ghost use Rattle.io_bench.specs.Runs.{CallReplies, Ran, EndsFlushed, failures, failures_of, IsShorterBy};
@@ -36,7 +36,7 @@ pub enum Reply {
 // Makes one call.
 fn make_call<W: Write>(w: &mut W, op: Op<'_>) -> Reply
     ensures answers { CallReplies (W.told w.old) op.entry result (W.told w.new) }
-    ensures all { W.takes_all w.old → W.takes_all w.new × IsWhole op.entry result }
+    ensures all { TakesAll W.Write w.old → TakesAll W.Write w.new × IsWhole op.entry result }
     ensures calls { (calls : List WriteCall) × Made (CallOf W.Write) w.old calls w.new × OpCalls op.entry result calls }
 {
     match op {
@@ -90,7 +90,7 @@ pub fn run_writes<W: Write>(
         (W.told w.old).mishaps (W.told w.new).mishaps) }
     ensures steady { OnOk result ((W.told w.old).mishaps ≡ Some []
         → failures ops.now (appended replies.old.items replies.new.items) ≡ 0) }
-    ensures all { OnOk result (W.takes_all w.old → W.takes_all w.new
+    ensures all { OnOk result (TakesAll W.Write w.old → TakesAll W.Write w.new
         × AreWhole ops.now (appended replies.old.items replies.new.items)) }
     ensures kind { IfErr result IsOutOfMemory }
     // It does not fail if there is room for the replies.

@@ -1,5 +1,5 @@
 // [`Tally`], a stream that counts its calls.
-ghost use Rattle.std.specs.Prelude.{◌≡◌, ◌+◌, ◌^◌, ◌-◌, ⊤, length, min};
+ghost use Rattle.std.specs.Prelude.{◌≡◌, ◌+◌, ◌^◌, ◌-◌, length, min};
 ghost use Rattle.no_std_io2.specs.Read.{ReadLaw};
 ghost use Rattle.no_std_io2.specs.Writers.{WriteOf};
 
@@ -91,7 +91,7 @@ impl<T> Tally<T> {
     }
 }
 
-/// Tells what the inner writer tells, and is metered: its cost is the exact count. Each call makes the same call of the inner
+/// Tells what the inner writer tells. Its exact count is a meter of its calls. Each call makes the same call of the inner
 /// writer, once, and returns its result. `write_all` and `write_rest` have the trait's bodies, so each of their writes counts.
 impl<T: Write> Write for Tally<T> {
     ghost use Rattle.io_bench.specs.Tally.{tally_inner, tally_writes, TallyMay};
@@ -99,10 +99,6 @@ impl<T: Write> Write for Tally<T> {
     ghost told = { λ t. T.told (tally_inner t) };
 
     ghost takes_all = { λ t. T.takes_all (tally_inner t) };
-
-    ghost cost = { tally_writes };
-
-    ghost is_metered = { λ _. ⊤ };
 
     ghost may = { TallyMay T.Write };
 
@@ -119,8 +115,6 @@ impl<T: Write> Write for Tally<T> {
     fn flush(&mut self) -> Result<()> {
         self.inner.flush()
     }
-
-    ghost steady = { λ t h. T.steady (tally_inner t) h };
 }
 
 /// Tells the inner stream's store.
@@ -134,7 +128,7 @@ impl<T: Stored> Stored for Tally<T> {
     ghost position = { λ t. T.position (tally_inner t) };
 }
 
-/// Tells what the inner reader tells, and is metered: its cost is the exact count. `read_exact` and `read_to_end`
+/// Tells what the inner reader tells. Its exact count is a meter of its reads. `read_exact` and `read_to_end`
 /// have the trait's bodies, so each of their reads counts.
 impl<T: Read> Read for Tally<T> {
     ghost use Rattle.io_bench.specs.Tally.{tally_inner, tally_writes, tally_reads, ReadsCounted};
@@ -144,10 +138,6 @@ impl<T: Read> Read for Tally<T> {
     ghost events = { λ t. T.events (tally_inner t) };
 
     ghost turns = { λ t. T.turns (tally_inner t) };
-
-    ghost cost = { tally_reads };
-
-    ghost is_metered = { λ _. ⊤ };
 
     ghost is_filling = { λ t. T.is_filling (tally_inner t) };
 

@@ -1,13 +1,21 @@
-// The examples in the comments of the buffers, of `copy` and of `skip`.
+// The examples in the comments of `no_std_io2`, one function for each of its modules.
 use examples::Narrow;
+use no_std_io2::ghost_bytes::GhostBytes;
 use no_std_io2::io::{
-    BufRead, BufReader, BufWriter, Cursor, ErrorKind, LineWriter, Read, SeekFrom, Write, copy,
-    read_exact_at, skip, write_with_retries,
+    BufRead, BufReader, BufWriter, CopyError, Cursor, ErrorKind, LineWriter, Read, SeekFrom, Write,
+    copy, copy_sided, empty, read_exact_at, sink, skip, write_with_retries,
 };
 use std::test::Fail;
 
 #[test]
-fn small_writes_are_held(rt: HostRuntime) -> Result<(), Fail> {
+fn ghost_bytes(_rt: HostRuntime) -> Result<(), Fail> {
+    let mut taken = GhostBytes::new();
+    taken.add(b"ab"); // for contracts `taken.bytes` is `ab` now
+    Ok(())
+}
+
+#[test]
+fn buf_writer(rt: HostRuntime) -> Result<(), Fail> {
     let mut w = BufWriter::<Vec<u8>, 8>::new(Vec::new(rt.alloc()));
     w.write_all(b"abc")?;
     w.write_all(b"def")?;
@@ -16,43 +24,47 @@ fn small_writes_are_held(rt: HostRuntime) -> Result<(), Fail> {
     assert!(rt; w.get_ref().as_slice() == b"abcdef".as_slice());
     w.flush()?;
     assert!(rt; w.get_ref().as_slice() == b"abcdefghi".as_slice());
-    Ok(())
-}
 
-#[test]
-fn a_writer_and_what_is_below(rt: HostRuntime) -> Result<(), Fail> {
     let mut w = BufWriter::<_, 8>::new(Cursor::new(Vec::<u8>::new(rt.alloc())));
     w.write_all(b"abc")?;
     assert!(rt; w.buffer() == b"abc".as_slice());
     assert!(rt; w.get_ref().position() == 0);
     w.get_mut().set_position(2);
     assert!(rt; w.buffer() == b"abc".as_slice()); // what is held stays
-    Ok(())
-}
 
-#[test]
-fn a_writer_gives_what_is_below(rt: HostRuntime) -> Result<(), Fail> {
     let mut w = BufWriter::<Vec<u8>, 8>::new(Vec::new(rt.alloc()));
     assert!(rt; w.capacity() == 8);
     w.write_all(b"abc")?;
     let device = w.into_inner()?; // sends `abc`
     assert!(rt; device.as_slice() == b"abc".as_slice());
+
+    let mut w = BufWriter::<Vec<u8>, 8>::new(Vec::new(rt.alloc()));
+    w.write_all(b"abc")?;
+    let (device, unsent) = w.into_parts();
+    assert!(rt; device.is_empty());
+    assert!(rt; unsent.as_slice() == b"abc".as_slice());
+
+    let mut w = BufWriter::<Vec<u8>, 8>::new(Vec::new(rt.alloc()));
+    w.write_whole(b"abc", b"def")?;
+    w.write_whole(b"gh", b"i")?; // does not fit beside them: they are sent first
+    assert!(rt; w.get_ref().as_slice() == b"abcdef".as_slice());
+    assert!(rt; w.buffer() == b"ghi".as_slice());
+    w.make_room(5)?; // five more fit beside the three
+    assert!(rt; w.buffer() == b"ghi".as_slice());
+    w.make_room(6)?; // six do not
+    assert!(rt; w.get_ref().as_slice() == b"abcdefghi".as_slice());
     Ok(())
 }
 
 #[test]
-fn lines_go_out_as_they_end(rt: HostRuntime) -> Result<(), Fail> {
+fn line_writer(rt: HostRuntime) -> Result<(), Fail> {
     let mut w = LineWriter::<Vec<u8>, 16>::new(Vec::new(rt.alloc()));
     w.write_all(b"one\ntw")?;
     assert!(rt; w.get_ref().as_slice() == b"one\n".as_slice());
     assert!(rt; w.buffer() == b"tw".as_slice());
     w.write_all(b"o\n")?;
     assert!(rt; w.get_ref().as_slice() == b"one\ntwo\n".as_slice());
-    Ok(())
-}
 
-#[test]
-fn a_line_writer_and_what_is_below(rt: HostRuntime) -> Result<(), Fail> {
     let mut w = LineWriter::<Vec<u8>, 16>::new(Vec::new(rt.alloc()));
     w.write_all(b"one\ntw")?;
     w.get_mut().clear(); // forgets `one\n`; `tw` is still held
@@ -62,7 +74,7 @@ fn a_line_writer_and_what_is_below(rt: HostRuntime) -> Result<(), Fail> {
 }
 
 #[test]
-fn small_reads_are_given_from_the_buffer(rt: HostRuntime) -> Result<(), Fail> {
+fn buf_reader(rt: HostRuntime) -> Result<(), Fail> {
     let mut r = BufReader::<_, 4>::new(Cursor::new(*b"abcdefgh"));
     let mut two = [0u8; 2];
     r.read_exact(&mut two)?; // one inner read, of four bytes
@@ -70,40 +82,35 @@ fn small_reads_are_given_from_the_buffer(rt: HostRuntime) -> Result<(), Fail> {
     assert!(rt; r.behind() == b"ab".as_slice());
     r.seek_relative(-1)?; // inside the buffer: the inner reader is left alone
     assert!(rt; r.buffer() == b"bcd".as_slice());
-    Ok(())
-}
 
-#[test]
-fn a_reader_and_what_is_below(rt: HostRuntime) -> Result<(), Fail> {
     let mut r = BufReader::<_, 4>::new(Cursor::new(*b"abcdefgh"));
     assert!(rt; r.capacity() == 4);
     r.read_exact(&mut [0u8; 2])?;
     assert!(rt; r.get_ref().position() == 4); // ahead by the two bytes held
     r.get_mut().set_position(6);
     assert!(rt; r.buffer() == b"cd".as_slice()); // what is held stays
-    Ok(())
-}
 
-#[test]
-fn a_reader_gives_what_is_below(rt: HostRuntime) -> Result<(), Fail> {
     let mut r = BufReader::<_, 4>::new(Cursor::new(*b"abcdefgh"));
     r.read_exact(&mut [0u8; 2])?;
     let inner = r.into_inner(); // `cd`, which was held, is lost
     assert!(rt; inner.position() == 4);
+
+    let mut r = BufReader::<_, 4>::new(Cursor::new(*b"abcde"));
+    assert!(rt; r.fill_to(2)?);
+    assert!(rt; r.buffer() == b"abcd".as_slice()); // one inner read, of four bytes
+    r.consume(3);
+    assert!(rt; !r.fill_to(3)?); // the end came first
+    assert!(rt; r.buffer() == b"de".as_slice());
     Ok(())
 }
 
 #[test]
-fn a_reader_is_copied_to_a_writer(rt: HostRuntime) -> Result<(), Fail> {
+fn util(rt: HostRuntime) -> Result<(), Fail> {
     let mut from = Cursor::new(*b"abcde");
     let mut to = Vec::<u8>::new(rt.alloc());
     assert!(rt; copy::<_, _, 64>(&mut from, &mut to)? == 5);
     assert!(rt; to.as_slice() == b"abcde".as_slice());
-    Ok(())
-}
 
-#[test]
-fn bytes_are_passed_over(rt: HostRuntime) -> Result<(), Fail> {
     let mut r = Cursor::new(*b"abcde");
     skip(&mut r, &mut 3)?;
     assert!(rt; r.fill_buf()? == b"de".as_slice());
@@ -114,7 +121,26 @@ fn bytes_are_passed_over(rt: HostRuntime) -> Result<(), Fail> {
 }
 
 #[test]
-fn a_device_that_takes_nothing_loses_nothing(rt: HostRuntime) -> Result<(), Fail> {
+fn sides(rt: HostRuntime) -> Result<(), Fail> {
+    let mut from = Cursor::new(*b"abcde");
+    let mut full = Cursor::new([0u8; 2]);
+    let side = copy_sided::<_, _, 64>(&mut from, &mut full);
+    assert!(rt; matches!(side, Err(CopyError::Write(_)))); // two of the five bytes fit
+    Ok(())
+}
+
+#[test]
+fn makers(rt: HostRuntime) -> Result<(), Fail> {
+    let mut nothing = empty();
+    assert!(rt; nothing.read(&mut [0u8; 4])? == 0);
+
+    let mut from = Cursor::new(*b"abcde");
+    assert!(rt; copy::<_, _, 64>(&mut from, &mut sink())? == 5);
+    Ok(())
+}
+
+#[test]
+fn into_inner_error(rt: HostRuntime) -> Result<(), Fail> {
     let taken = Vec::new(rt.alloc());
     let mut w = BufWriter::<_, 8>::new(Narrow { taken, most: 0 }); // a device that takes no byte
     w.write_all(b"abc")?;
@@ -125,11 +151,7 @@ fn a_device_that_takes_nothing_loses_nothing(rt: HostRuntime) -> Result<(), Fail
     } else {
         return Err(Fail::new("sent"));
     }
-    Ok(())
-}
 
-#[test]
-fn a_writer_comes_apart_from_its_error(rt: HostRuntime) -> Result<(), Fail> {
     let taken = Vec::new(rt.alloc());
     let mut w = BufWriter::<_, 8>::new(Narrow { taken, most: 0 }); // a device that takes no byte
     w.write_all(b"abc")?;
@@ -142,17 +164,7 @@ fn a_writer_comes_apart_from_its_error(rt: HostRuntime) -> Result<(), Fail> {
 }
 
 #[test]
-fn a_writer_is_taken_apart(rt: HostRuntime) -> Result<(), Fail> {
-    let mut w = BufWriter::<Vec<u8>, 8>::new(Vec::new(rt.alloc()));
-    w.write_all(b"abc")?;
-    let (device, unsent) = w.into_parts();
-    assert!(rt; device.is_empty());
-    assert!(rt; unsent.as_slice() == b"abc".as_slice());
-    Ok(())
-}
-
-#[test]
-fn a_slice_is_written_with_retries(rt: HostRuntime) -> Result<(), Fail> {
+fn retries(rt: HostRuntime) -> Result<(), Fail> {
     let mut w = BufWriter::<Vec<u8>, 64>::new(Vec::new(rt.alloc()));
     let mut rest = b"abc".as_slice();
     write_with_retries(&mut w, &mut rest, 3)?; // tries again after each of the first three faults
@@ -161,7 +173,7 @@ fn a_slice_is_written_with_retries(rt: HostRuntime) -> Result<(), Fail> {
 }
 
 #[test]
-fn bytes_at_a_place_are_read(rt: HostRuntime) -> Result<(), Fail> {
+fn read_at(rt: HostRuntime) -> Result<(), Fail> {
     let mut r = Cursor::new(*b"abcdef");
     let mut buf = [0u8; 2];
     read_exact_at(&mut r, SeekFrom::End(-3), &mut buf)?;

@@ -1,15 +1,13 @@
-// What the `Debug` of each public type prints, on one line and on several, as Rust's derived ones
+// What the `Debug` of each type that std also has prints, and of a tally, on one line and on several, as Rust's derived ones
 // do.
 use crate::printing::Narrow;
-use io_bench::{Act, Ask, Event, Faulty, Feed, Op, ReadTotals, Reply, Sink, Tally};
+use io_bench::{Act, Faulty, Sink, Tally};
 use no_std_io2::io::{
     BufRead, BufReader, BufWriter, Cursor, Error, ErrorKind, LineWriter, Read, SeekFrom, Write,
 };
 use std::alloc::Global;
 use std::fmt::{Debug, Write as _};
 use std::test::Fail;
-use tar_reader::{Header, Kind};
-use tower_play::{Fault, Shape};
 
 // Returns whether a value prints this, and reports the error of a writer without room for it.
 fn prints<T: Debug>(alloc: Global, value: &T, short: &str, long: &str) -> Result<bool, Fail> {
@@ -146,113 +144,5 @@ fn a_tally_prints_its_counts(rt: HostRuntime) -> Result<(), Fail> {
     let short = "Tally { inner: [], writes: 0, reads: 1 }";
     let long = "Tally {\n    inner: [],\n    writes: 0,\n    reads: 1,\n}";
     assert!(rt; prints(rt.alloc(), &r, short, long)?);
-    Ok(())
-}
-
-// A test device whose events or acts are not shown.
-#[test]
-fn a_feed_prints_its_events(rt: HostRuntime) -> Result<(), Fail> {
-    let alloc = rt.alloc();
-    let events = vec![in alloc; Event::Byte(b'a'), Event::Fail(ErrorKind::BrokenPipe)]?;
-    let short = "Feed { events: [Byte(97), Fail(BrokenPipe)], at: 0, piece: 4 }";
-    let long = concat!(
-        "Feed {\n    events: [\n        Byte(\n            97,\n        ),\n        Fail(\n            BrokenPipe,\n",
-        "        ),\n    ],\n    at: 0,\n    piece: 4,\n}",
-    );
-    assert!(rt; prints(alloc, &Feed::new(events, 4), short, long)?);
-    let acts = [Act::Take(1), Act::Zero];
-    let long = "[\n    Take(\n        1,\n    ),\n    Zero,\n]";
-    assert!(rt; prints(alloc, &acts, "[Take(1), Zero]", long)?);
-    Ok(())
-}
-
-// A call or a reply under another name, or without its number.
-#[test]
-fn a_run_prints_its_calls(rt: HostRuntime) -> Result<(), Fail> {
-    let alloc = rt.alloc();
-    let ops = [Op::Write(b"a"), Op::WriteAll(b""), Op::Flush];
-    let long = concat!(
-        "[\n    Write(\n        [\n            97,\n        ],\n    ),\n    WriteAll(\n        [],\n    ),\n",
-        "    Flush,\n]",
-    );
-    assert!(rt; prints(alloc, &ops, "[Write([97]), WriteAll([]), Flush]", long)?);
-    let late = Error::new(ErrorKind::TimedOut, "late");
-    let replies = [Reply::Took(2), Reply::Done, Reply::Failed(late)];
-    let short = "[Took(2), Done, Failed(Custom { kind: TimedOut, error: \"late\" })]";
-    let long = concat!(
-        "[\n    Took(\n        2,\n    ),\n    Done,\n    Failed(\n        Custom {\n            kind: TimedOut,\n",
-        "            error: \"late\",\n        },\n    ),\n]",
-    );
-    assert!(rt; prints(alloc, &replies, short, long)?);
-    Ok(())
-}
-
-// An ask or a total under another name, or without its number.
-#[test]
-fn a_run_prints_its_asks(rt: HostRuntime) -> Result<(), Fail> {
-    let alloc = rt.alloc();
-    let asks = [Ask::Read(1), Ask::Exact(2), Ask::Fill(3)];
-    let long =
-        "[\n    Read(\n        1,\n    ),\n    Exact(\n        2,\n    ),\n    Fill(\n        3,\n    ),\n]";
-    assert!(rt; prints(alloc, &asks, "[Read(1), Exact(2), Fill(3)]", long)?);
-    let totals = ReadTotals {
-        at_end: 1,
-        failed: 0,
-    };
-    let long = "ReadTotals {\n    at_end: 1,\n    failed: 0,\n}";
-    assert!(rt; prints(alloc, &totals, "ReadTotals { at_end: 1, failed: 0 }", long)?);
-    Ok(())
-}
-
-// A shape or a fault of a play under another name.
-#[test]
-fn a_play_prints_its_shape_and_its_fault(rt: HostRuntime) -> Result<(), Fail> {
-    let alloc = rt.alloc();
-    let shapes = [Shape::Buf, Shape::Line, Shape::BufBuf, Shape::LineBuf];
-    let long = "[\n    Buf,\n    Line,\n    BufBuf,\n    LineBuf,\n]";
-    assert!(rt; prints(alloc, &shapes, "[Buf, Line, BufBuf, LineBuf]", long)?);
-    let faults = [
-        Fault::Line(2),
-        Fault::Io(Error::from(ErrorKind::BrokenPipe)),
-    ];
-    let long =
-        "[\n    Line(\n        2,\n    ),\n    Io(\n        Kind(\n            BrokenPipe,\n        ),\n    ),\n]";
-    assert!(rt; prints(alloc, &faults, "[Line(2), Io(Kind(BrokenPipe))]", long)?);
-    Ok(())
-}
-
-// A header without one of its fields.
-#[test]
-fn a_member_prints_its_header(rt: HostRuntime) -> Result<(), Fail> {
-    let alloc = rt.alloc();
-    let header = Header {
-        name: vec![in alloc; b'a']?,
-        mode: 420,
-        size: 3,
-        mtime: 9,
-        kind: Kind::File,
-    };
-    let short = "Header { name: [97], mode: 420, size: 3, mtime: 9, kind: File }";
-    let long =
-        "Header {\n    name: [\n        97,\n    ],\n    mode: 420,\n    size: 3,\n    mtime: 9,\n    kind: File,\n}";
-    assert!(rt; prints(alloc, &header, short, long)?);
-    Ok(())
-}
-
-// A kind of member under another name.
-#[test]
-fn kinds_of_members_print_their_names(rt: HostRuntime) -> Result<(), Fail> {
-    let kinds = [
-        Kind::Link,
-        Kind::Symlink,
-        Kind::CharacterDevice,
-        Kind::BlockDevice,
-        Kind::Directory,
-        Kind::Fifo,
-    ];
-    let short = "[Link, Symlink, CharacterDevice, BlockDevice, Directory, Fifo]";
-    let long =
-        "[\n    Link,\n    Symlink,\n    CharacterDevice,\n    BlockDevice,\n    Directory,\n    Fifo,\n]";
-    assert!(rt; prints(rt.alloc(), &kinds, short, long)?);
     Ok(())
 }

@@ -1,9 +1,12 @@
-//! Tests of what no clause and no row of a table can show: printed texts, kinds as keys, a long stream; and the examples of
-//! comments. Those of the library are in `buffers`, `memory` and `streams`, and those of its clients in `clients`.
+//! Tests of what no clause and no row of a table can show: printed texts, kinds as keys, a long stream. The comment above each
+//! names the mistake that it would find.
 //!
-//! The comment above each test names the mistake that the test would find.
+//! And the examples of comments, one test for each module: those of the library are in `base` and `buffers`, and those of its
+//! clients in `clients`.
 #![tactic(auto)]
 
+#[cfg(test)]
+mod base;
 #[cfg(test)]
 mod buffers;
 #[cfg(test)]
@@ -15,11 +18,7 @@ mod devices;
 #[cfg(test)]
 mod kinds;
 #[cfg(test)]
-mod memory;
-#[cfg(test)]
 mod printing;
-#[cfg(test)]
-mod streams;
 #[cfg(test)]
 mod tables;
 #[cfg(test)]

@@ -27,8 +27,6 @@ impl Write for Failing {
     fn flush(&mut self) -> IoResult<()> {
         Ok(())
     }
-
-    ghost steady = { λ w h. absurd h };
 }
 
 // A value that prints `ab`, and then returns an error of its own.

@@ -1,7 +1,5 @@
-// A stream that is longer than the zeros that a `read_to_end` adds at once, a list of asks, and copies
-// to a vector.
-use io_bench::{Ask, Tally, run_reads};
-use no_std_io2::io::{BufReader, ErrorKind, Read};
+// A stream that is longer than the zeros that a `read_to_end` adds at once, and copies to a vector.
+use no_std_io2::io::{ErrorKind, Read};
 use std::test::Fail;
 use system_streams::{Patient, copy_through};
 
@@ -18,19 +16,6 @@ fn two_halves_of_a_mebibyte_are_the_whole(rt: HostRuntime) -> Result<(), Fail> {
     assert!(rt; second.read_to_end(&mut v)? == 524_288);
     assert!(rt; v.as_slice() == all.as_slice());
     Ok(())
-}
-
-// An ask that reads after the front of its buffer, or a run that takes its asks one by one.
-#[test]
-fn asks_fill_the_front_of_their_buffer(rt: HostRuntime) {
-    let mut buf = *b"xyz";
-    let mut r = BufReader::<Tally<&[u8]>, 4>::new(Tally::new(b"0123456789".as_slice()));
-    let totals = run_reads(&mut r, &[Ask::Exact(2), Ask::Read(1)], &mut buf);
-    assert!(rt; (totals.at_end, totals.failed, r.get_ref().reads()) == (0, 0, 1));
-    assert!(rt; buf == *b"21z");
-    let totals = run_reads(&mut r, &[Ask::Read(1); 8], &mut buf);
-    assert!(rt; (totals.at_end, totals.failed, r.get_ref().reads()) == (1, 0, 4));
-    assert!(rt; buf == *b"91z");
 }
 
 // A turn too few or too many, and bytes that are lost with the turns.

@@ -1,3 +1,2 @@
-pub mod Lines
-pub mod Log
 pub mod Text
+pub mod Log

@@ -1,29 +1,32 @@
--- The printing of a text into a log.
-use Rattle.std.specs.Prelude.{◌≡◌, ◌⊎◌, ℕ, ◌<◌, List, [], Option, IfSome, Result, Ok, Err, OnOk, length}
-use Rattle.no_std_io2.specs.Lines.{HasNoNewline, HasNewline}
+-- The printing of a text into an array.
+use Rattle.std.specs.Prelude.{◌≡◌, ◌⊎◌, ℕ, ◌<◌, List, length, take, true, false, codes, Option, IfSome, Result, Ok, Err}
+use Rattle.no_std_io2.specs.Errors.{SaysError}
+use Rattle.no_std_io2.specs.Text.{IsTextError}
 use Rattle.no_std_io2.specs.declared.io.Error.{Error}
-use Rattle.pending.specs.Pending.{Law, SendsRecord}
-use Rattle.pending.specs.Text.{IsPrintRefusal}
-use Rattle.line_log.specs.Lines.{line_of, SaysNewline}
+use Rattle.no_std_io2.specs.declared.io.ErrorKind.TheVariants.{InvalidInput}
+use Rattle.line_log.specs.declared.printed.Printed.{Printed}
 
--- a text was refused: it has a newline in it, or its `fmt` or an allocation failed
-abbrev pub IsTextRefusal : ℕ → Option (List ℕ) → List ℕ → Error → Type 0
-IsTextRefusal room output text e = (HasNewline text × SaysNewline e) ⊎ IsPrintRefusal room output 1 e
+-- the bytes that were printed
+abbrev pub printed_bytes : {S : ℕ} → Printed S → List ℕ
+printed_bytes p = take p.len p.bytes
 
--- a text was put under way as a line; it is the output if that is specified. Or it was refused, and no line is under way
-abbrev pub StagesLine : ℕ → Option (List ℕ) → Result (Unit {0}) Error → List ℕ → List ℕ → Type 0
-StagesLine room output (Ok u) log_under_way to_go =
-    (text : List ℕ) × IfSome output (λ bs. text ≡ bs) × (log_under_way ≡ line_of text) × (to_go ≡ line_of text) × HasNoNewline text
-StagesLine room output (Err e) log_under_way to_go =
-    (text : List ℕ) × IfSome output (λ bs. text ≡ bs) × IsTextRefusal room output text e × (log_under_way ≡ []) × (to_go ≡ [])
+-- this text was printed into the array; or it is longer
+abbrev pub IsPrinted : {S : ℕ} → ℕ → List ℕ → Printed S → Type 0
+IsPrinted {S} old text p = ((p.fits ≡ true) × (printed_bytes p ≡ text)) ⊎ ((p.fits ≡ false) × (S < length text))
 
--- A text was logged as a line; it is the output if that is specified.
-pub record LogsText {W : Type 0} (law : Law W) (room : ℕ) (output : Option (List ℕ)) (old : W) (reply : Result (Unit {0}) Error)
-    (log_under_way to_go : List ℕ) (new : W) : Type 0 where
-  pub text : List ℕ
-  pub is : IfSome output (λ bs. text ≡ bs)
-  -- its line was sent whole, once; or it was refused; or it is under way
-  pub sends : SendsRecord law (line_of text) (IsTextRefusal room output text) old reply log_under_way to_go new
-  -- the text has no newline, so it is one line
-  pub plain : OnOk reply (HasNoNewline text)
-  pub started : 0 < length log_under_way → HasNoNewline text
+-- e is the error of a line that is not shorter than the buffer
+abbrev pub SaysLong : Error → Type 0
+SaysLong e = SaysError InvalidInput (codes "a line is longer than the buffer") e
+
+-- a text with this output could not be printed into S bytes: its own `fmt` failed, or it is longer
+abbrev pub IsPrintRefusal : ℕ → Option (List ℕ) → Error → Type 0
+IsPrintRefusal S output e = IsTextError e ⊎ (SaysLong e × IfSome output (λ bs. S < length bs))
+
+-- a text with this output was printed into an array of S bytes, or its own `fmt` failed
+abbrev pub PrintsText : {S : ℕ} → Option (List ℕ) → Printed S → Type 0
+PrintsText output p = (p.failed ≡ true) ⊎ IfSome output (λ bs. IsPrinted 0 bs p)
+
+-- the result says whether a text was printed whole
+abbrev pub ChecksPrinted : {S : ℕ} → Printed S → Result (Unit {0}) Error → Type 0
+ChecksPrinted p (Ok u) = (p.failed ≡ false) × (p.fits ≡ true)
+ChecksPrinted p (Err e) = ((p.failed ≡ true) × IsTextError e) ⊎ ((p.failed ≡ false) × (p.fits ≡ false) × SaysLong e)

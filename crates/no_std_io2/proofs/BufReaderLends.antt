@@ -7,7 +7,7 @@ use Rattle.no_std_io2_base.specs.BufRead.{Lender}
 use Rattle.no_std_io2_base.proofs.Readers.{lends_as}
 use Rattle.no_std_io2.specs.declared.buffered.buf_reader.BufReader.{BufReader}
 use Rattle.no_std_io2.specs.BufReader.{reader_held, reader_inner, reader_events, reader_turns, reader_has_store, reader_position}
-use Rattle.no_std_io2.specs.BufReader.{reader_lent_length, sound_tells, ReaderMay}
+use Rattle.no_std_io2.specs.BufReader.{sound_tells, ReaderMay}
 
 -- what it tells as a reader
 abbrev pub buf_reader : {R : Type 0} {S : ℕ} → Stores R → Reads R → Reader (BufReader R S)
@@ -18,8 +18,6 @@ buf_reader stored read = record {
   tells = λ r. read.tells (reader_inner r);
   events = reader_events read.events;
   turns = reader_turns read.turns;
-  cost = λ r. read.cost (reader_inner r);
-  is_metered = λ _. ⊥;
   is_filling = λ _. ⊥;
   may_take_none = λ _. ⊥;
   may = ReaderMay read.may;
@@ -29,10 +27,6 @@ buf_reader stored read = record {
 abbrev pub buf_lender : {R : Type 0} {S : ℕ} → Stores R → Reads R → Lender (BufReader R S)
 buf_lender stored read = lends_as (buf_reader stored read) (record {
   held = reader_held;
-  is_fill_metered = λ r. read.is_metered (reader_inner r);
-  fills = λ r. read.cost (reader_inner r);
-  knows_lent_length = λ r. read.is_filling (reader_inner r);
-  lent_length = reader_lent_length read.events;
 })
 
 -- if the inner reader tells the events of its store, the buffered reader tells those of its own

@@ -1,22 +1,25 @@
 -- What the steps of a buffered writer leave, tell and count, and what follows for its calls.
+use Rattle.no_std_io2_base.specs.Writers.{TakesAll, CallOf}
 use Rattle.std.proofs.Common.{rules, []}
 use Rattle.std.proofs.lemmas.Grind.{common_steps}
 use Rattle.std.proofs.lemmas.List.{nil_from_length}
 use Rattle.std.proofs.Common.{◌≡◌, ◌+◌, ℕ, ◌<◌, ◌≤◌, List, ◌∷◌, ◌++◌, length, Result, Ok, Err, Some, OnOk, IsOk, IfOk}
-use Rattle.std.proofs.Common.{refl, sym, subst, arith, le_refl, take_all, append-nil, if◌then◌else◌, nat_le, nat_lt, ⊎_elim, inl, inr}
+use Rattle.std.proofs.Common.{refl, sym, subst, ap, ◌∙◌, arith, le_refl, take_all, append-nil, if◌then◌else◌, nat_le, nat_lt, ⊎_elim, inl, inr}
 use Rattle.std.proofs.lemmas.Bool.{cases_lt}
 use Rattle.std.proofs.lemmas.Bool.Decides.{nat_tests}
 use Rattle.no_std_io2_base.specs.declared.error.Error.{Error}
 use Rattle.no_std_io2_base.specs.Errors.{IsNoInterruption}
-use Rattle.no_std_io2_base.specs.declared.traits.write.Write.{Ghosts as Writer}
+use Rattle.no_std_io2_base.specs.Writers.{Writer}
 use Rattle.no_std_io2_base.specs.Write.{Told, Moves, MovesFront, WriteCall, Made, taken, write_mishap, call_mishap}
 use Rattle.no_std_io2_base.specs.Write.{calls_for, none as no_write}
 use Rattle.no_std_io2_base.proofs.MovesLemmas.{IsFront-refl, Moves-then, zero_write-whole}
 use Rattle.no_std_io2_base.proofs.CallsLemmas.{made_split, writes_whole}
 use Rattle.no_std_io2_base.proofs.WritesFacts.{writes_fault, writes_sends, writes_all}
 use Rattle.no_std_io2_base.proofs.AllFacts.{all_calls, call_steady}
+use Rattle.no_std_io2_base.specs.Meter.{charges}
+use Rattle.no_std_io2.proofs.MeterLemmas.{writes_count, all_count}
 use Rattle.no_std_io2.specs.declared.buffered.sender.Sender.{Sender}
-use Rattle.no_std_io2.specs.BufWriter.{CallOf, stops, goes_on, with_buffer, Takes, sender_inner, sender_buffer, sender_with_inner}
+use Rattle.no_std_io2.specs.BufWriter.{stops, goes_on, with_buffer, TakesStep, sender_inner, sender_buffer, sender_with_inner}
 use Rattle.no_std_io2.specs.BufWriter.{SendCalls, WayCalls, PutCalls, Buffered, WriteCalls, WriteAllCalls, FlushCalls, PastEmpty, OneWrite}
 use Rattle.no_std_io2.specs.BufWriter.{OneWriteAll, OneFlush, way_calls, writing_calls, buffer_after, Buffers, BuffersAll, Flushes}
 use Rattle.no_std_io2.proofs.BufWriterLemmas.{Moves-kept, Moves-emptied, MovesFront-emptied}
@@ -83,9 +86,9 @@ module _ {W : Type 0} {I : Writer W} (S : ℕ) where
 pub buffered_past : {W A : Type 0} {S : ℕ} {I : Writer W} {old mid : Sender W S} {inner : W} (x : List ℕ) (v : A)
     (past : List WriteCall → Result A Error → Type 0) {reply : Result A Error} → mid ≡ old → sender_buffer mid ≡ [] → S ≤ length x
     → (C : List WriteCall) × Made (CallOf I) (sender_inner mid) C inner × past C reply
-    → Takes I sender_inner sender_buffer (Buffered S x v past) old reply (sender_with_inner mid inner)
+    → TakesStep I sender_inner sender_buffer (Buffered S x v past) old reply (sender_with_inner mid inner)
 buffered_past {S} {I} {mid = mid} {inner = inner} x v past {reply = reply} same none long calls =
-    subst (λ w. Takes I sender_inner sender_buffer (Buffered S x v past) w reply (sender_with_inner mid inner)) same
+    subst (λ w. TakesStep I sender_inner sender_buffer (Buffered S x v past) w reply (sender_with_inner mid inner)) same
     (then_goes_on _ _ _ _ (way_empty S (length x) none) (passes S x v past long none none calls))
 
 -- one call
@@ -140,16 +143,16 @@ module _ {W : Type 0} (I : Writer W) where
       → Made (CallOf I) a C b → Sending I (with_buffer (I.told a) held) reply (with_buffer (I.told b) left)
   kept_tells held left C reply a b is ok same made = grind (arith, common_steps)
 
-  way_tells : (S n : ℕ) → Tells I (WayCalls S n) (Sending I)
+  pub way_tells : (S n : ℕ) → Tells I (WayCalls S n) (Sending I)
   way_tells = search (rules, kept_tells, send_tells)
 
   -- what each step counts, over an inner writer that takes all
   pub send_counts : Counts I SendCalls calls_for
-  send_counts = grind (arith, common_steps, writes_all)
+  send_counts = λ held C reply left writes a b made takes. writes_count I writes a b made takes
 
   -- no call was made
   pub idle_counts : {A : Type 0} {C : List WriteCall} {reply : Result A Error} (v : A) (a b : W) (n : ℕ) → C ≡ [] → reply ≡ Ok v
-      → n ≡ 0 → Made (CallOf I) a C b → I.takes_all a → Counted I reply a n b
+      → n ≡ 0 → Made (CallOf I) a C b → TakesAll I a → Counted I reply C n b
   idle_counts = grind (arith, common_steps)
 
   way_counts : (S n : ℕ) → Counts I (WayCalls S n) (λ held. way_calls S held n)
@@ -184,7 +187,7 @@ module _ {W : Type 0} (I : Writer W) where
           | inl kept ↦ idle_counts v a b (past_calls S (length x) n) kept.1 kept.2 (past_calls-none S (length x) n kept.0) made takes
           | inr gone ↦
               let one = pass held C reply left gone.1 a b made takes in
-              (one.0, one.1, λ m. let spent = one.2 m in (spent.0, omega (arith, spent.1, past_calls-all S (length x) n gone.0)))
+              (one.0, one.1, omega (arith, one.2, past_calls-all S (length x) n gone.0))
         ]
 
   -- a `write` accepts the bytes that its result reports
@@ -200,7 +203,7 @@ module _ {W : Type 0} (I : Writer W) where
   write_counts S x = buffered_counts S x (length x) (OneWrite x) 1
       (λ held C reply left gone a b made takes.
       let law = one_call a b gone.2 made in
-      let all = law.all takes in (all.0, subst IsOk (sym all.1) refl, λ m. law.counts m takes))
+      let all = law.all takes in (all.0, subst IsOk (sym all.1) refl, ap charges gone.2 ∙ omega arith))
 
   pub flush_tells : Tells I FlushCalls (Sending I)
   flush_tells = λ held C reply left flush.
@@ -215,7 +218,7 @@ module _ {W : Type 0} (I : Writer W) where
 
   -- and all of it, over an inner writer that takes all
   pub write_takes : (S : ℕ) {x held left : List ℕ} {C : List WriteCall} {reply : Result ℕ Error} → WriteCalls S x held C reply left
-      → (a b : W) → Made (CallOf I) a C b → I.takes_all a → reply ≡ Ok (length x)
+      → (a b : W) → Made (CallOf I) a C b → TakesAll I a → reply ≡ Ok (length x)
   write_takes S {x} (stops way) a b made takes = no_ok (way_counts S (length x) _ _ _ _ way a b made takes).1
   write_takes S {x} (goes_on {C = C} {D = D} way put) a b made takes = elim put [
     | inl held ↦ held.2
@@ -229,7 +232,7 @@ module _ {W : Type 0} (I : Writer W) where
       → (a b : W) → Made (CallOf I) a C b → OnOk reply ((I.told b).held ++ left ≡ [])
   flush_empty = grind (arith, common_steps, made_split, onok_map, append-nil, one_call)
 
-module _ {W : Type 0} (I : Writer W) (steady : (w : W) → I.takes_all w → (I.told w).mishaps ≡ Some []) where
+module _ {W : Type 0} (I : Writer W) where
   -- a `write_all` accepts some front of x, all of it after `Ok`, and never returns an interruption
   abbrev pub WritingAll : List ℕ → Told → Result (Unit {0}) Error → Told → Type 0
   WritingAll x old reply new = MovesFront old x reply new
@@ -240,11 +243,11 @@ module _ {W : Type 0} (I : Writer W) (steady : (w : W) → I.takes_all w → (I.
       (λ s m t r f g. record { accepted = g.accepted; front = g.front; whole = g.whole; moves = Moves-then {k = []} f g.moves })
       (λ s t m. record { accepted = x; front = IsFront-refl x; whole = refl; moves = m })
       (λ held C reply left gone a b made.
-      MovesFront-emptied gone.0 gone.1 (all_calls I.told I.takes_all I.cost I.is_metered I.may steady gone.2 a b made).1)
+      MovesFront-emptied gone.0 gone.1 (all_calls I gone.2 a b made).1)
 
   pub write_all_counts : (S : ℕ) (x : List ℕ) → Counts I (WriteAllCalls S x) (writing_all_calls S x)
   write_all_counts S x = buffered_counts I S x tt (OneWriteAll x) (calls_for x)
-      (λ held C reply left gone a b made takes. (all_calls I.told I.takes_all I.cost I.is_metered I.may steady gone.2 a b made).2 takes)
+      (λ held C reply left gone a b made takes. all_count I gone.2 a b made takes)
 
   pub write_all_fault : (S : ℕ) {x held left : List ℕ} {C : List WriteCall} {reply : Result (Unit {0}) Error}
       → WriteAllCalls S x held C reply left → (a b : W) → Made (CallOf I) a C b → IsNoInterruption reply
@@ -254,23 +257,23 @@ module _ {W : Type 0} (I : Writer W) (steady : (w : W) → I.takes_all w → (I.
   flush_counts = λ held C reply left flush a b made takes.
       let all = then_counts I SendCalls (PastEmpty OneFlush) (λ _. []) calls_for (λ _. 0) send_leaves
       (send_counts I) past_counts flush a b made takes in
-      (all.0, all.1, λ m. let spent = all.2 m in (spent.0, omega (arith, spent.1)))
+      (all.0, all.1, omega (arith, all.2))
     where
       past_counts : Counts I (PastEmpty OneFlush) (λ _. 0)
       past_counts = λ held C reply left gone a b made takes.
           let law = one_call I a b gone.2 made in
-          (law.all takes, call_steady reply (steady a takes) law.moves, λ m. let one = law.counts m takes in (one.0, omega (arith, one.1)))
+          (law.all takes, call_steady reply takes.1 law.moves, ap charges gone.2 ∙ omega arith)
 
   module _ {B : Type 0} (inner : B → W) (buffer : B → List ℕ) (S : ℕ) {old new : B} where
     -- what follows for `write`, `write_all` and `flush`
-    pub buffers_of : {x : List ℕ} {reply : Result ℕ Error} → Takes I inner buffer (WriteCalls S x) old reply new
+    pub buffers_of : {x : List ℕ} {reply : Result ℕ Error} → TakesStep I inner buffer (WriteCalls S x) old reply new
         → Buffers I S inner buffer old x reply new
     buffers_of {x} calls = grind (arith, common_steps, buffered_fits, write_whole, buffered_leaves, write_counts)
 
-    pub buffers_all_of : {x : List ℕ} {reply : Result (Unit {0}) Error} → Takes I inner buffer (WriteAllCalls S x) old reply new
+    pub buffers_all_of : {x : List ℕ} {reply : Result (Unit {0}) Error} → TakesStep I inner buffer (WriteAllCalls S x) old reply new
         → BuffersAll I S inner buffer old x reply new
     buffers_all_of {x} calls = grind (arith, common_steps, buffered_fits, buffered_leaves, write_all_counts)
 
-    pub flushes_of : {reply : Result (Unit {0}) Error} → Takes I inner buffer FlushCalls old reply new
+    pub flushes_of : {reply : Result (Unit {0}) Error} → TakesStep I inner buffer FlushCalls old reply new
         → Flushes I inner buffer old reply new
     flushes_of calls = grind (arith, common_steps, flush_counts)

@@ -1,17 +1,17 @@
 -- The bytes that a copy has passed on so far, and after one more step.
+use Rattle.no_std_io2_base.specs.Writers.{CallOf}
 use Rattle.std.proofs.lemmas.Grind.{common_steps}
 use Rattle.std.proofs.Common.{◌≡◌, ℕ, ◌<◌, ◌≤◌, List, ◌∷◌, ◌++◌, length, take, Result, Ok, Err, refl, sym, ap, subst, ◌∙◌, []}
 use Rattle.std.proofs.Common.{arith, append_assoc, append-nil, length-append}
 use Rattle.std.specs.List.{concat}
 use Rattle.std.proofs.lemmas.List.Folds.{concat-append}
 use Rattle.no_std_io2_base.specs.declared.error.Error.{Error}
-use Rattle.no_std_io2_base.specs.declared.traits.write.Write.{Ghosts as Writer}
+use Rattle.no_std_io2_base.specs.Writers.{Writer}
 use Rattle.no_std_io2_base.specs.Read.{Event, bytes, Reads, Reader, ReadCall, Gave, Gathers, no_read, and_gave, and_again}
 use Rattle.no_std_io2_base.specs.Errors.{IsInterruption}
 use Rattle.no_std_io2_base.specs.Write.{WriteCall, Made, AllCalls}
 use Rattle.no_std_io2_base.proofs.CallsLemmas.{made_then}
 use Rattle.no_std_io2_base.proofs.EventLemmas.{bytes-append, bytes-events_of}
-use Rattle.no_std_io2.specs.BufWriter.{CallOf}
 use Rattle.no_std_io2.specs.Copy.{Handed, nothing, piece, refused, HandsOn, IsExactly}
 
 -- one piece more

@@ -1,4 +1,5 @@
 -- What the calls of a line writer tell and count, by the calls of its inner writer.
+use Rattle.no_std_io2_base.specs.Writers.{TakesAll, CallOf}
 use Rattle.std.proofs.Common.{rules, []}
 use Rattle.std.proofs.lemmas.Grind.{common_steps}
 use Rattle.std.proofs.Common.{◌≡◌, ◌+◌, ℕ, ◌<◌, ◌≤◌, ◌==◌, ◌∙◌, List, length, take, drop, Result, Some, OnOk, IsOk}
@@ -8,18 +9,20 @@ use Rattle.std.proofs.lemmas.Bool.Decides.{nat_tests}
 use lib.Seq.{take-take}
 use Rattle.no_std_io2_base.specs.declared.error.Error.{Error}
 use Rattle.no_std_io2_base.specs.Errors.{IsNoInterruption}
-use Rattle.no_std_io2_base.specs.declared.traits.write.Write.{Ghosts as Writer}
+use Rattle.no_std_io2_base.specs.Writers.{Writer}
 use Rattle.no_std_io2_base.specs.Write.{MovesFront, WriteCall, Wrote, Made, calls_for}
 use Rattle.no_std_io2_base.proofs.MovesLemmas.{Moves-then}
 use Rattle.no_std_io2_base.proofs.CallsLemmas.{made_split}
 use Rattle.no_std_io2_base.proofs.WritesFacts.{writes_fault}
 use Rattle.no_std_io2_base.proofs.AllFacts.{all_calls}
 use Rattle.no_std_io2.specs.Lines.{IsLineState, lines_of, lines_len, unfinished_line}
-use Rattle.no_std_io2.specs.BufWriter.{CallOf, Then, stops, goes_on, with_buffer}
+use Rattle.no_std_io2.specs.BufWriter.{Then, stops, goes_on, with_buffer}
 use Rattle.no_std_io2.specs.BufWriter.{SendCalls, WriteCalls, WriteAllCalls, OneWrite, OneWriteAll, buffer_after, writing_calls}
 use Rattle.no_std_io2.specs.LineWriter.{SendLineCalls, HoldsTail, LinesCalls, SendLinesCalls, LineWriteCalls, LineWriteAllCalls}
 use Rattle.no_std_io2.specs.LineWriter.{line_buffer_filled, KeepsTaking}
 use Rattle.no_std_io2.proofs.BufWriterLemmas.{Moves-buffered, Moves-emptied, MovesFront-emptied}
+use Rattle.no_std_io2_base.specs.Meter.{charges}
+use Rattle.no_std_io2.proofs.MeterLemmas.{all_count, charges-append}
 use Rattle.no_std_io2.proofs.StepLemmas.{no_ok, Tells, Sending, Counts, Counted, then_leaves, then_tells, then_counts}
 use Rattle.no_std_io2.proofs.BufWriterCalls.{buffered_leaves, send_leaves}
 use Rattle.no_std_io2.proofs.BufWriterCalls.{one_call, send_tells, kept_tells, write_tells, Writing, write_bound, send_counts, idle_counts}
@@ -65,9 +68,9 @@ at_ok : {A : Type 0} {P : Type 0} (r : Result A Error) → IsOk r → OnOk r P �
 at_ok = grind (arith, common_steps)
 
 -- counted calls, at most three
-counted_keeps : {W A : Type 0} (I : Writer W) {n : ℕ} (reply : Result A Error) (a b : W) → Counted I reply a n b → n ≤ 3
-    → I.takes_all b × IsOk reply × (I.is_metered a → I.is_metered b × (I.cost b ≤ I.cost a + 3))
-counted_keeps I reply a b done few = (done.0, done.1, λ m. let spent = done.2 m in (spent.0, omega (arith, spent.1, few)))
+counted_keeps : {W A : Type 0} (I : Writer W) {n : ℕ} (C : List WriteCall) (reply : Result A Error) (b : W) → Counted I reply C n b → n ≤ 3
+    → TakesAll I b × IsOk reply × (charges C ≤ 3)
+counted_keeps I C reply b done few = (done.0, done.1, omega (arith, done.2, few))
 
 filled_plain : (S : ℕ) (held x : List ℕ) → lines_len x ≡ 0 → buffer_after S (unfinished_line held) x ≡ line_buffer_filled S held x
 filled_plain S held x none = grind (arith, nat_tests)
@@ -113,7 +116,7 @@ module _ {W : Type 0} (I : Writer W) where
 
     -- and over an inner writer that takes all, it leaves this
     tail_filled : {held left : List ℕ} {C : List WriteCall} {reply : Result ℕ Error} → Then SendCalls (LinesCalls S x) held C reply left
-        → 0 < lines_len x → (a b : W) → Made (CallOf I) a C b → I.takes_all a → left ≡ take S (unfinished_line x)
+        → 0 < lines_len x → (a b : W) → Made (CallOf I) a C b → TakesAll I a → left ≡ take S (unfinished_line x)
     tail_filled (stops p) some a b made takes = no_ok (send_counts I _ _ _ _ p a b made takes).1
     tail_filled (goes_on {C = C} {D = D} {left = left} {reply = reply} p q) some a b made takes =
         let parts = made_split (CallOf I) C a D b made in
@@ -127,15 +130,15 @@ module _ {W : Type 0} (I : Writer W) where
 
   -- over an inner writer that takes all it makes three calls at most,
   pub line_write_keeps : (S : ℕ) {x held left : List ℕ} {C : List WriteCall} {reply : Result ℕ Error} → LineWriteCalls S x held C reply left
-      → (a b : W) → Made (CallOf I) a C b → KeepsTaking I a reply b
+      → (a b : W) → Made (CallOf I) a C b → TakesAll I a → TakesAll I b × IsOk reply × (charges C ≤ 3)
   line_write_keeps S {x} {held} {reply = reply} write a b made takes = elim write [
     | inl plain ↦
-        counted_keeps I reply a b
+        counted_keeps I _ reply b
         (then_counts I SendLineCalls (WriteCalls S x) line_left line_calls (λ held. writing_calls S held x) send_line_leaves
         send_line_counts (write_counts I S x) plain.1 a b made takes)
         (omega (arith, line_calls-le held, writing_calls-le S (line_left held) x))
     | inr lines ↦
-        counted_keeps I reply a b
+        counted_keeps I _ reply b
         (then_counts I SendCalls (LinesCalls S x) (λ _. []) calls_for (λ _. 1) send_leaves (send_counts I)
         (lines_count S x (lines_len-some x lines.0)) lines.1 a b made takes)
         (omega (arith, calls_for-le held))
@@ -144,7 +147,7 @@ module _ {W : Type 0} (I : Writer W) where
   -- and this is held then
   pub line_write_filled : (S : ℕ) {x held left : List ℕ} {C : List WriteCall} {reply : Result ℕ Error}
       → LineWriteCalls S x held C reply left
-      → IsLineState held → (a b : W) → Made (CallOf I) a C b → I.takes_all a → left ≡ line_buffer_filled S held x
+      → IsLineState held → (a b : W) → Made (CallOf I) a C b → TakesAll I a → left ≡ line_buffer_filled S held x
   line_write_filled S {x} {held} {left} {reply = reply} write line a b made takes =
       let keeps = line_write_keeps S write a b made takes in elim write [
         | inl plain ↦
@@ -156,15 +159,15 @@ module _ {W : Type 0} (I : Writer W) where
             tail_filled S x lines.1 some a b made takes ∙ filled_lines S held x some
       ]
 
-module _ {W : Type 0} (I : Writer W) (steady : (w : W) → I.takes_all w → (I.told w).mishaps ≡ Some []) where
+module _ {W : Type 0} (I : Writer W) where
   -- some front of lines that are passed on is accepted, all after `Ok`,
   behind_tells : (S : ℕ) {y held left : List ℕ} {C : List WriteCall} {reply : Result (Unit {0}) Error}
       → Then (WriteAllCalls S y) SendCalls held C reply left → (a b : W) → Made (CallOf I) a C b
       → MovesFront (with_buffer (I.told a) held) y reply (with_buffer (I.told b) left) × IsNoInterruption reply
-  behind_tells S {y} (stops w) a b made = (write_all_tells I steady S y _ _ _ _ w a b made, write_all_fault I steady S w a b made)
+  behind_tells S {y} (stops w) a b made = (write_all_tells I S y _ _ _ _ w a b made, write_all_fault I S w a b made)
   behind_tells S {y} (goes_on {C = C} {D = D} {reply = reply} w s) a b made =
       let parts = made_split (CallOf I) C a D b made in (
-        MovesFront-ends y reply (MovesFront-whole y tt (write_all_tells I steady S y _ _ _ _ w a parts.0 parts.1))
+        MovesFront-ends y reply (MovesFront-whole y tt (write_all_tells I S y _ _ _ _ w a parts.0 parts.1))
             (send_tells I _ _ _ _ s parts.0 b parts.2),
         writes_fault s,
       )
@@ -175,7 +178,7 @@ module _ {W : Type 0} (I : Writer W) (steady : (w : W) → I.takes_all w → (I.
       → MovesFront (with_buffer (I.told a) held) y reply (with_buffer (I.told b) left) × IsNoInterruption reply
   send_lines_tells S sends a b made = elim sends [
     | inl past ↦
-        let said = all_calls I.told I.takes_all I.cost I.is_metered I.may steady past.2 a b made in
+        let said = all_calls I past.2 a b made in
         (MovesFront-emptied past.0 past.1 said.1, said.0)
     | inr behind ↦ behind_tells S behind.1 a b made
   ]
@@ -183,19 +186,19 @@ module _ {W : Type 0} (I : Writer W) (steady : (w : W) → I.takes_all w → (I.
   -- by two calls at most of an inner writer that takes all
   send_lines_count : (S : ℕ) {y held left : List ℕ} {C : List WriteCall} {reply : Result (Unit {0}) Error}
       → SendLinesCalls S y held C reply left
-      → (a b : W) → Made (CallOf I) a C b → I.takes_all a → (n : ℕ) × (n ≤ 2) × Counted I reply a n b
+      → (a b : W) → Made (CallOf I) a C b → TakesAll I a → (n : ℕ) × (n ≤ 2) × Counted I reply C n b
   send_lines_count S {y} {held} sends a b made takes = elim sends [
     | inl past ↦ (
       calls_for y,
       omega (arith, calls_for-le y),
-      (all_calls I.told I.takes_all I.cost I.is_metered I.may steady past.2 a b made).2 takes,
+      all_count I past.2 a b made takes,
     )
     | inr behind ↦ (
       writing_all_calls S y held + calls_for (buffer_after S held y),
       writing_then_sending S y held,
       then_counts I (WriteAllCalls S y) SendCalls (λ held. buffer_after S held y) (writing_all_calls S y) calls_for
           (buffered_leaves S y tt (OneWriteAll y))
-          (write_all_counts I steady S y) (send_counts I) behind.1 a b made takes,
+          (write_all_counts I S y) (send_counts I) behind.1 a b made takes,
     )
   ]
 
@@ -212,14 +215,14 @@ module _ {W : Type 0} (I : Writer W) (steady : (w : W) → I.takes_all w → (I.
   )
   plain_tells S {x} (goes_on {C = C} {D = D} p q) a b made =
       let parts = made_split (CallOf I) C a D b made in
-      let all = write_all_tells I steady S x _ _ _ _ q parts.0 b parts.2 in (
+      let all = write_all_tells I S x _ _ _ _ q parts.0 b parts.2 in (
         record {
           accepted = all.accepted;
           front = all.front;
           whole = all.whole;
           moves = Moves-then {k = []} (send_line_tells I _ _ _ _ p a parts.0 parts.1) all.moves;
         },
-        write_all_fault I steady S q parts.0 b parts.2,
+        write_all_fault I S q parts.0 b parts.2,
       )
 
   -- and one with some
@@ -233,8 +236,8 @@ module _ {W : Type 0} (I : Writer W) (steady : (w : W) → I.takes_all w → (I.
       let parts = made_split (CallOf I) C a D b made in (
         MovesFront-rest (lines_len x) x (unfinished_line x) reply (unfinished_line-drop x)
             (MovesFront-whole (lines_of x) tt (send_lines_tells S p a parts.0 parts.1).0)
-            (write_all_tells I steady S (unfinished_line x) _ _ _ _ q parts.0 b parts.2),
-        write_all_fault I steady S q parts.0 b parts.2,
+            (write_all_tells I S (unfinished_line x) _ _ _ _ q parts.0 b parts.2),
+        write_all_fault I S q parts.0 b parts.2,
       )
 
   -- some front of x is accepted, all of it after `Ok`, and no interruption is returned
@@ -248,35 +251,24 @@ module _ {W : Type 0} (I : Writer W) (steady : (w : W) → I.takes_all w → (I.
 
   lines_keep : (S : ℕ) (x : List ℕ) {held left : List ℕ} {C : List WriteCall} {reply : Result (Unit {0}) Error}
       → Then (SendLinesCalls S (lines_of x)) (WriteAllCalls S (unfinished_line x)) held C reply left → (a b : W) → Made (CallOf I) a C b
-      → KeepsTaking I a reply b
+      → TakesAll I a → TakesAll I b × IsOk reply × (charges C ≤ 3)
   lines_keep S x (stops p) a b made takes = no_ok (send_lines_count S p a b made takes).2.1
   lines_keep S x (goes_on {C = C} {D = D} p q) a b made takes =
       let parts = made_split (CallOf I) C a D b made in
       let first = send_lines_count S p a parts.0 parts.1 takes in
-      let next = write_all_counts I steady S (unfinished_line x) _ _ _ _ q parts.0 b parts.2 first.2.0 in
+      let next = write_all_counts I S (unfinished_line x) _ _ _ _ q parts.0 b parts.2 first.2.0 in
       let none = ap (writing_all_calls S (unfinished_line x)) (send_lines_leaves S (lines_of x) _ _ _ _ p) in
       let last = writing_all-none S (unfinished_line x) in
-      let paid : I.is_metered a → I.is_metered b × (I.cost b ≤ I.cost a + 3) = λ m. (let one = first.2.2 m in let two = next.2 one.0 in (
-        two.0,
-        omega (
-          arith,
-          one.1,
-          two.1,
-          first.1,
-          none,
-          last,
-        ),
-      )) in
-      (next.0, next.1, paid)
+      (next.0, next.1, omega (arith, charges-append C D, first.2.2, next.2, first.1, none, last))
 
   -- by three calls at most of an inner writer that takes all
   pub line_write_all_keeps : (S : ℕ) {x held left : List ℕ} {C : List WriteCall} {reply : Result (Unit {0}) Error}
-      → LineWriteAllCalls S x held C reply left → (a b : W) → Made (CallOf I) a C b → KeepsTaking I a reply b
+      → LineWriteAllCalls S x held C reply left → (a b : W) → Made (CallOf I) a C b → TakesAll I a → TakesAll I b × IsOk reply × (charges C ≤ 3)
   line_write_all_keeps S {x} {held} {reply = reply} write a b made takes = elim write [
     | inl plain ↦
-        counted_keeps I reply a b
+        counted_keeps I _ reply b
         (then_counts I SendLineCalls (WriteAllCalls S x) line_left line_calls (writing_all_calls S x) send_line_leaves
-        (send_line_counts I) (write_all_counts I steady S x) plain.1 a b made takes)
+        (send_line_counts I) (write_all_counts I S x) plain.1 a b made takes)
         (omega (arith, line_calls-le held, writing_all-le S x (line_left held)))
     | inr lines ↦ lines_keep S x lines.1 a b made takes
   ]

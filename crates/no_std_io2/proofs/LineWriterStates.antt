@@ -1,4 +1,5 @@
 -- What the calls of a line writer leave: line states, and after an `Ok` these.
+use Rattle.no_std_io2_base.specs.Writers.{CallOf}
 use Rattle.std.proofs.lemmas.Grind.{common_steps}
 use Rattle.std.proofs.Common.{◌≡◌, ◌+◌, ℕ, ◌<◌, ◌≤◌, ◌==◌, ◌∙◌, List, ◌∷◌, ◌++◌, length, take, drop, slice_index, Result, []}
 use Rattle.std.proofs.Common.{Ok, OnOk}
@@ -7,11 +8,11 @@ use Rattle.std.proofs.lemmas.Bool.Decides.{nat_tests}
 use Rattle.std.proofs.lemmas.List.{get_or-take}
 use Rattle.no_std_io2_base.specs.declared.error.Error.{Error}
 use Rattle.no_std_io2_base.specs.Write.{WriteCall, Wrote, Writes, none as no_write, took, again, stuck, fault}
-use Rattle.no_std_io2_base.specs.declared.traits.write.Write.{Ghosts as Writer}
+use Rattle.no_std_io2_base.specs.Writers.{Writer}
 use Rattle.no_std_io2_base.proofs.CallsLemmas.{writes_whole}
 use Rattle.no_std_io2.specs.Buffer.{IsSuffix}
 use Rattle.no_std_io2.specs.Lines.{IsLineState, HasNoNewline, IsLinesLen, lines_of, lines_len, unfinished_line}
-use Rattle.no_std_io2.specs.BufWriter.{CallOf, Then, stops, goes_on, SendCalls, WayCalls, Buffered, WriteCalls, WriteAllCalls, FlushCalls}
+use Rattle.no_std_io2.specs.BufWriter.{Then, stops, goes_on, SendCalls, WayCalls, Buffered, WriteCalls, WriteAllCalls, FlushCalls}
 use Rattle.no_std_io2.specs.BufWriter.{OneWriteAll, buffer_after}
 use Rattle.no_std_io2.specs.LineWriter.{SendLineCalls, HoldsTail, LinesCalls, SendLinesCalls, LineWriteCalls, LineWriteAllCalls}
 use Rattle.no_std_io2.specs.LineWriter.{line_buffer_after, IsShortText}

@@ -1,13 +1,14 @@
 -- The calls of a buffered writer that first send the held bytes: its seeks and `into_inner`.
+use Rattle.no_std_io2_base.specs.Writers.{CallOf}
 use Rattle.std.proofs.lemmas.Grind.{common_steps}
 use Rattle.std.proofs.Common.{◌≡◌, ℕ, List, length, Result, Ok, Err, IsOk, refl, ap, subst, arith, []}
 use Rattle.no_std_io2_base.specs.declared.error.Error.{Error}
-use Rattle.no_std_io2_base.specs.declared.traits.write.Write.{Ghosts as Writer}
+use Rattle.no_std_io2_base.specs.Writers.{Writer}
 use Rattle.no_std_io2_base.specs.Write.{WriteCall, Made}
 use Rattle.no_std_io2_base.proofs.MovesLemmas.{Moves-steady}
 use Rattle.no_std_io2_base.proofs.CallsLemmas.{writes_whole}
 use Rattle.no_std_io2_base.proofs.WritesFacts.{writes_fault, writes_left, writes_idle, writes_sends}
-use Rattle.no_std_io2.specs.BufWriter.{CallOf, SendCalls, Takes, SendsFirst, SendsHeld, Unwraps}
+use Rattle.no_std_io2.specs.BufWriter.{SendCalls, TakesStep, SendsFirst, SendsHeld, Unwraps}
 use Rattle.no_std_io2.specs.declared.buffered.into_inner_error.IntoInnerError.{IntoInnerError}
 use Rattle.no_std_io2.specs.BufWriter.{into_inner_error_writer, into_inner_error_cause}
 use Rattle.no_std_io2.proofs.BufWriterCalls.{send_tells, send_counts}
@@ -28,7 +29,7 @@ module _ {W : Type 0} {I : Writer W} {a b : W} {held left : List ℕ} where
 
 module _ {W B : Type 0} {I : Writer W} {inner : B → W} {buffer : B → List ℕ} {old : B} where
   -- a call that sends first: the sending failed
-  pub sending_failed : {A : Type 0} {new : B} {e : Error} → Takes I inner buffer SendCalls old (Err e) new
+  pub sending_failed : {A : Type 0} {new : B} {e : Error} → TakesStep I inner buffer SendCalls old (Err e) new
       → SendsFirst {A = A} I inner buffer old (Err e) new
   sending_failed = grind (arith, common_steps, send_tells)
 
@@ -50,11 +51,10 @@ module _ {W B : Type 0} {I : Writer W} {inner : B → W} {buffer : B → List �
         empty = λ none. ap Ok (sent_idle calls none).0;
         steady = λ _. refl;
         all = λ t. (send_counts I _ _ _ _ calls.2 (inner old) w calls.1 t).0;
-        counts = λ m t. (send_counts I _ _ _ _ calls.2 (inner old) w calls.1 t).2 m;
       }
 
   -- or a fault came, with the writer
-  pub unwraps_err : (e : IntoInnerError B) → Takes I inner buffer SendCalls old (Err (into_inner_error_cause e)) (into_inner_error_writer e)
+  pub unwraps_err : (e : IntoInnerError B) → TakesStep I inner buffer SendCalls old (Err (into_inner_error_cause e)) (into_inner_error_writer e)
       → Unwraps I inner buffer old (Err e)
   unwraps_err e calls =
       let moves = send_tells I _ _ _ _ calls.2 (inner old) (inner (into_inner_error_writer e)) calls.1 in
@@ -66,5 +66,4 @@ module _ {W B : Type 0} {I : Writer W} {inner : B → W} {buffer : B → List �
         empty = λ none. no_ok (sent_idle calls none).1;
         steady = λ none. absurd (Moves-steady none moves);
         all = λ t. no_ok (send_counts I _ _ _ _ calls.2 (inner old) (inner (into_inner_error_writer e)) calls.1 t).1;
-        counts = tt;
       }

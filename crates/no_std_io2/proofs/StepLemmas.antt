@@ -1,12 +1,15 @@
 -- Steps of a writer with a buffer, one after another: what holds of the parts holds of `first?; next`.
+use Rattle.no_std_io2_base.specs.Writers.{TakesAll, CallOf}
 use Rattle.std.proofs.lemmas.Grind.{common_steps}
 use Rattle.std.proofs.Common.{◌≡◌, ℕ, ◌+◌, List, ◌∷◌, ◌++◌, Result, Ok, Err, OnOk, IsOk, ap, arith, false, true, []}
 use Rattle.no_std_io2_base.specs.declared.error.Error.{Error}
 use Rattle.no_std_io2_base.specs.Errors.{error_kind}
-use Rattle.no_std_io2_base.specs.declared.traits.write.Write.{Ghosts as Writer}
+use Rattle.no_std_io2_base.specs.Writers.{Writer}
 use Rattle.no_std_io2_base.specs.Write.{Told, Moves, WriteCall, Made, call_mishap}
 use Rattle.no_std_io2_base.proofs.CallsLemmas.{made_then, made_split}
-use Rattle.no_std_io2.specs.BufWriter.{CallOf, Step, Then, stops, goes_on, with_buffer}
+use Rattle.no_std_io2_base.specs.Meter.{charges}
+use Rattle.no_std_io2.proofs.MeterLemmas.{charges-append}
+use Rattle.no_std_io2.specs.BufWriter.{Step, Then, stops, goes_on, with_buffer}
 
 -- no error is `Ok`
 pub no_ok : {T : Type 0} → false ≡ true → T
@@ -58,26 +61,20 @@ module _ {W : Type 0} (I : Writer W) where
       join _ _ _ reply (of_first _ _ _ _ p a parts.0 parts.1) (of_next _ _ _ _ q parts.0 b parts.2)
 
   -- over an inner writer that takes all: it still does, there is no error, and so many calls are counted
-  abbrev pub Counted : {A : Type 0} → Result A Error → W → ℕ → W → Type 0
-  Counted reply a n b = I.takes_all b × IsOk reply × (I.is_metered a → I.is_metered b × (I.cost b ≡ I.cost a + n))
+  abbrev pub Counted : {A : Type 0} → Result A Error → List WriteCall → ℕ → W → Type 0
+  Counted reply C n b = TakesAll I b × IsOk reply × (charges C ≡ n)
 
   abbrev pub Counts : {A : Type 0} → Step A → (List ℕ → ℕ) → Type 0
   Counts {A} step n = (held : List ℕ) (C : List WriteCall) (reply : Result A Error) (left : List ℕ) → step held C reply left
-      → (a b : W) → Made (CallOf I) a C b → I.takes_all a → Counted reply a (n held) b
+      → (a b : W) → Made (CallOf I) a C b → TakesAll I a → Counted reply C (n held) b
 
   pub then_counts : {A : Type 0} {held left : List ℕ} {C : List WriteCall} {reply : Result A Error} (first : Step (Unit {0}))
       (next : Step A)
       (f : List ℕ → List ℕ) (n k : List ℕ → ℕ) → Leaves first f → Counts first n → Counts next k → Then first next held C reply left
-      → (a b : W) → Made (CallOf I) a C b → I.takes_all a → Counted reply a (n held + k (f held)) b
+      → (a b : W) → Made (CallOf I) a C b → TakesAll I a → Counted reply C (n held + k (f held)) b
   then_counts first next f n k leaves of_first of_next (stops p) a b made takes = no_ok (of_first _ _ _ _ p a b made takes).1
   then_counts first next f n k leaves of_first of_next (goes_on {C = C} {D = D} p q) a b made takes =
       let parts = made_split (CallOf I) C a D b made in
       let one = of_first _ _ _ _ p a parts.0 parts.1 takes in
-      let two = of_next _ _ _ _ q parts.0 b parts.2 one.0 in (
-        two.0,
-        two.1,
-        λ m.
-            let spent = one.2 m in
-            let more = two.2 spent.0 in
-            (more.0, omega (arith, spent.1, more.1, ap k (leaves _ _ _ _ p))),
-      )
+      let two = of_next _ _ _ _ q parts.0 b parts.2 one.0 in
+      (two.0, two.1, omega (arith, charges-append C D, one.2, two.2, ap k (leaves _ _ _ _ p)))

@@ -1,9 +1,9 @@
 -- The calls of a tower are calls of the device below it.
+use Rattle.no_std_io2_base.specs.Writers.{CallOf}
 use Rattle.std.proofs.Common.{List, ◌∷◌, ◌++◌, ℕ, refl, ap, []}
-use Rattle.no_std_io2_base.specs.declared.traits.write.Write.{Ghosts as Writer}
+use Rattle.no_std_io2_base.specs.Writers.{Writer}
 use Rattle.no_std_io2_base.specs.Write.{WriteCall, Made}
 use Rattle.no_std_io2_base.proofs.CallsLemmas.{made_then, law_may}
-use Rattle.no_std_io2.specs.BufWriter.{CallOf}
 use Rattle.no_std_io2.specs.Towers.{Through}
 
 -- if each call makes such inner calls, calls one after another do
@@ -15,7 +15,7 @@ pub through : {W B : Type 0} (I : Writer W) (K : Writer B) (inner : B → W) (bu
     → (D : List WriteCall) × Made (CallOf I) (inner a) D (inner b) × Through level (buffer a) C D (buffer b)
 through I K inner buffer level each [] a b made = ([], ap inner made, (refl, ap buffer made))
 through I K inner buffer level each (call ∷ C) a b made =
-    let one = each a made.0 call (law_may K.told K.takes_all K.cost K.is_metered K.may a made.0 call made.1) in
+    let one = each a made.0 call (law_may K a made.0 call made.1) in
     let rest = through I K inner buffer level each C made.0 b made.2 in (
       one.0 ++ rest.0,
       made_then (CallOf I) one.0 (inner a) rest.0 (inner made.0) (inner b) one.1 rest.1,

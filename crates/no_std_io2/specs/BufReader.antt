@@ -11,6 +11,7 @@ use Rattle.no_std_io2_base.specs.Errors.{IsOutOfMemory}
 use Rattle.no_std_io2_base.specs.Cursor.{HasMoved}
 use Rattle.no_std_io2_base.specs.Write.{IsFront, Made}
 use Rattle.no_std_io2_base.specs.Seek.{SeekCall, Sought, Measured, LenCalls}
+use Rattle.no_std_io2_base.specs.ReadMeter.{IsReadMeter}
 use Rattle.no_std_io2_base.specs.Read.{Event, events_of, fails, bytes, bytes-events_of, Reader, ReadCall, Gave}
 use Rattle.no_std_io2_base.specs.Read.{GaveExactly, GaveAll, Filled, Consumed, gave_whole, Drains}
 use Rattle.no_std_io2.specs.contracts.buffered.buf_reader.BufReader.{the_row as reader-row}
@@ -72,10 +73,6 @@ held_or_to_come held to_come = if nat_lt 0 held then held else to_come
 -- how many bytes are held after a fill of a buffer of `room` bytes, with this many held before and to come
 abbrev pub filled_length : ℕ → ℕ → ℕ → ℕ
 filled_length room held to_come = if nat_lt 0 held then held else min room to_come
-
--- how many bytes `fill_buf` lends over a filling reader
-abbrev pub reader_lent_length : {R : Type 0} {S : ℕ} → (R → List Event) → BufReader R S → ℕ
-reader_lent_length {S = room} events r = filled_length room (length (reader_held r)) (length (events (reader_inner r)))
 
 -- over a filling reader, how many inner reads a `read_exact` of `len` bytes makes, with this many bytes held and to come in all
 abbrev pub exact_reads : ℕ → ℕ → ℕ → ℕ
@@ -150,7 +147,7 @@ pub record ReadsBelow {R : Type 0} {S : ℕ} (may : R → ReadCall → R → Typ
     (answer : Result (List ℕ) Error) (new : BufReader R S) : Type 0 where
   pub held : 0 < length (reader_held old) → (reader_inner new ≡ reader_inner old)
       × PassesOn (Ok (reader_held old)) room answer (reader_held new)
-  pub direct : length (reader_held old) ≡ 0 → S ≤ room → may (reader_inner old) (Gave room answer) (reader_inner new)
+  pub direct : length (reader_held old) ≡ 0 → S ≤ room → may (reader_inner old) (Gave room answer) (reader_inner new) × (reader_held new ≡ [])
   pub filled : length (reader_held old) ≡ 0 → room < S → (read : Result (List ℕ) Error)
       × may (reader_inner old) (Gave S read) (reader_inner new) × PassesOn read room answer (reader_held new)
 
@@ -186,8 +183,6 @@ pub record FillsBuffer {R : Type 0} {S : ℕ} (inner : Reader R) (old : BufReade
   pub end : inner.tells (reader_inner old) → OnOk reply (reader_held new ≡ [] → reader_events inner.events old ≡ [])
   pub no_later : reader_turns inner.turns new ≤ reader_turns inner.turns old
   pub turn : OnErr reply (reader_turns inner.turns new < reader_turns inner.turns old)
-  pub asks : inner.is_metered (reader_inner old) → inner.is_metered (reader_inner new)
-      × (inner.cost (reader_inner new) ≡ inner.cost (reader_inner old) + 1)
   pub call : inner.may (reader_inner old) (Gave S (gave_whole reply (reader_held new))) (reader_inner new)
   pub fills : inner.is_filling (reader_inner old) → inner.is_filling (reader_inner new) × IsOk reply
       × (length (reader_held new) ≡ min S (length (inner.events (reader_inner old))))
@@ -209,9 +204,9 @@ pub record LeavesExact {R : Type 0} {S : ℕ} (inner : Reader R) (old : BufReade
   pub failed : OnErr reply (HasNoBuffer new)
   pub sound : StaysSound inner.has_store inner.position inner.content old new
   -- over a filling reader: how many inner reads were made, how many bytes are held, and how many of the given bytes lie behind
-  pub asks : inner.is_metered (reader_inner old) → inner.is_filling (reader_inner old) → inner.is_metered (reader_inner new)
-      × (inner.cost (reader_inner new) ≡ inner.cost (reader_inner old)
-      + exact_reads room (length (reader_held old)) (length (reader_events inner.events old)))
+  pub asks : (cost : R → ℕ) → IsReadMeter inner.may cost → inner.is_filling (reader_inner old)
+      → cost (reader_inner new) ≡ cost (reader_inner old)
+      + exact_reads room (length (reader_held old)) (length (reader_events inner.events old))
   pub left : inner.is_filling (reader_inner old) → inner.is_filling (reader_inner new)
       × (length (reader_held new) ≡ exact_left S room (length (reader_held old)) (length (reader_events inner.events old)))
       × (length (reader_events inner.events new) ≡ length (reader_events inner.events old) - room)

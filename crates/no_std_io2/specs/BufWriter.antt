@@ -3,14 +3,14 @@
 use Rattle.std.specs.Prelude.{◌≡◌, ℕ, ◌+◌, List, [], ◌++◌, length, nat_lt, nat_le, ◌&&◌, if◌then◌else◌, ◌<◌, ◌≤◌, ◌⊎◌, ◌∷◌, Some}
 use Rattle.std.specs.Prelude.{Result, Ok, Err, IsOk, IsOkAnd, IfOk, IfErr, OnOk, codes}
 use Rattle.no_std_io2_base.specs.declared.error.Error.{Error}
-use Rattle.no_std_io2_base.specs.Write.{Told, Moves, calls_for}
-use Rattle.no_std_io2_base.specs.Write.{WriteCall, Wrote, WroteAll, WroteRest, Flushed, Made, Writes, AllCalls, CallLaw}
+use Rattle.no_std_io2_base.specs.Write.{Told, Moves, calls_for, call_mishap}
+use Rattle.no_std_io2_base.specs.Write.{WriteCall, Wrote, WroteAll, WroteRest, Flushed, Made, Writes, AllCalls}
+use Rattle.no_std_io2_base.specs.Writers.{Writer, TakesAll, CallOf}
 use Rattle.no_std_io2.specs.Buffer.{buffer_held}
 use Rattle.no_std_io2.specs.declared.buffered.sender.Sender.{Sender}
 use Rattle.no_std_io2.specs.declared.buffered.buf_writer.BufWriter.{BufWriter}
 use Rattle.no_std_io2.specs.declared.buffered.into_inner_error.IntoInnerError.{IntoInnerError}
-use Rattle.no_std_io2_base.specs.declared.traits.write.Write.{Ghosts as Writer}
-use Rattle.no_std_io2_base.specs.Errors.{error_kind, IsFault}
+use Rattle.no_std_io2_base.specs.Errors.{error_kind, IsFault, IsNoInterruption}
 use Rattle.no_std_io2_base.specs.declared.traits.seek.SeekFrom.{SeekFrom}
 use Rattle.no_std_io2_base.specs.Seek.{Seeks, Seeker, SeekCall, Sought, Measured}
 use denote.Param.{param, number}
@@ -75,10 +75,6 @@ sender_with_inner w x = record { inner = x; buffer = w.buffer }
 abbrev pub writer_with_inner : {W : Type 0} {S : ℕ} → BufWriter W S → W → BufWriter W S
 writer_with_inner w x = record { core = sender_with_inner w.core x }
 
--- a call of this writer, by its law
-abbrev pub CallOf : {W : Type 0} → Writer W → W → WriteCall → W → Type 0
-CallOf I = CallLaw I.told I.takes_all I.cost I.is_metered I.may
-
 -- A step of a writer with a buffer relates the bytes held before, the inner calls that were made, the result, and the bytes held
 -- afterwards.
 abbrev pub Step : Type 0 → Type 1
@@ -138,8 +134,8 @@ abbrev pub FlushCalls : Step (Unit {0})
 FlushCalls = Then SendCalls (PastEmpty OneFlush)
 
 -- A writer B with a buffer in front of its inner writer took this step, and each inner call kept its law.
-abbrev pub Takes : {W B A : Type 0} → Writer W → (B → W) → (B → List ℕ) → Step A → B → Result A Error → B → Type 0
-Takes I inner buffer step old reply new =
+abbrev pub TakesStep : {W B A : Type 0} → Writer W → (B → W) → (B → List ℕ) → Step A → B → Result A Error → B → Type 0
+TakesStep I inner buffer step old reply new =
     (C : List WriteCall) × Made (CallOf I) (inner old) C (inner new) × step (buffer old) C reply (buffer new)
 
 -- the inner calls of a call of a writer with a buffer of S bytes
@@ -154,10 +150,6 @@ abbrev pub BufferMay : {W B : Type 0} → Writer W → ℕ → (B → W) → (B 
 BufferMay I S inner buffer old call new = (C : List WriteCall) × Made (CallOf I) (inner old) C (inner new)
     × InnerCalls S (buffer old) call C (buffer new)
 
--- if the inner writer takes all and counts its calls, it counted n more
-abbrev pub CountsCalls : {W : Type 0} → Writer W → W → ℕ → W → Type 0
-CountsCalls I old n new = I.is_metered old → I.takes_all old → I.is_metered new × (I.cost new ≡ I.cost old + n)
-
 -- What a writer B tells that has a buffer in front of its inner writer.
 abbrev pub buffered_told : {W B : Type 0} → (W → Told) → (B → W) → (B → List ℕ) → B → Told
 buffered_told told inner buffer b = with_buffer (told (inner b)) (buffer b)
@@ -166,7 +158,7 @@ buffered_told told inner buffer b = with_buffer (told (inner b)) (buffer b)
 pub record Buffers {W B : Type 0} (I : Writer W) (S : ℕ) (inner : B → W) (buffer : B → List ℕ) (old : B) (x : List ℕ)
     (reply : Result ℕ Error) (new : B) : Type 0 where
   -- these inner calls were made
-  pub calls : Takes I inner buffer (WriteCalls S x) old reply new
+  pub calls : TakesStep I inner buffer (WriteCalls S x) old reply new
   -- if both fit, x is held, and no inner call was made
   pub fits : length x < S → length (buffer old) + length x ≤ S
       → (reply ≡ Ok (length x)) × (inner new ≡ inner old) × (buffer new ≡ buffer old ++ x)
@@ -174,35 +166,44 @@ pub record Buffers {W B : Type 0} (I : Writer W) (S : ℕ) (inner : B → W) (bu
   pub whole : length x < S → IfOk reply (λ n. n ≡ length x)
   -- the bytes that are held after `Ok`
   pub after : OnOk reply (buffer new ≡ buffer_after S (buffer old) x)
-  -- the number of calls on the inner writer, if that takes all
-  pub counts : CountsCalls I (inner old) (writing_calls S (buffer old) x) (inner new)
 
 -- What `write_all(x)` does.
 pub record BuffersAll {W B : Type 0} (I : Writer W) (S : ℕ) (inner : B → W) (buffer : B → List ℕ) (old : B) (x : List ℕ)
     (reply : Result (Unit {0}) Error) (new : B) : Type 0 where
   -- these inner calls were made
-  pub calls : Takes I inner buffer (WriteAllCalls S x) old reply new
+  pub calls : TakesStep I inner buffer (WriteAllCalls S x) old reply new
   -- if both fit, x is held, and no inner call was made
   pub fits : length x < S → length (buffer old) + length x ≤ S
       → IsOk reply × (inner new ≡ inner old) × (buffer new ≡ buffer old ++ x)
   -- the bytes that are held after `Ok`
   pub after : OnOk reply (buffer new ≡ buffer_after S (buffer old) x)
-  -- the number of calls on the inner writer, if that takes all; with S = 0 an empty x makes none
-  pub counts : 0 < S → CountsCalls I (inner old) (writing_calls S (buffer old) x) (inner new)
 
 -- What `flush` does.
 pub record Flushes {W B : Type 0} (I : Writer W) (inner : B → W) (buffer : B → List ℕ) (old : B) (reply : Result (Unit {0}) Error)
     (new : B) : Type 0 where
   -- these inner calls were made
-  pub calls : Takes I inner buffer FlushCalls old reply new
-  -- an inner writer that takes all got the held bytes by one call
-  pub counts : CountsCalls I (inner old) (calls_for (buffer old)) (inner new)
+  pub calls : TakesStep I inner buffer FlushCalls old reply new
+
+-- the bytes of a record x that were accepted, by the result of its call
+abbrev pub all_or_none : Result (Unit {0}) Error → List ℕ → List ℕ
+all_or_none (Ok u) x = x
+all_or_none (Err e) x = []
+
+-- What `write_whole` of a record x does, which is shorter than a buffer of S bytes.
+pub record Puts {W B : Type 0} (I : Writer W) (inner : B → W) (buffer : B → List ℕ) (S : ℕ) (x : List ℕ) (old : B)
+    (reply : Result (Unit {0}) Error) (new : B) : Type 0 where
+  -- all of x was accepted, or nothing of it, and an error is a mishap
+  pub moves : Moves (buffered_told I.told inner buffer old) (all_or_none reply x) (call_mishap reply) (buffered_told I.told inner buffer new)
+  -- the error is never an interruption
+  pub fault : IsNoInterruption reply
+  -- the inner calls are those of a `write_all` of x
+  pub calls : TakesStep I inner buffer (WriteAllCalls S x) old reply new
 
 -- the inner calls of `into_inner()`: the held bytes were sent, and the result is the inner writer, or the error with the buffered writer
 abbrev pub UnwrapCalls : {W B : Type 0} → Writer W → (B → W) → (B → List ℕ) → B → Result W (IntoInnerError B) → Type 0
 UnwrapCalls I inner buffer old (Ok w) = (C : List WriteCall) × Made (CallOf I) (inner old) C w × SendCalls (buffer old) C (Ok tt) []
 UnwrapCalls I inner buffer old (Err e) =
-    Takes I inner buffer SendCalls old (Err (into_inner_error_cause e)) (into_inner_error_writer e)
+    TakesStep I inner buffer SendCalls old (Err (into_inner_error_cause e)) (into_inner_error_writer e)
 
 -- `into_inner()` of a writer B with a buffer: all held bytes were sent, and the result is the inner writer; or a fault came, and the result
 -- is the fault with the writer, which holds the rest.
@@ -221,9 +222,7 @@ pub record Unwraps {W B : Type 0} (I : Writer W) (inner : B → W) (buffer : B �
   -- over an inner writer with no mishap to come there is no error
   pub steady : (I.told (inner old)).mishaps ≡ Some [] → IsOk reply
   -- an inner writer that takes all still does
-  pub all : I.takes_all (inner old) → IsOkAnd reply I.takes_all
-  -- and it got the held bytes by one call
-  pub counts : IfOk reply (λ w. CountsCalls I (inner old) (calls_for (buffer old)) w)
+  pub all : TakesAll I (inner old) → IsOkAnd reply (TakesAll I)
 
 -- A call of a writer B with a buffer first sent the held bytes: all of them, or as many as went out before a fault, which is then the
 -- result.
@@ -231,7 +230,7 @@ pub record SendsFirst {W B A : Type 0} (I : Writer W) (inner : B → W) (buffer 
     : Type 0 where
   pub empty : OnOk reply (buffer new ≡ [])
   -- if bytes are still held, only the calls of the sending were made, and the error is that of the sending
-  pub stopped : IfErr reply (λ e. 0 < length (buffer new) → Takes I inner buffer SendCalls old (Err e) new)
+  pub stopped : IfErr reply (λ e. 0 < length (buffer new) → TakesStep I inner buffer SendCalls old (Err e) new)
   -- no byte is lost
   pub refused : IfErr reply (λ e. 0 < length (buffer new)
       → Moves (buffered_told I.told inner buffer old) [] (error_kind e ∷ []) (buffered_told I.told inner buffer new))

@@ -1,7 +1,7 @@
 -- The held bytes of a buffer, and those behind them.
 use Rattle.std.specs.Prelude.{◌≡◌, ℕ, ℤ, pos, negsuc, ◌+◌, ◌-◌, ◌≤◌, List, [], ◌∷◌, ◌++◌, length, take, drop, slice_range, Ok, Err, Result}
 use Rattle.no_std_io2_base.specs.declared.error.Error.{Error}
-use Rattle.no_std_io2_base.specs.Read.{Event, events_of, fails}
+use Rattle.no_std_io2_base.specs.Read.{Event, events_of, fails, Reader, ReadLaw, given}
 use Rattle.no_std_io2_base.specs.Seek.{IsAtOffset}
 use Rattle.no_std_io2.specs.declared.buffered.buffer.Buffer.{Buffer}
 
@@ -22,6 +22,15 @@ buffer_room {S} b = S - b.end
 abbrev pub ReadsAhead : {A : Type 0} → List Event → Result A Error → List ℕ → List Event → Type 0
 ReadsAhead E (Ok _) held after = (E ≡ events_of held ++ after) × (held ≡ [] → E ≡ [])
 ReadsAhead E (Err e) held after = E ≡ fails e ∷ after
+
+-- One read went into all the room after the held bytes of a buffer of S bytes, and the bytes that it gave are held after them.
+pub record ReadsOn {R : Type 0} (I : Reader R) (S : ℕ) (old : R) (held : List ℕ) (reply : Result ℕ Error) (held' : List ℕ) (new : R)
+    : Type 0 where
+  pub buf : List ℕ
+  pub buf' : List ℕ
+  pub law : ReadLaw I old buf reply buf' new
+  pub room : (length held + length buf' ≡ S) × (length buf ≡ length buf')
+  pub holds : held' ≡ held ++ take (given reply) buf'
 
 -- the offset stays in the buffer: it goes back by at most the number of bytes behind, and forward by at most the number of held bytes
 abbrev pub IsInBuffer : ℤ → ℕ → ℕ → Type 0

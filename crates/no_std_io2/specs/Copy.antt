@@ -1,4 +1,5 @@
 -- Which bytes `copy` moves, and which calls it makes.
+use Rattle.no_std_io2_base.specs.Writers.{CallOf}
 use Rattle.std.specs.Prelude.{◌≡◌, ℕ, ◌+◌, ◌-◌, ◌^◌, ◌≤◌, ◌<◌, min, List, [], ◌∷◌, ◌++◌, length, Ok, Err, Result, ◌⊎◌}
 use Rattle.std.specs.Int.{div_ceil}
 use Rattle.std.specs.List.{concat}
@@ -6,8 +7,7 @@ use Rattle.no_std_io2_base.specs.declared.error.Error.{Error}
 use Rattle.no_std_io2_base.specs.Errors.{error_kind}
 use Rattle.no_std_io2_base.specs.Read.{Event, bytes, HasNoFault, EndsInFault, Reader, ReadCall, Gave, Gathers}
 use Rattle.no_std_io2_base.specs.Write.{Told, Moves, IsFront, WriteCall, Made, AllCalls}
-use Rattle.no_std_io2_base.specs.declared.traits.write.Write.{Ghosts as Writer}
-use Rattle.no_std_io2.specs.BufWriter.{CallOf}
+use Rattle.no_std_io2_base.specs.Writers.{Writer}
 
 -- the number of bytes, at most `u64::MAX`
 abbrev pub counted : List ℕ → ℕ

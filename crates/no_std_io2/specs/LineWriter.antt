@@ -1,9 +1,10 @@
 -- What a `LineWriter` holds and tells, and the inner calls that it makes.
+use Rattle.no_std_io2_base.specs.Writers.{TakesAll, CallOf}
 use Rattle.std.specs.Prelude.{ℕ, List, ◌≡◌, ◌+◌, ◌<◌, ◌≤◌, ◌==◌, ◌⊎◌, [], ◌∷◌, ◌++◌, length, take, if◌then◌else◌}
 use Rattle.std.specs.Prelude.{Result, Ok, Err, IsOk}
 use Rattle.no_std_io2.specs.declared.buffered.line_writer.state.LineSender.{LineSender}
 use Rattle.no_std_io2_base.specs.declared.error.Error.{Error}
-use Rattle.no_std_io2_base.specs.declared.traits.write.Write.{Ghosts as Writer}
+use Rattle.no_std_io2_base.specs.Writers.{Writer}
 use Rattle.no_std_io2_base.specs.Write.{Told, WriteCall, Wrote, WroteAll, WroteRest, Flushed, Made}
 use Rattle.no_std_io2.specs.declared.buffered.line_writer.LineWriter.{LineWriter}
 use denote.Param.{param, number}
@@ -12,7 +13,7 @@ use Rattle.std.specs.Mem.{FitsInMemory}
 use Rattle.no_std_io2.specs.contracts.buffered.line_writer.LineWriter.{the_row as lines-row}
 use Rattle.no_std_io2.specs.Lines.{HasNoNewline, HasNewline, lines_of, lines_len, unfinished_line, held_tail}
 use Rattle.no_std_io2.specs.BufWriter.{sender_with_inner, sender_inner, sender_buffer, sender_told, buffer_after}
-use Rattle.no_std_io2.specs.BufWriter.{Step, Then, PastEmpty, OneWriteAll, CallOf, SendCalls, WriteCalls, WriteAllCalls, FlushCalls}
+use Rattle.no_std_io2.specs.BufWriter.{Step, Then, PastEmpty, OneWriteAll, SendCalls, WriteCalls, WriteAllCalls, FlushCalls}
 
 -- w with another inner writer
 abbrev pub line_sender_with_inner : {W : Type 0} {S : ℕ} → LineSender W S → W → LineSender W S
@@ -98,8 +99,8 @@ HoldsShort {S = room} old x reply new = IsShortText room x → HasNoNewline (lin
 
 -- if the inner writer takes all, it still does, and there was no error; if it counts its calls, it got at most three
 abbrev pub KeepsTaking : {W A : Type 0} → Writer W → W → Result A Error → W → Type 0
-KeepsTaking I old reply new = I.takes_all old
-    → I.takes_all new × IsOk reply × (I.is_metered old → I.is_metered new × (I.cost new ≤ I.cost old + 3))
+KeepsTaking I old reply new = TakesAll I old
+    → TakesAll I new × IsOk reply
 
 -- a `LineWriter<W, S>` fits in memory
 abbrev pub LineWriterFits : RattleType → ℕ → Type 0

@@ -2,8 +2,7 @@
 use Rattle.std.specs.Prelude.{◌≡◌, ◌⊎◌, ◌≤◌, ◌+◌, ℕ, suc, List, length, Option, Some, None, ⊤, Result, Ok, Err, IsErr, OnErr}
 use Rattle.no_std_io2_base.specs.declared.error.Error.{Error}
 use Rattle.no_std_io2_base.specs.declared.error.ErrorKind.{ErrorKind}
-use Rattle.no_std_io2_base.specs.declared.traits.write.Write.{Ghosts as Writer}
-use Rattle.no_std_io2_base.specs.Write.{WriteRestLaw, FlushLaw}
+use Rattle.no_std_io2_base.specs.Writers.{Writer, WriteRestOf, FlushOf}
 
 -- at most n mishaps are told to come
 abbrev pub HasAtMost : ℕ → Option (List ErrorKind) → Type 0
@@ -20,14 +19,6 @@ HasSpentTries n left (Some old) (Some new) = length new + n ≤ length old + lef
 abbrev pub Law : Type 0 → Type 1
 Law W = W → List ℕ → Result (Unit {0}) Error → W → List ℕ → Type 0
 
--- a `write_rest`, by its law
-abbrev pub RestLaw : {W : Type 0} → Writer W → Law W
-RestLaw I old x reply new left = WriteRestLaw I.told I.takes_all I.cost I.is_metered I.may old x reply new left
-
--- a `flush`, by its law
-abbrev pub FlushedLaw : {W : Type 0} → Writer W → W → Result (Unit {0}) Error → W → Type 0
-FlushedLaw I old reply new = FlushLaw I.told I.takes_all I.cost I.is_metered I.may old reply new
-
 -- a call by this law and, if it succeeded, one more call; the result is that of the last call
 abbrev pub AndThen : {W : Type 0} → Law W → (W → Result (Unit {0}) Error → W → Type 0) → Law W
 AndThen {W} law last old x reply new left =
@@ -35,7 +26,7 @@ AndThen {W} law last old x reply new left =
 
 -- a `write_rest`, and a `flush` if it succeeded
 abbrev pub RestFlushLaw : {W : Type 0} → Writer W → Law W
-RestFlushLaw I = AndThen (RestLaw I) (FlushedLaw I)
+RestFlushLaw I = AndThen (WriteRestOf I) (FlushOf I)
 
 -- Calls by this law were made again and again, with so many retries: each except the last failed, and the result is that of the last. If
 -- the last one failed, no retry was left.

@@ -13,6 +13,7 @@
 #![tactic(auto)]
 
 pub mod buffered;
+mod count_pins;
 pub mod ghost_bytes;
 mod pins;
 pub mod util;
@@ -26,7 +27,10 @@ pub mod error {
 /// adaptors that the traits return, `copy`, and errors.
 pub mod io {
     pub use super::buffered::{BufReader, BufWriter, IntoInnerError, LineWriter, Unsent};
-    pub use super::util::{Sink, copy, empty, read_exact_at, skip, write_with_retries};
+    pub use super::util::{
+        CopyError, Empty, Sink, copy, copy_sided, empty, read_exact_at, sink, skip,
+        write_with_retries,
+    };
     pub use no_std_io2_base::cursor::{AsSlice, Cursor};
     pub use no_std_io2_base::error::{Error, ErrorKind, Result};
     pub use no_std_io2_base::traits::{

@@ -1,28 +1,29 @@
 //! Fixes what each type tells. A type whose ghost members say nothing would still be proved, but
 //! every promise about it would be empty.
-ghost use Rattle.std.specs.Prelude.{◌≡◌, ◌+◌, ◌-◌, ◌<◌, ◌≤◌, min, nat_lt, if◌then◌else◌, [], length, drop, ◌++◌, Some, IsOk, IfOk, OnOk};
-ghost use Rattle.std.specs.Prelude.{IsOkAnd};
+ghost use Rattle.std.specs.Prelude.{ℕ, ◌≡◌, ◌+◌, ◌-◌, ◌<◌, ◌≤◌, nat_lt, if◌then◌else◌, [], length, drop, ◌++◌, Some, IsOk, IfOk};
+ghost use Rattle.std.specs.Prelude.{IfErr};
 ghost use Rattle.no_std_io2_base.specs.Read.{events_of, ReadCall};
 ghost use Rattle.no_std_io2_base.specs.BufRead.{BeginsWith};
-ghost use Rattle.no_std_io2_base.specs.Write.{Told, WriteCall};
+ghost use Rattle.no_std_io2_base.specs.Write.{WriteCall};
+ghost use Rattle.no_std_io2_base.specs.Errors.{IsOutOfMemory};
 ghost use Rattle.no_std_io2.specs.Buffer.{IsInBuffer, MovesEvents, IsSound};
 ghost use Rattle.no_std_io2_base.specs.Seek.{SeekCall};
 ghost use Rattle.no_std_io2.specs.BufWriter.{writer_inner, writer_buffer, with_buffer, BufferMay, WriterMaySeek};
+ghost use Rattle.no_std_io2_base.specs.ReadMeter.{IsReadMeter};
 ghost use Rattle.no_std_io2.specs.BufReader.{reader_held, reader_behind, reader_inner, reader_is_sound, ReaderMay, ReaderMaySeek};
 ghost use Rattle.no_std_io2.specs.LineWriter.{line_inner, line_buffer, LineMay};
-ghost use Rattle.no_std_io2.specs.Sink.{sink_taken};
+ghost use Rattle.no_std_io2.specs.Sink.{sink_taken, SinkMay};
 
 use crate::buffered::{BufReader, BufWriter, LineWriter};
 use crate::util::Sink;
 use no_std_io2_base::error::Result;
 use no_std_io2_base::traits::{BufRead, Read, Seek, SeekFrom, Stored, Write};
+use std::alloc::Allocator;
 
 fn buffered_writer_tells<W: Write + Drop, const S: usize>(w: &BufWriter<W, S>)
     ensures told { ⟦<BufWriter<W, S> as Write>⟧.told w.now
         ≡ with_buffer (W.told (writer_inner w.now)) (writer_buffer w.now) }
     ensures all { W.takes_all (writer_inner w.now) → ⟦<BufWriter<W, S> as Write>⟧.takes_all w.now }
-    ensures cost { ⟦<BufWriter<W, S> as Write>⟧.cost w.now ≡ W.cost (writer_inner w.now) }
-    ensures unmetered { ¬ ⟦<BufWriter<W, S> as Write>⟧.is_metered w.now }
 {}
 
 // A `BufWriter` makes the inner calls that `BufferMay` lists.
@@ -63,8 +64,6 @@ fn line_writer_tells<W: Write + Drop, const S: usize>(w: &LineWriter<W, S>)
     ensures turns { (⟦<LineWriter<W, S> as Write>⟧.told w.now).turns
         ≡ (W.told (line_inner w.now)).turns }
     ensures takes { ⟦<LineWriter<W, S> as Write>⟧.takes_all w.now → ⊥ }
-    ensures cost { ⟦<LineWriter<W, S> as Write>⟧.cost w.now ≡ W.cost (line_inner w.now) }
-    ensures metered { ⟦<LineWriter<W, S> as Write>⟧.is_metered w.now → ⊥ }
 {}
 
 fn line_writer_calls<W: Write + Drop, const S: usize>(
@@ -80,8 +79,6 @@ fn reader_tells<R: Read, const S: usize>(r: &BufReader<R, S>)
     ensures tells { R.tells (reader_inner r.now) → ⟦<BufReader<R, S> as Read>⟧.tells r.now }
     ensures events { ⟦<BufReader<R, S> as Read>⟧.events r.now
         ≡ events_of (reader_held r.now) ++ R.events (reader_inner r.now) }
-    ensures cost { ⟦<BufReader<R, S> as Read>⟧.cost r.now ≡ R.cost (reader_inner r.now) }
-    ensures unmetered { ⟦<BufReader<R, S> as Read>⟧.is_metered r.now → ⊥ }
     ensures takes_all { ⟦<BufReader<R, S> as Read>⟧.may_take_none r.now → ⊥ }
 {}
 
@@ -113,22 +110,12 @@ fn reader_is_sound_where<R: Stored, const S: usize>(r: &BufReader<R, S>)
 fn reader_lends<R: Read, const S: usize>(r: &BufReader<R, S>)
     ensures held { ⟦<BufReader<R, S> as BufRead>⟧.held r.now ≡ reader_held r.now }
     ensures front { BeginsWith (⟦<BufReader<R, S> as Read>⟧.events r.now) (⟦<BufReader<R, S> as BufRead>⟧.held r.now) }
-    ensures counts { R.is_metered (reader_inner r.now) → ⟦<BufReader<R, S> as BufRead>⟧.is_fill_metered r.now }
-    ensures fills { ⟦<BufReader<R, S> as BufRead>⟧.fills r.now ≡ R.cost (reader_inner r.now) }
-    ensures surely { R.is_filling (reader_inner r.now) → ⟦<BufReader<R, S> as BufRead>⟧.knows_lent_length r.now }
-    ensures length { ⟦<BufReader<R, S> as BufRead>⟧.lent_length r.now
-        ≡ (if nat_lt 0 (length (reader_held r.now)) then length (reader_held r.now)
-        else min S (length (R.events (reader_inner r.now)))) }
 {}
 
 // Lends once. If nothing is held, this makes one inner read; if bytes are held, it makes none.
 fn lend_counted<R: Read, const S: usize>(r: &mut BufReader<R, S>) -> Result<usize>
-    ensures reads { R.is_metered (reader_inner r.old) → R.is_metered (reader_inner r.new)
-        × (R.cost (reader_inner r.new) ≡ R.cost (reader_inner r.old)
-        + (if nat_lt 0 (length (reader_held r.old)) then 0 else 1)) }
-    ensures lent { R.is_filling (reader_inner r.old)
-        → IsOkAnd result (λ n. n ≡ (if nat_lt 0 (length (reader_held r.old))
-        then length (reader_held r.old) else min S (length (R.events (reader_inner r.old))))) }
+    ensures reads { (cost : R → ℕ) → IsReadMeter R.may cost → cost (reader_inner r.new) ≡ cost (reader_inner r.old)
+        + (if nat_lt 0 (length (reader_held r.old)) then 0 else 1) }
     ensures held { IfOk result (λ n. length (reader_held r.new) ≡ n) }
     ensures inner { 0 < length (reader_held r.old) → reader_inner r.new ≡ reader_inner r.old }
 {
@@ -139,8 +126,7 @@ fn lend_counted<R: Read, const S: usize>(r: &mut BufReader<R, S>) -> Result<usiz
 // Consumes once. This makes no inner read.
 fn consume_counted<R: Read, const S: usize>(r: &mut BufReader<R, S>, amount: usize)
     requires { amount ≤ length (reader_held r.old) }
-    ensures reads { R.is_metered (reader_inner r.old) → R.is_metered (reader_inner r.new)
-        × (R.cost (reader_inner r.new) ≡ R.cost (reader_inner r.old)) }
+    ensures inner { reader_inner r.new ≡ reader_inner r.old }
     ensures held { reader_held r.new ≡ drop amount (reader_held r.old) }
 {
     r.consume(amount);
@@ -166,10 +152,20 @@ fn move_told<R: Read + Seek, const S: usize>(r: &mut BufReader<R, S>, offset: i6
     r.seek_relative(offset)
 }
 
-fn sink_tells(s: &Sink)
+fn sink_tells(s: &Sink, new: &Sink)
     ensures told { ⟦<Sink as Write>⟧.told s.now
         ≡ record { out = sink_taken s.now; held = []; mishaps = Some []; turns = 0 } }
     ensures all { ⟦<Sink as Write>⟧.takes_all s.now }
-    ensures cost { ⟦<Sink as Write>⟧.cost s.now ≡ 0 }
-    ensures plain { ¬ (⟦<Sink as Write>⟧.is_metered s.now) }
+    ensures calls { (call : WriteCall) → ⟦<Sink as Write>⟧.may s.now call new.now → SinkMay s.now call new.now }
 {}
+
+// A tower over a vector fails by `OutOfMemory` only.
+fn tower_fails<A: Allocator, const S: usize, const T: usize>(
+    w: &mut LineWriter<BufWriter<Vec<u8, A>, S>, T>,
+    x: &[u8],
+) -> Result<()>
+    ensures { IfErr result IsOutOfMemory }
+{
+    w.write_all(x)?;
+    w.flush()
+}

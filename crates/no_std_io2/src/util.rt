@@ -1,7 +1,9 @@
 //! Functions over streams: [`copy`] copies a reader to a writer, [`skip`] skips bytes, [`read_exact_at`]
-//! reads at a place, and [`write_with_retries`] writes again after a fault. [`empty`] and [`Sink`] are
-//! streams without a device.
-ghost use Rattle.std.specs.Prelude.{◌≡◌, ◌+◌, ◌≤◌, ◌<◌, ◌^◌, [], length, IfErr, OnOk, OnErr};
+//! reads at a place, and [`write_with_retries`] writes again after a fault. [`empty`] and [`sink`]
+//! make streams without a device.
+ghost use Rattle.no_std_io2_base.specs.Writers.{TakesAll};
+ghost use Rattle.no_std_io2_base.specs.ReadMeter.{IsReadMeter};
+ghost use Rattle.std.specs.Prelude.{ℕ, ◌≡◌, ◌+◌, ◌≤◌, ◌<◌, ◌^◌, length, IfErr, OnOk, OnErr};
 ghost use Rattle.no_std_io2_base.specs.Errors.{IsFault};
 ghost use Rattle.no_std_io2.specs.Copy.{Copies, CopyMoves, CopyHands, copy_reads};
 ghost use Rattle.no_std_io2.specs.Passing.{Skips, SkipMade};
@@ -10,14 +12,20 @@ use no_std_io2_base::error::Result;
 use no_std_io2_base::internal::failed_to_fill;
 use no_std_io2_base::traits::{BufRead, Read, Write};
 
+mod empties;
+mod makers;
 mod read_at;
 mod retries;
-mod sink;
+mod sides;
+mod sinks;
 mod steady;
 
+pub use empties::Empty;
+pub use makers::{empty, sink};
 pub use read_at::read_exact_at;
 pub use retries::write_with_retries;
-pub use sink::Sink;
+pub use sides::{CopyError, copy_sided};
+pub use sinks::Sink;
 
 /// Copies all remaining bytes of `reader` to `writer`, through a buffer of `S` bytes on the stack.
 /// It returns their number, or `u64::MAX` if there are more. It ignores the reader's interruptions,
@@ -51,12 +59,11 @@ pub fn copy<R: Read, W: Write, const S: usize>(reader: &mut R, writer: &mut W) -
     // and no other call.
     ensures calls { CopyHands R.Read W.Write S reader.old writer.old result reader.new writer.new }
     ensures unchanged { S ≡ 0 → writer.new ≡ writer.old }
-    ensures all { W.takes_all writer.old → W.takes_all writer.new }
+    ensures all { TakesAll W.Write writer.old → TakesAll W.Write writer.new }
     ensures never_interrupted { IfErr result IsFault }
     ensures turns_never_rise { R.turns reader.new ≤ R.turns reader.old }
-    ensures metered { R.is_metered reader.old → R.is_metered reader.new }
-    ensures reads { 0 < S → R.is_metered reader.old → R.is_filling reader.old → OnOk result
-        (R.cost reader.new ≡ R.cost reader.old + copy_reads S (length (R.events reader.old))) }
+    ensures reads { (cost : R → ℕ) → IsReadMeter R.may cost → 0 < S → R.is_filling reader.old → OnOk result
+        (cost reader.new ≡ cost reader.old + copy_reads S (length (R.events reader.old))) }
     ensures filling { R.is_filling reader.old → R.is_filling reader.new }
     ensures store { R.has_store reader.old → R.has_store reader.new
         × (R.content reader.new ≡ R.content reader.old)
@@ -109,7 +116,6 @@ pub fn skip<B: BufRead>(reader: &mut B, left: &mut u64) -> Result<()>
     ensures never_interrupted { IfErr result IsFault }
     ensures turns_never_rise { B.turns reader.new ≤ B.turns reader.old }
     ensures spends_turn { left.new < left.old → B.turns reader.new < B.turns reader.old }
-    ensures metered { B.is_metered reader.old → B.is_metered reader.new }
     ensures filling { B.is_filling reader.old → B.is_filling reader.new }
     ensures store { B.has_store reader.old → B.has_store reader.new
         × (B.content reader.new ≡ B.content reader.old)
@@ -130,11 +136,4 @@ pub fn skip<B: BufRead>(reader: &mut B, left: &mut u64) -> Result<()>
         }
     }
     Ok(())
-}
-
-/// Returns a reader that is at its end: an empty slice. Follows `std::io::empty`.
-pub fn empty() -> &'static [u8]
-    ensures { result.now ≡ [] }
-{
-    &[]
 }

@@ -4,7 +4,6 @@ use Rattle.std.specs.Borrow.{Bor}
 use Rattle.std.specs.declared.dyn_box.DynBox.{DynBox}
 use Rattle.no_std_io2_base.specs.declared.error.Error.{Error}
 use Rattle.no_std_io2_base.specs.declared.traits.read.Read.{Ghosts as ReaderGhosts}
-use Rattle.no_std_io2_base.specs.declared.traits.write.Write.{Ghosts as WriterGhosts}
 use Rattle.no_std_io2_base.specs.Errors.{IsNoInterruption}
 use Rattle.no_std_io2_base.specs.Read.{events_of, Reads, ReadsExact, SpendsTurn, ReadLaw, ReadExactLaw, Gave, gave}
 use Rattle.no_std_io2_base.specs.Read.{ExactMade, Filled, Consumed}
@@ -12,8 +11,9 @@ use Rattle.no_std_io2_base.proofs.ReadCalls.{exact_map}
 use Rattle.no_std_io2_base.specs.BufRead.{ConsumeLaw, IsNotEmpty, BeginsWith, LendsFrom, LendingTurn, lent_bytes}
 use Rattle.no_std_io2_base.proofs.Readers.{box_reader, holds_alone, lends_as}
 use Rattle.no_std_io2_base.proofs.CallsLemmas.{made_map}
-use Rattle.no_std_io2_base.specs.Write.{Told, WriteCall, Wrote, WroteAll, WroteRest, Flushed, Made, CallLaw, BoxMay}
-use Rattle.no_std_io2_base.specs.Write.{WriteAllLaw, WriteRestLaw}
+use Rattle.no_std_io2_base.specs.Write.{WriteCall, Wrote, WroteAll, WroteRest, Flushed, Made, BoxMay}
+use Rattle.no_std_io2_base.specs.Writers.{Writer, CallOf}
+use Rattle.no_std_io2_base.specs.Writers.{WriteAllOf, WriteRestOf}
 
 module _ {I A : Type 0} {V : I → Type 0} (o : (p : (x : I) × V x) → ReaderGhosts (V p.0)) (box : DynBox I A V) where
   -- the box with another value
@@ -46,7 +46,6 @@ module _ {I A : Type 0} {V : I → Type 0} (o : (p : (x : I) × V x) → ReaderG
     told = told;
     turns_never_rise = less;
     spends_turn = spent;
-    counts = λ m. absurd m;
     fills = λ f. absurd f;
     store = λ s. absurd s;
     call = (new, refl, call);
@@ -60,7 +59,6 @@ module _ {I A : Type 0} {V : I → Type 0} (o : (p : (x : I) × V x) → ReaderG
     empty = λ none. let done = empty none in (done.0, ap (read_box box.vtable) done.1);
     turns_never_rise = less;
     spends_turn = spent;
-    metered = λ m. m;
     filling = λ f. f;
     store = λ s. absurd s;
     calls = exact_map (read_box box.vtable) (λ a b call made. (b, refl, made)) calls;
@@ -83,10 +81,7 @@ module _ {I A : Type 0} {V : I → Type 0} (o : (p : (x : I) × V x) → ReaderG
     told = told;
     turns_never_rise = less;
     spends_turn = spent;
-    cost = λ m. absurd m;
-    counts = λ c. absurd c;
     filling = λ f. f;
-    knows_lent_length = λ l. l;
     store = λ s. absurd s;
     call = (new, refl, call);
   })
@@ -127,88 +122,85 @@ module _ {I A : Type 0} {V : I → Type 0} (o : (p : (x : I) × V x) → ReaderG
     (new, refl, call),
   ))
 
-module _ {I A : Type 0} {V : I → Type 0} (o : (p : (x : I) × V x) → WriterGhosts (V p.0)) (box : DynBox I A V) where
-  -- what a value tells, and what its calls may do
-  abbrev told : (i : I) → V i → Told
-  told i v = (o (i, v)).told v
+module _ {I A : Type 0} {V : I → Type 0} (o : (p : (x : I) × V x) → Writer (V p.0)) (box : DynBox I A V) where
+  -- a value in a box, as a writer,
+  abbrev value_writer : (i : I) → Writer (V i)
+  value_writer i = record {
+    told = λ v. (o (i, v)).told v;
+    takes_all = λ v. (o (i, v)).takes_all v;
+    may = λ v. (o (i, v)).may v;
+  }
 
-  abbrev may : (i : I) → V i → WriteCall → V i → Type 0
-  may i v = (o (i, v)).may v
+  -- and the box
+  abbrev box_writer : Writer (DynBox I A V)
+  box_writer = record {
+    told = λ b. (value_writer b.vtable).told b.value;
+    takes_all = λ b. (value_writer b.vtable).takes_all b.value;
+    may = λ b. BoxMay b (value_writer b.vtable).may;
+  }
 
   -- the box with another value
   abbrev other_box : (i : I) → V i → DynBox I A V
   other_box i new = record { ptr = box.ptr; vtable = i; alloc = box.alloc; value = new }
 
-  -- a call of a value, and one of the box
-  abbrev ValueCall : (i : I) → V i → WriteCall → V i → Type 0
-  ValueCall i = CallLaw (told i) (λ v. (o (i, v)).takes_all v) (λ v. (o (i, v)).cost v) (λ v. (o (i, v)).is_metered v) (may i)
-
-  abbrev BoxCall : DynBox I A V → WriteCall → DynBox I A V → Type 0
-  BoxCall = CallLaw (λ b. told b.vtable b.value) (λ _. ⊥) (λ _. 0) (λ _. ⊥) (λ b. BoxMay b (may b.vtable))
-
   -- what a call did to a value, it did to the box
-  call_box : (i : I) (old new : V i) (call : WriteCall) → ValueCall i old call new → BoxCall (other_box i old) call (other_box i new)
+  call_box : (i : I) (old new : V i) (call : WriteCall) → CallOf (value_writer i) old call new
+      → CallOf box_writer (other_box i old) call (other_box i new)
   call_box i old new (Wrote x reply) law = record {
     bound = law.bound;
     moves = law.moves;
-    all = λ t. absurd t;
-    counts = λ m. absurd m;
+    all = law.all;
     call = (new, refl, law.call);
   }
   call_box i old new (Flushed reply) law = record {
     empty = law.empty;
     moves = law.moves;
-    all = λ t. absurd t;
-    counts = λ m. absurd m;
+    all = law.all;
     call = (new, refl, law.call);
   }
-  call_box i old new (WroteAll x reply) law = ((new, refl, law.0), law.1, law.2, (λ t. t), λ m. absurd m)
-  call_box i old new (WroteRest x reply left) law = ((new, refl, law.0), law.1, law.2, law.3, (λ t. t), λ m. absurd m)
+  call_box i old new (WroteAll x reply) law = ((new, refl, law.0), law.1, law.2, law.3)
+  call_box i old new (WroteRest x reply left) law = ((new, refl, law.0), law.1, law.2, law.3, law.4)
 
   -- and so did many
-  made_box : (i : I) (C : List WriteCall) (old new : V i) → Made (ValueCall i) old C new
-      → Made BoxCall (other_box i old) C (other_box i new)
-  made_box i = made_map (ValueCall i) BoxCall (other_box i) (call_box i)
+  made_box : (i : I) (C : List WriteCall) (old new : V i) → Made (CallOf (value_writer i)) old C new
+      → Made (CallOf box_writer) (other_box i old) C (other_box i new)
+  made_box i = made_map (CallOf (value_writer i)) (CallOf box_writer) (other_box i) (call_box i)
 
   -- the value that was lent is that in the box
   pub lent_call : (call : WriteCall) (lent : (i : I) × V i) → lent ≡ (box.vtable, box.value)
-      → (new : V lent.0) → ValueCall lent.0 lent.1 call new → BoxCall box call (other_box lent.0 new)
+      → (new : V lent.0) → CallOf (value_writer lent.0) lent.1 call new → CallOf box_writer box call (other_box lent.0 new)
   lent_call call lent back =
-      subst (λ l. (new : V l.0) → ValueCall l.0 l.1 call new → BoxCall box call (other_box l.0 new)) (sym back)
+      subst (λ l. (new : V l.0) → CallOf (value_writer l.0) l.1 call new → CallOf box_writer box call (other_box l.0 new)) (sym back)
       (λ new law. call_box box.vtable box.value new call law)
 
   -- what a `write_all` of a value did, and what it did to the box
-  abbrev pub WriteAllOf : List ℕ → Result (Unit {0}) Error → ((i : I) × V i) → Type 0
-  WriteAllOf x reply lent = (new : V lent.0)
-      → WriteAllLaw (told lent.0) (λ v. (o (lent.0, v)).takes_all v) (λ v. (o (lent.0, v)).cost v)
-      (λ v. (o (lent.0, v)).is_metered v) (may lent.0) lent.1 x reply new
-      → WriteAllLaw (λ b. told b.vtable b.value) (λ _. ⊥) (λ _. 0) (λ _. ⊥) (λ b. BoxMay b (may b.vtable)) box x reply
+  abbrev pub AllOfValue : List ℕ → Result (Unit {0}) Error → ((i : I) × V i) → Type 0
+  AllOfValue x reply lent = (new : V lent.0)
+      → WriteAllOf (value_writer lent.0) lent.1 x reply new
+      → WriteAllOf box_writer box x reply
       (other_box lent.0 new)
 
-  abbrev pub WriteRestOf : List ℕ → Result (Unit {0}) Error → List ℕ → ((i : I) × V i) → Type 0
-  WriteRestOf x reply left lent = (new : V lent.0)
-      → WriteRestLaw (told lent.0) (λ v. (o (lent.0, v)).takes_all v) (λ v. (o (lent.0, v)).cost v)
-      (λ v. (o (lent.0, v)).is_metered v) (may lent.0) lent.1 x reply new left
-      → WriteRestLaw (λ b. told b.vtable b.value) (λ _. ⊥) (λ _. 0) (λ _. ⊥) (λ b. BoxMay b (may b.vtable)) box x reply
+  abbrev pub RestOfValue : List ℕ → Result (Unit {0}) Error → List ℕ → ((i : I) × V i) → Type 0
+  RestOfValue x reply left lent = (new : V lent.0)
+      → WriteRestOf (value_writer lent.0) lent.1 x reply new left
+      → WriteRestOf box_writer box x reply
       (other_box lent.0 new) left
 
   pub write_all_box : (x : List ℕ) (reply : Result (Unit {0}) Error) (lent : (i : I) × V i) → lent ≡ (box.vtable, box.value)
-      → WriteAllOf x reply lent
-  write_all_box x reply lent back = subst (WriteAllOf x reply) (sym back) (λ new law. record {
+      → AllOfValue x reply lent
+  write_all_box x reply lent back = subst (AllOfValue x reply) (sym back) (λ new law. record {
     never_interrupted = law.never_interrupted;
     moves = law.moves;
-    all = λ t. absurd t;
-    counts = λ m. absurd m;
+    all = law.all;
     calls = (law.calls.0, made_box box.vtable law.calls.0 box.value new law.calls.1, law.calls.2);
   })
 
   pub write_rest_box : (x : List ℕ) (reply : Result (Unit {0}) Error) (left : List ℕ) (lent : (i : I) × V i)
-      → lent ≡ (box.vtable, box.value) → WriteRestOf x reply left lent
-  write_rest_box x reply left lent back = subst (WriteRestOf x reply left) (sym back) (λ new law. record {
+      → lent ≡ (box.vtable, box.value) → RestOfValue x reply left lent
+  write_rest_box x reply left lent back = subst (RestOfValue x reply left) (sym back) (λ new law. record {
     never_interrupted = law.never_interrupted;
     sends = law.sends;
     done = law.done;
-    all = λ t. absurd t;
-    counts = λ m. absurd m;
+    all = law.all;
     calls = (law.calls.0, made_box box.vtable law.calls.0 box.value new law.calls.1, law.calls.2);
   })

@@ -1,7 +1,8 @@
 -- Calls one after another.
 use Rattle.std.proofs.Common.{◌≡◌, ℕ, List, [], ◌∷◌, ◌++◌, Result, OnOk, refl, sym, ap, subst, append_assoc, inl}
 use Rattle.no_std_io2_base.specs.declared.error.Error.{Error}
-use Rattle.no_std_io2_base.specs.Write.{WriteCall, Made, WroteAll, WroteRest, Told, CallLaw, Wrote, Flushed, Writes, none, took, again}
+use Rattle.no_std_io2_base.specs.Write.{WriteCall, Made, WroteAll, WroteRest, Wrote, Flushed, Writes, none, took, again}
+use Rattle.no_std_io2_base.specs.Writers.{Writer, CallOf}
 use Rattle.no_std_io2_base.specs.Write.{stuck, fault, RestCalls, AllCalls}
 
 -- one call more
@@ -40,40 +41,37 @@ writes_whole (again some interrupted w) = writes_whole w
 writes_whole (stuck some says) = tt
 writes_whole (fault some is) = tt
 
--- what a call did to a part, as its law says, it did to the whole that tells what the part does
-pub law_of_part : {W V : Type 0} (told : W → Told) (takes_all : W → Type 0) (cost : W → ℕ) (is_metered : W → Type 0)
-    (may : W → WriteCall → W → Type 0) (get : V → W) (old new : V) (call : WriteCall)
-    → CallLaw told takes_all cost is_metered may (get old) call (get new)
-    → CallLaw (λ v. told (get v)) (λ v. takes_all (get v)) (λ v. cost (get v)) (λ v. is_metered (get v))
-    (λ a c b. may (get a) c (get b)) old call new
-law_of_part told takes_all cost is_metered may get old new (Wrote x reply) law =
-    record { bound = law.bound; moves = law.moves; all = law.all; counts = law.counts; call = law.call }
-law_of_part told takes_all cost is_metered may get old new (Flushed reply) law =
-    record { empty = law.empty; moves = law.moves; all = law.all; counts = law.counts; call = law.call }
-law_of_part told takes_all cost is_metered may get old new (WroteAll x reply) law = law
-law_of_part told takes_all cost is_metered may get old new (WroteRest x reply left) law = law
+-- a writer that tells and does what a part of it tells and does
+abbrev pub of_part : {W V : Type 0} → (V → W) → Writer W → Writer V
+of_part get I = record {
+  told = λ v. I.told (get v);
+  takes_all = λ v. I.takes_all (get v);
+  may = λ old call new. I.may (get old) call (get new);
+}
 
--- and so do many
-pub calls_of_part : {W V : Type 0} (told : W → Told) (takes_all : W → Type 0) (cost : W → ℕ) (is_metered : W → Type 0)
-    (may : W → WriteCall → W → Type 0) (get : V → W) (put : W → V) → ((a : W) → get (put a) ≡ a) → {P : List WriteCall → Type 0} {a b : W}
-    → (C : List WriteCall) × Made (CallLaw told takes_all cost is_metered may) a C b × P C
-    → (C : List WriteCall) × Made (CallLaw (λ v. told (get v)) (λ v. takes_all (get v)) (λ v. cost (get v)) (λ v. is_metered (get v))
-    (λ a c b. may (get a) c (get b))) (put a) C (put b) × P C
-calls_of_part {W} told takes_all cost is_metered may get put back {a = a} {b = b} calls =
-    let each = λ (a b : W) (call : WriteCall) (law : CallLaw told takes_all cost is_metered may a call b).
-    law_of_part told takes_all cost is_metered may get (put a) (put b) call
-    (subst (λ v. CallLaw told takes_all cost is_metered may (get (put a)) call v) (sym (back b))
-    (subst (λ v. CallLaw told takes_all cost is_metered may v call b) (sym (back a)) law)) in
+-- what a call did to the part, it did to the whole
+pub law_of_part : {W V : Type 0} (I : Writer W) (get : V → W) (old new : V) (call : WriteCall) → CallOf I (get old) call (get new)
+    → CallOf (of_part get I) old call new
+law_of_part I get old new (Wrote x reply) law = record { bound = law.bound; moves = law.moves; all = law.all; call = law.call }
+law_of_part I get old new (Flushed reply) law = record { empty = law.empty; moves = law.moves; all = law.all; call = law.call }
+law_of_part I get old new (WroteAll x reply) law = law
+law_of_part I get old new (WroteRest x reply left) law = law
+
+-- and so did many
+pub calls_of_part : {W V : Type 0} (I : Writer W) (get : V → W) (put : W → V) → ((a : W) → get (put a) ≡ a)
+    → {P : List WriteCall → Type 0} {a b : W} → (C : List WriteCall) × Made (CallOf I) a C b × P C
+    → (C : List WriteCall) × Made (CallOf (of_part get I)) (put a) C (put b) × P C
+calls_of_part {W} I get put back {a = a} {b = b} calls =
+    let each = λ (a b : W) (call : WriteCall) (law : CallOf I a call b). law_of_part I get (put a) (put b) call
+    (subst (λ v. CallOf I (get (put a)) call v) (sym (back b)) (subst (λ v. CallOf I v call b) (sym (back a)) law)) in
     (calls.0, made_map _ _ put each calls.0 a b calls.1, calls.2)
 
 -- a call as its law says is one that the writer may make
-pub law_may : {S : Type 0} (told : S → Told) (takes_all : S → Type 0) (cost : S → ℕ) (is_metered : S → Type 0)
-    (may : S → WriteCall → S → Type 0) (old new : S) (call : WriteCall)
-    → CallLaw told takes_all cost is_metered may old call new → may old call new
-law_may told takes_all cost is_metered may old new (Wrote x reply) law = law.call
-law_may told takes_all cost is_metered may old new (Flushed reply) law = law.call
-law_may told takes_all cost is_metered may old new (WroteAll x reply) law = law.0
-law_may told takes_all cost is_metered may old new (WroteRest x reply left) law = law.0
+pub law_may : {W : Type 0} (I : Writer W) (old new : W) (call : WriteCall) → CallOf I old call new → I.may old call new
+law_may I old new (Wrote x reply) law = law.call
+law_may I old new (Flushed reply) law = law.call
+law_may I old new (WroteAll x reply) law = law.0
+law_may I old new (WroteRest x reply left) law = law.0
 
 -- the `write_all` of a type that has a body of its own for it is one call
 pub all_own : {W : Type 0} {may : W → WriteCall → W → Type 0} {a : W} (b : W) (x : List ℕ) (reply : Result (Unit {0}) Error)

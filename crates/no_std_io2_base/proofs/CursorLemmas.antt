@@ -14,7 +14,8 @@ use Rattle.no_std_io2_base.specs.declared.error.ErrorKind.TheVariants.{WriteZero
 use Rattle.no_std_io2_base.specs.Errors.{error_kind, is_interruption, IsFault, IsNoInterruption, IsOutOfMemory}
 use Rattle.no_std_io2_base.specs.Write.{Told, Moves, MovesFront, told_out, taken, write_mishap, zero_write}
 use Rattle.no_std_io2_base.proofs.CallsLemmas.{all_own}
-use Rattle.no_std_io2_base.specs.Cursor.{bytes_before, put_at, put_over, fitting, IsRefusal, PutsWhole, PutsAll, PutsFitting}
+use Rattle.no_std_io2_base.specs.Cursor.{bytes_before, put_at, put_over, fitting, IsRefusal, PutsWhole, PutsAll, PutsFitting, PutsAllFitting}
+use Rattle.no_std_io2_base.specs.Appends.{AppendsWhole}
 
 -- n bytes further on
 pub left_after : (all : List ℕ) (place n : ℕ) → drop (place + n) all ≡ drop n (drop place all)
@@ -194,6 +195,13 @@ fits_moves_all bs place {x} {bs'} {place'} room h =
     let whole : fitting place x bs ≡ x = take_all (length bs - place) x room in
     all_accepted (appends_moves (fitting_goes_out bs place x bs' place' h ∙ ap (λ l. bytes_before place bs ++ l) whole) refl)
 
+-- so a `write_all` over a slice keeps the law
+pub fits_all : (bs : List ℕ) (place : ℕ) {x : List ℕ} (reply : Result (Unit {0}) Error) {bs' : List ℕ} {place' : ℕ}
+    → PutsAllFitting bs place x reply bs' place'
+    → IsNoInterruption reply × MovesFront (told_out (bytes_before place bs)) x reply (told_out (bytes_before place' bs'))
+fits_all bs place (Ok u) h = (tt, fits_moves_all bs place (h.variant.0 refl) h.puts)
+fits_all bs place (Err e) h = (ap is_interruption h.says.0, fits_moves_part bs place e h.says.0 h.puts)
+
 -- `write_all` of a vector keeps the law: an allocation failed and no byte was accepted, or all were
 pub append_moves : {old new x : List ℕ} (reply : Result (Unit {0}) Error) → OnOk reply (new ≡ old ++ x) → OnErr reply (new ≡ old)
     → IfErr reply IsOutOfMemory
@@ -230,3 +238,16 @@ puts_all_fault bs place x (Err e) bs' place' h = refused_fault place x e h.1
 
 -- what a `write_all` of a cursor on a vector follows from
 pub ruleset put_all_laws = (puts_all_moves, puts_all_fault, all_own)
+
+-- what an append did, in one word
+pub appends_whole : {A : Type 0} (old new x : List ℕ) (len capacity : ℕ) (reply : Result A Error) → OnOk reply (new ≡ old ++ x)
+    → OnErr reply (new ≡ old) → IfErr reply IsOutOfMemory → OnErr reply (capacity < len + length x)
+    → AppendsWhole old len capacity x reply new
+appends_whole old new x len capacity (Ok v) is same refused full = is
+appends_whole old new x len capacity (Err e) is same refused full = (refused, full, same)
+
+-- and as a `write_all` it keeps the law
+pub appends_all : {old new x : List ℕ} (len capacity : ℕ) (reply : Result (Unit {0}) Error) → AppendsWhole old len capacity x reply new
+    → IsNoInterruption reply × MovesFront (told_out old) x reply (told_out new)
+appends_all len capacity (Ok u) is = (tt, append_moves (Ok u) is tt tt)
+appends_all len capacity (Err e) h = (ap is_interruption h.0.0, append_moves (Err e) tt h.2 h.0)

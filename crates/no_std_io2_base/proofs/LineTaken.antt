@@ -1,11 +1,13 @@
--- A line that lies whole in what a reader lends, and goes straight to a text.
-use Rattle.std.proofs.Common.{◌≡◌, ℕ, ◌+◌, ◌<◌, ◌≤◌, List, length, take, drop, refl, ap, inl, arith, length-append, length-take-le, Ok}
+-- A line or a text that goes to a string: straight from what a reader lends, or through a vector.
+use Rattle.std.proofs.lemmas.Grind.{common_steps}
+use Rattle.std.proofs.Common.{◌≡◌, ◌⊎◌, ℕ, ◌+◌, ◌<◌, ◌≤◌, List, length, take, drop, refl, ap, inl, arith, length-append, length-take-le, Ok}
 use Rattle.std.proofs.Common.{String, string_bytes, string_len, string_capacity, IfOk, IfErr, IsOk, OnOk, Err, Result, Vec, [], ◌∷◌, sym}
 use Rattle.std.proofs.Common.{subst}
 use Rattle.no_std_io2_base.specs.declared.error.Error.{Error}
 use Rattle.no_std_io2_base.specs.Write.{IsFront}
 use Rattle.no_std_io2_base.specs.Errors.{IsFault}
-use Rattle.no_std_io2_base.specs.Read.{events_of, Filled, Consumed}
+use Rattle.no_std_io2_base.specs.Read.{events_of, Filled, Consumed, Reader, ReadsToEnd, ToEndMade, ReadToEndLaw}
+use Rattle.no_std_io2_base.specs.ReadToString.{ReadToStringLaw}
 use Rattle.no_std_io2_base.specs.BufRead.{Lender, ConsumeLaw, ReadUntilLaw, ReadLineLaw}
 use Rattle.no_std_io2_base.specs.Pieces.{AnswersLine, EndsPiece, Follows, TakesPiece, PieceMade, no_part}
 use Rattle.no_std_io2_base.proofs.EventLemmas.{length-events_of}
@@ -37,7 +39,6 @@ line_at_once {R = R} {old} {new} {n} law within ends lends dropped follows grows
       never_interrupted = tt;
       turns_never_rise = dropped.turns_never_rise;
       spends_turn = dropped.spends_turn;
-      metered = λ m. (dropped.cost m).0;
       filling = dropped.filling;
       store = λ s.
           let rest = dropped.store s in
@@ -95,8 +96,44 @@ line_gathered {R = R} {old} {new} none all {line} {buf} {buf'} read reply empty 
   never_interrupted = fault until.never_interrupted;
   turns_never_rise = until.turns_never_rise;
   spends_turn = ok_same (λ n. 0 < n → R.turns new < R.turns old) read reply given until.spends_turn;
-  metered = until.metered;
   filling = until.filling;
   store = until.store;
   calls = (line, read, subst (λ l. PieceMade (Unit {0}) R.may old 10 read l new) (sym same) (whole_made none all empty until), answers);
+}
+
+-- a string whose memory was taken has the same bytes as before, so the result is the same as for that string
+pub by_string : {A : Type 0} (line : List ℕ) (read reply : Result ℕ Error) (text taken : String A) (new : List ℕ)
+    → string_bytes taken ≡ string_bytes text → string_len taken ≡ string_len text
+    → (string_bytes text ≡ []) ⊎ (string_capacity taken ≡ string_capacity text)
+    → ((capacity : ℕ) → (string_bytes taken ≡ []) ⊎ (string_capacity taken ≡ capacity)
+    → AnswersLine line read (string_len taken) capacity reply (string_bytes taken) new)
+    → AnswersLine line read (string_len text) (string_capacity text) reply (string_bytes text) new
+by_string line read reply text taken new bytes len room answers = grind (arith, common_steps, string_len, string_capacity, string_bytes)
+
+-- a text that was read into a vector, and then appended
+pub text_gathered : {X A B : Type 0} {R : Reader X} {old new : X} (none all : Vec ℕ B) {buf buf' : String A}
+    (read reply : Result ℕ Error) → none.items ≡ [] → ReadToEndLaw R old none read all new
+    → AnswersLine all.items read (string_len buf) (string_capacity buf) reply (string_bytes buf) (string_bytes buf')
+    → IsFront (string_bytes buf) (string_bytes buf') → (IsOk reply → reply ≡ read)
+    → OnOk reply (string_len buf' ≡ string_len buf + length all.items) → (IfErr read IsFault → IfErr reply IsFault)
+    → ReadToStringLaw R old buf reply buf' new
+text_gathered {R = R} {old} {new} none all {buf} {buf'} read reply empty to_end answers appends given more fault = record {
+  told = λ t.
+      let taken = to_end.told t in (
+        taken.0,
+        record {
+          taken = all.items;
+          read = read;
+          takes = subst (λ l. ReadsToEnd (R.events old) read l all.items (R.events new)) empty taken.1;
+          answers = answers;
+        },
+      );
+  appends = appends;
+  count = grown read reply (string_len buf) (string_len buf') given (omega (arith, none.ok.0, ap length empty)) (omega (arith, all.ok.0))
+      to_end.count more;
+  never_interrupted = fault to_end.never_interrupted;
+  turns_never_rise = to_end.turns_never_rise;
+  filling = to_end.filling;
+  store = to_end.store;
+  calls = (all.items, read, subst (λ l. ToEndMade R.may old l read all.items new) empty to_end.calls, answers);
 }

@@ -102,7 +102,6 @@ pub record UntilSoFar {X A : Type 0} (R : Lender X) (d : ℕ) (old : X) (buf buf
   pub turns : R.turns now ≤ R.turns old
   pub spent : vec_len buf < vec_len buf' → R.turns now < R.turns old
   pub told : R.tells old → R.tells now × PieceSoFar d (R.events old) buf.items buf'.items (R.events now)
-  pub metered : R.is_metered old → R.is_metered now
   pub filling : R.is_filling old → R.is_filling now
   pub store : StoreSoFar R old now
   pub calls : PartMade R.may old d front.0 now
@@ -116,7 +115,6 @@ until_none = record {
   turns = le_refl _;
   spent = λ more. absurd (omega (arith, more));
   told = λ t. (t, piece_none refl);
-  metered = λ m. m;
   filling = λ f. f;
   store = λ s. (s, refl, refl);
   calls = made_none;
@@ -169,7 +167,6 @@ module _ {X A : Type 0} {R : Lender X} {d : ℕ} {old now after : X} {buf xs : V
           let so_far = before.told t in
           let loan = filled.told so_far.0 in
           (loan.0, piece_interruption so_far.1 (error_taken is loan.1) again);
-      metered = λ m. filled.metered (before.metered m);
       filling = λ f. filled.filling (before.filling f);
       store = λ s. absurd (no_store R old before.store law filled is s);
       calls = part_waited R before.calls filled is again;
@@ -190,7 +187,6 @@ module _ {X A : Type 0} {R : Lender X} {d : ℕ} {old now after : X} {buf xs : V
       never_interrupted = fault;
       turns_never_rise = le_trans filled.turns_never_rise before.turns;
       spends_turn = tt;
-      metered = λ m. filled.metered (before.metered m);
       filling = λ f. filled.filling (before.filling f);
       store = λ s. absurd (no_store R old before.store law filled is s);
       calls = piece_faults R before.calls filled is fault;
@@ -216,7 +212,6 @@ module _ {X A : Type 0} {R : Lender X} {d : ℕ} {old now after : X} {buf xs : V
       never_interrupted = memory_fault _ refused;
       turns_never_rise = le_trans filled.turns_never_rise before.turns;
       spends_turn = tt;
-      metered = λ m. filled.metered (before.metered m);
       filling = λ f. filled.filling (before.filling f);
       store = λ s.
           let so_far = before.store s in
@@ -249,7 +244,6 @@ module _ {X A : Type 0} {R : Lender X} {d : ℕ} {old now after : X} {buf xs : V
               let so_far = before.told t in
               let rest = taken so_far.0 in
               (rest.0, piece_more _ so_far.1 rest.1 (found.open_ended going).1 appended);
-          metered = λ m. (dropped.cost (filled.metered (before.metered m))).0;
           filling = λ f. dropped.filling (filled.filling (before.filling f));
           store = moved;
           calls = part_took R before.calls filled is found dropped going;
@@ -275,7 +269,6 @@ module _ {X A : Type 0} {R : Lender X} {d : ℕ} {old now after : X} {buf xs : V
           spends_turn =
               λ some. spent_more before.spent before.turns filled.turns_never_rise dropped.turns_never_rise dropped.spends_turn
               (part_fits _ _ len found.within) (omega (arith, some, from, to));
-          metered = λ m. (dropped.cost (filled.metered (before.metered m))).0;
           filling = λ f. dropped.filling (filled.filling (before.filling f));
           store = moved;
           calls = piece_took R before.calls filled is found dropped whole;

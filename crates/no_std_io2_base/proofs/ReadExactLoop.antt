@@ -130,7 +130,6 @@ module _ {S : Type 0} {R : Reader S} {old now new : S} {buf xs part ys : List 鈩
         empty = 位 nothing. absurd (omega (arith, nothing, before.long, below));
         turns_never_rise = kept.turns;
         spends_turn = 位 some. tt;
-        metered = kept.metered;
         filling = kept.filling;
         store = kept.store;
         calls = record {
@@ -154,7 +153,6 @@ module _ {S : Type 0} {R : Reader S} {old now new : S} {buf xs part ys : List 鈩
         empty = 位 nothing. absurd (omega (arith, nothing, before.long, below));
         turns_never_rise = kept.turns;
         spends_turn = 位 some. tt;
-        metered = kept.metered;
         filling = kept.filling;
         store = kept.store;
         calls = record {
@@ -180,7 +178,6 @@ exact_all {R = R} {old = old} {now = now} {buf = buf} {xs = xs} {at = at} before
   empty = 位 none. (refl, before.untouched none);
   turns_never_rise = before.turns;
   spends_turn = 位 some. before.turn (omega (arith, some, before.long, past));
-  metered = before.metered;
   filling = before.filling;
   store = before.store;
   calls =

@@ -83,7 +83,6 @@ to_end_no_room {buf = buf} refused same len grown full = record {
   never_interrupted = memory_fault _ refused;
   turns_never_rise = le_refl _;
   spends_turn = λ more. absurd (omega (arith, more, len));
-  metered = λ m. m;
   filling = λ f. f;
   store = λ s. (s, refl, refl);
   calls = record { calls = []; given = []; made = refl; appended = same ∙ sym (append-nil buf.items); are = inr (inr (refused, no_read)) };
@@ -106,7 +105,6 @@ module _ {S A : Type 0} {R : Reader S} {old now : S} {buf xs : Vec ℕ A} {fille
         never_interrupted = memory_fault _ refused;
         turns_never_rise = before.turns;
         spends_turn = λ more. before.turn (omega (arith, more, len));
-        metered = before.metered;
         filling = before.filling;
         store = before.store;
         calls =
@@ -143,7 +141,6 @@ module _ {S A : Type 0} {R : Reader S} {old now : S} {buf xs : Vec ℕ A} {fille
         turns_never_rise = le_trans last.turns_never_rise before.turns;
         spends_turn = spent_then (vec_len xs) _ (λ more. before.turn (omega (arith, more, before.within))) last.spends_turn before.turns
             last.turns_never_rise;
-        metered = λ m. last.metered (before.metered m);
         filling = λ f. last.filling (before.filling f);
         store = λ s.
             let so_far = before.store s in
@@ -235,7 +232,6 @@ module _ {S A : Type 0} {R : Reader S} {old now : S} {buf xs : Vec ℕ A} {fille
           never_interrupted = tt;
           turns_never_rise = kept.turns;
           spends_turn = λ more. let spent = before.turn (omega (arith, more, long)) in omega (arith, spent, read.turns_never_rise);
-          metered = kept.metered;
           filling = kept.filling;
           store = kept.store;
           calls =
@@ -266,7 +262,6 @@ module _ {S A : Type 0} {R : Reader S} {old now : S} {buf xs : Vec ℕ A} {fille
           never_interrupted = fault;
           turns_never_rise = kept.turns;
           spends_turn = λ more. omega (arith, read.spends_turn, before.turns);
-          metered = kept.metered;
           filling = kept.filling;
           store = kept.store;
           calls =

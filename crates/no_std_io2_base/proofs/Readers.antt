@@ -19,8 +19,6 @@ reader stored read = record {
   tells = read.tells;
   events = read.events;
   turns = read.turns;
-  cost = read.cost;
-  is_metered = read.is_metered;
   is_filling = read.is_filling;
   may_take_none = read.may_take_none;
   may = read.may;
@@ -35,8 +33,6 @@ take_reader inner = record {
   tells = λ t. inner.tells (take_inner t);
   events = take_events inner.events;
   turns = λ t. inner.turns (take_inner t);
-  cost = λ t. inner.cost (take_inner t);
-  is_metered = λ _. ⊥;
   is_filling = λ t. inner.is_filling (take_inner t);
   may_take_none = λ _. ⊥;
   may = TakeMay inner;
@@ -51,8 +47,6 @@ box_reader o = record {
   tells = λ b. (o (b.vtable, b.value)).tells b.value;
   events = λ b. (o (b.vtable, b.value)).events b.value;
   turns = λ b. (o (b.vtable, b.value)).turns b.value;
-  cost = λ _. 0;
-  is_metered = λ _. ⊥;
   is_filling = λ _. ⊥;
   may_take_none = λ b. (o (b.vtable, b.value)).may_take_none b.value;
   may = λ b. BoxMay b (λ v. (o (b.vtable, v)).may v);
@@ -66,10 +60,6 @@ StoreTells {S} R = (x : S) → R.has_store x → R.tells x × (R.events x ≡ ev
 abbrev pub holds_alone : {S : Type 0} → (S → List ℕ) → BufReads S
 holds_alone held = record {
   held = held;
-  is_fill_metered = λ _. ⊥;
-  fills = λ _. 0;
-  knows_lent_length = λ _. ⊥;
-  lent_length = λ _. 0;
 }
 
 -- a reader that lends, by what it tells as a reader and beside
@@ -81,14 +71,8 @@ lends_as read lends = record {
   tells = read.tells;
   events = read.events;
   turns = read.turns;
-  cost = read.cost;
-  is_metered = read.is_metered;
   is_filling = read.is_filling;
   may_take_none = read.may_take_none;
   may = read.may;
   held = lends.held;
-  is_fill_metered = lends.is_fill_metered;
-  fills = lends.fills;
-  knows_lent_length = lends.knows_lent_length;
-  lent_length = lends.lent_length;
 }

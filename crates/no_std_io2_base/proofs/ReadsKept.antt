@@ -8,13 +8,12 @@ use Rattle.no_std_io2_base.proofs.ReadToEndTaken.{moved_read, no_error}
 -- turns did not rise, a metered reader is still one and a filling one too, and a told store goes on
 pub record Kept {S : Type 0} (R : Reader S) (old now : S) : Type 0 where
   pub turns : R.turns now ≤ R.turns old
-  pub metered : R.is_metered old → R.is_metered now
   pub filling : R.is_filling old → R.is_filling now
   pub store : GoesOn R old now
 
 -- before the first read
 pub kept_none : {S : Type 0} {R : Reader S} {old : S} → Kept R old old
-kept_none = record { turns = le_refl _; metered = λ m. m; filling = λ f. f; store = λ s. (s, refl, refl) }
+kept_none = record { turns = le_refl _; filling = λ f. f; store = λ s. (s, refl, refl) }
 
 -- as many bytes as a read gives, the position moves and the events are fewer; a reader that tells a store returns no error
 moved_by : (reply : Result ℕ Error) {E : List Event} (E' : List Event) (buf bs : List ℕ) (p : ℕ) {p' all : ℕ}
@@ -28,7 +27,6 @@ pub kept_read : {S : Type 0} {R : Reader S} {old now new : S} {room part : List 
     → StoreTells R → ReadLaw R now room reply part new → Kept R old new
 kept_read {now = now} {part = part} {reply} before law read = record {
   turns = le_trans read.turns_never_rise before.turns;
-  metered = λ m. (read.counts (before.metered m)).0;
   filling = λ f. (read.fills (before.filling f)).0;
   store = λ s.
       let so_far = before.store s in

@@ -19,7 +19,6 @@ pub record SkipSoFar {X : Type 0} (R : Lender X) (d : ℕ) (old : X) (skipped : 
   pub piece : List ℕ
   pub count : skipped ≡ min (length piece) (2 ^ 64 - 1)
   pub told : R.tells old → R.tells now × PieceSoFar d (R.events old) [] piece (R.events now)
-  pub metered : R.is_metered old → R.is_metered now
   pub filling : R.is_filling old → R.is_filling now
   pub store : StoreSoFar R old now
   pub calls : PartMade R.may old d piece now
@@ -32,7 +31,6 @@ skip_none = record {
   piece = [];
   count = omega arith;
   told = λ t. (t, piece_none refl);
-  metered = λ m. m;
   filling = λ f. f;
   store = λ s. (s, refl, refl);
   calls = made_none;
@@ -53,7 +51,6 @@ module _ {X : Type 0} {R : Lender X} {d : ℕ} {old now after : X} {skipped : �
         let so_far = before.told t in
         let loan = filled.told so_far.0 in
         (loan.0, piece_interruption so_far.1 (error_taken is loan.1) again);
-    metered = λ m. filled.metered (before.metered m);
     filling = λ f. filled.filling (before.filling f);
     store = λ s. absurd (no_store R old before.store law filled is s);
     calls = part_waited R before.calls filled is again;
@@ -69,7 +66,6 @@ module _ {X : Type 0} {R : Lender X} {d : ℕ} {old now after : X} {skipped : �
     never_interrupted = fault;
     turns_never_rise = le_trans filled.turns_never_rise before.turns;
     spends_turn = tt;
-    metered = λ m. filled.metered (before.metered m);
     filling = λ f. filled.filling (before.filling f);
     store = λ s. absurd (no_store R old before.store law filled is s);
     calls = (before.piece, tt, piece_faults R before.calls filled is fault);
@@ -105,7 +101,6 @@ module _ {X : Type 0} {R : Lender X} {d : ℕ} {old now after : X} {skipped : �
           let so_far = before.told t in
           let rest = lent_gone R old before.store law filled is found.within dropped so_far.0 in
           (rest.0, piece_more _ so_far.1 rest.1 (found.open_ended going).1 refl);
-      metered = λ m. (dropped.cost (filled.metered (before.metered m))).0;
       filling = λ f. dropped.filling (filled.filling (before.filling f));
       store = lent_passed R old before.store law filled is found.within dropped;
       calls = part_took R before.calls filled is found dropped going;
@@ -122,7 +117,6 @@ module _ {X : Type 0} {R : Lender X} {d : ℕ} {old now after : X} {skipped : �
       never_interrupted = tt;
       turns_never_rise = omega (arith, dropped.turns_never_rise, filled.turns_never_rise, before.turns);
       spends_turn = spent;
-      metered = λ m. (dropped.cost (filled.metered (before.metered m))).0;
       filling = λ f. dropped.filling (filled.filling (before.filling f));
       store = lent_passed R old before.store law filled is found.within dropped;
       calls = (longer, counted, piece_took R before.calls filled is found dropped whole);

@@ -96,7 +96,6 @@ read_at_limit {inner = inner} {t} buf at_limit =
       told = λ tells. (tells, (refl, λ none some. ap (λ k. cut k E) at_limit));
       turns_never_rise = le_refl _;
       spends_turn = λ some. absurd (omega (arith, some));
-      counts = λ m. absurd m;
       fills = λ f. (f, omega (arith, ap (λ k. length (cut k E)) at_limit));
       store = λ s. absurd s;
       call = (gives_none t, λ none. refl, λ some. absurd (omega (arith, at_limit, some)));

@@ -15,39 +15,39 @@ use Rattle.std.specs.declared.fmt.Formatter.{Formatter}
 use Rattle.std.specs.declared.fmt.Error.{Error as FormatError}
 use Rattle.no_std_io2_base.specs.declared.error.Error.{Error}
 use Rattle.no_std_io2_base.specs.declared.error.ErrorKind.{ErrorKind}
-use Rattle.no_std_io2_base.specs.Write.{Told, Moves, MovesFront, HasSpent, WriteCall, WriteAllLaw}
-use Rattle.no_std_io2_base.specs.Text.{Prints, nothing, piece, silent, IsTextError, FailsText, AnswersText, MovesText, WriteFmtLaw}
+use Rattle.no_std_io2_base.specs.Write.{Told, Moves, MovesFront, HasSpent}
+use Rattle.no_std_io2_base.specs.Writers.{Writer, WriteAllOf, PrintsOf, WriteFmtOf}
+use Rattle.no_std_io2_base.specs.Text.{nothing, piece, silent, IsTextError, FailsText, AnswersText, MovesText}
 use Rattle.no_std_io2_base.specs.Errors.{is_interruption, IsNoInterruption}
 use Rattle.no_std_io2_base.proofs.ChainReads.{after_ok}
 use Rattle.no_std_io2_base.proofs.MovesLemmas.{IsFront-refl, Moves-refl, MovesFront-join, MovesFront-first}
 
-module _ {S : Type 0} {told : S → Told} {takes_all : S → Type 0} {cost : S → ℕ} {is_metered : S → Type 0}
-    {may : S → WriteCall → S → Type 0} {old : S} where
+module _ {S : Type 0} {I : Writer S} {old : S} where
   -- a piece more, if the test says that no error was met
   pub prints_next : (b : Bool) {met : Result (Unit {0}) Error} → b ≡ is_ok met → b ≡ true
       → {text bytes x : List ℕ} {reply : Result (Unit {0}) Error} {mid new : S}
-      → WriteAllLaw told takes_all cost is_metered may mid bytes reply new → bytes ≡ x
-      → Prints told takes_all cost is_metered may old text met mid → Prints told takes_all cost is_metered may old (text ++ x) reply new
+      → WriteAllOf I mid bytes reply new → bytes ≡ x
+      → PrintsOf I old text met mid → PrintsOf I old (text ++ x) reply new
   prints_next b {met = Ok u} is had {text = text} {bytes = bytes} {reply = reply} {new = new} wrote same so_far =
-      subst (λ l. Prints told takes_all cost is_metered may old (text ++ l) reply new) same (piece bytes so_far wrote)
+      subst (λ l. PrintsOf I old (text ++ l) reply new) same (piece bytes so_far wrote)
   prints_next b {met = Err e} is had wrote same so_far = absurd (true≢false (sym had ∙ is))
 
   -- no call, if it says that one was
   pub prints_after : (b : Bool) {met : Result (Unit {0}) Error} → b ≡ is_ok met → b ≡ false → {text : List ℕ} (x : List ℕ) {now : S}
-      → Prints told takes_all cost is_metered may old text met now → Prints told takes_all cost is_metered may old (text ++ x) met now
+      → PrintsOf I old text met now → PrintsOf I old (text ++ x) met now
   prints_after b {met = Ok u} is had x so_far = absurd (true≢false (sym is ∙ had))
   prints_after b {met = Err e} is had x so_far = silent x so_far
 
   -- some front was accepted
   pub prints_moves : {text : List ℕ} {reply : Result (Unit {0}) Error} {new : S}
-      → Prints told takes_all cost is_metered may old text reply new → MovesFront (told old) text reply (told new)
-  prints_moves nothing = record { accepted = []; front = IsFront-refl []; whole = refl; moves = Moves-refl (told old) }
+      → PrintsOf I old text reply new → MovesFront (I.told old) text reply (I.told new)
+  prints_moves nothing = record { accepted = []; front = IsFront-refl []; whole = refl; moves = Moves-refl (I.told old) }
   prints_moves (piece {text = text} x {reply = reply} so_far wrote) = MovesFront-join text x reply (prints_moves so_far) wrote.moves
   prints_moves (silent {text = text} x {e = e} so_far) = MovesFront-first text x e (prints_moves so_far)
 
   -- and no interruption is returned
   pub prints_fault : {text : List ℕ} {reply : Result (Unit {0}) Error} {new : S}
-      → Prints told takes_all cost is_metered may old text reply new → IsNoInterruption reply
+      → PrintsOf I old text reply new → IsNoInterruption reply
   prints_fault nothing = tt
   prints_fault (piece x so_far wrote) = wrote.never_interrupted
   prints_fault (silent x so_far) = prints_fault so_far
@@ -173,29 +173,28 @@ pub name_kept : {S : Type 0} {at : S → Type 0} {name was : ℕ} {R : S → Lis
     → ∥ ((x : S) × (text : List ℕ) × ((at x × (name ≡ was)) × R x text) × Q text) ∥₁ → name ≡ was
 name_kept had = ∥∥₁_elim had (Prim.hlevel props) (λ p. p.2.0.1)
 
-module _ {S : Type 0} {told : S → Told} {takes_all : S → Type 0} {cost : S → ℕ} {is_metered : S → Type 0}
-    {may : S → WriteCall → S → Type 0} {old new : S} {name was : ℕ} {output : Option (List ℕ)} {met : Result (Unit {0}) Error} where
+module _ {S : Type 0} {I : Writer S} {old new : S} {name was : ℕ} {output : Option (List ℕ)} {met : Result (Unit {0}) Error} where
   -- what is known of a text that was printed, from the result
   pub law_shown : (formatted : Result (Unit {0}) FormatError) (reply : Result (Unit {0}) Error)
-      → ∥ ((x : S) × (text : List ℕ) × (((x ≡ old) × (name ≡ was)) × Prints told takes_all cost is_metered may x text met new)
+      → ∥ ((x : S) × (text : List ℕ) × (((x ≡ old) × (name ≡ was)) × PrintsOf I x text met new)
       × (IsOk formatted → IfSome output (λ bs. text ≡ bs))) ∥₁
       → OnOk formatted (reply ≡ met) → OnErr formatted (FailsText met reply)
-      → WriteFmtLaw told takes_all cost is_metered may old output reply new
+      → WriteFmtOf I old output reply new
   law_shown (Ok u) reply had same why =
-      let prints : ∥ ((text : List ℕ) × Prints told takes_all cost is_metered may old text met new × IfSome output (λ bs. text ≡ bs)) ∥₁ =
-      ∥∥₁_map had (λ p. (p.1, subst (λ x. Prints told takes_all cost is_metered may x p.1 met new) p.2.0.0 p.2.1, p.3 refl)) in
-      subst (λ r. WriteFmtLaw told takes_all cost is_metered may old output r new) (sym same) (record {
+      let prints : ∥ ((text : List ℕ) × PrintsOf I old text met new × IfSome output (λ bs. text ≡ bs)) ∥₁ =
+      ∥∥₁_map had (λ p. (p.1, subst (λ x. PrintsOf I x p.1 met new) p.2.0.0 p.2.1, p.3 refl)) in
+      subst (λ r. WriteFmtOf I old output r new) (sym same) (record {
         never_interrupted = ∥∥₁_elim prints (IsNoInterruption-prop met) (λ p. prints_fault p.1);
         moves = moves_text output (∥∥₁_map prints (λ p. (p.0, prints_moves p.1, p.2)));
         calls = ∥∥₁_map prints (λ p. (p.0, met, p.1, inl (p.2, refl)));
       })
   law_shown (Err f) reply had same why =
-      let prints : ∥ ((text : List ℕ) × Prints told takes_all cost is_metered may old text met new) ∥₁ =
-      ∥∥₁_map had (λ p. (p.1, subst (λ x. Prints told takes_all cost is_metered may x p.1 met new) p.2.0.0 p.2.1)) in
+      let prints : ∥ ((text : List ℕ) × PrintsOf I old text met new) ∥₁ =
+      ∥∥₁_map had (λ p. (p.1, subst (λ x. PrintsOf I x p.1 met new) p.2.0.0 p.2.1)) in
       record {
         never_interrupted = text_fault met reply why (∥∥₁_elim prints (IsNoInterruption-prop met) (λ p. prints_fault p.1));
         moves = record {
-          text = since (told old) (told new);
+          text = since (I.told old) (I.told new);
           met = met;
           moves = MovesFront-some (∥∥₁_map prints (λ p. (p.0, prints_moves p.1)));
           answers = inr why;

@@ -5,7 +5,8 @@ use Rattle.std.proofs.Common.{drop_of_length-le}
 use Rattle.no_std_io2_base.specs.declared.error.Error.{Error}
 use Rattle.no_std_io2_base.specs.declared.error.ErrorKind.TheVariants.{WriteZero}
 use Rattle.no_std_io2_base.specs.Errors.{error_kind, is_interruption, IsInterruption, IsFault, SaysError}
-use Rattle.no_std_io2_base.specs.Write.{Told, WriteLaw, WriteRestLaw, WriteCall, Wrote, Writes, CallLaw}
+use Rattle.no_std_io2_base.specs.Write.{Wrote, Writes}
+use Rattle.no_std_io2_base.specs.Writers.{Writer, WriteOf, WriteRestOf, CallOf}
 use Rattle.no_std_io2_base.specs.Write.{none as no_write, took, again as goes_again, stuck, fault as fails}
 use Rattle.no_std_io2_base.proofs.CallsLemmas.{CallsSoFar, calls_more, calls_end}
 use Rattle.no_std_io2_base.proofs.WritesFacts.{writes_law}
@@ -36,41 +37,40 @@ fewer_turns e turns turns' len spent again =
     let one : count_by is_interruption (error_kind e ∷ []) ≡ 1 = ap (λ b. 0 + (if b then 1 else 0)) again in
     omega (arith, spent, one)
 
-module _ {S : Type 0} {told : S → Told} {takes_all : S → Type 0} {cost : S → ℕ} {is_metered : S → Type 0}
-    {may : S → WriteCall → S → Type 0} {old now : S} {start left : List ℕ}
-    (before : CallsSoFar (CallLaw told takes_all cost is_metered may) (codes "failed to write whole buffer") old start left now) where
+module _ {S : Type 0} {I : Writer S} {old now : S} {start left : List ℕ}
+    (before : CallsSoFar (CallOf I) (codes "failed to write whole buffer") old start left now) where
   -- all was sent
-  pub writes_done : left ≡ [] → WriteRestLaw told takes_all cost is_metered may old start (Ok tt) now left
+  pub writes_done : left ≡ [] → WriteRestOf I old start (Ok tt) now left
   writes_done empty =
-      writes_law told takes_all cost is_metered may (calls_end before (Ok tt) left [] refl
+      writes_law I (calls_end before (Ok tt) left [] refl
       (subst (λ l. Writes (codes "failed to write whole buffer") [] l (Ok tt) l) (sym empty) no_write))
 
   module _ {new : S} where
     -- n bytes more were sent
-    pub writes_more : {n : ℕ} → WriteLaw told takes_all cost is_metered may now left (Ok n) new → 0 < length left → 0 < n
-        → CallsSoFar (CallLaw told takes_all cost is_metered may) (codes "failed to write whole buffer") old start
+    pub writes_more : {n : ℕ} → WriteOf I now left (Ok n) new → 0 < length left → 0 < n
+        → CallsSoFar (CallOf I) (codes "failed to write whole buffer") old start
         (take (length left - n) (drop n left)) new
     writes_more {n} wrote some more = calls_more before wrote
         (λ D r e w. took some more (subst (λ l. Writes (codes "failed to write whole buffer") D l r e) (rest_is n left) w))
 
     -- an interruption is ignored
-    pub writes_interruption : {e : Error} → WriteLaw told takes_all cost is_metered may now left (Err e) new
+    pub writes_interruption : {e : Error} → WriteOf I now left (Err e) new
         → 0 < length left → IsInterruption e
-        → CallsSoFar (CallLaw told takes_all cost is_metered may) (codes "failed to write whole buffer") old start left new
+        → CallsSoFar (CallOf I) (codes "failed to write whole buffer") old start left new
     writes_interruption wrote some interrupted = calls_more before wrote (λ D r e w. goes_again some interrupted w)
 
     -- a fault stopped it
-    pub writes_fault : {e : Error} → WriteLaw told takes_all cost is_metered may now left (Err e) new → IsFault e → 0 < length left
-        → WriteRestLaw told takes_all cost is_metered may old start (Err e) new left
+    pub writes_fault : {e : Error} → WriteOf I now left (Err e) new → IsFault e → 0 < length left
+        → WriteRestOf I old start (Err e) new left
     writes_fault {e} wrote is_fault some =
-        writes_law told takes_all cost is_metered may
+        writes_law I
         (calls_end before (Err e) left (Wrote left (Err e) ∷ []) (new, wrote, refl) (fails some is_fault))
 
     -- no byte was taken of some
-    pub writes_zero : {reply : Result ℕ Error} {n : ℕ} {e : Error} → WriteLaw told takes_all cost is_metered may now left reply new
+    pub writes_zero : {reply : Result ℕ Error} {n : ℕ} {e : Error} → WriteOf I now left reply new
         → reply ≡ Ok n → n ≡ 0 → 0 < length left → SaysError WriteZero (codes "failed to write whole buffer") e
-        → WriteRestLaw told takes_all cost is_metered may old start (Err e) new left
+        → WriteRestOf I old start (Err e) new left
     writes_zero {e = e} wrote is none some says =
-        let took = subst (λ r. WriteLaw told takes_all cost is_metered may now left r new) (is ∙ ap Ok none) wrote in
-        writes_law told takes_all cost is_metered may
+        let took = subst (λ r. WriteOf I now left r new) (is ∙ ap Ok none) wrote in
+        writes_law I
         (calls_end before (Err e) left (Wrote left (Ok 0) ∷ []) (new, took, refl) (stuck some says))

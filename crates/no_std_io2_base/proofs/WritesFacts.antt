@@ -1,11 +1,12 @@
 -- What follows from the calls that were made.
-use Rattle.std.proofs.Common.{◌≡◌, ℕ, ◌+◌, ◌<◌, List, [], ◌∷◌, ◌++◌, Result, Ok, Err, OnErr, IsOk, length, take, drop, codes, inr}
+use Rattle.std.proofs.Common.{◌≡◌, ℕ, ◌<◌, List, [], ◌∷◌, ◌++◌, Result, Ok, Err, OnErr, IsOk, length, take, drop, codes, inr}
 use Rattle.std.proofs.Common.{refl, sym, ap, subst, ◌∙◌, arith, append_assoc, take-append-drop, length-drop}
 use Rattle.std.proofs.lemmas.Bool.Decides.{nat_tests}
 use Rattle.no_std_io2_base.specs.declared.error.Error.{Error}
 use Rattle.no_std_io2_base.specs.declared.error.ErrorKind.TheVariants.{WriteZero}
 use Rattle.no_std_io2_base.specs.Errors.{error_kind, is_interruption, IsNoInterruption}
-use Rattle.no_std_io2_base.specs.Write.{Told, Moves, Sends, WriteRestLaw, zero_write, calls_for, WriteCall, Made, CallLaw}
+use Rattle.no_std_io2_base.specs.Write.{Moves, Sends, zero_write, calls_for, WriteCall, Made}
+use Rattle.no_std_io2_base.specs.Writers.{Writer, TakesAll, WriteRestOf, CallOf}
 use Rattle.no_std_io2_base.specs.Write.{Writes, none, took, again, stuck, fault}
 use Rattle.no_std_io2_base.proofs.CallsLemmas.{writes_whole}
 use Rattle.no_std_io2_base.proofs.MovesLemmas.{Moves-refl, Moves-then}
@@ -52,16 +53,15 @@ writes_idle (again some interrupted w) empty = absurd (omega (arith, some, ap le
 writes_idle (stuck some says) empty = absurd (omega (arith, some, ap length empty))
 writes_idle (fault some is) empty = absurd (omega (arith, some, ap length empty))
 
-module _ {S : Type 0} (told : S → Told) (takes_all : S → Type 0) (cost : S → ℕ) (is_metered : S → Type 0)
-    (may : S → WriteCall → S → Type 0) where
+module _ {S : Type 0} (I : Writer S) where
   -- what was accepted
   pub writes_sends : {text : List ℕ} {C : List WriteCall} {x left : List ℕ} {reply : Result (Unit {0}) Error}
-      → Writes text C x reply left → (a b : S) → Made (CallLaw told takes_all cost is_metered may) a C b
-      → Sends (told a) x reply (told b) left
+      → Writes text C x reply left → (a b : S) → Made (CallOf I) a C b
+      → Sends (I.told a) x reply (I.told b) left
   writes_sends none a b made = record {
     sent = [];
     split = refl;
-    moves = subst (λ w. Moves (told a) [] [] (told w)) (sym made) (Moves-refl (told a));
+    moves = subst (λ w. Moves (I.told a) [] [] (I.told w)) (sym made) (Moves-refl (I.told a));
   }
   writes_sends (took {x = x} {left = left} {n = n} some more w) a b made =
       let rest = writes_sends w made.0 b made.2 in
@@ -76,21 +76,21 @@ module _ {S : Type 0} (told : S → Told) (takes_all : S → Type 0) (cost : S �
   writes_sends (stuck {x = x} {e = e} some says) a b made = record {
     sent = [];
     split = refl;
-    moves = subst (λ w. Moves (told a) [] (error_kind e ∷ []) (told w)) (sym made.2)
-        (subst (λ k. Moves (told a) [] k (told made.0)) (zero_write-some x some ∙ ap (λ k. k ∷ []) (sym says.0)) made.1.moves);
+    moves = subst (λ w. Moves (I.told a) [] (error_kind e ∷ []) (I.told w)) (sym made.2)
+        (subst (λ k. Moves (I.told a) [] k (I.told made.0)) (zero_write-some x some ∙ ap (λ k. k ∷ []) (sym says.0)) made.1.moves);
   }
   writes_sends (fault {e = e} some is) a b made = record {
     sent = [];
     split = refl;
-    moves = subst (λ w. Moves (told a) [] (error_kind e ∷ []) (told w)) (sym made.2) made.1.moves;
+    moves = subst (λ w. Moves (I.told a) [] (error_kind e ∷ []) (I.told w)) (sym made.2) made.1.moves;
   }
 
   -- a writer that takes all does so in one call, which is counted
   pub writes_all : {text : List ℕ} {C : List WriteCall} {x left : List ℕ} {reply : Result (Unit {0}) Error}
-      → Writes text C x reply left → (a b : S) → Made (CallLaw told takes_all cost is_metered may) a C b → takes_all a
-      → takes_all b × IsOk reply × (length C ≡ calls_for x) × (is_metered a → is_metered b × (cost b ≡ cost a + calls_for x))
+      → Writes text C x reply left → (a b : S) → Made (CallOf I) a C b → TakesAll I a
+      → TakesAll I b × IsOk reply × (length C ≡ calls_for x)
   writes_all none a b made takes =
-      (subst takes_all (sym made) takes, refl, refl, λ m. (subst is_metered (sym made) m, omega (arith, ap cost made, no_call [] refl)))
+      (subst (TakesAll I) (sym made) takes, refl, refl)
   writes_all (took {x = x} {n = n} some more w) a b made takes =
       let took = made.1.all takes in
       let rest = writes_all w made.0 b made.2 took.0 in
@@ -98,10 +98,6 @@ module _ {S : Type 0} (told : S → Told) (takes_all : S → Type 0) (cost : S �
         rest.0,
         rest.1,
         omega (arith, rest.2, no_call (drop n x) empty, one_call x some),
-        λ m.
-            let one = made.1.counts m takes in
-            let counted = rest.3 one.0 in
-            (counted.0, omega (arith, counted.1, one.1, no_call (drop n x) empty, one_call x some)),
       )
   writes_all (again some interrupted w) a b made takes = no_error (made.1.all takes).1
   writes_all (stuck {x = x} some says) a b made takes = absurd (omega (arith, some, took_all (made.1.all takes).1))
@@ -109,9 +105,9 @@ module _ {S : Type 0} (told : S → Told) (takes_all : S → Type 0) (cost : S �
 
   -- the law of `write_rest` follows from its writes
   pub writes_law : {x left : List ℕ} {reply : Result (Unit {0}) Error} {a b : S}
-      → (C : List WriteCall) × Made (CallLaw told takes_all cost is_metered may) a C b
+      → (C : List WriteCall) × Made (CallOf I) a C b
       × Writes (codes "failed to write whole buffer") C x reply left
-      → WriteRestLaw told takes_all cost is_metered may a x reply b left
+      → WriteRestOf I a x reply b left
   writes_law {x} {left} {reply} {a} {b} calls =
       let w = calls.2 in
       record {
@@ -119,6 +115,5 @@ module _ {S : Type 0} (told : S → Told) (takes_all : S → Type 0) (cost : S �
         sends = writes_sends w a b calls.1;
         done = writes_whole w;
         all = λ t. let all = writes_all w a b calls.1 t in (all.0, all.1);
-        counts = λ m t. (writes_all w a b calls.1 t).3 m;
         calls = (calls.0, calls.1, inr w);
       }

@@ -55,16 +55,10 @@ Lender X = record {
   tells : X → Type 0;
   events : X → List Event;
   turns : X → ℕ;
-  cost : X → ℕ;
-  is_metered : X → Type 0;
   is_filling : X → Type 0;
   may_take_none : X → Type 0;
   may : X → ReadCall → X → Type 0;
   held : X → List ℕ;
-  is_fill_metered : X → Type 0;
-  fills : X → ℕ;
-  knows_lent_length : X → Type 0;
-  lent_length : X → ℕ;
 }
 
 -- `fill_buf()`: its result
@@ -75,8 +69,6 @@ pub record FillBufLaw {X : Type 0} (R : Lender X) (old : X) (reply : Result (Bor
   pub front : R.tells old → IfOk reply (λ s. BeginsWith (R.events old) s.now)
   -- an empty slice is lent only at the end
   pub end : R.tells old → IfOk reply (λ s. s.now ≡ [] → R.events old ≡ [])
-  -- if it is known how many bytes it lends, it lends that many
-  pub knows_lent_length : R.knows_lent_length old → IsOkAnd reply (λ s. length s.now ≡ R.lent_length old)
 
 -- `fill_buf()`: the state once the borrow has ended
 abbrev pub AfterLoan : {X : Type 0} → Lender X → X → Result (Bor (List ℕ)) Error → X → Type 0
@@ -90,11 +82,7 @@ AfterLoan R old reply new = record {
   spends_turn : LendingTurn reply (R.turns old) (R.turns new);
   -- if bytes were held, nothing has changed
   unchanged : IsNotEmpty (R.held old) → new ≡ old;
-  -- if none were held, one read was made
-  counts : R.is_fill_metered old → R.is_fill_metered new × (R.fills new ≡ R.fills old + reads_needed (R.held old));
   -- what the reader claims about itself still holds
-  stays_sure : R.knows_lent_length old → R.knows_lent_length new;
-  metered : R.is_metered old → R.is_metered new;
   filling : R.is_filling old → R.is_filling new;
   -- a told store does not change
   store : R.has_store old → R.has_store new × (R.content new ≡ R.content old) × (R.position new ≡ R.position old);
@@ -112,12 +100,8 @@ pub record ConsumeLaw {X : Type 0} (R : Lender X) (old : X) (amount : ℕ) (new 
   pub turns_never_rise : R.turns new ≤ R.turns old
   -- if a byte was dropped, a turn was spent
   pub spends_turn : 0 < amount → R.turns new < R.turns old
-  -- no read was made
-  pub cost : R.is_metered old → R.is_metered new × (R.cost new ≡ R.cost old)
-  pub counts : R.is_fill_metered old → R.is_fill_metered new × (R.fills new ≡ R.fills old)
   -- what the reader claims about itself still holds
   pub filling : R.is_filling old → R.is_filling new
-  pub knows_lent_length : R.knows_lent_length old → R.knows_lent_length new
   -- a told store keeps its content, and its position moves by the number of dropped bytes
   pub store : R.has_store old → R.has_store new × (R.content new ≡ R.content old) × (R.position new ≡ R.position old + amount)
   -- it is one call
@@ -144,7 +128,6 @@ pub record ReadUntilLaw {X A : Type 0} (R : Lender X) (old : X) (delim : ℕ) (b
   -- if the piece is not empty, a turn was spent
   pub spends_turn : IfOk reply (λ n. 0 < n → R.turns new < R.turns old)
   -- what the reader claims about itself still holds
-  pub metered : R.is_metered old → R.is_metered new
   pub filling : R.is_filling old → R.is_filling new
   -- a told store keeps its content, and its position moves by the number of bytes that were taken
   pub store : R.has_store old → R.has_store new × (R.content new ≡ R.content old)
@@ -163,7 +146,6 @@ pub record SkipUntilLaw {X : Type 0} (R : Lender X) (old : X) (delim : ℕ) (rep
   -- if the piece is not empty, a turn was spent
   pub spends_turn : IfOk reply (λ n. 0 < n → R.turns new < R.turns old)
   -- what the reader claims about itself still holds
-  pub metered : R.is_metered old → R.is_metered new
   pub filling : R.is_filling old → R.is_filling new
   -- a told store keeps its content, and its position moves by the number of bytes that were taken
   pub store : R.has_store old → R.has_store new × (R.content new ≡ R.content old)
@@ -188,7 +170,6 @@ pub record ReadLineLaw {X A : Type 0} (R : Lender X) (old : X) (buf : String A) 
   -- if the line is not empty, a turn was spent
   pub spends_turn : IfOk reply (λ n. 0 < n → R.turns new < R.turns old)
   -- what the reader claims about itself still holds
-  pub metered : R.is_metered old → R.is_metered new
   pub filling : R.is_filling old → R.is_filling new
   -- a told store keeps its content, and its position moves by the number of bytes that were taken
   pub store : R.has_store old → R.has_store new × (R.content new ≡ R.content old)

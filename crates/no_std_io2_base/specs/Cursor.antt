@@ -1,10 +1,11 @@
 -- The content and the position of a `Cursor`, and what a write changes.
 use Rattle.std.specs.Prelude.{◌≡◌, ℕ, ◌+◌, ◌-◌, ◌^◌, ◌<◌, ◌≤◌, ◌⊎◌, List, ◌++◌, length, take, drop, replicate, codes, None, Some, Ok, Err}
-use Rattle.std.specs.Prelude.{Result, OnOk, OnErr, IfErr}
+use Rattle.std.specs.Prelude.{Result, IsOk, IsOkAnd, OnOk, OnErr, IfErr, ◌↔◌, min}
 use Rattle.no_std_io2_base.specs.declared.cursor.Cursor.{Cursor}
 use Rattle.no_std_io2_base.specs.declared.error.Error.{Error}
 use Rattle.no_std_io2_base.specs.declared.error.ErrorKind.TheVariants.{InvalidInput, OutOfMemory}
-use Rattle.no_std_io2_base.specs.Errors.{error_kind, error_text}
+use Rattle.no_std_io2_base.specs.Errors.{error_kind, error_text, IsUnwritten}
+use Rattle.no_std_io2_base.specs.Write.{WriteCall, Wrote, WroteAll, WroteRest, Flushed}
 
 -- the position of a cursor
 abbrev pub cursor_position : {T : Type 0} → Cursor T → ℕ
@@ -70,6 +71,30 @@ PutsAll bs place x (Err e) bs' place' = (length bs < place + length x) × IsRefu
 abbrev pub PutsFitting : List ℕ → ℕ → List ℕ → List ℕ → ℕ → Type 0
 PutsFitting bs place x bs' place' =
     let front = fitting place x bs in (bs' ≡ put_over place front bs) × (place' ≡ place + length front)
+
+-- What a call may do to a cursor over a vector with this content and this capacity: the whole buffer is put at the position, or nothing
+-- changes.
+abbrev pub PutsMay : {T : Type 0} → (T → List ℕ) → (T → ℕ) → Cursor T → WriteCall → Cursor T → Type 0
+PutsMay items capacity old (Wrote x reply) new = PutsWhole (items old.inner) old.pos x reply (items new.inner) new.pos
+    × OnErr reply (capacity old.inner < old.pos + length x)
+PutsMay items capacity old (WroteAll x reply) new = PutsAll (items old.inner) old.pos x reply (items new.inner) new.pos
+    × OnErr reply (capacity old.inner < old.pos + length x)
+PutsMay items capacity old (WroteRest x reply left) new = ⊥
+PutsMay items capacity old (Flushed reply) new = IsOk reply × (new ≡ old)
+
+-- `write_all` of x over a slice: as many bytes as fit are written; it fails if and only if these are not all
+pub record PutsAllFitting (bs : List ℕ) (place : ℕ) (x : List ℕ) (reply : Result (Unit {0}) Error) (bs' : List ℕ) (place' : ℕ) : Type 0 where
+  pub variant : IsOk reply ↔ (length x ≤ length bs - place)
+  pub says : IfErr reply IsUnwritten
+  pub puts : PutsFitting bs place x bs' place'
+
+-- what a call may do to a cursor over a slice with this content: as many bytes as fit are written at the position
+abbrev pub FitsMay : {T : Type 0} → (T → List ℕ) → Cursor T → WriteCall → Cursor T → Type 0
+FitsMay items old (Wrote x reply) new = IsOkAnd reply (λ n. n ≡ min (length x) (length (items old.inner) - old.pos))
+    × PutsFitting (items old.inner) old.pos x (items new.inner) new.pos
+FitsMay items old (WroteAll x reply) new = PutsAllFitting (items old.inner) old.pos x reply (items new.inner) new.pos
+FitsMay items old (WroteRest x reply left) new = ⊥
+FitsMay items old (Flushed reply) new = IsOk reply × (new ≡ old)
 
 -- The contract of a private function that puts x at `place`: x is there, or the capacity was too small, and nothing changed.
 pub record IsPut (bs : List ℕ) (capacity place : ℕ) (x : List ℕ) (reply : Result (Unit {0}) Error) (bs' : List ℕ) : Type 0 where

@@ -205,8 +205,6 @@ Reader S = record {
   tells : S → Type 0;
   events : S → List Event;
   turns : S → ℕ;
-  cost : S → ℕ;
-  is_metered : S → Type 0;
   is_filling : S → Type 0;
   may_take_none : S → Type 0;
   may : S → ReadCall → S → Type 0;
@@ -235,8 +233,6 @@ pub record ReadLaw {S : Type 0} (R : Reader S) (old : S) (buf : List ℕ) (reply
   pub turns_never_rise : R.turns new ≤ R.turns old
   -- a call that gives bytes or returns an error lowers them
   pub spends_turn : SpendsTurn reply (R.turns old) (R.turns new)
-  -- a read into a buffer that is not empty is counted
-  pub counts : R.is_metered old → R.is_metered new × (R.cost new ≡ R.cost old + min 1 (length buf))
   -- a filling reader gives as many bytes as fit
   pub fills : R.is_filling old → R.is_filling new × IsOkAnd reply (λ n. n ≡ min (length buf) (length (R.events old)))
   -- a told store keeps its content, and the position moves by the number of given bytes
@@ -257,8 +253,6 @@ pub record ReadExactLaw {S : Type 0} (R : Reader S) (old : S) (buf : List ℕ) (
   pub turns_never_rise : R.turns new ≤ R.turns old
   -- if a buffer that is not empty was filled, a turn was spent
   pub spends_turn : 0 < length buf → OnOk reply (R.turns new < R.turns old)
-  -- a metered reader stays so
-  pub metered : R.is_metered old → R.is_metered new
   -- a filling reader stays filling
   pub filling : R.is_filling old → R.is_filling new
   -- a told store keeps its content, and the position moves by the number of bytes that were taken
@@ -286,8 +280,6 @@ pub record ReadToEndLaw {S A : Type 0} (R : Reader S) (old : S) (buf : Vec ℕ A
   pub turns_never_rise : R.turns new ≤ R.turns old
   -- if bytes were appended, a turn was spent
   pub spends_turn : vec_len buf < vec_len buf' → R.turns new < R.turns old
-  -- a metered reader stays so
-  pub metered : R.is_metered old → R.is_metered new
   -- a filling reader stays filling
   pub filling : R.is_filling old → R.is_filling new
   -- a told store keeps its content, and the position moves by the number of bytes that were taken

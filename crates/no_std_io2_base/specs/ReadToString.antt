@@ -28,7 +28,6 @@ pub record ReadToStringLaw {S A : Type 0} (R : Reader S) (old : S) (buf : String
   -- turns never rise
   pub turns_never_rise : R.turns new ≤ R.turns old
   -- what the reader claims about itself still holds
-  pub metered : R.is_metered old → R.is_metered new
   pub filling : R.is_filling old → R.is_filling new
   -- a told store keeps its content, and the position moves by the number of bytes that were taken
   pub store : GoesOn R old new

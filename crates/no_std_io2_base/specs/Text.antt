@@ -7,15 +7,14 @@ use Rattle.no_std_io2_base.specs.Errors.{error_kind, error_text, IsNoInterruptio
 use Rattle.no_std_io2_base.specs.Write.{Told, MovesFront, WriteCall, WriteAllLaw}
 
 -- From old to new this text was printed to a writer, by one `write_all` after another; this is the result of the last.
-pub data Prints {S : Type 0} (told : S → Told) (takes_all : S → Type 0) (cost : S → ℕ) (is_metered : S → Type 0)
-    (may : S → WriteCall → S → Type 0) (old : S) : List ℕ → Result (Unit {0}) Error → S → Type 0 where
-  nothing : Prints told takes_all cost is_metered may old [] (Ok tt) old
-  piece : {text : List ℕ} (x : List ℕ) {reply : Result (Unit {0}) Error} {mid new : S}
-      → Prints told takes_all cost is_metered may old text (Ok tt) mid → WriteAllLaw told takes_all cost is_metered may mid x reply new
-      → Prints told takes_all cost is_metered may old (text ++ x) reply new
+pub data Prints {W : Type 0} (told : W → Told) (takes_all : W → Type 0) (may : W → WriteCall → W → Type 0) (old : W) : List ℕ → Result (Unit {0}) Error → W → Type 0 where
+  nothing : Prints told takes_all may old [] (Ok tt) old
+  piece : {text : List ℕ} (x : List ℕ) {reply : Result (Unit {0}) Error} {mid new : W}
+      → Prints told takes_all may old text (Ok tt) mid → WriteAllLaw told takes_all may mid x reply new
+      → Prints told takes_all may old (text ++ x) reply new
   -- after an error there is no call
-  silent : {text : List ℕ} (x : List ℕ) {e : Error} {new : S} → Prints told takes_all cost is_metered may old text (Err e) new
-      → Prints told takes_all cost is_metered may old (text ++ x) (Err e) new
+  silent : {text : List ℕ} (x : List ℕ) {e : Error} {new : W} → Prints told takes_all may old text (Err e) new
+      → Prints told takes_all may old (text ++ x) (Err e) new
 
 -- the error says that the text's own `fmt` failed
 abbrev pub IsTextError : Error → Type 0
@@ -42,13 +41,12 @@ pub record MovesText (old : Told) (output : Option (List ℕ)) (reply : Result (
   pub answers : AnswersText output text met reply
 
 -- `write_fmt(text)`, for a text with this output
-pub record WriteFmtLaw {S : Type 0} (told : S → Told) (takes_all : S → Type 0) (cost : S → ℕ) (is_metered : S → Type 0)
-    (may : S → WriteCall → S → Type 0)
-    (old : S) (output : Option (List ℕ)) (reply : Result (Unit {0}) Error) (new : S) : Type 0 where
+pub record WriteFmtLaw {W : Type 0} (told : W → Told) (takes_all : W → Type 0) (may : W → WriteCall → W → Type 0)
+    (old : W) (output : Option (List ℕ)) (reply : Result (Unit {0}) Error) (new : W) : Type 0 where
   -- the result is never an interruption
   pub never_interrupted : IsNoInterruption reply
   -- some text is printed
   pub moves : MovesText (told old) output reply (told new)
   -- by such calls; only that they exist is known, because the formatter chooses them
-  pub calls : ∥ ((text : List ℕ) × (met : Result (Unit {0}) Error) × Prints told takes_all cost is_metered may old text met new
+  pub calls : ∥ ((text : List ℕ) × (met : Result (Unit {0}) Error) × Prints told takes_all may old text met new
       × AnswersText output text met reply) ∥₁

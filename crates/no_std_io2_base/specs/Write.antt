@@ -138,67 +138,60 @@ RestCalls C x reply left = (C ≡ WroteRest x reply left ∷ []) ⊎ Writes (cod
 abbrev pub AllCalls : List WriteCall → List ℕ → Result (Unit {0}) Error → Type 0
 AllCalls C x reply = (C ≡ WroteAll x reply ∷ []) ⊎ ((left : List ℕ) × RestCalls C x reply left)
 
+-- The writer takes all: it says so, and no mishap is to come.
+abbrev pub AcceptsAll : {W : Type 0} → (W → Told) → (W → Type 0) → W → Type 0
+AcceptsAll told takes_all w = takes_all w × ((told w).mishaps ≡ Some [])
+
 -- `write(x)`
-pub record WriteLaw {S : Type 0} (told : S → Told) (takes_all : S → Type 0) (cost : S → ℕ) (is_metered : S → Type 0)
-    (may : S → WriteCall → S → Type 0)
-    (old : S) (x : List ℕ) (reply : Result ℕ Error) (new : S) : Type 0 where
+pub record WriteLaw {W : Type 0} (told : W → Told) (takes_all : W → Type 0) (may : W → WriteCall → W → Type 0)
+    (old : W) (x : List ℕ) (reply : Result ℕ Error) (new : W) : Type 0 where
   -- at most the length of x is reported as accepted
   pub bound : IfOk reply (λ n. n ≤ length x)
   -- the bytes that the result reports were accepted, and an error or a zero is a mishap
   pub moves : Moves (told old) (taken reply x) (write_mishap reply x) (told new)
   -- if the writer takes all, it accepted all of x, and it still takes all
-  pub all : takes_all old → takes_all new × (reply ≡ Ok (length x))
-  -- the call is counted
-  pub counts : is_metered old → takes_all old → is_metered new × (cost new ≡ cost old + 1)
+  pub all : AcceptsAll told takes_all old → AcceptsAll told takes_all new × (reply ≡ Ok (length x))
   -- it is one call
   pub call : may old (Wrote x reply) new
 
 -- `flush()`
-pub record FlushLaw {S : Type 0} (told : S → Told) (takes_all : S → Type 0) (cost : S → ℕ) (is_metered : S → Type 0)
-    (may : S → WriteCall → S → Type 0)
-    (old : S) (reply : Result (Unit {0}) Error) (new : S) : Type 0 where
+pub record FlushLaw {W : Type 0} (told : W → Told) (takes_all : W → Type 0) (may : W → WriteCall → W → Type 0)
+    (old : W) (reply : Result (Unit {0}) Error) (new : W) : Type 0 where
   -- after `Ok` nothing is held
   pub empty : OnOk reply ((told new).held ≡ [])
   -- no byte was accepted, and an error is a mishap
   pub moves : Moves (told old) [] (call_mishap reply) (told new)
   -- a writer that takes all still takes all
-  pub all : takes_all old → takes_all new
-  -- flushes are not counted
-  pub counts : is_metered old → takes_all old → is_metered new × (cost new ≡ cost old)
+  pub all : AcceptsAll told takes_all old → AcceptsAll told takes_all new
   -- it is one call
   pub call : may old (Flushed reply) new
 
 -- a call, by its law
-abbrev pub CallLaw : {S : Type 0} → (S → Told) → (S → Type 0) → (S → ℕ) → (S → Type 0) → (S → WriteCall → S → Type 0)
-    → S → WriteCall → S → Type 0
-CallLaw told takes_all cost is_metered may old (Wrote x reply) new = WriteLaw told takes_all cost is_metered may old x reply new
-CallLaw told takes_all cost is_metered may old (Flushed reply) new = FlushLaw told takes_all cost is_metered may old reply new
-CallLaw told takes_all cost is_metered may old (WroteAll x reply) new = may old (WroteAll x reply) new
-    × IsNoInterruption reply × MovesFront (told old) x reply (told new) × (takes_all old → takes_all new)
-    × (is_metered old → takes_all old → is_metered new × (cost new ≡ cost old + calls_for x))
-CallLaw told takes_all cost is_metered may old (WroteRest x reply left) new = may old (WroteRest x reply left) new
-    × IsNoInterruption reply × Sends (told old) x reply (told new) left × OnOk reply (left ≡ []) × (takes_all old → takes_all new)
-    × (is_metered old → takes_all old → is_metered new × (cost new ≡ cost old + calls_for x))
+abbrev pub CallLaw : {W : Type 0} → (W → Told) → (W → Type 0) → (W → WriteCall → W → Type 0) → W → WriteCall → W → Type 0
+CallLaw told takes_all may old (Wrote x reply) new = WriteLaw told takes_all may old x reply new
+CallLaw told takes_all may old (Flushed reply) new = FlushLaw told takes_all may old reply new
+CallLaw told takes_all may old (WroteAll x reply) new = may old (WroteAll x reply) new
+    × IsNoInterruption reply × MovesFront (told old) x reply (told new)
+    × (AcceptsAll told takes_all old → AcceptsAll told takes_all new)
+CallLaw told takes_all may old (WroteRest x reply left) new = may old (WroteRest x reply left) new
+    × IsNoInterruption reply × Sends (told old) x reply (told new) left × OnOk reply (left ≡ [])
+    × (AcceptsAll told takes_all old → AcceptsAll told takes_all new)
 
 -- `write_all(x)`
-pub record WriteAllLaw {S : Type 0} (told : S → Told) (takes_all : S → Type 0) (cost : S → ℕ) (is_metered : S → Type 0)
-    (may : S → WriteCall → S → Type 0)
-    (old : S) (x : List ℕ) (reply : Result (Unit {0}) Error) (new : S) : Type 0 where
+pub record WriteAllLaw {W : Type 0} (told : W → Told) (takes_all : W → Type 0) (may : W → WriteCall → W → Type 0)
+    (old : W) (x : List ℕ) (reply : Result (Unit {0}) Error) (new : W) : Type 0 where
   -- the result is never an interruption
   pub never_interrupted : IsNoInterruption reply
   -- some front of x was accepted, all of it after `Ok`, and an error is a mishap
   pub moves : MovesFront (told old) x reply (told new)
   -- a writer that takes all still takes all
-  pub all : takes_all old → takes_all new
-  -- one call is counted, or none if x is empty
-  pub counts : is_metered old → takes_all old → is_metered new × (cost new ≡ cost old + calls_for x)
+  pub all : AcceptsAll told takes_all old → AcceptsAll told takes_all new
   -- which calls it made
-  pub calls : (C : List WriteCall) × Made (CallLaw told takes_all cost is_metered may) old C new × AllCalls C x reply
+  pub calls : (C : List WriteCall) × Made (CallLaw told takes_all may) old C new × AllCalls C x reply
 
 -- `write_rest(&mut x)`
-pub record WriteRestLaw {S : Type 0} (told : S → Told) (takes_all : S → Type 0) (cost : S → ℕ) (is_metered : S → Type 0)
-    (may : S → WriteCall → S → Type 0)
-    (old : S) (x : List ℕ) (reply : Result (Unit {0}) Error) (new : S) (left : List ℕ) : Type 0 where
+pub record WriteRestLaw {W : Type 0} (told : W → Told) (takes_all : W → Type 0) (may : W → WriteCall → W → Type 0)
+    (old : W) (x : List ℕ) (reply : Result (Unit {0}) Error) (new : W) (left : List ℕ) : Type 0 where
   -- the result is never an interruption
   pub never_interrupted : IsNoInterruption reply
   -- exactly the bytes that are gone from the front of x were accepted, and an error is a mishap
@@ -206,8 +199,6 @@ pub record WriteRestLaw {S : Type 0} (told : S → Told) (takes_all : S → Type
   -- after `Ok` nothing is left
   pub done : OnOk reply (left ≡ [])
   -- if the writer takes all, it accepted all of x, and it still takes all
-  pub all : takes_all old → takes_all new × IsOk reply
-  -- one call is counted, or none if x is empty
-  pub counts : is_metered old → takes_all old → is_metered new × (cost new ≡ cost old + calls_for x)
+  pub all : AcceptsAll told takes_all old → AcceptsAll told takes_all new × IsOk reply
   -- which calls it made
-  pub calls : (C : List WriteCall) × Made (CallLaw told takes_all cost is_metered may) old C new × RestCalls C x reply left
+  pub calls : (C : List WriteCall) × Made (CallLaw told takes_all may) old C new × RestCalls C x reply left

@@ -18,7 +18,6 @@ fn chain_tells<T: Read, U: Read>(c: &Chain<T, U>)
     ensures events_done { chain_is_done c.now ≡ true
         → ⟦<Chain<T, U> as Read>⟧.events c.now ≡ U.events (chain_second c.now) }
     ensures turns { ⟦<Chain<T, U> as Read>⟧.turns c.now ≡ T.turns (chain_first c.now) + U.turns (chain_second c.now) }
-    ensures metered { ⟦<Chain<T, U> as Read>⟧.is_metered c.now → ⊥ }
     ensures filling { ⟦<Chain<T, U> as Read>⟧.is_filling c.now → ⊥ }
     ensures takes_all { ⟦<Chain<T, U> as Read>⟧.may_take_none c.now → ⊥ }
     ensures store { ⟦<Chain<T, U> as Stored>⟧.has_store c.now → ⊥ }
@@ -60,8 +59,6 @@ fn take_tells<T: Read>(t: &Take<T>)
     ensures tells { T.tells (take_inner t.now) → ⟦<Take<T> as Read>⟧.tells t.now }
     ensures events { ⟦<Take<T> as Read>⟧.events t.now ≡ cut (take_limit t.now) (T.events (take_inner t.now)) }
     ensures turns { ⟦<Take<T> as Read>⟧.turns t.now ≡ T.turns (take_inner t.now) }
-    ensures cost { ⟦<Take<T> as Read>⟧.cost t.now ≡ T.cost (take_inner t.now) }
-    ensures metered { ⟦<Take<T> as Read>⟧.is_metered t.now → ⊥ }
     ensures filling { T.is_filling (take_inner t.now) → ⟦<Take<T> as Read>⟧.is_filling t.now }
     ensures takes_all { ⟦<Take<T> as Read>⟧.may_take_none t.now → ⊥ }
     ensures store { ⟦<Take<T> as Stored>⟧.has_store t.now → ⊥ }

@@ -1,6 +1,6 @@
 //! [`Cursor`], a stream over bytes in memory with a position. Its content is a type that can be
 //! borrowed as a slice, [`AsSlice`].
-ghost use Rattle.std.specs.Prelude.{◌≡◌, List, IsOk, IfOk, IfErr, ◌↔◌, IsTrue};
+ghost use Rattle.std.specs.Prelude.{◌≡◌, List, IsOk, IfOk, IfErr};
 ghost use types.Logic.{sem};
 ghost use Rattle.std.specs.Borrow.{Lends};
 ghost use Rattle.std.specs.Box.{boxed_slice_items};

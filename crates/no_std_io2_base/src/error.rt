@@ -5,7 +5,7 @@ ghost use Rattle.std.specs.Option.{option_map};
 ghost use Rattle.no_std_io2_base.specs.Errors.{kind_text, error_kind, error_text, error_display, is_interruption, IsPlain, IsOutOfMemory};
 
 pub(crate) use crate::internal::{failed_to_fill, failed_to_write};
-use std::alloc::AllocError;
+use std::alloc::{AllocError, AllocFailed};
 use std::fmt;
 
 /// The kinds of errors, as in Rust's `std::io::ErrorKind`. They are ordered as they are declared.
@@ -231,6 +231,16 @@ impl From<AllocError> for Error {
     ghost from_gives = { λ _ e. IsOutOfMemory e };
 
     fn from(_refused: AllocError) -> Error {
+        Error::from(ErrorKind::OutOfMemory)
+    }
+}
+
+/// Makes an error with only the kind [`ErrorKind::OutOfMemory`], for a `push` that fails. The value
+/// that was not pushed is dropped.
+impl<T: Drop> From<AllocFailed<T>> for Error {
+    ghost from_gives = { λ _ e. IsOutOfMemory e };
+
+    fn from(_refused: AllocFailed<T>) -> Error {
         Error::from(ErrorKind::OutOfMemory)
     }
 }

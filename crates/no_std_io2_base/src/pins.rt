@@ -2,7 +2,7 @@
 //! an implementation could tell less and still be proved, and every promise about it would be
 //! empty.
 ghost use Rattle.std.specs.Hash as fed;
-ghost use Rattle.std.specs.Prelude.{◌≡◌, ◌+◌, ◌-◌, ◌≤◌, ◌<◌, ◌↔◌, length, drop, Ok, Some};
+ghost use Rattle.std.specs.Prelude.{ℕ, ◌≡◌, ◌+◌, ◌-◌, ◌≤◌, ◌<◌, ◌↔◌, length, drop, Ok, Some};
 ghost use Rattle.std.specs.Prelude.{IsTrue, IsOk, IsOkAnd, IfOk, IfErr, IfSome, OnSome};
 ghost use Rattle.std.specs.Box.{boxed_slice_items};
 ghost use Rattle.no_std_io2_base.specs.Cursor.{cursor_inner, cursor_position, bytes_before};
@@ -10,6 +10,7 @@ ghost use Rattle.no_std_io2_base.specs.Errors.{IsFault, error_display, kind_numb
 ghost use Rattle.no_std_io2_base.specs.Read.{events_of, bytes_reader, NextByte, ReadCall};
 ghost use Rattle.no_std_io2_base.specs.Seek.{SeekCall};
 ghost use Rattle.no_std_io2_base.specs.Write.{told_out, WriteCall, BoxMay};
+ghost use Rattle.no_std_io2_base.specs.Meter.{IsMeter};
 
 use crate::cursor::{AsSlice, Cursor};
 use crate::error::{Error, ErrorKind, Result};
@@ -89,7 +90,6 @@ fn seek_from_clone(place: &SeekFrom) -> std::result::Result<SeekFrom, AllocError
 
 fn vector_tells<A: Allocator>(v: &Vec<u8, A>)
     ensures told { ⟦<Vec<u8, A> as Write>⟧.told v.now ≡ told_out v.now.items }
-    ensures cost { ⟦<Vec<u8, A> as Write>⟧.cost v.now ≡ 0 }
 {}
 
 // A queue has accepted the bytes that it contains, and will give these.
@@ -103,8 +103,6 @@ fn queue_tells<A: Allocator>(queue: &VecDeque<u8, A>)
 fn lent_writer_tells<'a, W: Write>(w: &&'a mut W, new: &&'a mut W)
     ensures told { ⟦<&'a mut W as Write>⟧.told w.now ≡ W.told w.now.now }
     ensures all { W.takes_all w.now.now → ⟦<&'a mut W as Write>⟧.takes_all w.now }
-    ensures cost { ⟦<&'a mut W as Write>⟧.cost w.now ≡ W.cost w.now.now }
-    ensures metered { W.is_metered w.now.now → ⟦<&'a mut W as Write>⟧.is_metered w.now }
     ensures calls { (call : WriteCall) → ⟦<&'a mut W as Write>⟧.may w.now call new.now
         → W.may w.now.now call new.now.now }
 {}
@@ -112,15 +110,21 @@ fn lent_writer_tells<'a, W: Write>(w: &&'a mut W, new: &&'a mut W)
 fn boxed_writer_tells<W: Write>(w: &Box<W>, new: &Box<W>)
     ensures told { ⟦<Box<W> as Write>⟧.told w.now ≡ W.told w.now.value }
     ensures all { W.takes_all w.now.value → ⟦<Box<W> as Write>⟧.takes_all w.now }
-    ensures cost { ⟦<Box<W> as Write>⟧.cost w.now ≡ W.cost w.now.value }
-    ensures metered { W.is_metered w.now.value → ⟦<Box<W> as Write>⟧.is_metered w.now }
     ensures calls { (call : WriteCall) → ⟦<Box<W> as Write>⟧.may w.now call new.now
         → W.may w.now.value call new.now.value }
 {}
 
+// A reference and a box cost what their target costs.
+fn lent_meters<'a, W: Write>(_w: &&'a mut W)
+    ensures { (cost : W → ℕ) → IsMeter W.may cost → IsMeter ⟦<&'a mut W as Write>⟧.may (λ v. cost v.now) }
+{}
+
+fn boxed_meters<W: Write>(_w: &Box<W>)
+    ensures { (cost : W → ℕ) → IsMeter W.may cost → IsMeter ⟦<Box<W> as Write>⟧.may (λ v. cost v.value) }
+{}
+
 fn boxed_object_tells(w: &Box<dyn Write + Drop>, new: &Box<dyn Write + Drop>)
     ensures told { ⟦<Box<dyn Write + Drop> as Write>⟧.told w.now ≡ told w.now }
-    ensures cost { ⟦<Box<dyn Write + Drop> as Write>⟧.cost w.now ≡ 0 }
     ensures calls { (call : WriteCall) → ⟦<Box<dyn Write + Drop> as Write>⟧.may w.now call new.now
         → BoxMay w.now (Write-box w.now).may call new.now }
 {}
@@ -155,8 +159,6 @@ fn lent_reader_tells<'a, R: Read>(r: &&'a mut R, new: &&'a mut R)
     ensures tells { R.tells r.now.now → ⟦<&'a mut R as Read>⟧.tells r.now }
     ensures events { ⟦<&'a mut R as Read>⟧.events r.now ≡ R.events r.now.now }
     ensures turns { ⟦<&'a mut R as Read>⟧.turns r.now ≡ R.turns r.now.now }
-    ensures cost { ⟦<&'a mut R as Read>⟧.cost r.now ≡ R.cost r.now.now }
-    ensures metered { R.is_metered r.now.now → ⟦<&'a mut R as Read>⟧.is_metered r.now }
     ensures filling { R.is_filling r.now.now → ⟦<&'a mut R as Read>⟧.is_filling r.now }
     ensures short { ⟦<&'a mut R as Read>⟧.may_take_none r.now → R.may_take_none r.now.now }
     ensures calls { (call : ReadCall) → ⟦<&'a mut R as Read>⟧.may r.now call new.now → R.may r.now.now call new.now.now }
@@ -166,25 +168,9 @@ fn boxed_reader_tells<R: Read>(r: &Box<R>, new: &Box<R>)
     ensures tells { R.tells r.now.value → ⟦<Box<R> as Read>⟧.tells r.now }
     ensures events { ⟦<Box<R> as Read>⟧.events r.now ≡ R.events r.now.value }
     ensures turns { ⟦<Box<R> as Read>⟧.turns r.now ≡ R.turns r.now.value }
-    ensures cost { ⟦<Box<R> as Read>⟧.cost r.now ≡ R.cost r.now.value }
-    ensures metered { R.is_metered r.now.value → ⟦<Box<R> as Read>⟧.is_metered r.now }
     ensures filling { R.is_filling r.now.value → ⟦<Box<R> as Read>⟧.is_filling r.now }
     ensures short { ⟦<Box<R> as Read>⟧.may_take_none r.now → R.may_take_none r.now.value }
     ensures calls { (call : ReadCall) → ⟦<Box<R> as Read>⟧.may r.now call new.now → R.may r.now.value call new.now.value }
-{}
-
-fn lent_lender_tells<'a, R: BufRead>(r: &&'a mut R)
-    ensures counts { R.is_fill_metered r.now.now → ⟦<&'a mut R as BufRead>⟧.is_fill_metered r.now }
-    ensures fills { ⟦<&'a mut R as BufRead>⟧.fills r.now ≡ R.fills r.now.now }
-    ensures surely { R.knows_lent_length r.now.now → ⟦<&'a mut R as BufRead>⟧.knows_lent_length r.now }
-    ensures length { ⟦<&'a mut R as BufRead>⟧.lent_length r.now ≡ R.lent_length r.now.now }
-{}
-
-fn boxed_lender_tells<R: BufRead>(r: &Box<R>)
-    ensures counts { R.is_fill_metered r.now.value → ⟦<Box<R> as BufRead>⟧.is_fill_metered r.now }
-    ensures fills { ⟦<Box<R> as BufRead>⟧.fills r.now ≡ R.fills r.now.value }
-    ensures surely { R.knows_lent_length r.now.value → ⟦<Box<R> as BufRead>⟧.knows_lent_length r.now }
-    ensures length { ⟦<Box<R> as BufRead>⟧.lent_length r.now ≡ R.lent_length r.now.value }
 {}
 
 fn reading_object_tells(r: &Box<dyn Read + Drop>, new: &Box<dyn Read + Drop>)
@@ -208,17 +194,9 @@ fn slice_tells<'a>(s: &&'a [u8])
     ensures tells { ⟦<&'a [u8] as Read>⟧.tells s.now }
     ensures events { ⟦<&'a [u8] as Read>⟧.events s.now ≡ events_of s.now.now }
     ensures turns { ⟦<&'a [u8] as Read>⟧.turns s.now ≡ length s.now.now }
-    ensures cost { ⟦<&'a [u8] as Read>⟧.cost s.now ≡ 0 }
-    ensures metered { ⟦<&'a [u8] as Read>⟧.is_metered s.now → ⊥ }
     ensures filling { ⟦<&'a [u8] as Read>⟧.is_filling s.now }
     ensures takes_none { ⟦<&'a [u8] as Read>⟧.may_take_none s.now }
     ensures store { ⟦<&'a [u8] as Stored>⟧.has_store s.now → ⊥ }
-{}
-
-// A slice lends all of its bytes at once.
-fn slice_lends<'a>(s: &&'a [u8])
-    ensures surely { ⟦<&'a [u8] as BufRead>⟧.knows_lent_length s.now }
-    ensures length { ⟦<&'a [u8] as BufRead>⟧.lent_length s.now ≡ length s.now.now }
 {}
 
 // `next` yields the next byte or fault, and spends a turn for it.
@@ -247,15 +225,8 @@ fn cursor_reads<T: AsSlice<u8>>(c: &Cursor<T>)
     ensures events { ⟦<Cursor<T> as Read>⟧.events c.now
         ≡ events_of (drop (cursor_position c.now) (T.slice (cursor_inner c.now))) }
     ensures turns { ⟦<Cursor<T> as Read>⟧.turns c.now ≡ length (T.slice (cursor_inner c.now)) - cursor_position c.now }
-    ensures cost { ⟦<Cursor<T> as Read>⟧.cost c.now ≡ 0 }
     ensures filling { ⟦<Cursor<T> as Read>⟧.is_filling c.now }
     ensures may_take_none { ⟦<Cursor<T> as Read>⟧.may_take_none c.now }
-{}
-
-fn cursor_lends<T: AsSlice<u8>>(c: &Cursor<T>)
-    ensures knows_lent_length { ⟦<Cursor<T> as BufRead>⟧.knows_lent_length c.now }
-    ensures lent_length { ⟦<Cursor<T> as BufRead>⟧.lent_length c.now
-        ≡ length (T.slice (cursor_inner c.now)) - cursor_position c.now }
 {}
 
 // The `fill_buf` of a cursor never fails, and lends all bytes from the position on.
@@ -270,19 +241,16 @@ fn cursor_lends_all<T: AsSlice<u8>>(c: &mut Cursor<T>) -> Result<usize>
 fn vector_cursor_writes<A: Allocator>(c: &Cursor<Vec<u8, A>>)
     ensures told { ⟦<Cursor<Vec<u8, A>> as Write>⟧.told c.now
         ≡ told_out (bytes_before (cursor_position c.now) (cursor_inner c.now).items) }
-    ensures cost { ⟦<Cursor<Vec<u8, A>> as Write>⟧.cost c.now ≡ 0 }
 {}
 
 fn lent_vector_cursor_writes<'a, A: Allocator>(c: &Cursor<&'a mut Vec<u8, A>>)
     ensures told { ⟦<Cursor<&'a mut Vec<u8, A>> as Write>⟧.told c.now
         ≡ told_out (bytes_before (cursor_position c.now) (cursor_inner c.now).now.items) }
-    ensures cost { ⟦<Cursor<&'a mut Vec<u8, A>> as Write>⟧.cost c.now ≡ 0 }
 {}
 
 fn slice_cursor_writes<'a>(c: &Cursor<&'a mut [u8]>)
     ensures told { ⟦<Cursor<&'a mut [u8]> as Write>⟧.told c.now
         ≡ told_out (bytes_before (cursor_position c.now) (cursor_inner c.now).now) }
-    ensures cost { ⟦<Cursor<&'a mut [u8]> as Write>⟧.cost c.now ≡ 0 }
 {}
 
 fn array_cursor_writes<const N: usize>(c: &Cursor<[u8; N]>)

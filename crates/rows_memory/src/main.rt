@@ -1,17 +1,14 @@
 //! Plays rows of calls that allocate. `scripts/check_memory` runs it so that in each run one allocation fails, and once to measure
 //! how much each call allocates.
 //!
-//! A row of standard input is a call with one or two numbers, followed by a bar and the sizes of its allocations, or `none`, which the
+//! A row of standard input is a call, with a number or without, followed by a bar and the sizes of its allocations, or `none`, which the
 //! script compares. The program prints the call and how it ended: `whole`; `refused`, if an allocation failed and nothing else went wrong
 //! (then the call was made once more, if it can continue); or what it returned instead. Each line is one write, so that the script
 //! knows which row allocated.
 #![tactic(auto)]
 
-mod frames;
 mod gathered;
 mod large;
-mod lines;
-mod members;
 mod outcome;
 mod small;
 mod texts;
@@ -24,42 +21,35 @@ use std::io;
 use std::process::ExitCode;
 use system_streams::Patient;
 
-fn play_long(alloc: Global, text: &[u8], word: &str, first: usize, second: usize) -> Outcome {
+fn play_long(alloc: Global, text: &[u8], word: &str, len: usize) -> Outcome {
     match word {
-        "send" => frames::by_send(alloc, text, first, second),
-        "next" => frames::by_next(alloc, text, first, second),
-        "torn" => frames::by_torn(alloc, text, first),
-        "round" => frames::by_round(alloc, text, first, second),
-        "log" => lines::by_log(alloc, text, [first, second], false),
-        "log_text" => lines::by_log(alloc, text, [first, second], true),
-        "name" => members::by_name(alloc, text, first),
-        "gap" => large::by_gap(alloc, first),
-        "read_to_end" => large::by_known(alloc, text, first),
-        "read_to_end_unknown" => large::by_unknown(alloc, text, first),
-        "read_to_string" => large::by_read_to_string(alloc, text, first),
-        "read_until" => large::by_read_until(alloc, text, first),
-        "read_line" => large::by_read_line(alloc, text, first),
-        "split" => large::by_split(alloc, text, first),
-        "lines" => large::by_lines(alloc, text, first),
+        "gap" => large::by_gap(alloc, len),
+        "read_to_end" => large::by_known(alloc, text, len),
+        "read_to_end_unknown" => large::by_unknown(alloc, text, len),
+        "read_to_string" => large::by_read_to_string(alloc, text, len),
+        "read_until" => large::by_read_until(alloc, text, len),
+        "read_line" => large::by_read_line(alloc, text, len),
+        "split" => large::by_split(alloc, text, len),
+        "lines" => large::by_lines(alloc, text, len),
         _ => Outcome::NoCall,
     }
 }
 
 fn play(alloc: Global, text: &[u8], call: &str) -> Outcome {
     match call {
-        "above" => frames::by_above(alloc),
         "short read_line" => small::by_read_lines(alloc),
         "short split" => small::by_split(alloc),
         "short lines" => small::by_lines(alloc),
         "joined" => small::by_joined(alloc),
+        "run_writes" => small::by_run_writes(alloc),
+        "run_closed" => small::by_run_closed(alloc),
         "run_split" => gathered::by_run_split(alloc),
         "run_lines" => gathered::by_run_lines(alloc),
         _ => {
-            let (word, numbers) = call.split_once(" ").unwrap_or((call, ""));
-            let (first, second) = numbers.split_once(" ").unwrap_or((numbers, "0"));
-            match (first.parse::<usize>(), second.parse::<usize>()) {
-                (Ok(first), Ok(second)) => play_long(alloc, text, word, first, second),
-                _ => Outcome::NoCall,
+            let (word, len) = call.split_once(" ").unwrap_or((call, ""));
+            match len.parse::<usize>() {
+                Ok(len) => play_long(alloc, text, word, len),
+                Err(_) => Outcome::NoCall,
             }
         }
     }

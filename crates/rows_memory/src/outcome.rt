@@ -8,7 +8,6 @@ pub enum Outcome {
     // An allocation failed, and nothing else went wrong.
     Refused,
     NoCall,
-    UnderWay,
     NoItem,
     OtherError,
     OtherBytes,
@@ -60,7 +59,6 @@ impl Outcome {
             Outcome::Whole => "whole",
             Outcome::Refused => "refused",
             Outcome::NoCall => "no such call",
-            Outcome::UnderWay => "still under way",
             Outcome::NoItem => "no such item",
             Outcome::OtherError => "an error of another kind",
             Outcome::OtherBytes => "other bytes",

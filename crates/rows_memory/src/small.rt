@@ -1,7 +1,7 @@
-// Reads of a short text, and the bytes that a run accepted: calls with many small allocations.
+// Reads of a short text, and runs of writes: calls with many small allocations.
 use crate::outcome::Outcome;
-use io_bench::{Op, Reply, joined};
-use no_std_io2::io::{BufRead, BufReader, Cursor, Read};
+use io_bench::{Op, Reply, Sink, joined, run_closed, run_writes};
+use no_std_io2::io::{BufRead, BufReader, BufWriter, Cursor, Read, Write};
 use std::alloc::Global;
 
 const TEXT: &str = "a line that grows\r\nend";
@@ -86,4 +86,30 @@ pub fn by_joined(alloc: Global) -> Outcome {
         Ok(None) => Outcome::NoItem,
         Err(e) => Outcome::of_error(&e),
     }
+}
+
+const OPS: [Op<'static>; 3] = [Op::Write(b"ab"), Op::WriteAll(b"123456789"), Op::Flush];
+
+/// Makes a run of writes on a buffer that holds `held`. A refused run makes no call.
+pub fn by_run_writes(alloc: Global) -> Outcome {
+    let mut room = [0u8; 16];
+    let mut replies = Vec::new(alloc);
+    let mut w = BufWriter::<Cursor<&mut [u8]>, 8>::new(Cursor::new(&mut room[..]));
+    if w.write_all(b"held").is_err() {
+        return Outcome::OtherError;
+    }
+    let ran = Outcome::of(&run_writes(&mut w, &OPS, &mut replies));
+    drop(w);
+    if ran == Outcome::Refused {
+        return ran.if_right(replies.is_empty() && room == *b"held\0\0\0\0\0\0\0\0\0\0\0\0");
+    }
+    ran.if_full(replies.len(), 3)
+        .if_right(room == *b"heldab123456789\0")
+}
+
+/// Makes a run of writes, and closes the writer.
+pub fn by_run_closed(alloc: Global) -> Outcome {
+    let mut replies = Vec::new(alloc);
+    let ran = Outcome::of(&run_closed::<Sink, 4>(Sink::new(), &OPS, &mut replies));
+    ran.if_full(replies.len(), 3)
 }

@@ -43,13 +43,14 @@ impl<'a> Call<'a> {
     }
 }
 
-/// Makes the call of a row on any writer, and prints its result.
+/// Makes the call of a row on any writer, and prints its result. `print TEXT` writes the text as one piece by `write!`.
 pub fn make_call<W: Write>(w: &mut W, call: &Call<'_>, line: &mut Line) {
     match call.word {
         "write" => line.length(&w.write(&call.bytes)),
         "write_all" => line.done(&w.write_all(&call.bytes)),
         "flush" => line.done(&w.flush()),
         "write_rest" => call_write_rest(w, &call.bytes, line),
+        "print" => call_print(w, &call.bytes, line),
         _ => line.tell(Fault::NoCall),
     }
 }
@@ -62,8 +63,15 @@ fn call_write_rest<W: Write>(w: &mut W, bytes: &[u8], line: &mut Line) {
     line.bytes(rest);
 }
 
-// Returns the target of a row's seek.
-fn target(words: &str) -> Option<SeekFrom> {
+fn call_print<W: Write>(w: &mut W, bytes: &[u8], line: &mut Line) {
+    match std::str::from_utf8(bytes) {
+        Ok(text) => line.done(&write!(w, "{text}")),
+        Err(_) => line.tell(Fault::NoWord),
+    }
+}
+
+/// Returns the target of a row's seek, `FROM OFFSET`.
+pub fn target(words: &str) -> Option<SeekFrom> {
     let (from, offset) = words.split_once(" ")?;
     if from == "start" {
         return Some(SeekFrom::Start(offset.parse::<u64>().ok()?));

@@ -7,8 +7,6 @@ use std::io;
 pub struct Count<'a> {
     /// The name of the file.
     pub file: &'a str,
-    /// Whether each table is played with other faults too.
-    pub turns_faults: bool,
     /// The number of the line that is read, from 1.
     pub line: u64,
     /// Tables, once for each stream that they name.
@@ -17,8 +15,6 @@ pub struct Count<'a> {
     pub groups: u64,
     /// Rows that were played.
     pub rows: u64,
-    /// Rows that were played with other faults than those that they name.
-    pub turned: u64,
     /// Rows that came out differently.
     pub differing: u64,
     /// Lines that say nothing that can be played.
@@ -27,26 +23,16 @@ pub struct Count<'a> {
 
 impl<'a> Count<'a> {
     /// Makes the counts of a file of which nothing was read.
-    pub fn new(file: &'a str, turns_faults: bool) -> Count<'a> {
+    pub fn new(file: &'a str) -> Count<'a> {
         Count {
             file,
-            turns_faults,
             line: 1,
             tables: 0,
             groups: 0,
             rows: 0,
-            turned: 0,
             differing: 0,
             malformed: 0,
         }
-    }
-
-    /// Adds the counts of the same rows with other faults.
-    pub fn add_turned(&mut self, later: &Count<'_>) {
-        let turned = later.rows.wrapping_sub(self.rows);
-        self.turned = self.turned.wrapping_add(turned);
-        self.differing = later.differing;
-        self.malformed = later.malformed;
     }
 
     /// Returns whether there were rows, and each came out as it says.
@@ -61,14 +47,9 @@ impl<'a> Count<'a> {
             tables,
             groups,
             rows,
-            turned,
             ..
         } = *self;
-        println!(rt; "{file}: {tables} tables, {groups} groups, {rows} rows")?;
-        if self.turns_faults {
-            println!(rt; "{file}: {turned} rows with other faults")?;
-        }
-        Ok(())
+        println!(rt; "{file}: {tables} tables, {groups} groups, {rows} rows")
     }
 
     // Prints the place in the file.

@@ -26,16 +26,6 @@ pub const NAMES: [(ErrorKind, &str); 21] = [
     (ErrorKind::Uncategorized, "Uncategorized"),
 ];
 
-/// The kinds that stand for all others in a table: code that treats one of them in some way treats each other kind in
-/// the same way, except an interruption.
-pub const ANY: [ErrorKind; 5] = [
-    ErrorKind::NotFound,
-    ErrorKind::BrokenPipe,
-    ErrorKind::WouldBlock,
-    ErrorKind::TimedOut,
-    ErrorKind::Other,
-];
-
 /// Returns the kind of this name.
 pub fn kind_of_name(name: &str) -> Option<ErrorKind> {
     'kinds: for (kind, known) in &NAMES {

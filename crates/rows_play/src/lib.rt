@@ -18,16 +18,12 @@
 //! TEXT`. Bytes that cannot be printed are `\n`, `\\` and `\x0d`, no bytes are a dash, and `\*300a` are 300 bytes from `a` on: the
 //! letters from `a` to `w` over and over, or dots. An error is `!KIND`, or `!KIND: TEXT`.
 //!
-//! After the argument `each-kind`, each table is also played with every other kind of fault in
-//! place of the one that it names, with a text and without.
-//!
 //! A program has [`player::Streams`] for its streams, and its `main` calls [`files::play_files`].
 #![tactic(auto)]
 
 pub mod calls;
 pub mod count;
 pub mod fault;
-pub mod faults;
 pub mod files;
 pub mod journal;
 pub mod kinds;

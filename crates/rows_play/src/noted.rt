@@ -1,6 +1,5 @@
 // A stream that logs the name of each call that has a default body, such as `write_all`, and passes
 // the call on.
-ghost use Rattle.std.specs.Prelude.{◌≡◌};
 
 use super::journal::Journal;
 use no_std_io2::io::{BufRead, Read, Result, Seek, SeekFrom, Stored, Write};
@@ -46,10 +45,6 @@ impl<W: Write> Write for Noted<W> {
 
     ghost takes_all = { λ n. W.takes_all n.inner };
 
-    ghost cost = { λ n. W.cost n.inner };
-
-    ghost is_metered = { λ n. W.is_metered n.inner };
-
     fn write(&mut self, buf: &[u8]) -> Result<usize> {
         self.inner.write(buf)
     }
@@ -67,8 +62,6 @@ impl<W: Write> Write for Noted<W> {
         note_bytes(&self.journal, "write_rest ", rest);
         self.inner.write_rest(rest)
     }
-
-    ghost steady = { λ n h. W.steady n.inner h };
 }
 
 impl<T: Stored> Stored for Noted<T> {
@@ -85,10 +78,6 @@ impl<T: Read> Read for Noted<T> {
     ghost events = { λ n. T.events n.inner };
 
     ghost turns = { λ n. T.turns n.inner };
-
-    ghost cost = { λ n. T.cost n.inner };
-
-    ghost is_metered = { λ n. T.is_metered n.inner };
 
     ghost is_filling = { λ n. T.is_filling n.inner };
 
@@ -117,14 +106,6 @@ impl<T: Read> Read for Noted<T> {
 
 impl<T: BufRead> BufRead for Noted<T> {
     ghost held = { λ n. T.held n.inner };
-
-    ghost is_fill_metered = { λ n. T.is_fill_metered n.inner };
-
-    ghost fills = { λ n. T.fills n.inner };
-
-    ghost knows_lent_length = { λ n. T.knows_lent_length n.inner };
-
-    ghost lent_length = { λ n. T.lent_length n.inner };
 
     fn fill_buf(&mut self) -> Result<&[u8]> {
         note(&self.journal, "fill_buf");

@@ -17,11 +17,6 @@ pub trait Streams {
     /// Makes the stream of this name, over a device with the results after `new`, and lends it to the player. It fails if
     /// there is no such stream.
     fn lend(name: &str, words: &str, player: &mut Player<'_, '_>) -> Made<()>;
-
-    /// Returns whether the faults of this stream's device may have texts.
-    fn has_texts(_name: &str) -> bool {
-        true
-    }
 }
 
 /// A group of rows that waits for its stream.

@@ -1,9 +1,9 @@
 // The calls of rows on any reader. The columns of a call are its result and the bytes that it gave, with dots for bytes that
 // were not written.
-use super::calls::Call;
+use super::calls::{Call, target};
 use super::fault::Fault;
-use super::line::Line;
-use no_std_io2::io::{BufRead, Read, Result, skip};
+use super::line::{Line, cut};
+use no_std_io2::io::{BufRead, Read, Result, Seek, read_exact_at, skip};
 use std::alloc::Global;
 
 // Prints the result of a call, a length, and the bytes that it gave.
@@ -137,4 +137,17 @@ pub fn make_lend<R: BufRead>(alloc: Global, r: &mut R, call: &Call<'_>, line: &m
         "read_line" => call_read_line(alloc, r, call.rest, line),
         _ => make_read(alloc, r, call, line),
     }
+}
+
+/// Makes the call of a row on any reader that seeks, `read_exact_at N FROM OFFSET`, and prints its result.
+pub fn make_read_at<R: Read + Seek>(alloc: Global, r: &mut R, call: &Call<'_>, line: &mut Line) {
+    let (count, place) = cut(call.rest, " ");
+    let (Ok(count), Some(at)) = (count.parse::<usize>(), target(place)) else {
+        line.tell(Fault::NoWord);
+        return;
+    };
+    let mut room = dots(alloc, count, line);
+    line.done(&read_exact_at(r, at, &mut room));
+    line.column();
+    line.bytes(&room);
 }

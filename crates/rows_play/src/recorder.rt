@@ -109,10 +109,6 @@ impl Write for Recorder {
 
     ghost takes_all = { λ _. ⊥ };
 
-    ghost cost = { λ _. 0 };
-
-    ghost is_metered = { λ _. ⊥ };
-
     fn write(&mut self, buf: &[u8]) -> Result<usize> {
         if self.turns == 0 {
             return Err(no_turns());
@@ -130,8 +126,6 @@ impl Write for Recorder {
         self.turns -= 1;
         self.ask_flush()
     }
-
-    ghost steady = { λ w h. absurd h };
 }
 
 impl Stored for Recorder {
@@ -148,10 +142,6 @@ impl Read for Recorder {
     ghost events = { λ _. [] };
 
     ghost turns = { λ r. r.turns + length (drop r.lent.at r.lent.bytes.items) };
-
-    ghost cost = { λ _. 0 };
-
-    ghost is_metered = { λ _. ⊥ };
 
     ghost is_filling = { λ _. ⊥ };
 
@@ -184,14 +174,6 @@ impl Read for Recorder {
 
 impl BufRead for Recorder {
     ghost held = { λ r. drop r.lent.at r.lent.bytes.items };
-
-    ghost is_fill_metered = { λ _. ⊥ };
-
-    ghost fills = { λ _. 0 };
-
-    ghost knows_lent_length = { λ _. ⊥ };
-
-    ghost lent_length = { λ _. 0 };
 
     fn fill_buf(&mut self) -> Result<&[u8]> {
         if self.lent.rest().is_empty() && self.turns > 0 {

@@ -21,15 +21,9 @@ pub enum Answer {
 }
 
 // The texts that an error may have. An error can only contain a text of the program.
-const TEXTS: [&str; 30] = [
-    "a",
+const TEXTS: [&str; 19] = [
     "again",
-    "b",
-    "broken",
     "busy",
-    "c",
-    "done",
-    "first",
     "five",
     "four",
     "full",
@@ -39,18 +33,13 @@ const TEXTS: [&str; 30] = [
     "no carrier",
     "no length",
     "no room",
-    "no way back",
     "one",
     "out of order",
     "refused",
-    "second",
     "six",
     "slow",
     "three",
-    "told",
     "too far",
-    "too short",
-    "torn",
     "two",
 ];
 

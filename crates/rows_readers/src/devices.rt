@@ -1,6 +1,6 @@
 // The devices of a group, on one journal, and the columns of its rows.
 use crate::levels::Levels;
-use rows_play::calls::{show_calls, show_out};
+use rows_play::calls::show_calls;
 use rows_play::fault::Made;
 use rows_play::journal::Journal;
 use rows_play::line::Line;
@@ -57,16 +57,6 @@ impl<'j> Devices<'j> {
         if matches!(self.columns, Columns::Calls | Columns::Levels) {
             show_calls(self.journal, line);
         }
-    }
-
-    // Prints the bytes that a writer took, and the state of each level of the reader.
-    pub fn show_copied<R: Levels, W: Levels>(&self, from: &R, to: &W, line: &mut Line) {
-        match self.columns {
-            Columns::Levels => show_out(self.journal, line),
-            Columns::Memory => to.show(self.columns, line),
-            _ => {}
-        }
-        self.show(from, line);
     }
 
     // Prints the calls after an item, or in memory the item's capacity, if it has one.

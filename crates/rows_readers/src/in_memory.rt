@@ -1,23 +1,26 @@
-// Rows of streams in memory, and of scripted devices.
+// Rows of streams in memory.
 use crate::devices::Devices;
+use no_std_io2::io::Cursor;
 use rows_play::fault::{Fault, Made};
-use rows_play::line::{cut, cut_last};
+use rows_play::line::{cut, cut_last, unescape};
 use rows_play::player::Player;
+use std::alloc::Global;
 
-mod boxes;
 mod cursors;
 mod readers;
 mod room;
-pub mod scripts;
 mod vectors;
-mod wrapped;
 
 /// Returns whether a stream of this name is one of these; its first or last word says so.
 pub fn has(name: &str) -> bool {
     let (word, _) = cut(name, " ");
     let (_, base) = cut_last(name, " ");
-    matches!(word, "boxed" | "cursor" | "grown" | "queue" | "room")
-        || matches!(base, "Cursor" | "Feed" | "&[u8]")
+    matches!(word, "cursor" | "grown" | "queue" | "room") || matches!(base, "Cursor" | "&[u8]")
+}
+
+/// Makes a cursor on the text that a row's `new` says.
+pub fn new_text(alloc: Global, words: &str) -> Made<Cursor<Vec<u8>>> {
+    Ok(Cursor::new(unescape(alloc, words)?))
 }
 
 /// Lends the stream of this name. Its first word says which columns a row has.
@@ -32,7 +35,6 @@ pub fn lend(
         "cursor" => cursors::lend(name, words, player),
         "moved" => cursors::lend_moved(words, devices, player),
         "reader" => readers::lend(name, words, devices, player),
-        "boxed" => boxes::lend(name, words, devices, player),
         "grown" => vectors::lend(name, words, player),
         "queue" => vectors::lend_queue(words, player),
         "room" => player.play(&mut room::Room { name }),

@@ -3,10 +3,9 @@
 // The columns after a call are the item (a piece or a line with its kind in front), and the calls that reached the devices, or in
 // memory the capacity of a piece or a line.
 use crate::devices::Devices;
-use crate::in_memory::scripts::{new_feed, new_text};
+use crate::in_memory::new_text;
 use crate::streams::show_byte;
-use io_bench::Feed;
-use no_std_io2::io::{BufRead, BufReader, Bytes, Lines, Read, Result, Split};
+use no_std_io2::io::{BufRead, Bytes, Lines, Read, Result, Split};
 use rows_play::calls::Call;
 use rows_play::fault::{Fault, Made};
 use rows_play::line::{Line, cut_last, unescape};
@@ -120,19 +119,13 @@ fn play_lines<T: BufRead + Drop>(
     })
 }
 
-pub fn lend_bytes(
-    tower: &str,
-    words: &str,
-    devices: &Devices<'_>,
-    player: &mut Player<'_, '_>,
-) -> Made<()> {
+pub fn lend_bytes(tower: &str, devices: &Devices<'_>, player: &mut Player<'_, '_>) -> Made<()> {
     match tower {
         "Device" => play_bytes(devices.first()?, devices, player),
         "Chain" => {
             let both = devices.first()?.chain(devices.recorder(Name::Second)?);
             play_bytes(both, devices, player)
         }
-        "Feed" => play_bytes(new_feed(player.alloc, words)?, devices, player),
         _ => Err(Fault::NoStream),
     }
 }
@@ -160,10 +153,6 @@ pub fn lend_lines(
     match tower {
         "Device" => play_lines(devices.first()?, devices, player),
         "Cursor" => play_lines(new_text(player.alloc, words)?, devices, player),
-        "BufReader 2 Feed" => {
-            let reader = BufReader::<Feed, 2>::new(new_feed(player.alloc, words)?);
-            play_lines(reader, devices, player)
-        }
         "Chain &[u8] &[u8]" => lend_both(words, devices, player),
         _ => Err(Fault::NoStream),
     }

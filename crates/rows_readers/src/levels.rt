@@ -1,8 +1,6 @@
 // The state of each level of a reader, the outer one first, in a column for each level that has
 // one.
 use crate::devices::Columns;
-use crate::in_memory::scripts::show_events;
-use io_bench::{Faulty, Feed, Tally};
 use no_std_io2::io::{BufRead, BufReader, Chain, Cursor, Read, Take};
 use rows_play::line::Line;
 use rows_play::noted::Noted;
@@ -53,31 +51,6 @@ impl Levels for Cursor<Vec<u8>> {
             line.column();
             line.number(self.position());
         }
-    }
-}
-
-// The events that are left.
-impl Levels for Feed {
-    fn show(&self, _columns: Columns, line: &mut Line) {
-        line.column();
-        show_events(self.left(), line);
-    }
-}
-
-// The bytes that it took.
-impl Levels for Faulty<Vec<u8>> {
-    fn show(&self, _columns: Columns, line: &mut Line) {
-        line.column();
-        line.bytes(self.get_ref());
-    }
-}
-
-// How often it was read.
-impl<R: Levels + Drop> Levels for Tally<R> {
-    fn show(&self, columns: Columns, line: &mut Line) {
-        line.column();
-        line.number(self.reads());
-        self.get_ref().show(columns, line);
     }
 }
 

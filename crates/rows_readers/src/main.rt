@@ -1,8 +1,7 @@
-//! Plays the files of rows that its arguments name, as [`rows_play`] reads them: readers, their seeks, pieces and copies, over
+//! Plays the files of rows that its arguments name, as [`rows_play`] reads them: readers, their seeks and pieces, over
 //! devices that note each call, and streams in memory.
 #![tactic(auto)]
 
-mod copying;
 mod devices;
 mod in_memory;
 mod items;
@@ -44,20 +43,14 @@ impl Streams for Readers {
             journal: &journal,
         };
         match word {
-            "bytes" => items::lend_bytes(tower, words, &devices, player),
+            "bytes" => items::lend_bytes(tower, &devices, player),
             "split" => items::lend_pieces(tower, words, &devices, player),
             "lines" => items::lend_lines(tower, words, &devices, player),
-            "copy" => copying::lend(tower, words, &devices, player),
             _ if columns == Columns::Memory => {
                 in_memory::lend(word, tower, words, &devices, player)
             }
             _ => lend_recorded(word, tower, &devices, player),
         }
-    }
-
-    // A scripted device has no texts.
-    fn has_texts(name: &str) -> bool {
-        !in_memory::has(name)
     }
 }
 

@@ -1,6 +1,6 @@
 // Readers over recorders.
 use crate::devices::Devices;
-use crate::in_memory::scripts::new_text;
+use crate::in_memory::new_text;
 use crate::streams::{play_buffered, play_chain, play_lending, play_limited, play_seeking};
 use no_std_io2::io::{BufRead, BufReader, Chain, Read};
 use rows_play::fault::{Fault, Made};

@@ -10,7 +10,7 @@ use rows_play::calls::{Call, make_seek};
 use rows_play::fault::{Fault, Made};
 use rows_play::line::Line;
 use rows_play::player::{Player, Stream};
-use rows_play::reads::{make_lend, make_read};
+use rows_play::reads::{make_lend, make_read, make_read_at};
 use std::alloc::Global;
 
 // Prints a single byte, or a dash at the end.
@@ -75,7 +75,9 @@ pub fn make_seeking_call<T: BufRead + Seek>(
     call: &Call<'_>,
     line: &mut Line,
 ) {
-    if !make_seek(stream, call, line) {
+    if call.word == "read_exact_at" {
+        make_read_at(alloc, stream, call, line);
+    } else if !make_seek(stream, call, line) {
         make_lend(alloc, stream, call, line);
     }
 }

@@ -2,7 +2,6 @@
 ghost use Rattle.no_std_io2.specs.BufWriter.{BufWriterFits};
 ghost use Rattle.no_std_io2.specs.LineWriter.{LineWriterFits};
 
-use crate::benches::new_faulty;
 use crate::devices::{new_device, new_recorder};
 use crate::tower::Tower;
 use crate::writing::{Columns, play, play_seeking};
@@ -18,9 +17,6 @@ pub const RECORDER: usize = 0;
 /// A device that also notes the name of each call.
 pub const NOTED: usize = 1;
 
-/// An empty vector behind a writer that fails as a row's `new` says.
-pub const FAULTY: usize = 2;
-
 /// Lends a level over one of these devices.
 pub fn lend<const BASE: usize>(level: &str, words: &str, player: &mut Player<'_, '_>) -> Made<()> {
     let (kind, size) = cut(level, " ");
@@ -32,9 +28,6 @@ pub fn lend<const BASE: usize>(level: &str, words: &str, player: &mut Player<'_,
         "8" => lend_size::<BASE, 8>(kind, words, player),
         "64" => lend_size::<BASE, 64>(kind, words, player),
         "300" => lend_size::<BASE, 300>(kind, words, player),
-        "1030" => lend_size::<BASE, 1030>(kind, words, player),
-        "8192" => lend_size::<BASE, 8192>(kind, words, player),
-        "65536" => lend_size::<BASE, 65536>(kind, words, player),
         _ => Err(Fault::NoStream),
     }
 }
@@ -46,8 +39,7 @@ fn lend_size<const BASE: usize, const S: usize>(
 ) -> Made<()> {
     match BASE {
         RECORDER => lend_recorder::<S>(kind, words, player),
-        NOTED => lend_device::<S>(kind, words, player),
-        _ => lend_faulty::<S>(kind, words, player),
+        _ => lend_device::<S>(kind, words, player),
     }
 }
 
@@ -99,14 +91,6 @@ fn lend_device<const S: usize>(kind: &str, words: &str, player: &mut Player<'_, 
     let device = new_device(player.alloc, &journal)?;
     if S < 1 << 32 {
         return play_seeking_level::<_, S>(kind, device, Columns::Calls(journal), player);
-    }
-    Err(Fault::NoStream)
-}
-
-fn lend_faulty<const S: usize>(kind: &str, words: &str, player: &mut Player<'_, '_>) -> Made<()> {
-    let device = new_faulty(player.alloc, words)?;
-    if S < 1 << 32 {
-        return play_level::<_, S>(kind, device, Columns::State, player);
     }
     Err(Fault::NoStream)
 }

@@ -29,11 +29,6 @@ impl Streams for Writers {
             _ => Err(Fault::NoStream),
         }
     }
-
-    // The acts of a `Faulty` have no texts.
-    fn has_texts(name: &str) -> bool {
-        !name.starts_with("bench ")
-    }
 }
 
 fn main(rt: HostRuntime) -> ExitCode {

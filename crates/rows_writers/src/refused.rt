@@ -2,18 +2,15 @@
 use reads::Reading;
 use rows_play::fault::Made;
 use rows_play::player::Player;
-use runs::Running;
 
 mod heaps;
 mod readers;
 mod reads;
-mod runs;
 mod writes;
 
 pub fn lend(name: &str, words: &str, player: &mut Player<'_, '_>) -> Made<()> {
-    match name {
-        "reads" => player.play(&mut Reading { forms: words }),
-        "runs" => player.play(&mut Running),
-        _ => writes::lend(name, words, player),
+    match name.strip_prefix("read ") {
+        Some(form) => player.play(&mut Reading { form }),
+        None => writes::lend(name, words, player),
     }
 }

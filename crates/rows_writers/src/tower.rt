@@ -1,5 +1,4 @@
 // Towers of writers over a device, level by level.
-use io_bench::{Faulty, Sink, Tally};
 use no_std_io2::io::{BufWriter, Error, IntoInnerError, LineWriter, Write};
 use rows_play::calls::Call;
 use rows_play::fault::Fault;
@@ -50,22 +49,6 @@ impl Tower for Vec<u8> {
         if let Part::Taken = part {
             line.column();
             line.bytes(self);
-        }
-    }
-}
-
-impl Tower for Faulty<Vec<u8>> {
-    fn show(&self, part: Part, line: &mut Line) {
-        self.get_ref().show(part, line);
-    }
-}
-
-// The number of the writes is shown in place of the bytes.
-impl Tower for Tally<Sink> {
-    fn show(&self, part: Part, line: &mut Line) {
-        if let Part::Taken = part {
-            line.column();
-            line.number(self.writes());
         }
     }
 }
@@ -156,7 +139,7 @@ impl<W: Tower, const S: usize> Tower for LineWriter<W, S> {
                 show_refusal(alloc, &e, line);
                 *tower = Some(e.into_parts().1);
             }
-            Err(e) => line.error(&e.into_parts().0),
+            Err(e) => line.error(&e.into_error()),
         }
     }
 }

@@ -13,7 +13,7 @@ use Rattle.no_std_io2.specs.Errors.{is_interruption, IsFault}
 use Rattle.no_std_io2.specs.Read.{Reader, gave}
 use Rattle.system_streams.specs.declared.patient.Patient.{Patient}
 use Rattle.system_streams.specs.declared.system.SystemRead.{Ghosts as Source}
-use Rattle.system_streams.specs.Patient.{patient_device, patient_turns, patient_taken, PatientReads, AsksOnce}
+use Rattle.system_streams.specs.Patient.{patient_device, patient_turns, patient_taken, patient_error, PatientReads, AsksOnce, Remembers}
 use Rattle.system_streams.specs.Turns.{AnswersRead, GivesOn, EndsReads, IsOutOfTurns, IsPlainInterruption, IsDeviceFault}
 
 -- what a patient reader tells
@@ -25,8 +25,6 @@ patient_reader device = record {
   tells = λ _. ⊥;
   events = λ _. [];
   turns = patient_turns;
-  cost = λ _. 0;
-  is_metered = λ _. ⊥;
   is_filling = λ _. ⊥;
   may_take_none = λ _. ⊥;
   may = PatientReads device;
@@ -36,8 +34,8 @@ patient_reader device = record {
 pub asks_device : {D : Type 0} (I : Source D) {old new : Patient D} {buf : List ℕ} {given : Result ℕ Std.Error} (reply : Result ℕ Error)
     → 0 < length buf → 1 < patient_turns old → I.may_read (patient_device old) given buf (patient_device new) → GivesOn given reply
     → AnswersRead reply (patient_turns old) (patient_turns new) → patient_taken new ≡ patient_taken old
-    → AsksOnce I old (length buf) (gave reply buf) new
-asks_device I reply some more asked gives_on turns taken = record {
+    → Remembers given (patient_error old) (patient_error new) → AsksOnce I old (length buf) (gave reply buf) new
+asks_device I reply some more asked gives_on turns taken error = record {
   empty = λ none. absurd (omega (arith, none, some));
   over = λ none. absurd (omega (arith, none, more));
   last = λ room one. absurd (omega (arith, one, more));
@@ -50,6 +48,7 @@ asks_device I reply some more asked gives_on turns taken = record {
     gives_on = gives_on;
     turns = turns;
     answers = refl;
+    error = error;
   };
   taken = taken;
 }

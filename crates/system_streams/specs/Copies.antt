@@ -1,12 +1,8 @@
 -- What a copy through buffers does to the writer.
-use Rattle.std.specs.Prelude.{◌≡◌, ℕ, ◌<◌, ◌==◌, Bool, true, false, List, [], ◌∷◌, ◌++◌, count_by, Option, None, Some, Ok, ⊤}
-use Rattle.no_std_io2.specs.declared.io.ErrorKind.{ErrorKind}
-use Rattle.no_std_io2.specs.declared.io.Error.{Error}
-use Rattle.no_std_io2.specs.Errors.{error_kind, kind_number, IsInterruption}
-use Rattle.no_std_io2.specs.Read.{Event, EndsInFault}
-use Rattle.no_std_io2.specs.declared.io.Write.{Ghosts as Writer}
+use Rattle.std.specs.Prelude.{◌≡◌, ℕ, Bool, true, false, List, [], ◌∷◌, ◌++◌, Ok}
+use Rattle.no_std_io2.specs.Writers.{Writer, CallOf}
 use Rattle.no_std_io2.specs.Write.{Told, Moves, WriteCall, Flushed, Made}
-use Rattle.no_std_io2.specs.BufWriter.{CallOf, InnerCalls}
+use Rattle.no_std_io2.specs.BufWriter.{InnerCalls}
 use Rattle.no_std_io2.specs.LineWriter.{LineCalls}
 use Rattle.no_std_io2.specs.Copy.{counted, Handed}
 use Rattle.no_std_io2.specs.Towers.{Through}
@@ -20,24 +16,6 @@ pub record MovesCounted (old : Told) (b : List ℕ) (n : ℕ) (new : Told) : Typ
 pub record MovesSome (old : Told) (n : ℕ) (new : Told) : Type 0 where
   pub accepted : List ℕ
   pub passes : MovesCounted old accepted n new
-
--- The first fault of E is e.
-pub record HasFirstFault (E : List Event) (e : Error) : Type 0 where
-  pub front : List Event
-  pub rest : List Event
-  pub split : E ≡ front ++ rest
-  pub ends : EndsInFault front e
-
--- if the mishaps to come are told, one of them is of this kind
-abbrev pub TellsMishap : Option (List ErrorKind) → ErrorKind → Type 0
-TellsMishap None kind = ⊤
-TellsMishap (Some kinds) kind = 0 < count_by (λ other. kind_number other == kind_number kind) kinds
-
--- All that is known of the error of a writer that was dropped: if mishaps were told, its kind is one of them; and if it is an interruption,
--- a turn was left.
-pub record MayFail (told : Told) (e : Error) : Type 0 where
-  pub mishap : TellsMishap told.mishaps (error_kind e)
-  pub turn : IsInterruption e → 0 < told.turns
 
 -- Pieces of at most 64 bytes were passed on to a writer, by one `write_all` each, and then the writer was flushed once.
 pub record HandsAndFlushes {W : Type 0} (I : Writer W) (old new : W) : Type 0 where

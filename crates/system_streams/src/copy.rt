@@ -1,8 +1,9 @@
 // [`copy_through`], a copy from a reader to a writer with a buffer at each.
-ghost use Rattle.std.specs.Prelude.{◌≡◌, ◌⊎◌, [], Some, IfOk, IsOk, IfErr};
+ghost use Rattle.std.specs.Prelude.{◌≡◌, [], Some, IfOk, IsOk, IfErr};
 ghost use Rattle.no_std_io2.specs.Read.{bytes, HasNoFault};
 ghost use Rattle.no_std_io2.specs.BufReader.{BufReaderFits};
-ghost use Rattle.system_streams.specs.Copies.{MovesCounted, MovesSome, HasFirstFault, MayFail};
+ghost use Rattle.no_std_io2.specs.Faults.{IsFaultOf};
+ghost use Rattle.system_streams.specs.Copies.{MovesCounted, MovesSome};
 ghost use Rattle.system_streams.specs.Copies.{HandsAndFlushes, HandsThrough};
 ghost use Rattle.no_std_io2.specs.BufWriter.{BufWriterFits};
 ghost use Rattle.no_std_io2.specs.LineWriter.{LineWriterFits};
@@ -19,8 +20,7 @@ fn copy_and_flush<R: Read + Drop, T: Write + Drop>(mut input: R, mut tower: T) -
         × MovesCounted (T.told tower) (bytes (R.events input)) r.0 (T.told r.1)) }
     ensures empty { IfOk result (λ r. (T.told r.1).held ≡ []) }
     ensures calls { IfOk result (λ r. HandsAndFlushes T.Write tower r.1) }
-    ensures err { R.tells input → IfErr result (λ e. HasFirstFault (R.events input) e
-        ⊎ MayFail (T.told tower) e) }
+    ensures err { R.tells input → IfErr result (IsFaultOf (R.events input) (T.told tower)) }
 {
     let count = copy::<R, T, ROOM>(&mut input, &mut tower)?;
     tower.flush()?;
@@ -59,8 +59,7 @@ pub fn copy_through<R: Read + Drop, W: Write + Drop>(
     ensures empty { IfOk result (λ r. (W.told r.1).held ≡ []) }
     // The output got the calls that the chosen buffer makes, and no others.
     ensures calls { IfOk result (λ r. HandsThrough W.Write line output r.1) }
-    ensures err { R.tells input → IfErr result (λ e. HasFirstFault (R.events input) e
-        ⊎ MayFail (W.told output) e) }
+    ensures err { R.tells input → IfErr result (IsFaultOf (R.events input) (W.told output)) }
     ensures steady { R.tells input → HasNoFault (R.events input) → (W.told output).mishaps ≡ Some []
         → IsOk result }
 {

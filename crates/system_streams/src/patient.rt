@@ -1,19 +1,25 @@
 // [`Patient`], a reader or writer of the system with a number of turns that bounds every loop over
 // it.
-ghost use Rattle.std.specs.Prelude.{◌≡◌, ℕ, ◌+◌, ◌<◌, ◌⊎◌, [], Ok, IsErrAnd, Result, length};
+ghost use Rattle.std.specs.Prelude.{◌≡◌, ℕ, ◌+◌, ◌<◌, ◌⊎◌, [], None, Some, Ok, IsErrAnd, Result, length, option_copied, IfSome};
 ghost use Rattle.std.specs.Io.KnownBytes.{ReadConsumes};
+ghost use Rattle.std.specs.IoError.{error_kind as std_error_kind};
 ghost use Rattle.std.specs.declared.io.Error.{Error as StdError};
 ghost use Rattle.no_std_io2.specs.Read.{ReadLaw, ReadExactLaw};
-ghost use Rattle.no_std_io2.specs.Errors.{IsUnexpectedEnd};
+ghost use Rattle.no_std_io2.specs.Errors.{error_kind, IsUnexpectedEnd};
+ghost use Rattle.system_streams.specs.ToStd.{std_kind};
 ghost use Rattle.system_streams.specs.Turns.{IsOutOfTurns, IsPlainInterruption, IsDeviceFault, AnswersRead};
 ghost use Rattle.system_streams.specs.Turns.{GivesOn, Becomes, EndsReads, Got};
 
 use crate::system::{SystemRead, SystemWrite};
+use crate::to_std::std_error;
 use no_std_io2::ghost_bytes::GhostBytes;
 use no_std_io2::io::{Error, ErrorKind, Read, Result, Stored, Write};
+use std::io;
 use std::io::ErrorKind as SystemKind;
 
-/// Makes a reader or writer of Rust's `std::io` a stream of this library.
+mod seeking;
+
+/// Makes a reader, writer or seeker of Rust's `std::io` a stream of this library.
 ///
 /// Nothing is known about what such a device will do, so a number of turns bounds how often it is
 /// called again. A reader spends one turn for each result except the end, and a writer spends one
@@ -23,6 +29,7 @@ use std::io::ErrorKind as SystemKind;
 /// A call returns `Interrupted` if the device was interrupted; `TimedOut`, `no turns left`, at a
 /// reader's last turn, and if a writer without turns is interrupted; and `Other`, `device fault`,
 /// for any other fault of the device. What the device took or gave before does not change.
+/// [`last_error`](Patient::last_error) has the device's own error.
 ///
 /// ```rust
 /// let mut p = Patient::new(&b"abcdef"[..], 3);
@@ -36,11 +43,12 @@ use std::io::ErrorKind as SystemKind;
 pub struct Patient<D> {
     device: D,
     turns: u64,
+    last_error: Option<io::Error>,
     taken: GhostBytes,
 }
 
 impl<D> Patient<D> {
-    ghost use Rattle.system_streams.specs.Patient.{patient_device, patient_turns, patient_taken};
+    ghost use Rattle.system_streams.specs.Patient.{patient_device, patient_turns, patient_taken, patient_error};
 
     /// Wraps a device, with this number of turns, which may be 0. At its last turn a reader returns
     /// the error that no turns are left.
@@ -48,10 +56,12 @@ impl<D> Patient<D> {
         ensures device { patient_device result ≡ device }
         ensures turns { patient_turns result ≡ turns }
         ensures taken { patient_taken result ≡ [] }
+        ensures error { patient_error result ≡ None }
     {
         Patient {
             device,
             turns,
+            last_error: None,
             taken: GhostBytes::new(),
         }
     }
@@ -69,17 +79,46 @@ impl<D> Patient<D> {
         self.device
     }
 
+    /// Gets the last error that the device returned, with the system's code and text. It is the reason of the last
+    /// `device fault`.
+    pub fn last_error(&self) -> Option<&io::Error>
+        ensures { option_copied result ≡ patient_error self.now }
+    {
+        self.last_error.as_ref()
+    }
+
+    /// Returns the reason for an error of this stream, to print it: the system's last error if `fault` is of kind `Other`,
+    /// as a `device fault` is; else an error with the kind and the text of `fault`.
+    ///
+    /// ```rust
+    /// let mut folder = open(rt, ".")?;
+    /// let fault = folder.read(&mut [0u8; 4]).err().ok_or("no fault")?; // `device fault`
+    /// assert!(rt; folder.reason(fault).kind() == io::ErrorKind::IsADirectory);
+    /// ```
+    pub fn reason(&self, fault: Error) -> io::Error
+        ensures system { error_kind fault ≡ ErrorKind.Other → IfSome (patient_error self.now) (λ e. result ≡ e) }
+        ensures none { patient_error self.now ≡ None → std_error_kind result ≡ std_kind (error_kind fault) }
+        ensures other { (error_kind fault ≡ ErrorKind.Other → ⊥) → std_error_kind result ≡ std_kind (error_kind fault) }
+    {
+        match self.last_error {
+            Some(e) if fault.kind() == ErrorKind::Other => e,
+            _ => std_error(fault),
+        }
+    }
+
     // The error that a writer returns in place of its device's error. An interruption spends a
     // turn.
-    fn refuse(&mut self, kind: SystemKind) -> Error
+    fn refuse(&mut self, reason: io::Error) -> Error
         ensures taken { patient_taken self.new ≡ patient_taken self.old }
         ensures device { patient_device self.new ≡ patient_device self.old }
-        ensures becomes { Becomes kind result (patient_turns self.old) (patient_turns self.new) }
+        ensures error { patient_error self.new ≡ Some reason }
+        ensures becomes { Becomes (std_error_kind reason) result (patient_turns self.old) (patient_turns self.new) }
         ensures answer { (IsPlainInterruption result × (patient_turns self.new + 1 ≡ patient_turns self.old))
             ⊎ (IsOutOfTurns result × (patient_turns self.old ≡ 0) × (patient_turns self.new ≡ 0))
             ⊎ (IsDeviceFault result × (patient_turns self.new ≡ patient_turns self.old)) }
     {
-        if kind != SystemKind::Interrupted {
+        self.last_error = Some(reason);
+        if reason.kind() != SystemKind::Interrupted {
             return device_fault();
         }
         if self.turns == 0 {
@@ -114,7 +153,7 @@ fn device_fault() -> Error
     Error::new(ErrorKind::Other, "device fault")
 }
 
-// The error that a reader returns in place of its device's error.
+// The error that a reader or a seeker returns in place of its device's error.
 fn device_error(kind: SystemKind) -> Error
     ensures fault { (kind ≡ SystemKind.Interrupted → ⊥) → IsDeviceFault result }
     ensures interrupted { kind ≡ SystemKind.Interrupted → IsPlainInterruption result }
@@ -184,6 +223,7 @@ impl<D: SystemRead> Read for Patient<D> {
             }
             Err(e) => {
                 self.turns -= 1;
+                self.last_error = Some(e);
                 Err(device_error(e.kind()))
             }
         }
@@ -233,16 +273,14 @@ impl<D: SystemWrite> Write for Patient<D> {
                 self.taken.add(&buf[..n]);
                 Ok(n)
             }
-            Err(e) => Err(self.refuse(e.kind())),
+            Err(e) => Err(self.refuse(e)),
         }
     }
 
     fn flush(&mut self) -> Result<()> {
         match self.device.ask_flush() {
             Ok(()) => Ok(()),
-            Err(e) => Err(self.refuse(e.kind())),
+            Err(e) => Err(self.refuse(e)),
         }
     }
-
-    ghost steady = { λ p h. absurd h };
 }

@@ -2,36 +2,32 @@
 //! still be proved, but every promise about it would be empty.
 ghost use Rattle.std.specs.Prelude.{◌≡◌, Some};
 ghost use Rattle.no_std_io2.specs.Read.{bytes, ReadCall};
-ghost use Rattle.system_streams.specs.Patient.{patient_turns, patient_told, PatientMay, PatientReads};
+ghost use Rattle.system_streams.specs.Patient.{patient_turns, patient_told, PatientMay, PatientReads, PatientSeeks};
+ghost use Rattle.no_std_io2.specs.Seek.{SeekCall};
 ghost use Rattle.no_std_io2.specs.Write.{WriteCall};
 ghost use Rattle.system_streams.specs.ToStdKnown.{known_inner};
 ghost use Rattle.system_streams.specs.ToStd.{std_inner, accepted};
 
 use crate::patient::Patient;
-use crate::system::{SystemRead, SystemWrite};
+use crate::system::{SystemRead, SystemSeek, SystemWrite};
 use crate::to_std::ToStd;
 use crate::to_std_known::ToStdKnown;
-use no_std_io2::io::{Read, Stored, Write};
+use no_std_io2::io::{Read, Seek, Stored, Write};
 use std::io;
 
-/// A `Patient` reader tells its turns, and no events and no store. Its reads are not counted.
+/// A `Patient` reader tells its turns, and no events and no store.
 pub fn patient_reader_tells<D: SystemRead>(p: &Patient<D>)
     ensures tells { ⟦<Patient<D> as Read>⟧.tells p.now → ⊥ }
     ensures turns { ⟦<Patient<D> as Read>⟧.turns p.now ≡ patient_turns p.now }
-    ensures cost { ⟦<Patient<D> as Read>⟧.cost p.now ≡ 0 }
-    ensures is_metered { ⟦<Patient<D> as Read>⟧.is_metered p.now → ⊥ }
     ensures is_filling { ⟦<Patient<D> as Read>⟧.is_filling p.now → ⊥ }
     ensures may_take_none { ⟦<Patient<D> as Read>⟧.may_take_none p.now → ⊥ }
     ensures has_store { ⟦<Patient<D> as Stored>⟧.has_store p.now → ⊥ }
 {}
 
-/// A `Patient` writer tells that the bytes that its device reported as taken are out. Its writes
-/// are not counted.
+/// A `Patient` writer tells that the bytes that its device reported as taken are out.
 pub fn patient_writer_tells<D: SystemWrite>(p: &Patient<D>)
     ensures told { ⟦<Patient<D> as Write>⟧.told p.now ≡ patient_told p.now }
     ensures takes_all { ⟦<Patient<D> as Write>⟧.takes_all p.now → ⊥ }
-    ensures cost { ⟦<Patient<D> as Write>⟧.cost p.now ≡ 0 }
-    ensures is_metered { ⟦<Patient<D> as Write>⟧.is_metered p.now → ⊥ }
 {}
 
 /// Each call of a `Patient` writer makes one call of its device.
@@ -44,6 +40,12 @@ pub fn patient_writer_calls<D: SystemWrite>(old: &Patient<D>, new: &Patient<D>)
 pub fn patient_reader_calls<D: SystemRead>(old: &Patient<D>, new: &Patient<D>)
     ensures { (call : ReadCall) → ⟦<Patient<D> as Read>⟧.may old.now call new.now
         → PatientReads ⟦<D as SystemRead>⟧ old.now call new.now }
+{}
+
+/// Each seek of a `Patient` makes one seek of its device.
+pub fn patient_seeker_calls<D: SystemSeek>(old: &Patient<D>, new: &Patient<D>)
+    ensures { (call : SeekCall) → ⟦<Patient<D> as Seek>⟧.may old.now call new.now
+        → PatientSeeks ⟦<D as SystemSeek>⟧ old.now call new.now }
 {}
 
 /// A `ToStdKnown` tells `std::io` the bytes to come.

@@ -1,8 +1,10 @@
-// The readers and writers of the system, as a `Patient` calls them.
+// The readers, writers and seekers of the system, as a `Patient` calls them.
 ghost use Rattle.std.specs.Prelude.{ℕ, List, Option, Result};
 ghost use Rattle.std.specs.Io.{ReadsAtMost, WritesAtMost};
 ghost use Rattle.std.specs.Io.KnownBytes.{ReadConsumes, WriteAppends, Keeps};
+ghost use Rattle.std.specs.Io.Seek.{SeekMoves};
 ghost use Rattle.std.specs.declared.io.Error.{Error as StdError};
+ghost use Rattle.std.specs.declared.io.SeekFrom.{SeekFrom as StdPlace};
 
 use std::io;
 
@@ -70,5 +72,27 @@ impl<D: io::Write> SystemWrite for D {
 
     fn ask_flush(&mut self) -> io::Result<()> {
         self.flush()
+    }
+}
+
+/// A stream with a position, as a [`Patient`](crate::Patient) calls it. Every `std::io::Seek` is one.
+pub trait SystemSeek {
+    // What one `seek` may do, with its result.
+    ghost may_seek: { Self → StdPlace → Result ℕ StdError → Self → Type 0 };
+
+    /// Seeks like `std::io::Seek::seek`.
+    ///
+    /// # Errors
+    /// Returns the device's error if the device fails.
+    fn ask_seek(&mut self, to: io::SeekFrom) -> io::Result<u64>
+        ensures { may_seek self.old to result self.new };
+}
+
+impl<D: io::Seek> SystemSeek for D {
+    ghost may_seek = { λ old to answer new. Keeps (D.stream_bytes old) (D.stream_bytes new)
+        × SeekMoves (D.stream_position old) (D.stream_position new) (D.stream_bytes old) to answer };
+
+    fn ask_seek(&mut self, to: io::SeekFrom) -> io::Result<u64> {
+        self.seek(to)
     }
 }

@@ -1,8 +1,6 @@
 // [`ToStd`], which makes a stream of this library one of Rust's `std::io`.
 ghost use Rattle.std.specs.Prelude.{◌≡◌, ℕ, Some, Result};
-ghost use Rattle.std.specs.Io.{ReadsAtMost, WritesAtMost};
 ghost use Rattle.std.specs.IoError.{error_kind as std_error_kind};
-ghost use Rattle.std.specs.Io.KnownBytes.{ReadConsumes, WriteAppends, Keeps};
 ghost use Rattle.no_std_io2.specs.declared.io.Error.{Error};
 ghost use Rattle.no_std_io2.specs.Errors.{error_kind};
 ghost use Rattle.no_std_io2.specs.Read.{ReadLaw};
@@ -83,7 +81,8 @@ fn std_kind(kind: ErrorKind) -> StdKind
     }
 }
 
-fn std_error(e: Error) -> io::Error
+// The error with the same kind and text.
+pub(crate) fn std_error(e: Error) -> io::Error
     ensures { std_error_kind result ≡ std_kind (error_kind e) }
 {
     let kind = std_kind(e.kind());

@@ -1,14 +1,15 @@
 -- What a play writes.
+use Rattle.no_std_io2.specs.Writers.{CallOf}
 use Rattle.std.proofs.Common.{◌≡◌, ℕ, List, [], ◌∷◌, ◌++◌, subst, sym, ap, refl, append_assoc, Ok, Err, Result, IfOk, ◌∙◌}
 use Rattle.no_std_io2.specs.declared.io.Error.{Error}
 use Rattle.no_std_io2.specs.Errors.{error_kind}
 use Rattle.no_std_io2.specs.Write.{Told, Moves, MovesFront}
 use Rattle.no_std_io2.proofs.MovesLemmas.{Moves-ends}
-use Rattle.system_streams.specs.Copies.{MayFail}
-use Rattle.system_streams.proofs.CopyLemmas.{may_fail}
-use Rattle.no_std_io2.specs.declared.io.Write.{Ghosts as Writer}
+use Rattle.no_std_io2.specs.Faults.{MayFail}
+use Rattle.no_std_io2.proofs.FaultLemmas.{may_fail}
+use Rattle.no_std_io2.specs.Writers.{Writer}
 use Rattle.no_std_io2.specs.Write.{WriteCall, Made}
-use Rattle.no_std_io2.specs.BufWriter.{CallOf, InnerCalls, with_buffer}
+use Rattle.no_std_io2.specs.BufWriter.{InnerCalls, with_buffer}
 use Rattle.no_std_io2.specs.Towers.{Through}
 use Rattle.io_bench.specs.declared.faulty.Act.{Act}
 use Rattle.io_bench.specs.declared.faulty.Faulty.{Faulty}
@@ -17,7 +18,7 @@ use Rattle.io_bench.specs.Faulty.{acts_left}
 use Rattle.io_bench.specs.Runs.{Ran}
 use Rattle.io_bench.proofs.RunLemmas.{below_none, below_more}
 use Rattle.tower_play.specs.declared.playing.Shape.{Shape}
-use Rattle.tower_play.specs.Report.{report}
+use Rattle.tower_play.specs.Report.{printed_report}
 use Rattle.tower_play.specs.Play.{WritesText, Shows, ShowsRun, TowerCalls, TwoLevels, fresh_told}
 
 -- what follows from a fact of the value of an `Ok`
@@ -70,8 +71,8 @@ module _ {W : Type 0} (I : Writer (Faulty W)) (none : (w : Faulty W) → (I.told
               (subst (λ c. Through level (buffer old) c r.below (buffer run.new)) r.is.1 r.is.2));
         };
         shown =
-            run.shown ∙ ap (λ t. report run.replies t.out t.held) (told run.new)
-            ∙ ap (λ h. report run.replies (I.told (inner run.new)).out (h ++ buffer run.new)) (none (inner run.new));
+            run.shown ∙ ap (λ t. printed_report run.replies t.out t.held) (told run.new)
+            ∙ ap (λ h. printed_report run.replies (I.told (inner run.new)).out (h ++ buffer run.new)) (none (inner run.new));
       }
 
   -- a run on a level over a buffer over a fresh device
@@ -119,8 +120,8 @@ module _ {W : Type 0} (I : Writer (Faulty W)) (none : (w : Faulty W) → (I.told
           );
         };
         shown =
-            run.shown ∙ ap (λ t. report run.replies t.out t.held) end
-            ∙ ap (λ h. report run.replies (I.told (inner (outer new))).out (h ++ held)) (none (inner (outer new)));
+            run.shown ∙ ap (λ t. printed_report run.replies t.out t.held) end
+            ∙ ap (λ h. printed_report run.replies (I.told (inner (outer new))).out (h ++ held)) (none (inner (outer new)));
       }
 
 -- one text is written and flushed

@@ -10,16 +10,16 @@ use Rattle.no_std_io2.specs.Read.{Event, fails}
 use Rattle.no_std_io2.specs.Pieces.{without, YieldsPiece}
 use Rattle.io_bench.specs.PieceRuns.{GathersPieces}
 use Rattle.io_bench.proofs.PieceRunLemmas.{GatheredSoFar, gathered_to}
-use Rattle.system_streams.specs.Copies.{HasFirstFault}
+use Rattle.no_std_io2.specs.Faults.{HasFirstFault}
 use Rattle.tower_play.specs.declared.script.Script.{Script}
-use Rattle.tower_play.specs.Reading.{Adds, AddsAll, IsFresh, IsBadLine, IsFirstBad}
+use Rattle.tower_play.specs.Reading.{Adds, AddsAll, IsFreshScript, IsBadLine, IsFirstBad}
 
 -- so many lines were read, and made the script, unless one of them was bad: then its number is known
 pub record ReadSoFar (d : ℕ) (E : List Event) (number : ℕ) (bad : Option ℕ) (script : Script) (after : List Event) : Type 0 where
   pub lines : List (List ℕ)
   pub gathered : GatheredSoFar (without d) d E lines after
   pub start : Script
-  pub fresh : IsFresh start
+  pub fresh : IsFreshScript start
   pub adds : bad ≡ None → AddsAll lines start script
   pub count : number ≡ min (length lines) (2 ^ 64 - 1)
   pub first : IfSome bad (IsFirstBad lines)
@@ -58,7 +58,7 @@ first_more (Some n) lines line first = record {
 }
 
 -- a bad line after lines that made a script is the first
-pub first_here : (lines : List (List ℕ)) (line : List ℕ) (n next : ℕ) (start script : Script) → IsFresh start
+pub first_here : (lines : List (List ℕ)) (line : List ℕ) (n next : ℕ) (start script : Script) → IsFreshScript start
     → AddsAll lines start script → IsBadLine line script → n ≡ min (length lines) (2 ^ 64 - 1)
     → next ≡ min (n + 1) (2 ^ 64 - 1) → IsFirstBad (lines ++ line ∷ []) next
 first_here lines line n next start script fresh adds is count more = record {

@@ -1,6 +1,6 @@
 -- The calls of a play, and what it prints.
 use Rattle.std.specs.Prelude.{◌≡◌, ℕ, List, [], ◌++◌}
-use Rattle.no_std_io2.specs.declared.io.Write.{Ghosts as Writer}
+use Rattle.no_std_io2.specs.Writers.{Writer}
 use Rattle.no_std_io2.specs.Write.{Told, Moves, told_out, WriteCall}
 use Rattle.no_std_io2.specs.BufWriter.{with_buffer, InnerCalls}
 use Rattle.no_std_io2.specs.LineWriter.{LineCalls}
@@ -17,7 +17,7 @@ use Rattle.tower_play.specs.declared.playing.Shape.TheVariants.{Buf, Line, BufBu
 use Rattle.tower_play.specs.declared.script.Script.{Script}
 use Rattle.tower_play.specs.Calls.{AreCalls}
 use Rattle.tower_play.specs.Reading.{IsRead}
-use Rattle.tower_play.specs.Report.{report}
+use Rattle.tower_play.specs.Report.{printed_report}
 
 -- what a tower with empty buffers tells over an empty vector with these acts in front
 abbrev pub fresh_told : List Act → Told
@@ -42,7 +42,7 @@ pub record ShowsRun {T : Type 0} (I : Writer T) (old : T) (ops : List Op) (text 
   pub new : T
   pub ran : Ran (I.told old) ops replies (I.told new)
   pub calls : RunCalls I old ops replies new
-  pub shown : text ≡ report replies (I.told new).out (I.told new).held
+  pub shown : text ≡ printed_report replies (I.told new).out (I.told new).held
 
 -- These calls were made of a tower of this shape, over an empty device that fails as these acts say, and the text shows the run.
 pub record Shows {W : Type 0} (I : Writer (Faulty W)) (shape : Shape) (acts : List Act) (ops : List Op) (text : List ℕ) : Type 0 where
@@ -54,7 +54,7 @@ pub record Shows {W : Type 0} (I : Writer (Faulty W)) (shape : Shape) (acts : Li
   pub ran : Ran (fresh_told acts) ops replies (with_buffer (I.told new) held)
   -- the device got the calls that such a tower makes
   pub calls : RunBelow I (λ calls below. TowerCalls shape calls below held) old ops replies new
-  pub shown : text ≡ report replies (I.told new).out held
+  pub shown : text ≡ printed_report replies (I.told new).out held
 
 -- The text shows the run of some calls on such a tower.
 pub record IsPlay {W : Type 0} (I : Writer (Faulty W)) (shape : Shape) (text : List ℕ) : Type 0 where

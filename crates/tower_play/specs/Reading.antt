@@ -60,7 +60,7 @@ AddsAll [] old new = new ≡ old
 AddsAll (line ∷ lines) old new = (mid : Script) × Adds line old mid × AddsAll lines mid new
 
 -- a script of no lines
-pub record IsFresh (script : Script) : Type 0 where
+pub record IsFreshScript (script : Script) : Type 0 where
   pub acts : script.acts.items ≡ []
   pub steps : script.calls.steps.items ≡ []
   pub texts : script.calls.texts.items ≡ []
@@ -70,7 +70,7 @@ pub record IsRead (d : ℕ) (E : List Event) (script : Script) : Type 0 where
   pub lines : List (List ℕ)
   pub all : AllPieces (without d) d E lines
   pub start : Script
-  pub fresh : IsFresh start
+  pub fresh : IsFreshScript start
   pub adds : AddsAll lines start script
 
 -- the first bad line has this number, from 1: the lines before it make a script, and it is bad after them
@@ -80,7 +80,7 @@ pub record IsFirstBad (lines : List (List ℕ)) (n : ℕ) : Type 0 where
   pub left : List (List ℕ)
   pub are : lines ≡ good ++ bad ∷ left
   pub start : Script
-  pub fresh : IsFresh start
+  pub fresh : IsFreshScript start
   pub made : Script
   pub adds : AddsAll good start made
   pub is : IsBadLine bad made

@@ -14,6 +14,6 @@ reply_line Done = codes "done\n"
 reply_line (Failed e) = codes "failed=" ++ error_display e ++ codes "\n"
 
 -- the lines of replies, and then the bytes that are out and those that are held
-abbrev pub report : List Reply → List ℕ → List ℕ → List ℕ
-report replies out held =
+abbrev pub printed_report : List Reply → List ℕ → List ℕ → List ℕ
+printed_report replies out held =
     flat_map reply_line replies ++ codes "out=" ++ escaped out ++ codes "\nheld=" ++ escaped held ++ codes "\n"

@@ -3,7 +3,7 @@ ghost use Rattle.no_std_io2.specs.BufReader.{BufReaderFits};
 ghost use Rattle.std.specs.Prelude.{◌≡◌, ◌++◌, ◌⊎◌, Some, IfOk, IfErr};
 ghost use Rattle.no_std_io2.specs.Errors.{IsOutOfMemory};
 ghost use Rattle.tower_play.specs.declared.playing.Fault.TheVariants.{Io};
-ghost use Rattle.system_streams.specs.Copies.{HasFirstFault, MayFail};
+ghost use Rattle.no_std_io2.specs.Faults.{HasFirstFault, MayFail};
 ghost use Rattle.tower_play.specs.Faults.{fault_display, IfIo, IfLine};
 ghost use Rattle.tower_play.specs.Reading.{IsBadAt};
 ghost use Rattle.tower_play.specs.Play.{Shows, ShowsRun, IsPlay, IsPlayOf, WritesText};

@@ -2,7 +2,7 @@
 // that are held.
 ghost use Rattle.std.specs.Prelude.{◌≡◌, ◌∷◌, [], ◌++◌, ℕ, codes, List, Some, IfSome, IfNone, OnOk, IfOk};
 ghost use Rattle.tower_play.specs.Script.{escaped, escaped_byte};
-ghost use Rattle.tower_play.specs.Report.{reply_line, report};
+ghost use Rattle.tower_play.specs.Report.{reply_line, printed_report};
 
 use crate::memory::{Refused, push, push_shown};
 use io_bench::Reply;
@@ -84,7 +84,7 @@ pub fn report_of<A: Allocator>(
     inner: &[u8],
     outer: &[u8],
 ) -> Result<Vec<u8, A>, Refused>
-    ensures ok { IfOk result (λ text. text.items ≡ report replies.now out.now (inner.now ++ outer.now)) }
+    ensures ok { IfOk result (λ text. text.items ≡ printed_report replies.now out.now (inner.now ++ outer.now)) }
 {
     let mut text = Vec::new(alloc);
     'replies: for reply in replies {

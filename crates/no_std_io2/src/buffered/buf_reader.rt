@@ -6,6 +6,7 @@ use super::buffer::Buffer;
 use no_std_io2_base::traits::{Read, Stored};
 use std::fmt::{self, Debug, Formatter};
 
+mod fills;
 mod lends;
 mod pieces;
 mod reads;

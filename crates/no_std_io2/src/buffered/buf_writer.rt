@@ -8,6 +8,7 @@ ghost use Rattle.no_std_io2.specs.Unsent.{unsent_bytes};
 ghost use Rattle.no_std_io2.specs.BufWriter.{Unwraps, Buffers, BuffersAll, Flushes};
 
 mod seeking;
+mod whole;
 
 use super::into_inner_error::IntoInnerError;
 use super::sender::Sender;
@@ -169,8 +170,6 @@ impl<W: Write + Drop, const S: usize> Write for BufWriter<W, S> {
 
     ghost takes_all = { λ w. W.takes_all (writer_inner w) };
 
-    ghost cost = { λ w. W.cost (writer_inner w) };
-
     ghost may = { BufferMay W.Write S writer_inner writer_buffer };
 
     /// Holds `buf` if it is shorter than `S`, and passes it to the inner `write` if it is not. If the
@@ -215,6 +214,4 @@ impl<W: Write + Drop, const S: usize> Write for BufWriter<W, S> {
     {
         self.core.write_all(buf)
     }
-
-    ghost steady = { λ w h. W.steady (writer_inner w) h };
 }

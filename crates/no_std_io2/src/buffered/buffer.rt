@@ -23,7 +23,7 @@ pub(crate) struct Buffer<const S: usize> {
 }
 
 impl<const S: usize> Buffer<S> {
-    ghost use Rattle.no_std_io2.specs.Buffer.{buffer_held, buffer_behind, buffer_room, ReadsAhead, IsInBuffer, IsCutOn};
+    ghost use Rattle.no_std_io2.specs.Buffer.{buffer_held, buffer_behind, buffer_room, ReadsAhead, IsInBuffer, IsCutOn, ReadsOn};
 
     #[inline]
     pub(crate) fn new() -> Self
@@ -174,8 +174,6 @@ impl<const S: usize> Buffer<S> {
         ensures turns_never_rise { R.turns from.new ≤ R.turns from.old }
         ensures spends_turn { 0 < length (buffer_held self.new) → R.turns from.new < R.turns from.old }
         ensures fault_turn { OnErr result (R.turns from.new < R.turns from.old) }
-        ensures cost { R.is_metered from.old → R.is_metered from.new
-            × (R.cost from.new ≡ R.cost from.old + 1) }
         ensures fills { R.is_filling from.old → R.is_filling from.new × IsOk result
             × (length (buffer_held self.new) ≡ min S (length (R.events from.old))) }
         ensures store { R.has_store from.old → R.has_store from.new
@@ -188,6 +186,30 @@ impl<const S: usize> Buffer<S> {
         let n = from.read(&mut self.bytes[..])?;
         self.end = n;
         Ok(())
+    }
+
+    // Moves the held bytes to the front if they are not there.
+    #[inline(always)]
+    fn move_to_front(&mut self)
+        ensures same { buffer_held self.new ≡ buffer_held self.old }
+        ensures start { self.new.start ≡ 0 }
+    {
+        if self.start > 0 {
+            self.make_room();
+        }
+    }
+
+    /// Reads once into all the room after the held bytes, which are first moved to the front. The bytes that
+    /// it gave are held after the others, and none lie behind.
+    pub(crate) fn read_on<R: Read>(&mut self, from: &mut R) -> Result<usize>
+        ensures read { ReadsOn R.Read S from.old (buffer_held self.old) result (buffer_held self.new) from.new }
+        ensures behind { buffer_behind self.new ≡ [] }
+    {
+        self.move_to_front();
+        let all = &mut self.bytes[..];
+        let n = from.read(&mut all[self.end..])?;
+        self.end += n;
+        Ok(n)
     }
 
     /// Drops the first held bytes. No byte moves. If none are left, start and end go back to 0.

@@ -1,13 +1,13 @@
 // [`LineWriter`], a buffer that is sent at the end of each line.
-ghost use Rattle.std.specs.Prelude.{◌≡◌, ◌+◌, ◌≤◌, [], ◌++◌, length, IsOk, IfOk, IfErr, OnOk};
+ghost use Rattle.std.specs.Prelude.{◌≡◌, ◌+◌, ◌≤◌, [], length, IfOk, IfErr, OnOk};
 ghost use Rattle.std.specs.Borrow.{Lends, sem};
 ghost use Rattle.no_std_io2.specs.contracts.buffered.line_writer.LineWriter.{the_row as line-row};
 ghost use Rattle.no_std_io2.specs.Lines.{IsLineState, HasNoNewline};
 ghost use Rattle.no_std_io2.specs.LineWriter.{line_inner, line_buffer, line_told, line_with_inner, LineMay};
 ghost use Rattle.no_std_io2.specs.LineWriter.{LineWriteCalls, LineWriteAllCalls, line_buffer_after, line_buffer_filled};
 ghost use Rattle.no_std_io2.specs.LineWriter.{IsShortText, HoldsShort, KeepsTaking};
-ghost use Rattle.no_std_io2.specs.BufWriter.{Takes, Unwraps, Flushes, into_inner_error_writer};
-ghost use Rattle.no_std_io2_base.specs.Writers.{FlushOf, WriteAllOf, WriteOf};
+ghost use Rattle.no_std_io2.specs.BufWriter.{TakesStep, Unwraps, Flushes, into_inner_error_writer};
+ghost use Rattle.no_std_io2_base.specs.Writers.{TakesAll, FlushOf, WriteAllOf, WriteOf};
 
 mod state;
 mod steps;
@@ -135,8 +135,6 @@ impl<W: Write + Drop + fmt::Debug, const S: usize> fmt::Debug for LineWriter<W, 
 impl<W: Write + Drop, const S: usize> Write for LineWriter<W, S> {
     ghost told = { line_told W.told };
 
-    ghost cost = { λ w. W.cost (line_inner w) };
-
     ghost may = { LineMay W.Write S line_inner line_buffer };
 
     /// Writes some first bytes of `buf`. Complete lines that are held are sent first. If `buf` has no
@@ -151,14 +149,14 @@ impl<W: Write + Drop, const S: usize> Write for LineWriter<W, S> {
     /// still held.
     fn write(&mut self, buf: &[u8]) -> Result<usize>
         ensures law { WriteOf ⟦<Self as Write>⟧ self.old buf.now result self.new }
-        ensures calls { Takes W.Write line_inner line_buffer (LineWriteCalls S buf.now) self.old result self.new }
+        ensures calls { TakesStep W.Write line_inner line_buffer (LineWriteCalls S buf.now) self.old result self.new }
 
         // A short text without a newline is taken whole or not at all, and held if it fits.
         ensures short { IsShortText S buf.now → IfOk result (λ n. n ≡ length buf.now) }
         ensures fits { HoldsShort self.old buf.now result self.new }
 
         // Over an inner writer that takes all: which bytes are held afterwards.
-        ensures held { W.takes_all (line_inner self.old)
+        ensures held { TakesAll W.Write (line_inner self.old)
             → line_buffer self.new ≡ line_buffer_filled S (line_buffer self.old) buf.now }
         ensures inner { KeepsTaking W.Write (line_inner self.old) result (line_inner self.new) }
     {
@@ -189,7 +187,7 @@ impl<W: Write + Drop, const S: usize> Write for LineWriter<W, S> {
     /// Never returns `Interrupted`.
     fn write_all(&mut self, buf: &[u8]) -> Result<()>
         ensures law { WriteAllOf ⟦<Self as Write>⟧ self.old buf.now result self.new }
-        ensures calls { Takes W.Write line_inner line_buffer (LineWriteAllCalls S buf.now) self.old result self.new }
+        ensures calls { TakesStep W.Write line_inner line_buffer (LineWriteAllCalls S buf.now) self.old result self.new }
 
         // After `Ok` only the unfinished line is held.
         ensures no_newline_held { OnOk result (HasNoNewline (line_buffer self.new)) }
@@ -199,6 +197,4 @@ impl<W: Write + Drop, const S: usize> Write for LineWriter<W, S> {
     {
         steps::write_all(&mut self.core.buffered, buf)
     }
-
-    ghost steady = { λ w h. absurd h };
 }

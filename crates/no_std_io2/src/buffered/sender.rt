@@ -7,7 +7,7 @@ ghost use Rattle.std.specs.Prelude.{◌≡◌, ◌+◌, ◌<◌, ◌≤◌, [], 
 ghost use Rattle.std.specs.Bool.{OnTrue, OnFalse};
 ghost use Rattle.std.specs.Borrow.{Lends, sem};
 ghost use Rattle.no_std_io2.specs.contracts.buffered.sender.Sender.{the_row as sender-row};
-ghost use Rattle.no_std_io2.specs.BufWriter.{sender_inner, sender_buffer, sender_with_inner, Takes, SendCalls, WayCalls};
+ghost use Rattle.no_std_io2.specs.BufWriter.{sender_inner, sender_buffer, sender_with_inner, TakesStep, SendCalls, WayCalls};
 ghost use Rattle.no_std_io2.specs.BufWriter.{WriteCalls, WriteAllCalls, FlushCalls, Unwraps};
 ghost use Rattle.no_std_io2.specs.Unsent.{unsent_bytes};
 
@@ -70,7 +70,7 @@ impl<W: Write + Drop, const S: usize> Sender<W, S> {
     /// # Errors
     /// Returns `WriteZero` if an inner write takes no byte, and the inner writer's fault if one fails.
     pub(crate) fn send(&mut self) -> Result<()>
-        ensures calls { Takes W.Write sender_inner sender_buffer SendCalls self.old result self.new }
+        ensures calls { TakesStep W.Write sender_inner sender_buffer SendCalls self.old result self.new }
         ensures unmoved { self.new.buffer.bytes ≡ self.old.buffer.bytes }
     {
         self.send_held()
@@ -79,7 +79,7 @@ impl<W: Write + Drop, const S: usize> Sender<W, S> {
     // The body of `send`. The cold functions inline it.
     #[inline(always)]
     fn send_held(&mut self) -> Result<()>
-        ensures calls { Takes W.Write sender_inner sender_buffer SendCalls self.old result self.new }
+        ensures calls { TakesStep W.Write sender_inner sender_buffer SendCalls self.old result self.new }
         ensures unmoved { self.new.buffer.bytes ≡ self.old.buffer.bytes }
     {
         'sends: while self.buffer.len() > 0 {
@@ -111,10 +111,24 @@ impl<W: Write + Drop, const S: usize> Sender<W, S> {
     /// Returns the error of `send`.
     #[inline(always)]
     fn send_if_no_room(&mut self, more: usize) -> Result<()>
-        ensures { Takes W.Write sender_inner sender_buffer (WayCalls S more) self.old result self.new }
+        ensures { TakesStep W.Write sender_inner sender_buffer (WayCalls S more) self.old result self.new }
     {
         if more > S - self.buffer.len() {
             return self.send_held();
+        }
+        Ok(())
+    }
+
+    /// Sends the held bytes if `more` bytes do not fit beside them. That they fit is a hot path.
+    ///
+    /// # Errors
+    /// Returns the error of `send`.
+    #[inline(always)]
+    pub(crate) fn make_room(&mut self, more: usize) -> Result<()>
+        ensures { TakesStep W.Write sender_inner sender_buffer (WayCalls S more) self.old result self.new }
+    {
+        if more > S - self.buffer.len() {
+            return self.send();
         }
         Ok(())
     }
@@ -139,7 +153,7 @@ impl<W: Write + Drop, const S: usize> Sender<W, S> {
     /// Returns the error of `send` or of the inner `write`. Nothing of `buf` was accepted then.
     #[inline(always)]
     pub(crate) fn write(&mut self, buf: &[u8]) -> Result<usize>
-        ensures { Takes W.Write sender_inner sender_buffer (WriteCalls S buf.now) self.old result self.new }
+        ensures { TakesStep W.Write sender_inner sender_buffer (WriteCalls S buf.now) self.old result self.new }
     {
         if self.hold_if_room(buf) {
             return Ok(buf.len());
@@ -153,7 +167,7 @@ impl<W: Write + Drop, const S: usize> Sender<W, S> {
     // Calls `write_cold`.
     #[inline(always)]
     fn write_out_of_line(&mut self, buf: &[u8]) -> Result<usize>
-        ensures { Takes W.Write sender_inner sender_buffer (WriteCalls S buf.now) self.old result self.new }
+        ensures { TakesStep W.Write sender_inner sender_buffer (WriteCalls S buf.now) self.old result self.new }
     {
         self.write_cold(buf)
     }
@@ -162,7 +176,7 @@ impl<W: Write + Drop, const S: usize> Sender<W, S> {
     #[cold]
     #[inline(never)]
     fn write_cold(&mut self, buf: &[u8]) -> Result<usize>
-        ensures { Takes W.Write sender_inner sender_buffer (WriteCalls S buf.now) self.old result self.new }
+        ensures { TakesStep W.Write sender_inner sender_buffer (WriteCalls S buf.now) self.old result self.new }
     {
         self.send_if_no_room(buf.len())?;
         if buf.len() >= S {
@@ -180,7 +194,7 @@ impl<W: Write + Drop, const S: usize> Sender<W, S> {
     /// Returns the error of `send` or of the inner `write_all`.
     #[inline(always)]
     pub(crate) fn write_all(&mut self, buf: &[u8]) -> Result<()>
-        ensures { Takes W.Write sender_inner sender_buffer (WriteAllCalls S buf.now) self.old result self.new }
+        ensures { TakesStep W.Write sender_inner sender_buffer (WriteAllCalls S buf.now) self.old result self.new }
     {
         if self.hold_if_room(buf) {
             return Ok(());
@@ -194,7 +208,7 @@ impl<W: Write + Drop, const S: usize> Sender<W, S> {
     // Calls `write_all_cold`.
     #[inline(always)]
     fn write_all_out_of_line(&mut self, buf: &[u8]) -> Result<()>
-        ensures { Takes W.Write sender_inner sender_buffer (WriteAllCalls S buf.now) self.old result self.new }
+        ensures { TakesStep W.Write sender_inner sender_buffer (WriteAllCalls S buf.now) self.old result self.new }
     {
         self.write_all_cold(buf)
     }
@@ -203,7 +217,7 @@ impl<W: Write + Drop, const S: usize> Sender<W, S> {
     #[cold]
     #[inline(never)]
     fn write_all_cold(&mut self, buf: &[u8]) -> Result<()>
-        ensures { Takes W.Write sender_inner sender_buffer (WriteAllCalls S buf.now) self.old result self.new }
+        ensures { TakesStep W.Write sender_inner sender_buffer (WriteAllCalls S buf.now) self.old result self.new }
     {
         self.send_if_no_room(buf.len())?;
         if buf.len() >= S {
@@ -218,7 +232,7 @@ impl<W: Write + Drop, const S: usize> Sender<W, S> {
     /// # Errors
     /// Returns the error of `send`, with the inner writer not flushed, or of the inner `flush`.
     pub(crate) fn flush(&mut self) -> Result<()>
-        ensures { Takes W.Write sender_inner sender_buffer FlushCalls self.old result self.new }
+        ensures { TakesStep W.Write sender_inner sender_buffer FlushCalls self.old result self.new }
     {
         self.send()?;
         self.inner.flush()

@@ -1,6 +1,6 @@
 // What a caller of `copy` can prove if its writer has no mishap to come. Nothing calls this
 // function. It is here so that a weaker contract of `copy` would fail to prove it.
-ghost use Rattle.std.specs.Prelude.{◌≡◌, ◌<◌, ◌^◌, ◌++◌, length, [], Some, IsOk, IsOkAnd};
+ghost use Rattle.std.specs.Prelude.{◌≡◌, ◌<◌, ◌^◌, ◌++◌, [], Some, IsOkAnd};
 ghost use Rattle.no_std_io2_base.specs.Read.{bytes, HasNoFault};
 ghost use Rattle.no_std_io2.specs.Copy.{counted};
 

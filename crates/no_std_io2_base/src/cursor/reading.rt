@@ -1,4 +1,4 @@
-ghost use Rattle.std.specs.Prelude.{◌≡◌, ◌+◌, ◌++◌, ◌≤◌, ◌<◌, ◌^◌, ◌↔◌, min, length, take, IsOk, IsOkAnd, IfOk, IfErr, OnErr};
+ghost use Rattle.std.specs.Prelude.{◌≡◌, ◌+◌, ◌≤◌, ◌<◌, ◌^◌, ◌↔◌, min, length, take, IsOk, IsOkAnd, IfOk, IfErr, OnErr};
 ghost use Rattle.no_std_io2_base.specs.Cursor.{cursor_position, cursor_inner, cursor_left, cursor_stores};
 ghost use Rattle.no_std_io2_base.specs.BufRead.{ConsumeLaw};
 ghost use Rattle.no_std_io2_base.specs.Errors.{IsUnexpectedEnd};
@@ -93,10 +93,6 @@ impl<T: AsSlice<u8>> Read for Cursor<T> {
 
 impl<T: AsSlice<u8>> BufRead for Cursor<T> {
     ghost held = { cursor_left T.slice };
-
-    ghost knows_lent_length = { λ _. Unit {0} };
-
-    ghost lent_length = { λ c. length (cursor_left T.slice c) };
 
     #[tactic(auto, using(crate::proofs::FillBufHeld::begins_whole))]
     fn fill_buf(&mut self) -> Result<&[u8]> {

@@ -1,10 +1,9 @@
-ghost use Rattle.std.specs.Prelude.{◌≡◌, ℕ, ◌+◌, ◌-◌, ◌≤◌, ◌↔◌, nat_lt, min, [], Ok, IsOk, IsOkAnd, OnOk, IfOk, IfErr};
-ghost use Rattle.std.specs.Prelude.{length, if◌then◌else◌};
+ghost use Rattle.std.specs.Prelude.{◌≡◌, ◌+◌, ◌-◌, min, Ok, IsOk, IsOkAnd};
+ghost use Rattle.std.specs.Prelude.{length};
 ghost use Rattle.std.specs.Box.{boxed_slice_items};
-ghost use Rattle.no_std_io2_base.specs.Cursor.{cursor_position, cursor_inner, cursor_out, PutsFitting};
-ghost use Rattle.no_std_io2_base.specs.Errors.{IsNoInterruption, IsUnwritten};
+ghost use Rattle.no_std_io2_base.specs.Cursor.{cursor_position, cursor_inner, cursor_out, PutsFitting, PutsAllFitting, FitsMay};
 ghost use Rattle.no_std_io2_base.specs.Writers.{FlushOf, WriteAllOf, WriteOf};
-ghost use Rattle.no_std_io2_base.specs.Write.{Moves, MovesFront, taken, write_mishap, call_mishap, told_out};
+ghost use Rattle.no_std_io2_base.specs.Write.{told_out};
 
 use super::Cursor;
 use crate::error::{Result, failed_to_write};
@@ -24,6 +23,16 @@ fn write_fitting(content: &mut [u8], pos: &mut u64, buf: &[u8]) -> usize
     n
 }
 
+// `write_all` of a cursor over a slice.
+fn write_all_fitting(content: &mut [u8], pos: &mut u64, buf: &[u8]) -> Result<()>
+    ensures { PutsAllFitting content.old pos.old buf.now result content.new pos.new }
+{
+    if write_fitting(content, pos, buf) < buf.len() {
+        return Err(failed_to_write());
+    }
+    Ok(())
+}
+
 /// Writes over the slice from the position on. The slice keeps its length: a `write` takes as many
 /// first bytes of the buffer as fit before its end, and none if the position is past the end. Other
 /// bytes of the slice stay. Follows `std::io::Write for Cursor<&mut [u8]>`.
@@ -33,6 +42,8 @@ fn write_fitting(content: &mut [u8], pos: &mut u64, buf: &[u8]) -> usize
 /// were then written. `write` and `flush` return no error.
 impl Write for Cursor<&mut [u8]> {
     ghost told = { λ c. told_out (cursor_out (λ s. s.now) c) };
+
+    ghost may = { FitsMay (λ s. s.now) };
 
     fn write(&mut self, buf: &[u8]) -> Result<usize>
         ensures law { WriteOf ⟦<Self as Write>⟧ self.old buf.now result self.new }
@@ -62,19 +73,12 @@ impl Write for Cursor<&mut [u8]> {
 
         // It writes as many bytes as fit, at the position. It fails if and only if these are not
         // all.
-        ensures variant { IsOk result ↔ (length buf.now ≤ length (cursor_inner self.old).now - cursor_position self.old) }
-        ensures says { IfErr result IsUnwritten }
-        ensures puts { PutsFitting (cursor_inner self.old).now (cursor_position self.old) buf.now
+        ensures puts { PutsAllFitting (cursor_inner self.old).now (cursor_position self.old) buf.now result
             (cursor_inner self.new).now (cursor_position self.new) }
         ensures reference { (cursor_inner self.new).ghost_name ≡ (cursor_inner self.old).ghost_name }
     {
-        if write_fitting(self.inner, &mut self.pos, buf) < buf.len() {
-            return Err(failed_to_write());
-        }
-        Ok(())
+        write_all_fitting(self.inner, &mut self.pos, buf)
     }
-
-    ghost steady = { λ c h. absurd h };
 }
 
 /// Writes over the array, as over a slice of it. Follows `std::io::Write for Cursor<[u8; N]>`.
@@ -83,6 +87,8 @@ impl Write for Cursor<&mut [u8]> {
 /// Returns the errors that a cursor over a slice returns.
 impl<const N: usize> Write for Cursor<[u8; N]> {
     ghost told = { λ c. told_out (cursor_out (λ a. a) c) };
+
+    ghost may = { FitsMay (λ a. a) };
 
     fn write(&mut self, buf: &[u8]) -> Result<usize>
         ensures law { WriteOf ⟦<Self as Write>⟧ self.old buf.now result self.new }
@@ -105,7 +111,16 @@ impl<const N: usize> Write for Cursor<[u8; N]> {
         Ok(())
     }
 
-    ghost steady = { λ c h. absurd h };
+    fn write_all(&mut self, buf: &[u8]) -> Result<()>
+        ensures law { WriteAllOf ⟦<Self as Write>⟧ self.old buf.now result self.new }
+
+        // It writes as many bytes as fit, at the position. It fails if and only if these are not
+        // all.
+        ensures puts { PutsAllFitting (cursor_inner self.old) (cursor_position self.old) buf.now result
+            (cursor_inner self.new) (cursor_position self.new) }
+    {
+        write_all_fitting(&mut self.inner, &mut self.pos, buf)
+    }
 }
 
 /// Writes over the boxed slice, as over a lent one. Follows `std::io::Write for Cursor<Box<[u8]>>`.
@@ -114,6 +129,8 @@ impl<const N: usize> Write for Cursor<[u8; N]> {
 /// Returns the errors that a cursor over a slice returns.
 impl<A: Allocator> Write for Cursor<BoxedSlice<u8, A>> {
     ghost told = { λ c. told_out (cursor_out boxed_slice_items c) };
+
+    ghost may = { FitsMay boxed_slice_items };
 
     fn write(&mut self, buf: &[u8]) -> Result<usize>
         ensures law { WriteOf ⟦<Self as Write>⟧ self.old buf.now result self.new }
@@ -137,5 +154,14 @@ impl<A: Allocator> Write for Cursor<BoxedSlice<u8, A>> {
         Ok(())
     }
 
-    ghost steady = { λ c h. absurd h };
+    fn write_all(&mut self, buf: &[u8]) -> Result<()>
+        ensures law { WriteAllOf ⟦<Self as Write>⟧ self.old buf.now result self.new }
+
+        // It writes as many bytes as fit, at the position. It fails if and only if these are not
+        // all.
+        ensures puts { PutsAllFitting (boxed_slice_items (cursor_inner self.old)) (cursor_position self.old) buf.now result
+            (boxed_slice_items (cursor_inner self.new)) (cursor_position self.new) }
+    {
+        write_all_fitting(self.inner.as_mut_slice(), &mut self.pos, buf)
+    }
 }

@@ -1,9 +1,8 @@
-ghost use Rattle.std.specs.Prelude.{◌≡◌, ℕ, ◌+◌, ◌-◌, nat_lt, ◌≤◌, ◌<◌, ◌^◌, ◌++◌, [], Ok, IsOk, OnOk, OnErr, IfOk, IfErr};
+ghost use Rattle.std.specs.Prelude.{◌≡◌, ◌+◌, ◌-◌, ◌≤◌, ◌<◌, ◌++◌, Ok, IsOk, OnErr};
 ghost use Rattle.std.specs.Prelude.{length, replicate, vec_len, vec_capacity, is_ok, if◌then◌else◌};
-ghost use Rattle.no_std_io2_base.specs.Cursor.{cursor_position, cursor_inner, cursor_out, put_at, IsPut, PutsWhole, PutsAll};
-ghost use Rattle.no_std_io2_base.specs.Errors.{IsNoInterruption};
+ghost use Rattle.no_std_io2_base.specs.Cursor.{cursor_position, cursor_inner, cursor_out, IsPut, PutsWhole, PutsMay, PutsAll};
 ghost use Rattle.no_std_io2_base.specs.Writers.{FlushOf, WriteAllOf, WriteOf};
-ghost use Rattle.no_std_io2_base.specs.Write.{Moves, MovesFront, taken, write_mishap, call_mishap, told_out};
+ghost use Rattle.no_std_io2_base.specs.Write.{told_out};
 
 use super::Cursor;
 use crate::error::{Error, ErrorKind, Result};
@@ -82,6 +81,8 @@ fn write_all_at<A: Allocator>(content: &mut Vec<u8, A>, pos: &mut u64, buf: &[u8
 impl<A: Allocator> Write for Cursor<Vec<u8, A>> {
     ghost told = { λ c. told_out (cursor_out (λ v. v.items) c) };
 
+    ghost may = { PutsMay (λ v. v.items) vec_capacity };
+
     #[inline(always)]
     #[tactic(auto, using(crate::proofs::CursorLemmas::puts_moves))]
     fn write(&mut self, buf: &[u8]) -> Result<usize>
@@ -122,8 +123,6 @@ impl<A: Allocator> Write for Cursor<Vec<u8, A>> {
     {
         write_all_at(&mut self.inner, &mut self.pos, buf)
     }
-
-    ghost steady = { λ c h. absurd h };
 }
 
 /// Writes over a borrowed vector, as over an owned one. Follows
@@ -133,6 +132,8 @@ impl<A: Allocator> Write for Cursor<Vec<u8, A>> {
 /// Returns the errors that a cursor over an owned vector returns.
 impl<A: Allocator> Write for Cursor<&mut Vec<u8, A>> {
     ghost told = { λ c. told_out (cursor_out (λ v. v.now.items) c) };
+
+    ghost may = { PutsMay (λ v. v.now.items) (λ v. vec_capacity v.now) };
 
     #[inline(always)]
     #[tactic(auto, using(crate::proofs::CursorLemmas::puts_moves))]
@@ -176,6 +177,4 @@ impl<A: Allocator> Write for Cursor<&mut Vec<u8, A>> {
     {
         write_all_at(self.inner, &mut self.pos, buf)
     }
-
-    ghost steady = { λ c h. absurd h };
 }

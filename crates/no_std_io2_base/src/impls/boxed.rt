@@ -8,10 +8,6 @@ impl<W: Write, A: Allocator> Write for Box<W, A> {
 
     ghost takes_all = { λ b. W.takes_all b.value };
 
-    ghost cost = { λ b. W.cost b.value };
-
-    ghost is_metered = { λ b. W.is_metered b.value };
-
     ghost may = { λ old call new. W.may old.value call new.value };
 
     fn write(&mut self, buf: &[u8]) -> Result<usize> {
@@ -29,8 +25,6 @@ impl<W: Write, A: Allocator> Write for Box<W, A> {
     fn write_rest(&mut self, rest: &mut &[u8]) -> Result<()> {
         self.as_mut().write_rest(rest)
     }
-
-    ghost steady = { λ b h. W.steady b.value h };
 }
 
 impl<T: Stored, A: Allocator> Stored for Box<T, A> {
@@ -48,10 +42,6 @@ impl<T: Read, A: Allocator> Read for Box<T, A> {
     ghost events = { λ b. T.events b.value };
 
     ghost turns = { λ b. T.turns b.value };
-
-    ghost cost = { λ b. T.cost b.value };
-
-    ghost is_metered = { λ b. T.is_metered b.value };
 
     ghost is_filling = { λ b. T.is_filling b.value };
 
@@ -80,14 +70,6 @@ impl<T: Read, A: Allocator> Read for Box<T, A> {
 
 impl<T: BufRead, A: Allocator> BufRead for Box<T, A> {
     ghost held = { λ b. T.held b.value };
-
-    ghost is_fill_metered = { λ b. T.is_fill_metered b.value };
-
-    ghost fills = { λ b. T.fills b.value };
-
-    ghost knows_lent_length = { λ b. T.knows_lent_length b.value };
-
-    ghost lent_length = { λ b. T.lent_length b.value };
 
     fn fill_buf(&mut self) -> Result<&[u8]> {
         self.as_mut().fill_buf()

@@ -8,10 +8,6 @@ impl<W: Write> Write for &mut W {
 
     ghost takes_all = { λ w. W.takes_all w.now };
 
-    ghost cost = { λ w. W.cost w.now };
-
-    ghost is_metered = { λ w. W.is_metered w.now };
-
     ghost may = { λ old call new. W.may old.now call new.now };
 
     fn write(&mut self, buf: &[u8]) -> Result<usize> {
@@ -29,8 +25,6 @@ impl<W: Write> Write for &mut W {
     fn write_rest(&mut self, rest: &mut &[u8]) -> Result<()> {
         Write::write_rest(&mut **self, rest)
     }
-
-    ghost steady = { λ w h. W.steady w.now h };
 }
 
 impl<T: Stored> Stored for &mut T {
@@ -48,10 +42,6 @@ impl<T: Read> Read for &mut T {
     ghost events = { λ r. T.events r.now };
 
     ghost turns = { λ r. T.turns r.now };
-
-    ghost cost = { λ r. T.cost r.now };
-
-    ghost is_metered = { λ r. T.is_metered r.now };
 
     ghost is_filling = { λ r. T.is_filling r.now };
 
@@ -80,14 +70,6 @@ impl<T: Read> Read for &mut T {
 
 impl<T: BufRead> BufRead for &mut T {
     ghost held = { λ r. T.held r.now };
-
-    ghost is_fill_metered = { λ r. T.is_fill_metered r.now };
-
-    ghost fills = { λ r. T.fills r.now };
-
-    ghost knows_lent_length = { λ r. T.knows_lent_length r.now };
-
-    ghost lent_length = { λ r. T.lent_length r.now };
 
     fn fill_buf(&mut self) -> Result<&[u8]> {
         BufRead::fill_buf(&mut **self)

@@ -5,9 +5,11 @@ use crate::error::Result;
 use crate::traits::{Seek, SeekFrom, Stored, Write};
 use std::alloc::Allocator;
 
-/// Tells what the writer in the box tells, except for counts and whether it takes all.
+/// Tells what the writer in the box tells.
 impl<A: Allocator> Write for Box<dyn Write + Drop, A> {
     ghost told = { λ b. (Write-box b).told b.value };
+
+    ghost takes_all = { λ b. (Write-box b).takes_all b.value };
 
     ghost may = { λ b call new. BoxMay b (Write-box b).may call new };
 
@@ -26,8 +28,6 @@ impl<A: Allocator> Write for Box<dyn Write + Drop, A> {
     fn write_rest(&mut self, rest: &mut &[u8]) -> Result<()> {
         (**self).write_rest(rest)
     }
-
-    ghost steady = { λ w h. absurd h };
 }
 
 impl<A: Allocator> Stored for Box<dyn Seek + Drop, A> {

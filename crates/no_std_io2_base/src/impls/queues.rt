@@ -3,7 +3,8 @@ ghost use Rattle.std.specs.VecDeque.{deque_len, deque_capacity};
 ghost use Rattle.no_std_io2_base.specs.Errors.{IsOutOfMemory};
 ghost use Rattle.no_std_io2_base.specs.Read.{events_of, given, ReadLaw};
 ghost use Rattle.no_std_io2_base.specs.Write.{told_out};
-ghost use Rattle.no_std_io2_base.specs.Writers.{FlushOf, WriteOf};
+ghost use Rattle.no_std_io2_base.specs.Writers.{FlushOf, WriteAllOf, WriteOf};
+ghost use Rattle.no_std_io2_base.specs.Appends.{AppendsMay, AppendsWhole};
 
 use super::copying::copy_prefix;
 use crate::error::Result;
@@ -21,14 +22,22 @@ fn drop_front<A: Allocator>(queue: &mut VecDeque<u8, A>, n: usize)
     queue.truncate(left);
 }
 
+// Appends bytes to a queue, or returns `OutOfMemory` and leaves it as it was.
+fn append_back<A: Allocator>(queue: &mut VecDeque<u8, A>, bytes: &[u8]) -> Result<()>
+    ensures { AppendsWhole queue.old.items (deque_len queue.old) (deque_capacity queue.old) bytes.now result queue.new.items }
+{
+    queue.reserve(bytes.len())?;
+    push_all(queue, bytes);
+    Ok(())
+}
+
 // Appends bytes to a queue that has room for them.
 fn push_all<A: Allocator>(queue: &mut VecDeque<u8, A>, bytes: &[u8])
     requires { deque_len queue.old + length bytes.now ≤ deque_capacity queue.old }
     ensures { queue.new.items ≡ queue.old.items ++ bytes.now }
 {
     'bytes: for b in bytes {
-        // There is room, so this does not allocate.
-        let _ = queue.push_back(*b);
+        queue.push_back_reserved(*b);
     }
 }
 
@@ -75,6 +84,8 @@ impl<A: Allocator> Read for VecDeque<u8, A> {
 impl<A: Allocator> Write for VecDeque<u8, A> {
     ghost told = { λ q. told_out q.items };
 
+    ghost may = { AppendsMay (λ q. q.items) deque_len deque_capacity };
+
     fn write(&mut self, buf: &[u8]) -> Result<usize>
         ensures law { WriteOf ⟦<Self as Write>⟧ self.old buf.now result self.new }
 
@@ -85,9 +96,20 @@ impl<A: Allocator> Write for VecDeque<u8, A> {
         ensures same { OnErr result (self.new.items ≡ self.old.items) }
         ensures full { OnErr result (deque_capacity self.old < deque_len self.old + length buf.now) }
     {
-        self.reserve(buf.len())?;
-        push_all(self, buf);
+        append_back(self, buf)?;
         Ok(buf.len())
+    }
+
+    fn write_all(&mut self, buf: &[u8]) -> Result<()>
+        ensures law { WriteAllOf ⟦<Self as Write>⟧ self.old buf.now result self.new }
+
+        // It appends the whole buffer or nothing. It fails only if the capacity was too small and
+        // the allocation failed.
+        ensures err { IfErr result IsOutOfMemory }
+        ensures same { OnErr result (self.new.items ≡ self.old.items) }
+        ensures full { OnErr result (deque_capacity self.old < deque_len self.old + length buf.now) }
+    {
+        append_back(self, buf)
     }
 
     fn flush(&mut self) -> Result<()>
@@ -99,6 +121,4 @@ impl<A: Allocator> Write for VecDeque<u8, A> {
     {
         Ok(())
     }
-
-    ghost steady = { λ w h. absurd h };
 }

@@ -131,10 +131,6 @@ impl Read for &[u8] {
 impl BufRead for &[u8] {
     ghost held = { λ s. s.now };
 
-    ghost knows_lent_length = { λ _. Unit {0} };
-
-    ghost lent_length = { λ s. length s.now };
-
     #[tactic(auto, using(crate::proofs::FillBufHeld::begins_whole))]
     fn fill_buf(&mut self) -> Result<&[u8]> {
         Ok(*self)

@@ -1,8 +1,9 @@
-ghost use Rattle.std.specs.Prelude.{◌≡◌, ℕ, ◌+◌, ◌++◌, ◌≤◌, ◌<◌, nat_lt, if◌then◌else◌, [], Ok, IsOk, OnOk, OnErr, IfOk};
+ghost use Rattle.std.specs.Prelude.{◌≡◌, ◌+◌, ◌++◌, ◌≤◌, ◌<◌, Ok, IsOk, OnOk, OnErr, IfOk};
 ghost use Rattle.std.specs.Prelude.{IfErr, length, vec_len, vec_capacity};
-ghost use Rattle.no_std_io2_base.specs.Errors.{IsNoInterruption, IsOutOfMemory};
+ghost use Rattle.no_std_io2_base.specs.Errors.{IsOutOfMemory};
+ghost use Rattle.no_std_io2_base.specs.Appends.{AppendsMay};
 ghost use Rattle.no_std_io2_base.specs.Writers.{FlushOf, WriteAllOf, WriteOf};
-ghost use Rattle.no_std_io2_base.specs.Write.{Moves, MovesFront, taken, write_mishap, call_mishap, told_out};
+ghost use Rattle.no_std_io2_base.specs.Write.{told_out};
 
 use super::copying::copy_bytes;
 use crate::error::Result;
@@ -61,6 +62,8 @@ pub fn append<A: Allocator>(buf: &mut Vec<u8, A>, bytes: &[u8]) -> Result<()>
 impl<A: Allocator> Write for Vec<u8, A> {
     ghost told = { λ v. told_out v.items };
 
+    ghost may = { AppendsMay (λ v. v.items) vec_len vec_capacity };
+
     #[inline(always)]
     fn write(&mut self, buf: &[u8]) -> Result<usize>
         ensures law { WriteOf ⟦<Self as Write>⟧ self.old buf.now result self.new }
@@ -100,6 +103,4 @@ impl<A: Allocator> Write for Vec<u8, A> {
     {
         Ok(())
     }
-
-    ghost steady = { λ w h. absurd h };
 }

@@ -4,7 +4,7 @@ ghost use Rattle.no_std_io2_base.specs.BufRead.{FillBufLaw, AfterLoan, ConsumeLa
 ghost use Rattle.no_std_io2_base.specs.Pieces.{split_reader, split_delim, split_is_ended, lines_reader, lines_is_ended};
 
 use super::lines::Lines;
-use super::pieces::{append_line, find_piece};
+use super::pieces::{find_piece, put_line, take_memory};
 use super::read::Read;
 use super::split::Split;
 use crate::error::Result;
@@ -22,18 +22,6 @@ use std::alloc::{Allocator, Global};
 pub trait BufRead: Read {
     // The bytes in the buffer. If the reader tells its events, the events begin with these bytes.
     ghost held: { Self → List ℕ };
-
-    // Whether the inner reads that `fill_buf` makes are counted, and how many were made. By default
-    // they are not.
-    ghost is_fill_metered: { Self → Type 0 } = { λ _. ⊥ };
-
-    ghost fills: { Self → ℕ } = { λ _. 0 };
-
-    // Whether it is known how many bytes the next `fill_buf` lends, and that number. By default it
-    // is not known.
-    ghost knows_lent_length: { Self → Type 0 } = { λ _. ⊥ };
-
-    ghost lent_length: { Self → ℕ } = { λ _. 0 };
 
     /// Lends the held bytes. If some bytes are held already, nothing changes. If none are, it first
     /// reads once. An empty slice means the end. Follows `std::io::BufRead::fill_buf`.
@@ -129,9 +117,9 @@ pub trait BufRead: Read {
     }
 
     /// Appends the next line to `buf`, with its newline, and returns the number of its bytes: 0
-    /// means the end. The last line may have no newline. It ignores interruptions. The bytes are
-    /// first gathered in a vector from `alloc`; a `buf` that has room for them needs no allocation.
-    /// Follows `std::io::BufRead::read_line`.
+    /// means the end. The last line may have no newline. It ignores interruptions. If `buf` is empty,
+    /// the line is read into its own memory; if not, into a vector from `alloc` first. Follows
+    /// `std::io::BufRead::read_line`.
     ///
     /// # Errors
     /// Returns `InvalidData` if the line is not UTF-8; `buf` is unchanged, and the line is taken.
@@ -152,9 +140,9 @@ pub trait BufRead: Read {
         Self: Sized,
         ensures law { ReadLineLaw ⟦<Self as BufRead>⟧ self.old buf.old result buf.new self.new }
     {
-        let mut line = Vec::new(alloc);
+        let mut line = take_memory(alloc, buf);
         let read = self.read_until(b'\n', &mut line);
-        append_line(buf, &line, read)
+        put_line(buf, line, read)
     }
 
     /// Turns this reader into an iterator over the pieces of its bytes, cut after each `delim` and

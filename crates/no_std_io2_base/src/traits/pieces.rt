@@ -1,6 +1,6 @@
 // The parts of which the calls that read pieces are made.
-ghost use Rattle.std.specs.Prelude.{◌≡◌, ◌≢◌, ◌<◌, ◌≤◌, ◌+◌, ◌++◌, false, All, length, take, slice_index, IfSome};
-ghost use Rattle.std.specs.Prelude.{IfNone, OnOk, OnErr, IfErr, IfOk, IsOk, IsUtf8, vec_len, vec_capacity};
+ghost use Rattle.std.specs.Prelude.{◌≡◌, ◌≢◌, ◌<◌, ◌≤◌, ◌+◌, ◌⊎◌, ℕ, [], false, length};
+ghost use Rattle.std.specs.Prelude.{OnOk, IfErr, IfOk, IsOk, IsUtf8};
 ghost use Rattle.std.specs.Prelude.{string_bytes, string_len, string_capacity};
 ghost use Rattle.std.specs.Bool.{OnTrue, OnFalse};
 ghost use Rattle.std.specs.List.{AllWithin};
@@ -9,6 +9,8 @@ ghost use Rattle.no_std_io2_base.specs.Errors.{IsFault};
 ghost use Rattle.no_std_io2_base.specs.Write.{IsFront};
 
 use crate::error::{Error, ErrorKind, Result};
+use std::alloc::Global;
+use std::mem;
 
 // The number of bytes that are compared in one step.
 const STEP: usize = 16;
@@ -89,14 +91,9 @@ pub(super) fn text_of(bytes: Vec<u8>) -> Result<String>
     }
 }
 
-/// Appends a line's bytes to a string if they are UTF-8, and returns the result of their read. For
-/// a reader with a `read_line` of its own.
-///
-/// # Errors
-/// Returns the read's error if the read failed, `InvalidData` if the bytes are not UTF-8, and
-/// `OutOfMemory` if the string could not grow. The string is unchanged if the bytes are not UTF-8,
-/// and after every `OutOfMemory`, also the read's.
-pub fn append_line(buf: &mut String, line: &[u8], read: Result<usize>) -> Result<usize>
+// Appends a line's bytes to a string if they are UTF-8, and returns the result of their read. The
+// string is unchanged if the bytes are not UTF-8, and after every `OutOfMemory`, also the read's.
+fn append_line(buf: &mut String, line: &[u8], read: Result<usize>) -> Result<usize>
     ensures answers { AnswersLine line.now read (string_len buf.old) (string_capacity buf.old) result
         (string_bytes buf.old) (string_bytes buf.new) }
     ensures appends { IsFront (string_bytes buf.old) (string_bytes buf.new) }
@@ -132,6 +129,54 @@ pub fn append_text(buf: &mut String, line: &[u8]) -> bool
     // There is room, so this does not allocate.
     let _ = buf.push_str(text);
     true
+}
+
+/// Returns an empty vector. It has the memory of the string if the string is empty, and else none. For a reader with a
+/// `read_line` of its own.
+#[inline(always)]
+pub fn take_memory(alloc: Global, buf: &mut String) -> Vec<u8>
+    ensures items { result.items ≡ [] }
+    ensures bytes { string_bytes buf.new ≡ string_bytes buf.old }
+    ensures len { string_len buf.new ≡ string_len buf.old }
+    ensures capacity { (string_bytes buf.old ≡ []) ⊎ (string_capacity buf.new ≡ string_capacity buf.old) }
+{
+    if buf.is_empty() {
+        return mem::replace(buf, String::new(alloc)).into_bytes();
+    }
+    Vec::new(alloc)
+}
+
+/// Appends a line's bytes to a string if they are UTF-8, and returns the result of their read. If the
+/// string is empty, the line becomes the string, without a copy and without an allocation. For a
+/// reader with a `read_line` of its own.
+///
+/// # Errors
+/// Returns the read's error if the read failed, `InvalidData` if the bytes are not UTF-8, and
+/// `OutOfMemory` if the string could not grow. The string is unchanged if the bytes are not UTF-8,
+/// and after every `OutOfMemory`, also the read's.
+pub fn put_line(buf: &mut String, line: Vec<u8>, read: Result<usize>) -> Result<usize>
+    ensures answers { (capacity : ℕ) → (string_bytes buf.old ≡ []) ⊎ (string_capacity buf.old ≡ capacity)
+        → AnswersLine line.items read (string_len buf.old) capacity result (string_bytes buf.old) (string_bytes buf.new) }
+    ensures appends { IsFront (string_bytes buf.old) (string_bytes buf.new) }
+    ensures read { IsOk result → result ≡ read }
+    ensures count { OnOk result (string_len buf.new ≡ string_len buf.old + length line.items) }
+    ensures fault { IfErr read IsFault → IfErr result IsFault }
+{
+    if let Err(e) = &read
+        && e.kind() == ErrorKind::OutOfMemory
+    {
+        return read;
+    }
+    if buf.len() > 0 {
+        return append_line(buf, &line, read);
+    }
+    match String::from_utf8(line) {
+        Ok(text) => {
+            *buf = text;
+            read
+        }
+        Err(refused) => append_line(buf, refused.as_bytes(), read),
+    }
 }
 
 // The error of bytes that are not UTF-8.

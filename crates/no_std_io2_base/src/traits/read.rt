@@ -6,7 +6,7 @@ ghost use Rattle.no_std_io2_base.specs.Take.{take_inner, take_limit, take_events
 
 use super::bytes::Bytes;
 use super::chain::Chain;
-use super::pieces::append_line;
+use super::pieces::{put_line, take_memory};
 use super::room::{LEAST_ROOM, open_room, reserve_room};
 use super::stored::Stored;
 use super::take::Take;
@@ -35,11 +35,6 @@ pub trait Read: Stored {
 
     // A number that no call raises. Each call that gives bytes or returns an error lowers it.
     ghost turns: { Self → ℕ };
-
-    // How many reads into a buffer that is not empty were made, and whether they are counted.
-    ghost cost: { Self → ℕ } = { λ _. 0 };
-
-    ghost is_metered: { Self → Type 0 } = { λ _. ⊥ };
 
     // Only bytes are to come, no errors, and each read gives as many of them as fit.
     ghost is_filling: { Self → Type 0 } = { λ _. ⊥ };
@@ -135,8 +130,8 @@ pub trait Read: Stored {
     }
 
     /// Appends all remaining bytes to the string `buf`, and returns their number. It ignores
-    /// interruptions. The bytes are first gathered in a vector from `alloc`. Follows
-    /// `std::io::Read::read_to_string`.
+    /// interruptions. If `buf` is empty, they are read into its own memory; if not, into a vector from
+    /// `alloc` first. Follows `std::io::Read::read_to_string`.
     ///
     /// # Errors
     /// Returns `InvalidData` if the bytes are not UTF-8; `buf` is unchanged, and the bytes are
@@ -155,9 +150,9 @@ pub trait Read: Stored {
         Self: Sized,
         ensures law { ReadToStringLaw ⟦<Self as Read>⟧ self.old buf.old result buf.new self.new }
     {
-        let mut text = Vec::new(alloc);
+        let mut text = take_memory(alloc, buf);
         let read = self.read_to_end(&mut text);
-        append_line(buf, &text, read)
+        put_line(buf, text, read)
     }
 
     /// Lends the reader itself, for an adaptor that would take it by value. Follows

@@ -112,8 +112,6 @@ impl<T: Read> Read for Take<T> {
 
     ghost turns = { λ t. T.turns (take_inner t) };
 
-    ghost cost = { λ t. T.cost (take_inner t) };
-
     ghost is_filling = { λ t. T.is_filling (take_inner t) };
 
     ghost may_take_none = { λ _. ⊥ };

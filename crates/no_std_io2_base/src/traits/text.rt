@@ -1,7 +1,8 @@
 // The printing of a text to a writer, piece by piece, for `write_fmt`.
 ghost use Rattle.std.specs.Prelude.{◌≡◌, ℕ, List, ◌++◌, Ok, IfSome, IsOk, OnOk, OnErr, Result};
 ghost use Rattle.no_std_io2_base.specs.declared.error.Error.{Error};
-ghost use Rattle.no_std_io2_base.specs.Text.{Prints, FailsText};
+ghost use Rattle.no_std_io2_base.specs.Text.{FailsText};
+ghost use Rattle.no_std_io2_base.specs.Writers.{PrintsOf, WriteAllOf};
 
 use super::write::Write;
 use crate::error::{Error, ErrorKind, Result};
@@ -61,16 +62,27 @@ struct Adapter<'a, W: Write, K: Began<W>> {
     began: PhantomData<K>,
     // Some text was printed so far, whatever the `fmt` does.
     ghost prints: { ∥ ((old : W) × (text : List ℕ) × (K.at old inner.ghost_name
-        × Prints W.told W.takes_all W.cost W.is_metered W.may old text met inner.now)) ∥₁ },
+        × PrintsOf W.Write old text met inner.now)) ∥₁ },
 }
 
 impl<W: Write, K: Began<W>> fmt::Write for Adapter<'_, W, K> {
     // The bytes were printed after what was printed before.
     ghost write_str_gives = { λ s bs t. (old : W) (text : List ℕ)
-        → K.at old s.inner.ghost_name × Prints W.told W.takes_all W.cost W.is_metered W.may old text s.met s.inner.now
-        → K.at old t.inner.ghost_name × Prints W.told W.takes_all W.cost W.is_metered W.may old (text ++ bs) t.met t.inner.now };
+        → K.at old s.inner.ghost_name × PrintsOf W.Write old text s.met s.inner.now
+        → K.at old t.inner.ghost_name × PrintsOf W.Write old (text ++ bs) t.met t.inner.now };
 
-    fn write_str(&mut self, s: &str) -> fmt::Result {
+    fn write_str(&mut self, s: &str) -> fmt::Result
+        ensures ok { IsOk result → ⟦<Self as fmt::Write>⟧.write_str_gives self.old s.now self.new }
+
+        // A piece is one `write_all`, and none comes after an error.
+        ensures piece { OnOk self.old.met
+            (WriteAllOf W.Write self.old.inner.now s.now self.new.met self.new.inner.now) }
+        ensures silent { OnErr self.old.met
+            ((self.new.inner.now ≡ self.old.inner.now) × (self.new.met ≡ self.old.met)) }
+
+        // The formatter does not see the writer's error, so an error of its own is that of the text.
+        ensures never_fails { IsOk result }
+    {
         if self.met.is_ok() {
             self.met = self.inner.write_all(s.as_bytes());
         }
@@ -85,7 +97,7 @@ pub(super) fn print_to<'a, W: Write, D: Display + Drop, K: Began<W>>(
 ) -> Printed<'a, W>
     requires began { K.at lent.inner.now lent.inner.ghost_name }
     ensures prints { ∥ ((old : W) × (shown : List ℕ) × (K.at old result.inner.ghost_name
-        × Prints W.told W.takes_all W.cost W.is_metered W.may old shown result.met result.inner.now)
+        × PrintsOf W.Write old shown result.met result.inner.now)
         × (IsOk result.formatted → IfSome (D.output text) (λ bs. shown ≡ bs))) ∥₁ }
 {
     let Lent { inner } = lent;

@@ -1,8 +1,7 @@
-ghost use Rattle.std.specs.Prelude.{◌≡◌, ℕ, ◌+◌, ◌≤◌, [], Some, Ok, OnOk, IfOk, IsOk, length};
-ghost use Rattle.no_std_io2_base.specs.Errors.{IsNoInterruption};
+ghost use Rattle.std.specs.Prelude.{◌≡◌, ◌+◌, [], Ok, OnOk, length};
 ghost use Rattle.no_std_io2_base.specs.Write.{WriteLaw, FlushLaw, WriteAllLaw, WriteRestLaw};
 ghost use Rattle.no_std_io2_base.specs.Text.{WriteFmtLaw};
-ghost use Rattle.no_std_io2_base.specs.Write.{Told, Moves, MovesFront, Sends, taken, write_mishap, call_mishap, calls_for, WriteCall};
+ghost use Rattle.no_std_io2_base.specs.Write.{Told, Sends, WriteCall};
 
 use super::text::{Answers, Lent, Printed, answer_of, print_to};
 use crate::error::{ErrorKind, Result, failed_to_write};
@@ -28,17 +27,13 @@ use std::marker::Brand;
 /// assert!(rt; device.as_slice() == b"hello world".as_slice());
 /// ```
 pub trait Write {
-    // What the writer tells: the bytes out and held, the mishaps to come, and the turns.
+    // What the writer tells: the bytes out and held, the mishaps to come, and the turns. A writer of
+    // one's own has to define only this.
     ghost told: { Self → Told };
 
-    // Whether the writer accepts every write whole from now on, and never fails. By default nothing
-    // is claimed.
+    // Whether the writer accepts every write whole from now on, and never fails, if it tells that no
+    // mishap is to come. By default it claims nothing.
     ghost takes_all: { Self → Type 0 } = { λ _. ⊥ };
-
-    // How many calls were counted, and whether calls are counted. By default they are not.
-    ghost cost: { Self → ℕ } = { λ _. 0 };
-
-    ghost is_metered: { Self → Type 0 } = { λ _. ⊥ };
 
     // What one call with its result may do to the writer. By default it may do anything.
     ghost may: { Self → WriteCall → Self → Type 0 } = { λ _ _ _. Unit {0} };
@@ -57,7 +52,7 @@ pub trait Write {
     /// assert!(rt; w.write(b"def")? == 1); // `ef` was not accepted
     /// ```
     fn write(&mut self, buf: &[u8]) -> Result<usize>
-        ensures law { WriteLaw told takes_all cost is_metered may self.old buf.now result self.new };
+        ensures law { WriteLaw told takes_all may self.old buf.now result self.new };
 
     /// Sends all held bytes to the device. After `Ok` nothing is held. After `Err` no accepted byte
     /// is lost: each is out or held. Follows `std::io::Write::flush`.
@@ -74,7 +69,7 @@ pub trait Write {
     /// assert!(rt; w.get_ref().as_slice() == b"abc".as_slice());
     /// ```
     fn flush(&mut self) -> Result<()>
-        ensures law { FlushLaw told takes_all cost is_metered may self.old result self.new };
+        ensures law { FlushLaw told takes_all may self.old result self.new };
 
     /// Writes the whole of `buf`, and ignores interruptions. An empty buffer makes no call. Follows
     /// `std::io::Write::write_all`.
@@ -92,7 +87,7 @@ pub trait Write {
     /// assert!(rt; w.write_all(b"e").is_err()); // no room: `WriteZero`
     /// ```
     fn write_all(&mut self, buf: &[u8]) -> Result<()>
-        ensures law { WriteAllLaw told takes_all cost is_metered may self.old buf.now result self.new }
+        ensures law { WriteAllLaw told takes_all may self.old buf.now result self.new }
     {
         let mut rest = buf;
         self.write_rest(&mut rest)
@@ -119,7 +114,7 @@ pub trait Write {
     /// }
     /// ```
     fn write_rest(&mut self, rest: &mut &[u8]) -> Result<()>
-        ensures law { WriteRestLaw told takes_all cost is_metered may self.old rest.old.now result self.new rest.new.now }
+        ensures law { WriteRestLaw told takes_all may self.old rest.old.now result self.new rest.new.now }
     {
         'writes: while !rest.is_empty() {
             match self.write(rest) {
@@ -151,7 +146,7 @@ pub trait Write {
     where
         Self: Sized,
         ErrorKind: Answers<E>,
-        ensures law { WriteFmtLaw told takes_all cost is_metered may self.old (D.output text)
+        ensures law { WriteFmtLaw told takes_all may self.old (D.output text)
             (⟦<ErrorKind as Answers<E>>⟧.seen result) self.new }
     {
         let Printed {
@@ -182,7 +177,4 @@ pub trait Write {
     {
         self
     }
-
-    // A writer that takes all has no mishap to come.
-    ghost steady: { (w : Self) → takes_all w → (told w).mishaps ≡ Some [] };
 }

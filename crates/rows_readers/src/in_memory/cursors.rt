@@ -2,7 +2,7 @@
 //
 // The columns after a call are its result, for a read the bytes that it gave, the content and the position; for a buffer the
 // state of each level.
-use super::scripts::new_text;
+use super::new_text;
 use super::vectors::Buffered;
 use crate::devices::Devices;
 use crate::streams::make_seeking_call;
@@ -134,6 +134,22 @@ impl<'a> Stream for OnLent<'a> {
     }
 }
 
+// A cursor on an array of two bytes. It has `place N` too.
+#[derive(Drop)]
+struct OnArray {
+    cursor: Cursor<[u8; 2]>,
+}
+
+impl Stream for OnArray {
+    fn play(&mut self, alloc: Global, call: &Call<'_>, line: &mut Line) {
+        match call.word {
+            "place" => self.cursor.set_position(place_of(call, line)),
+            _ => make_any_call(alloc, &mut self.cursor, call, line),
+        }
+        show(self.cursor.get_ref(), self.cursor.position(), line);
+    }
+}
+
 // A buffer of 4 bytes over a text. Besides the calls of a reader and a seeker it has `seek_relative N`, and `place N`, which
 // sets the position of the text below.
 #[derive(Drop)]
@@ -165,6 +181,12 @@ pub fn lend(name: &str, words: &str, player: &mut Player<'_, '_>) -> Made<()> {
         "BufWriter 8" => player.play(&mut Buffered {
             writer: BufWriter::new(Cursor::new(content)),
         }),
+        "[u8;2]" => match content.as_slice() {
+            [first, second] => player.play(&mut OnArray {
+                cursor: Cursor::new([*first, *second]),
+            }),
+            _ => Err(Fault::NoWord),
+        },
         _ => player.play(&mut OnLent {
             name,
             content,

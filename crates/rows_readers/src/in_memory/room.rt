@@ -1,9 +1,10 @@
 // How much room `read_to_end` and `read_until` make in a vector, and `read_line` in a string.
 //
-// A row says the capacity, how many bytes are in the vector, and how many are to come; a piece or a line is followed by 40
-// others. The columns after it are the result, the length and the capacity afterwards, and how many bytes are still to come.
-use super::scripts::push_bytes;
-use io_bench::{Feed, Tally};
+// A row says the capacity, how many bytes are in the vector, and how many are to come; a piece or a line that has some is followed
+// by 40 others. The columns after it are the result, the length and the capacity afterwards, and how many bytes are still to come.
+ghost use Rattle.std.specs.Prelude.{◌<◌, ◌^◌};
+
+use io_bench::{Event, Feed, Tally};
 use no_std_io2::io::{BufRead, BufReader, Cursor, Read};
 use rows_play::calls::Call;
 use rows_play::fault::Fault;
@@ -46,8 +47,8 @@ fn parse_trial<'a>(call: &Call<'a>, line: &mut Line) -> Trial<'a> {
 
 fn bytes_of(alloc: Global, trial: Trial<'_>, line: &mut Line) -> Vec<u8> {
     let (letters, behind) = match trial.word {
-        "read_to_end" => (trial.to_come, &BEHIND[..0]),
-        _ => (trial.to_come.saturating_sub(1), BEHIND),
+        "read_until" | "read_line" if trial.to_come > 0 => (trial.to_come - 1, BEHIND),
+        _ => (trial.to_come, &BEHIND[..0]),
     };
     let mut bytes = Vec::new(alloc);
     if bytes.resize(letters, b'a').is_err() || bytes.extend_from_slice(behind).is_err() {
@@ -131,10 +132,12 @@ fn read_lent<R: BufRead>(alloc: Global, trial: Trial<'_>, r: &mut R, line: &mut 
 // Reads from a feed, which has the trait's body.
 fn read_feed(alloc: Global, trial: Trial<'_>, bytes: &[u8], line: &mut Line) {
     let mut events = Vec::new(alloc);
-    match push_bytes(&mut events, bytes) {
-        Ok(()) => read_all(alloc, trial, &mut Feed::new(events, 100), line),
-        Err(_) => line.cut(),
+    'bytes: for byte in bytes {
+        if events.push(Event::Byte(*byte)).is_err() {
+            line.cut();
+        }
     }
+    read_all(alloc, trial, &mut Feed::new(events, 100), line);
 }
 
 fn read_box(
@@ -160,9 +163,18 @@ fn read_box(
     }
 }
 
-// Reads through a buffer of 4 bytes that is empty, or full.
-fn read_buffer(alloc: Global, trial: Trial<'_>, bytes: &[u8], is_full: bool, line: &mut Line) {
-    let mut reader = BufReader::<Cursor<&[u8]>, 4>::new(Cursor::new(bytes));
+// Reads through a buffer of S bytes that is empty, or full.
+fn read_buffer<const S: usize>(
+    alloc: Global,
+    trial: Trial<'_>,
+    bytes: &[u8],
+    is_full: bool,
+    line: &mut Line,
+)
+    requires some_room { 0 < S }
+    requires in_memory { S < 2 ^ 32 }
+{
+    let mut reader = BufReader::<Cursor<&[u8]>, S>::new(Cursor::new(bytes));
     if is_full && reader.fill_buf().is_err() {
         line.tell(Fault::NotReady);
     }
@@ -207,8 +219,9 @@ impl<'a> Room<'a> {
             "&mut Cursor" => read_lent(alloc, trial, &mut Cursor::new(bytes), line),
             "Feed" => read_feed(alloc, trial, bytes, line),
             "Tally" => read_all(alloc, trial, &mut Tally::new(Cursor::new(bytes)), line),
-            "BufReader 4" => read_buffer(alloc, trial, bytes, false, line),
-            "BufReader 4 full" => read_buffer(alloc, trial, bytes, true, line),
+            "BufReader 4" => read_buffer::<4>(alloc, trial, bytes, false, line),
+            "BufReader 4 full" => read_buffer::<4>(alloc, trial, bytes, true, line),
+            "BufReader 64 full" => read_buffer::<64>(alloc, trial, bytes, true, line),
             "Chain" => read_some(alloc, trial, &mut head.chain(tail), line),
             "Chain behind nothing" => {
                 read_some(alloc, trial, &mut b"".chain(Cursor::new(bytes)), line);

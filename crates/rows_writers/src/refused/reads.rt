@@ -1,7 +1,6 @@
 // `read_to_end` and `read_until` into a vector in a heap.
 //
-// A line `new` names the readers, which all have to give the same. A row is a call, the heap's size, the vector's capacity and
-// length, and how many bytes are to come; then the result, the vector's length, how many bytes of the heap are in use, and how
+// A row is a call, the heap's size, the vector's capacity and length, and how many bytes are to come; then the result, the vector's length, how many bytes of the heap are in use, and how
 // many bytes are left. A row `within` is a heap's size, a call and how many bytes are to come; then the smallest heap that has
 // room for all of it, which must not be larger. In each smaller heap the call fails, and the vector followed by what is left
 // is all that was to come.
@@ -199,53 +198,20 @@ fn try_form(trial: Trial, form: &str, line: &mut Line) -> Made<()> {
     Ok(())
 }
 
-// Returns the printed outcome of a reader of this form.
-fn play_form(trial: Trial, form: &str) -> Line {
-    let mut line = Line::new(trial.alloc);
-    if let Err(fault) = try_form(trial, form, &mut line) {
-        line.tell(fault);
-    }
-    line
-}
-
-// Appends another line.
-fn append(shown: &Line, line: &mut Line) {
-    line.word(shown.as_str());
-    if shown.is_cut() {
-        line.cut();
-    }
-    if shown.is_malformed() {
-        line.tell(Fault::Otherwise);
-    }
-}
-
-// Prints the outcome of a reader of the first form, and each other outcome that differs.
-fn play_forms(trial: Trial, forms: &str, line: &mut Line) {
-    let mut forms = forms.split(", ");
-    let first = play_form(trial, forms.next().unwrap_or(""));
-    append(&first, line);
-    'forms: for form in forms {
-        let shown = play_form(trial, form);
-        if shown.as_str() != first.as_str() {
-            line.word(", otherwise by a reader ");
-            line.word(form);
-            line.word(": ");
-            append(&shown, line);
-        }
-    }
-}
-
-/// The readers of these forms.
+/// The reader of a form.
 #[derive(Drop)]
 pub struct Reading<'a> {
-    pub forms: &'a str,
+    pub form: &'a str,
 }
 
 impl<'a> Stream for Reading<'a> {
     fn play(&mut self, alloc: Global, call: &Call<'_>, line: &mut Line) {
-        match Trial::parse(alloc, call) {
-            Ok(trial) => play_forms(trial, self.forms, line),
-            Err(fault) => line.tell(fault),
+        let played = match Trial::parse(alloc, call) {
+            Ok(trial) => try_form(trial, self.form, line),
+            Err(fault) => Err(fault),
+        };
+        if let Err(fault) = played {
+            line.tell(fault);
         }
     }
 }

@@ -1,7 +1,7 @@
 // Writers over a vector in a heap.
 //
 // A line `new` says the heap's size, the vector's capacity and its first bytes. A row is a call; then its result, the vector's
-// bytes, the held bytes or the position, and how many bytes of the heap are in use. Besides the calls of a writer there are
+// bytes, the held bytes, the position or the back half of a queue, and how many bytes of the heap are in use. Besides the calls of a writer there are
 // `fill`, which allocates all of the heap that is left, and `free`, which frees that.
 use super::heaps::{HeapVec, cut_number, vector_of};
 use crate::writing::make_any_call;
@@ -12,6 +12,7 @@ use rows_play::fault::{Fault, Made};
 use rows_play::line::Line;
 use rows_play::player::{Player, Stream};
 use std::alloc::{Allocator, Global};
+use std::collections::VecDeque;
 
 // A writer over a vector in a heap.
 trait HeapWriter: Write {
@@ -48,6 +49,13 @@ impl HeapWriter for BufWriter<HeapVec<'_>, 8> {
 impl HeapWriter for LineWriter<HeapVec<'_>, 8> {
     fn show(&self, line: &mut Line) {
         show_held(self.get_ref(), self.buffer(), line);
+    }
+}
+
+impl HeapWriter for VecDeque<u8, &LocalHeap> {
+    fn show(&self, line: &mut Line) {
+        let (front, back) = self.as_slices();
+        show_held(front, back, line);
     }
 }
 
@@ -150,6 +158,7 @@ fn lend_writer<'h>(
         "Vec" => play(vector, heap, player),
         "BufWriter 8 Vec" => play(BufWriter::<HeapVec<'h>, 8>::new(vector), heap, player),
         "LineWriter 8 Vec" => play(LineWriter::<HeapVec<'h>, 8>::new(vector), heap, player),
+        "Queue" => play(VecDeque::from_vec(vector), heap, player),
         "Cursor Vec" => play(Cursor::new(vector), heap, player),
         "Cursor &mut Vec" => {
             let mut vector = vector;

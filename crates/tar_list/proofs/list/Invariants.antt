@@ -1,8 +1,13 @@
--- Each member spends turns of the input.
-use Rattle.no_std_io2.specs.BufReader.{reader_turns}
-use Rattle.system_streams.specs.Patient.{patient_turns}
-use Rattle.tar_reader.specs.Archives.{archive_turns}
+-- Each member spends turns of the input, which tells as before.
+use Rattle.tar_reader.specs.Archives.{archive_inner, archive_turns}
 use Rattle.tar_list.proofs.list.Given as goal
 
+abbrev pub invariant-members : goal.invariant-members
+invariant-members g l =
+    let R = g.R.Read in
+    record {
+      told : R.tells (archive_inner l.initial.archive) → R.tells (archive_inner l.archive);
+    }
+
 abbrev pub decreases-members : goal.decreases-members
-decreases-members l = archive_turns (reader_turns (λ p. patient_turns p)) l.archive
+decreases-members g l = archive_turns g.R.Read.turns l.archive

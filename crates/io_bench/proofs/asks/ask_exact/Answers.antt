@@ -1,3 +1,6 @@
+use Rattle.no_std_io2.proofs.Readers.{reader}
+use Rattle.io_bench.specs.Tally.{tally_reads}
+use Rattle.io_bench.proofs.Meters.{tally_meters_reads}
 use Rattle.std.proofs.Common.{◌≡◌, ◌<◌, length, subst, sym, ◌∙◌}
 use Rattle.no_std_io2.specs.Errors.{error_kind}
 use Rattle.no_std_io2.specs.declared.io.ErrorKind.TheVariants.{UnexpectedEof}
@@ -15,8 +18,11 @@ returns-in-Ok g c =
       told = λ t. let filled = done.law.told t in (filled.0, (buf, same, filled.1));
       filling = λ f.
           let left = done.leaves.left f in
-          let filled = done.law.told (g.met.R.Read.filling_tells _ f).0 in
-          (left.0, exact_filled g.row.S _ buf same filled.1 left.2 (done.leaves.asks tt f).1 left.1);
+          let filled = done.law.told (g.met.R.Read.filling_tells _ f).0 in (
+            left.0,
+            exact_filled g.row.S _ buf same filled.1 left.2
+                (done.leaves.asks tally_reads (tally_meters_reads (reader g.R.Stored g.R.Read)) f) left.1,
+          );
       calls = (_, done.law.calls.made, (buf, same, done.law.calls.are));
     }
 
@@ -32,8 +38,11 @@ returns-in-UnexpectedEof g c =
           let left = failed.leaves.left f in
           let tells = g.met.R.Read.filling_tells _ f in
           let short = falls_short _ e _ (bytes_behind (reader_held c.args.r.now) _ _ tells.1) (failed.law.told tells.0).1 in
-          let few = subst (λ n. length (asked_events g.R.Read.events c.args.r.now) < n) c.read_exact.auto.buf short.1 in
-          (left.0, exact_short g.row.S _ few short.2 left.2 (failed.leaves.asks tt f).1 left.1);
+          let few = subst (λ n. length (asked_events g.R.Read.events c.args.r.now) < n) c.read_exact.auto.buf short.1 in (
+            left.0,
+            exact_short g.row.S _ few short.2 left.2
+                (failed.leaves.asks tally_reads (tally_meters_reads (reader g.R.Stored g.R.Read)) f) left.1,
+          );
       calls = (_, failed.law.calls.made, (_, e, c.read_exact.auto.buf, sym c.kind.ensures ∙ c.in-UnexpectedEof.is, failed.law.calls.are));
     }
 

@@ -4,6 +4,10 @@ use Rattle.std.proofs.lemmas.Result.{err_from_is_err_and}
 use Rattle.no_std_io2.specs.BufReader.{reader_held}
 use Rattle.no_std_io2.specs.Read.{Gave, gave}
 use Rattle.no_std_io2.proofs.BufReaderRoom.{some_room}
+use Rattle.no_std_io2.proofs.Readers.{reader}
+use Rattle.no_std_io2.proofs.MeterLemmas.{read_cost}
+use Rattle.io_bench.specs.Tally.{tally_reads}
+use Rattle.io_bench.proofs.Meters.{tally_meters_reads}
 use Rattle.io_bench.specs.Asks.{asked_reader}
 use Rattle.io_bench.proofs.AskLemmas.{read_asked}
 use Rattle.io_bench.proofs.asks.ask_read.Goals.{then-n-eq0, else-n-eq0}
@@ -41,11 +45,11 @@ returns g c =
       told = λ t. let told = read.law.told t in (told.0, (n, buf, same, omega (arith, read.law.bound, same), told.1, ends));
       filling = λ f.
           let told = read.law.told (g.met.R.Read.filling_tells _ f).0 in
-          let counted = read.asks tt in
+          let counted = read_cost _ tally_reads (tally_meters_reads (reader g.R.Stored g.R.Read)) r new _ _ read.law.call in
           let given = read.gives f in (
             given.0,
             read_asked g.row.S n (reader_held r) (reader_held new) buf (g.R.Read.events (asked_reader r)) (some_room r)
-                told.1 read.law.bound given.1 (λ h. (read.held h).2) (read.direct f) (read.filled f) counted.1 ends,
+                told.1 read.law.bound given.1 (λ h. (read.held h).2) (read.direct f) (read.filled f) counted ends,
           );
       calls = (
         Gave (length buf) (Ok (take n buf)) ∷ [],

@@ -5,4 +5,4 @@ use Rattle.io_bench.proofs.pins.tally_drains.Goals as goal
 pub returns : goal.returns
 returns g c =
     let counted = to_end_counts (reader g.T.Stored g.T.Read) c.read_to_end.result _ _ c.read_to_end.ensures.law.calls in
-    record { counts = counted.0; handed = counted.1.2.handed; writes = counted.1.2.writes }
+    record { counts = counted.0; writes = counted.1.2.writes }

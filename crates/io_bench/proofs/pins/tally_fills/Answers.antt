@@ -8,6 +8,5 @@ returns g c =
     let counted = exact_counts (reader g.T.Stored g.T.Read) c.read_exact.result _ _ c.read_exact.ensures.law.calls in
     record {
       counts = record { least = omega (arith, counted.least, c.read_exact.auto.buf); most = counted.most };
-      handed = counted.handed;
       writes = counted.writes;
     }

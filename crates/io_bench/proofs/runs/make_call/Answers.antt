@@ -5,11 +5,11 @@ use Rattle.io_bench.proofs.runs.make_call.Goals as goal
 
 pub returns-in-Err-write_all-clause-all : goal.returns-in-Err-write_all-clause-all
 returns-in-Err-write_all-clause-all g c =
-    λ t. absurd (Moves-steady (g.met.W.Write.steady _ t) c.in-Err-write_all.ensures.law.moves.moves)
+    λ t. absurd (Moves-steady t.1 c.in-Err-write_all.ensures.law.moves.moves)
 
 pub returns-in-Err-flush-clause-all : goal.returns-in-Err-flush-clause-all
 returns-in-Err-flush-clause-all g c =
-    λ t. absurd (Moves-steady (g.met.W.Write.steady _ t) c.in-Err-flush.ensures.law.moves)
+    λ t. absurd (Moves-steady t.1 c.in-Err-flush.ensures.law.moves)
 
 pub returns-in-Ok-clause-calls : goal.returns-in-Ok-clause-calls
 returns-in-Ok-clause-calls g c = rw c.in-Write.is (Wrote c.in-Write.x.now (Ok c.in-Ok.n) ∷ [], (_, c.in-Ok.ensures.law, refl), refl)

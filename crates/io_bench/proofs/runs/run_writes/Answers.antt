@@ -1,3 +1,4 @@
+use Rattle.no_std_io2.specs.Writers.{TakesAll}
 use Rattle.std.proofs.Common.{List, take, ◌≡◌, ◌<◌, ◌++◌, ◌∷◌, [], length, rules, arith, ap, ◌∙◌, sym, append-nil, append_assoc}
 use Rattle.io_bench.specs.declared.runs.Op.{Op}
 use Rattle.io_bench.specs.declared.runs.Reply.{Reply}
@@ -59,7 +60,7 @@ returns g c =
       failures = made (λ o r. IsShorterBy (failures o r) old.mishaps new.mishaps) (failures_told _ ran.0 _ _ spent);
       kinds = λ kind. made (λ o r. HasFewer kind (failures_of kind o r) old.mishaps new.mishaps) (fewer_of kind _ ran.0 _ _ spent);
       steady = λ none. made (λ o r. failures o r ≡ 0) (failures_none _ ran.0 _ spent none);
-      all = made (λ o r. g.W.Write.takes_all c.args.w.now → g.W.Write.takes_all c.calls.w × AreWhole o r) ran.4;
+      all = made (λ o r. TakesAll g.W.Write c.args.w.now → TakesAll g.W.Write c.calls.w × AreWhole o r) ran.4;
       kind = search rules;
       full = search rules;
       err = search rules;

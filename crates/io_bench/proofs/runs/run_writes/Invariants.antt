@@ -1,4 +1,5 @@
 -- The calls so far were a run, and there is room for the replies to the others.
+use Rattle.no_std_io2.specs.Writers.{TakesAll}
 use Rattle.std.proofs.Common.{◌≡◌, ◌+◌, ◌-◌, ◌≤◌, List, [], ◌++◌, length, take, vec_len}
 use Rattle.std.specs.Vec.{vec_capacity}
 use Rattle.io_bench.specs.declared.runs.Reply.{Reply}
@@ -12,7 +13,7 @@ invariant-calls g l =
     record {
       ran : (more : List Reply) × (l.replies.items ≡ l.fn.replies.items ++ more) × Ran (told l.fn.w) made more (told l.w)
           × (EndsFlushed made more → (told l.w).held ≡ [])
-          × (g.W.Write.takes_all l.fn.w → g.W.Write.takes_all l.w × AreWhole made more)
+          × (TakesAll g.W.Write l.fn.w → TakesAll g.W.Write l.w × AreWhole made more)
           × RunCalls g.W.Write l.fn.w made more l.w;
       room : vec_len l.replies + (length l.ops - l.op-index) ≤ vec_capacity l.replies;
     }

@@ -1,15 +1,14 @@
-use Rattle.std.proofs.Common.{◌++◌}
-use Rattle.line_log.specs.Log.{log_told, LineLaw}
-use Rattle.line_log.proofs.LogLemmas.{ends_line, some_line, logs_text}
+use Rattle.std.proofs.lemmas.Result.{err_from_is_err_and}
+use Rattle.line_log.proofs.TextLemmas.{text_refused, text_logged}
 use Rattle.line_log.proofs.LineLog.print_line.Goals as goal
 
-pub returns-clause-logs : goal.returns-clause-logs
-returns-clause-logs g c = logs_text (LineLaw _) c.resume.result c.in_ok-stage_text.ensures c.resume.ensures.calls c.resume.ensures.done
-    c.resume.ensures.none c.resume.ensures.err
+pub returns-in_err-check_printed : goal.returns-in_err-check_printed
+returns-in_err-check_printed g c =
+    let p = err_from_is_err_and c.from_residual.result c.from_residual.ensures.1 in
+    rw (p.1, p.2) (record { logs = text_refused g.W.Write _ c.print_text-printed.result _ _ c.print_text-printed.ensures c.in_err-check_printed.ensures })
 
-pub returns-clause-passed : goal.returns-clause-passed
-returns-clause-passed g c =
-    let old = log_told g.W.Write.told c.args.self.now in
-    let before = old.out ++ old.held in
-    let (text, is, whole, to_go, plain) = c.in_ok-stage_text.ensures in
-    c.resume.ensures.passed (before ++ text) (some_line text _ whole) (ends_line before text _ to_go)
+pub returns : goal.returns
+returns g c = record {
+  logs = text_logged g.W.Write _ c.print_text-printed.result c.log_bytes.result c.print_text-printed.ensures c.in_ok-check_printed.ensures c.as_slice.ensures
+      c.log_bytes.ensures.logs;
+}

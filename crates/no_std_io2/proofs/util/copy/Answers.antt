@@ -30,8 +30,7 @@ reads-preserved g c =
       same = before.same;
       all = before.all;
       turns = le_trans read.turns_never_rise before.turns;
-      metered = λ m. (read.counts (before.metered m)).0;
-      reads = λ _ _ f. absurd (read.fills (before.filling f)).1;
+      reads = λ _ _ _ f. absurd (read.fills (before.filling f)).1;
       filling = λ f. (read.fills (before.filling f)).0;
       store = λ s.
           let tells = g.met.R.Read.store_tells _ (before.store s).0 in
@@ -57,13 +56,12 @@ reads-preserved-in-Ok g c =
       same = λ z. absurd (search rules);
       all = λ t. wrote.all (before.all t);
       turns = le_trans read.turns_never_rise before.turns;
-      metered = λ m. (read.counts (before.metered m)).0;
-      reads = λ some m f.
-          let paid = (read.counts (before.metered m)).1 in
+      reads = λ cost meter some f.
           let gave = (read.fills (before.filling f)).1 in
           let tells = g.met.R.Read.filling_tells _ (before.filling f) in
           let fewer = read_length _ _ c.in-Ok.n c.read.new.buf read.bound (read.told tells.0).1.0 in
-          one_read g.row.S c.in-Ok.n _ _ some before.long gave (search rules) fewer paid (before.reads some m f);
+          one_read g.row.S c.in-Ok.n _ _ some before.long gave (search rules) fewer
+          (omega (arith, meter _ _ _ _ read.call, c.read.auto.buf)) (before.reads cost meter some f);
       filling = λ f. (read.fills (before.filling f)).0;
       store = λ s.
           let so_far = before.store s in

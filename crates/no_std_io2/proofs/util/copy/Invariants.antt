@@ -1,5 +1,7 @@
 -- `copy` ends with its reader's turns, and the writer accepted the bytes that the reader lost.
-use Rattle.std.proofs.Common.{◌≡◌, ◌≤◌, ◌<◌, ◌+◌, length, Ok, []}
+use Rattle.no_std_io2_base.specs.Writers.{TakesAll}
+use Rattle.no_std_io2_base.specs.ReadMeter.{IsReadMeter}
+use Rattle.std.proofs.Common.{ℕ, ◌≡◌, ◌≤◌, ◌<◌, ◌+◌, length, Ok, []}
 use Rattle.std.specs.Int.{div_ceil}
 use Rattle.no_std_io2_base.proofs.Readers.{reader}
 use Rattle.no_std_io2.specs.Copy.{HandsOn}
@@ -17,12 +19,11 @@ invariant-reads g l =
           l.copied (g.R.Read.events l.reader);
       hands : HandsOn (reader g.R.Stored g.R.Read) g.W.Write g.row.S [] l.initial.reader l.initial.writer (Ok tt) l.reader l.writer;
       same : g.row.S ≡ 0 → (l.writer ≡ l.initial.writer) × (l.copied ≡ 0);
-      all : g.W.Write.takes_all l.initial.writer → g.W.Write.takes_all l.writer;
+      all : TakesAll g.W.Write l.initial.writer → TakesAll g.W.Write l.writer;
       turns : g.R.Read.turns l.reader ≤ g.R.Read.turns l.initial.reader;
-      metered : g.R.Read.is_metered l.initial.reader → g.R.Read.is_metered l.reader;
-      reads : 0 < g.row.S → g.R.Read.is_metered l.initial.reader → g.R.Read.is_filling l.initial.reader
-          → g.R.Read.cost l.reader + div_ceil (length (g.R.Read.events l.reader)) g.row.S
-          ≡ g.R.Read.cost l.initial.reader + div_ceil (length (g.R.Read.events l.initial.reader)) g.row.S;
+      reads : (cost : g.row.R.Denot → ℕ) → IsReadMeter g.R.Read.may cost → 0 < g.row.S → g.R.Read.is_filling l.initial.reader
+          → cost l.reader + div_ceil (length (g.R.Read.events l.reader)) g.row.S
+          ≡ cost l.initial.reader + div_ceil (length (g.R.Read.events l.initial.reader)) g.row.S;
       filling : g.R.Read.is_filling l.initial.reader → g.R.Read.is_filling l.reader;
       store : g.R.Stored.has_store l.initial.reader → g.R.Stored.has_store l.reader
           × (g.R.Stored.content l.reader ≡ g.R.Stored.content l.initial.reader)

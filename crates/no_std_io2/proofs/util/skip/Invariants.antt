@@ -16,7 +16,6 @@ invariant-pieces g l =
       none : l.initial.left ≡ 0 → l.reader ≡ l.initial.reader;
       turns : R.turns l.reader ≤ R.turns l.initial.reader;
       turn : l.left < l.initial.left → R.turns l.reader < R.turns l.initial.reader;
-      metered : R.is_metered l.initial.reader → R.is_metered l.reader;
       filling : R.is_filling l.initial.reader → R.is_filling l.reader;
       store : S.has_store l.initial.reader → S.has_store l.reader
           × (S.content l.reader ≡ S.content l.initial.reader)

@@ -1,6 +1,6 @@
 // The `impl` of `BufRead` for `BufReader`.
-ghost use Rattle.std.specs.Prelude.{◌≡◌, ◌+◌, ◌-◌, ◌<◌, ◌≤◌, [], ◌++◌, min, length, take, drop, Some, IfOk, IfErr, IfSome, IfNone};
-ghost use Rattle.std.specs.Prelude.{ℕ, List, Result, IsOkAnd, OnOk, OnErr, vec_len, vec_capacity};
+ghost use Rattle.std.specs.Prelude.{◌≡◌, ◌+◌, ◌-◌, ◌<◌, ◌≤◌, [], ◌++◌, length, take, drop, Some, IfSome, IfNone};
+ghost use Rattle.std.specs.Prelude.{ℕ, List, Result, IsOk, OnOk, OnErr, vec_len};
 ghost use Rattle.std.specs.Prelude.{string_bytes, string_len, string_capacity};
 ghost use Rattle.no_std_io2.specs.Buffer.{IsSuffix};
 ghost use Rattle.std.specs.Borrow.{sem};
@@ -9,12 +9,12 @@ ghost use Rattle.no_std_io2_base.specs.declared.error.Error.{Error};
 ghost use Rattle.no_std_io2_base.specs.Pieces.{AnswersLine, EndsPiece, Follows};
 ghost use Rattle.no_std_io2.specs.contracts.buffered.buf_reader.BufReader.{the_row as reader-row};
 ghost use Rattle.no_std_io2.specs.BufReader.{reader_held, reader_behind, reader_inner, StaysSound};
-ghost use Rattle.no_std_io2.specs.BufReader.{reader_lent_length, TakesHeld, TakesHeldLine};
+ghost use Rattle.no_std_io2.specs.BufReader.{TakesHeld, TakesHeldLine, filled_length};
 
 use super::BufReader;
-use super::pieces::{find_piece, put_line, take_memory};
+use super::pieces::find_piece;
 use no_std_io2_base::error::Result;
-use no_std_io2_base::internal::{append, append_text};
+use no_std_io2_base::internal::{append, append_text, put_line, take_memory};
 use no_std_io2_base::traits::{BufRead, Read};
 use std::alloc::{Allocator, Global};
 
@@ -46,14 +46,6 @@ impl<R: Read, const S: usize> BufReader<R, S> {
 impl<R: Read, const S: usize> BufRead for BufReader<R, S> {
     ghost held = { reader_held };
 
-    ghost is_fill_metered = { λ r. R.is_metered (reader_inner r) };
-
-    ghost fills = { λ r. R.cost (reader_inner r) };
-
-    ghost knows_lent_length = { λ r. R.is_filling (reader_inner r) };
-
-    ghost lent_length = { reader_lent_length R.events };
-
     #[tactic(auto, using(crate::proofs::BufReaderSound::begins_held))]
     fn fill_buf(&mut self) -> Result<&[u8]>
         ensures law { FillBufLaw ⟦<Self as BufRead>⟧ self.old result }
@@ -62,6 +54,8 @@ impl<R: Read, const S: usize> BufRead for BufReader<R, S> {
         ensures* after_borrow { sem 𝓛 (Rests (reader-row R.row S.row) self.entry (λ new. record {
           law : AfterLoan ⟦<Self as BufRead>⟧ self.old result new;
           behind : reader_held self.old ≡ [] → reader_behind new ≡ [];
+          fills : R.is_filling (reader_inner self.old) → R.is_filling (reader_inner new)
+              × IsOk result × (length (reader_held new) ≡ filled_length S (length (reader_held self.old)) (length (R.events (reader_inner self.old))));
           sound : StaysSound R.has_store R.position R.content self.old new;
         })) }
     {

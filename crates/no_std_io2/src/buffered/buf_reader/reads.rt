@@ -1,9 +1,9 @@
 // The `impl` of `Read` for `BufReader`.
 ghost use Rattle.std.specs.Prelude.{◌≡◌, ◌+◌, ◌-◌, ◌<◌, ◌≤◌, [], ◌++◌, min, length, take, drop, IsOkAnd};
-ghost use Rattle.no_std_io2_base.specs.Read.{events_of, given, ReadLaw, ReadExactLaw, ReadToEndLaw};
-ghost use Rattle.no_std_io2_base.specs.BufRead.{IsNotEmpty, reads_needed};
+ghost use Rattle.no_std_io2_base.specs.Read.{given, ReadLaw, ReadExactLaw, ReadToEndLaw};
+ghost use Rattle.no_std_io2_base.specs.BufRead.{IsNotEmpty};
 ghost use Rattle.no_std_io2.specs.BufReader.{reader_held, reader_behind, reader_inner, reader_events, reader_turns};
-ghost use Rattle.no_std_io2.specs.BufReader.{reader_has_store, StaysSound, reader_position, behind_anew};
+ghost use Rattle.no_std_io2.specs.BufReader.{StaysSound, behind_anew};
 ghost use Rattle.no_std_io2.specs.BufReader.{held_or_to_come, EmptiesInto, FillsBuffer, LeavesExact};
 ghost use Rattle.no_std_io2.specs.BufReader.{ReaderMay, sound_tells, sound_fits};
 
@@ -61,8 +61,6 @@ impl<R: Read, const S: usize> Read for BufReader<R, S> {
 
     ghost turns = { reader_turns R.turns };
 
-    ghost cost = { λ r. R.cost (reader_inner r) };
-
     ghost may_take_none = { λ _. ⊥ };
 
     ghost may = { ReaderMay R.may };
@@ -78,10 +76,6 @@ impl<R: Read, const S: usize> Read for BufReader<R, S> {
             × (reader_held self.new ≡ drop (given result) (reader_held self.old))
             × (reader_inner self.new ≡ reader_inner self.old) }
 
-        // If none are, it makes one inner read, into the caller's buffer or into its own.
-        ensures asks { R.is_metered (reader_inner self.old) → R.is_metered (reader_inner self.new)
-            × (R.cost (reader_inner self.new)
-            ≡ R.cost (reader_inner self.old) + reads_needed (reader_held self.old)) }
         ensures gives { R.is_filling (reader_inner self.old) → R.is_filling (reader_inner self.new)
             × IsOkAnd result (λ n. n ≡ min (length buf.old) (held_or_to_come
             (length (reader_held self.old)) (length (R.events (reader_inner self.old))))) }

@@ -1,12 +1,12 @@
 // The `impl` of `Seek` for `BufReader`, and `seek_relative`.
-ghost use Rattle.std.specs.Prelude.{FitsSigned, SomeIff, ◌≡◌, ◌<◌, ◌^◌, ◌⊎◌, ◌-ℤ◌, pos, [], List, length, IfOk, IsOk, IsOkAnd, OnOk, OnErr};
+ghost use Rattle.std.specs.Prelude.{FitsSigned, SomeIff, ◌≡◌, ◌<◌, ◌^◌, ◌⊎◌, ◌-ℤ◌, pos, List, length, IfOk, IsOk, IsOkAnd, OnOk, OnErr};
 ghost use Rattle.std.specs.Int.{w64};
 ghost use Rattle.no_std_io2_base.specs.Seek.{Seeks, Sought, WithoutPosition, SeekLaw, StreamPositionLaw, RewindLaw, StreamLenLaw};
 ghost use Rattle.no_std_io2_base.specs.Read.{Event};
 ghost use Rattle.no_std_io2.specs.Buffer.{IsInBuffer, IsCutOn, MovesEvents};
 ghost use Rattle.no_std_io2.specs.BufReader.{reader_held, reader_behind, reader_inner, reader_events, reader_has_store};
 ghost use Rattle.no_std_io2.specs.BufReader.{reader_is_sound, reader_position, StaysSound, KeepsBuffer, HasNoBuffer, IsTooFarBack};
-ghost use Rattle.no_std_io2.specs.BufReader.{ReaderSeeks, ReaderMaySeek, at_start, back_by, led_to, sound_fits};
+ghost use Rattle.no_std_io2.specs.BufReader.{ReaderSeeks, ReaderMaySeek, back_by, led_to, sound_fits};
 
 use super::BufReader;
 use no_std_io2_base::error::Result;

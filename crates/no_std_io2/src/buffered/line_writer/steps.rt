@@ -3,7 +3,7 @@ ghost use Rattle.std.specs.Bool.{OnTrue, OnFalse};
 ghost use Rattle.std.specs.Prelude.{◌≡◌, ◌≢◌, ◌+◌, ◌-◌, ◌<◌, ◌≤◌, length, slice_index, slice_range};
 ghost use Rattle.no_std_io2.specs.Lines.{IsLineState, HasNoNewline, IsLinesLen, held_tail};
 ghost use Rattle.no_std_io2.specs.LineWriter.{SendLineCalls, SendLinesCalls, LineWriteCalls, LineWriteAllCalls};
-ghost use Rattle.no_std_io2.specs.BufWriter.{sender_inner, sender_buffer, Takes};
+ghost use Rattle.no_std_io2.specs.BufWriter.{sender_inner, sender_buffer, TakesStep};
 
 use crate::buffered::sender::Sender;
 use memchr::memrchr;
@@ -55,7 +55,7 @@ fn ends_in_newline(bytes: &[u8]) -> bool
 // Sends the held bytes if they end in a newline.
 fn send_line<W: Write + Drop, const S: usize>(w: &mut Sender<W, S>) -> Result<()>
     requires { IsLineState (sender_buffer w.old) }
-    ensures { Takes W.Write sender_inner sender_buffer SendLineCalls w.old result w.new }
+    ensures { TakesStep W.Write sender_inner sender_buffer SendLineCalls w.old result w.new }
 {
     if ends_in_newline(w.buffer()) {
         return w.send();
@@ -71,7 +71,7 @@ fn write_lines<W: Write + Drop, const S: usize>(
 ) -> Result<usize>
     requires some { 0 < len }
     requires lines { IsLinesLen x.now len }
-    ensures { Takes W.Write sender_inner sender_buffer (LineWriteCalls S x.now) w.old result w.new }
+    ensures { TakesStep W.Write sender_inner sender_buffer (LineWriteCalls S x.now) w.old result w.new }
 {
     w.send()?;
     let n = w.inner.write(&x[..len])?;
@@ -90,7 +90,7 @@ pub(super) fn write<W: Write + Drop, const S: usize>(
     x: &[u8],
 ) -> Result<usize>
     requires { IsLineState (sender_buffer w.old) }
-    ensures { Takes W.Write sender_inner sender_buffer (LineWriteCalls S x.now) w.old result w.new }
+    ensures { TakesStep W.Write sender_inner sender_buffer (LineWriteCalls S x.now) w.old result w.new }
 {
     let len = lines_len(x);
     if len > 0 {
@@ -103,7 +103,7 @@ pub(super) fn write<W: Write + Drop, const S: usize>(
 // Writes all of x, which consists of lines: straight to the inner writer if nothing is held. If not, x goes through
 // the buffer, which is then sent.
 fn send_lines<W: Write + Drop, const S: usize>(w: &mut Sender<W, S>, x: &[u8]) -> Result<()>
-    ensures { Takes W.Write sender_inner sender_buffer (SendLinesCalls S x.now) w.old result w.new }
+    ensures { TakesStep W.Write sender_inner sender_buffer (SendLinesCalls S x.now) w.old result w.new }
 {
     if w.buffer().is_empty() {
         return w.inner.write_all(x);
@@ -120,7 +120,7 @@ fn write_all_lines<W: Write + Drop, const S: usize>(
 ) -> Result<()>
     requires some { 0 < len }
     requires lines { IsLinesLen x.now len }
-    ensures { Takes W.Write sender_inner sender_buffer (LineWriteAllCalls S x.now) w.old result w.new }
+    ensures { TakesStep W.Write sender_inner sender_buffer (LineWriteAllCalls S x.now) w.old result w.new }
 {
     send_lines(w, &x[..len])?;
     w.write_all(&x[len..])
@@ -133,7 +133,7 @@ pub(super) fn write_all<W: Write + Drop, const S: usize>(
     x: &[u8],
 ) -> Result<()>
     requires { IsLineState (sender_buffer w.old) }
-    ensures { Takes W.Write sender_inner sender_buffer (LineWriteAllCalls S x.now) w.old result w.new }
+    ensures { TakesStep W.Write sender_inner sender_buffer (LineWriteAllCalls S x.now) w.old result w.new }
 {
     let len = lines_len(x);
     if len > 0 {

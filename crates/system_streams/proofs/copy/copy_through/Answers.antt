@@ -1,7 +1,8 @@
 use Rattle.std.proofs.Common.{ap, ◌∙◌, sym, subst, true, false}
 use Rattle.no_std_io2.specs.BufWriter.{writer_inner, writer_buffer}
 use Rattle.no_std_io2.specs.LineWriter.{line_inner, line_buffer}
-use Rattle.system_streams.proofs.CopyLemmas.{passes_off, none_held, comes_apart, no_failure, handed_through}
+use Rattle.system_streams.proofs.CopyLemmas.{passes_off, none_held, comes_apart, handed_through}
+use Rattle.no_std_io2.proofs.FaultLemmas.{no_failure}
 use Rattle.system_streams.proofs.copy.copy_through.Goals as goal
 
 pub returns-in_err-count-clause-steady : goal.returns-in_err-count-clause-steady

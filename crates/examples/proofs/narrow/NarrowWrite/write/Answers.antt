@@ -8,7 +8,6 @@ returns c = record {
     bound = search rules;
     moves = record { front = search rules; bytes = search rules; mishaps = search rules; turns = search rules };
     all = search rules;
-    counts = search rules;
     call = search rules;
   };
 }

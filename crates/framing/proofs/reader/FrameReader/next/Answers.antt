@@ -1,43 +1,40 @@
-use Rattle.std.proofs.Common.{length, ap, arith}
-use Rattle.std.proofs.lemmas.Result.{err_from_is_err_and}
-use Rattle.framing.specs.Part.{most, part_bytes, part_payload}
-use Rattle.framing.proofs.FrameLemmas.{none_lost, end_taken, frame_taken}
+use Rattle.std.proofs.Common.{length, Some, Ok, sym, subst}
+use Rattle.framing.specs.Taking.{same, frame_events}
+use Rattle.framing.proofs.TakingLemmas.{kept_bytes}
+use Rattle.framing.proofs.BackLemmas.{gives_back, went_out}
 use Rattle.framing.proofs.reader.FrameReader.next.Goals as goal
 
-pub returns-in_err-gather_frame-clause-told : goal.returns-in_err-gather_frame-clause-told
-returns-in_err-gather_frame-clause-told g c = λ t.
-    let p = err_from_is_err_and c.from_residual.result c.from_residual.ensures.1 in
-    let said = c.in_err-gather_frame.ensures.told t in
-    (said.0, rw (p.1, p.2) said.1)
-
-pub returns-in_err-gather_frame-clause-unasked : goal.returns-in_err-gather_frame-clause-unasked
-returns-in_err-gather_frame-clause-unasked g c =
-    let p = err_from_is_err_and c.from_residual.result c.from_residual.ensures.1 in
-    rw p.1 c.in_err-gather_frame.ensures.unasked
-
-pub returns-in_err-gather_frame-clause-kept : goal.returns-in_err-gather_frame-clause-kept
-returns-in_err-gather_frame-clause-kept g c = λ t.
-    let p = err_from_is_err_and c.from_residual.result c.from_residual.ensures.1 in
-    let said = c.in_err-gather_frame.ensures.told t in
-    rw p.1 (none_lost _ (most c.args.self.now) _ _ _ said.1)
-
-pub returns-then-not-branch-clause-told : goal.returns-then-not-branch-clause-told
-returns-then-not-branch-clause-told g c = λ t.
-    let said = (rw c.if-not-branch.true at c.in_ok-gather_frame.ensures.told) t in
-    (said.0, end_taken _ _ (part_bytes c.gather_frame.new.self.part) said.1)
-
-pub returns-clause-told : goal.returns-clause-told
-returns-clause-told g c = λ t.
-    let said = (rw c.if-not-branch.false at c.in_ok-gather_frame.ensures.told) t in (
-      said.0,
-      frame_taken (most c.args.self.now) _ _ (part_payload c.gather_frame.new.self.part) c.take_payload.result.items
-          (part_bytes c.take_payload.new.self) said.1 c.take_payload.ensures.payload c.take_payload.ensures.empty,
+pub returns-in-Some-clause-told : goal.returns-in-Some-clause-told
+returns-in-Some-clause-told g c = λ t.
+    let gave = c.in-Some.ensures in (
+      subst g.R.Read.tells (sym gave.inner) t,
+      (frame_events g.R.Read.events c.args.self.now c.args.room.now, same, gave.events),
     )
 
-pub returns-clause-spends_turn : goal.returns-clause-spends_turn
-returns-clause-spends_turn g c =
-    omega (arith, ap length c.take_payload.ensures.empty, c.in_ok-gather_frame.ensures.spends_turn c.if-not-branch.false)
+pub returns-in-Some-clause-back : goal.returns-in-Some-clause-back
+returns-in-Some-clause-back g c = λ sent. λ t. λ is. λ small.
+    gives_back (length c.args.room.now) sent (Ok (Some c.in-Some.len)) c.give_held.new.room _ (returns-in-Some-clause-told g c t).1 is small
 
-pub returns-clause-within : goal.returns-clause-within
-returns-clause-within g c =
-    omega (arith, ap length c.take_payload.ensures.payload, c.in_ok-gather_frame.ensures.within c.if-not-branch.false)
+pub returns-in-Some-clause-round : goal.returns-in-Some-clause-round
+returns-in-Some-clause-round g c = λ old. λ new. λ sent. λ went. λ t. λ small.
+    returns-in-Some-clause-back g c sent t (went_out sent _ went) small
+
+pub returns-clause-kept : goal.returns-clause-kept
+returns-clause-kept g c = λ t.
+    let none = c.in_default.ensures.none in
+    let takes = (rw (none.0, none.1) at c.take_next.ensures.told) t in
+    kept_bytes _ c.take_next.result c.take_next.new.room _ takes.1
+
+pub returns-clause-back : goal.returns-clause-back
+returns-clause-back g c = λ sent. λ t. λ is. λ small.
+    let none = c.in_default.ensures.none in
+    let takes = (rw (none.0, none.1) at c.take_next.ensures.told) t in
+    gives_back (length c.args.room.now) sent c.take_next.result c.take_next.new.room _ takes.1 is small
+
+pub returns-clause-round : goal.returns-clause-round
+returns-clause-round g c = λ old. λ new. λ sent. λ went. λ t. λ small. returns-clause-back g c sent t (went_out sent _ went) small
+
+pub returns-clause-unread : goal.returns-clause-unread
+returns-clause-unread g c =
+    let none = c.in_default.ensures.none in
+    rw (none.0, none.1) at c.take_next.ensures.unread

@@ -1,10 +1,10 @@
 use Rattle.std.proofs.lemmas.Grind.{common_steps}
 use Rattle.std.proofs.Common.{arith}
-use Rattle.io_bench.proofs.ActLemmas.{moves_past, moves_spent, moves_zero, moves_through, taken_of_front, behind, behind_take}
+use Rattle.io_bench.proofs.ActLemmas.{faulty_steady, moves_past, moves_spent, moves_zero, moves_through, taken_of_front, behind, behind_take}
 use Rattle.io_bench.proofs.faulty.FaultyWrite.write.Goals as goal
 
 pub returns-in-None : goal.returns-in-None
-returns-in-None g c = grind (arith, common_steps, moves_past, behind)
+returns-in-None g c = grind (arith, common_steps, moves_past, behind, faulty_steady)
 
 pub returns-in-Some-Fail : goal.returns-in-Some-Fail
 returns-in-Some-Fail g c = grind (arith, common_steps, moves_spent, behind)

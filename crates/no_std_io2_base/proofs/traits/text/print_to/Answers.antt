@@ -1,5 +1,6 @@
 use Rattle.std.proofs.Common.{[]}
-use Rattle.no_std_io2_base.specs.Text.{Prints, nothing}
+use Rattle.no_std_io2_base.specs.Text.{nothing}
+use Rattle.no_std_io2_base.specs.Writers.{PrintsOf}
 use Rattle.no_std_io2_base.proofs.TextLemmas.{prints_shown}
 use Rattle.no_std_io2_base.proofs.traits.text.print_to.Goals as goal
 
@@ -11,7 +12,7 @@ returns g c =
     let W = g.W.Write in
     record {
       prints = prints_shown (λ old text s. g.K.Began.at old s.inner.ghost_name
-          × Prints W.told W.takes_all W.cost W.is_metered W.may old text s.met s.inner.now) _ _ _ _
+          × PrintsOf W old text s.met s.inner.now) _ _ _ _
           c.new-f.ensures.writer c.new-f.ensures.plain c.into_inner-inner.ensures c.write-formatted.ensures.writes
           (c.requires.began, nothing) c.into_inner-inner.result.prints;
     }

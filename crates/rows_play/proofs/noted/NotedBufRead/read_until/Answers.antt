@@ -15,7 +15,6 @@ returns g c =
         never_interrupted = read.never_interrupted;
         turns_never_rise = read.turns_never_rise;
         spends_turn = read.spends_turn;
-        metered = read.metered;
         filling = read.filling;
         store = read.store;
         calls = piece_map (λ v. record c.args.self.now { inner = v }) (λ a b call made. tt) read.calls;

@@ -13,7 +13,6 @@ returns g c =
         empty = λ none. let done = read.empty none in (done.0, ap (λ i. record c.args.self.now { inner = i }) done.1);
         turns_never_rise = read.turns_never_rise;
         spends_turn = read.spends_turn;
-        metered = read.metered;
         filling = read.filling;
         store = read.store;
         calls = exact_own tt;

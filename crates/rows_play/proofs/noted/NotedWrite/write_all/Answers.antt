@@ -10,7 +10,6 @@ returns g c =
         never_interrupted = wrote.never_interrupted;
         moves = wrote.moves;
         all = wrote.all;
-        counts = wrote.counts;
-        calls = all_own _ _ _ (tt, wrote.never_interrupted, wrote.moves, wrote.all, wrote.counts);
+        calls = all_own _ _ _ (tt, wrote.never_interrupted, wrote.moves, wrote.all);
       };
     }

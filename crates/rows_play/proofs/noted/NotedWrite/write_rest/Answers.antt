@@ -11,7 +11,6 @@ returns g c =
         sends = wrote.sends;
         done = wrote.done;
         all = λ a. let all = wrote.all a in (all.0, all.1);
-        counts = wrote.counts;
-        calls = rest_own _ _ _ _ (tt, wrote.never_interrupted, wrote.sends, wrote.done, (λ a. (wrote.all a).0), wrote.counts);
+        calls = rest_own _ _ _ _ (tt, wrote.never_interrupted, wrote.sends, wrote.done, (λ a. (wrote.all a).0));
       };
     }

@@ -13,10 +13,10 @@ returns-in-Ok-eq0-clause-law g c =
       told = λ t. absurd t;
       turns_never_rise = search rules;
       spends_turn = search rules;
-      counts = λ m. absurd m;
       fills = λ f. absurd f;
       store = λ s. absurd s;
-      call = asks_device g.D.SystemRead (Ok 0) some more c.ask_read.ensures.may (search rules) (search rules) (search rules);
+      call = asks_device g.D.SystemRead (Ok 0) some more c.ask_read.ensures.may (search rules) (search rules) (search rules)
+          (search rules);
     }
 
 pub returns-in-Ok-clause-law : goal.returns-in-Ok-clause-law
@@ -28,10 +28,10 @@ returns-in-Ok-clause-law g c =
       told = λ t. absurd t;
       turns_never_rise = search rules;
       spends_turn = search rules;
-      counts = λ m. absurd m;
       fills = λ f. absurd f;
       store = λ s. absurd s;
-      call = asks_device g.D.SystemRead (Ok c.in-Ok.n) some more c.ask_read.ensures.may (search rules) (search rules) (search rules);
+      call = asks_device g.D.SystemRead (Ok c.in-Ok.n) some more c.ask_read.ensures.may (search rules) (search rules) (search rules)
+          (search rules);
     }
 
 pub returns-in-Err-clause-law : goal.returns-in-Err-clause-law
@@ -43,8 +43,8 @@ returns-in-Err-clause-law g c =
       told = λ t. absurd t;
       turns_never_rise = search rules;
       spends_turn = search rules;
-      counts = λ m. absurd m;
       fills = λ f. absurd f;
       store = λ s. absurd s;
-      call = asks_device g.D.SystemRead (Err c.device_error.result) some more c.ask_read.ensures.may (search rules) (search rules) (search rules);
+      call = asks_device g.D.SystemRead (Err c.device_error.result) some more c.ask_read.ensures.may (search rules) (search rules) (search rules)
+          (search rules);
     }

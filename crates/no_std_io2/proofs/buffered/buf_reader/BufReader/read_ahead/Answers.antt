@@ -26,7 +26,6 @@ returns g c =
       end = λ t. fill_end c.fill.result old held _ _ none (read.told t).1;
       no_later = turns_read g.row.S _ (length held) read.bound read.turns_never_rise read.spends_turn;
       turn = fill_turn c.fill.result g.row.S (length old) (length held) _ _ read.bound read.fault_turn;
-      asks = read.cost;
       fills = read.fills;
       call = read.call;
       store = λ s.

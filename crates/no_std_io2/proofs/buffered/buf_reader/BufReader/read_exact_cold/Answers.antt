@@ -8,6 +8,7 @@ use Rattle.no_std_io2_base.proofs.Readers.{reader}
 use Rattle.no_std_io2.specs.Buffer.{buffer_held}
 use Rattle.no_std_io2.proofs.BufReaderBehind.{given}
 use Rattle.no_std_io2.proofs.BufReaderRoom.{same_buffer}
+use Rattle.no_std_io2.proofs.MeterLemmas.{read_cost}
 use Rattle.no_std_io2.specs.BufReader.{reader_held, reader_behind, reader_inner, reader_events}
 use Rattle.no_std_io2.proofs.BufReaderExact.{exact_begins, exact_first, exact_read as exact_reads, exact_end as exact_ends}
 use Rattle.no_std_io2.proofs.BufReaderExact.{exact_short, exact_left-end}
@@ -38,7 +39,6 @@ reads-init g c =
         told = λ t. (t, taken_first got gave.told (omega (arith, length-take-le n c.give-at.new.buf most)));
         kept = record {
           turns = omega (arith, gave.turns);
-          metered = λ m. m;
           filling = λ f. f;
           store = λ s. let now = gave.store s in (now.0, refl, omega (arith, now.1, all, left, before, after));
         };
@@ -50,7 +50,7 @@ reads-init g c =
       behind = λ more. absurd (omega (arith, more, all));
       sound = gave.sound;
       filling = λ f. (f, exact_begins all left (omega (arith, all, left, before)), λ more. absurd (omega (arith, more, all)));
-      cost = λ m f. (m, omega arith);
+      cost = λ cost meter f. omega arith;
     }
 
 pub reads-preserved-in-Ok : goal.reads-preserved-in-Ok
@@ -88,16 +88,16 @@ reads-preserved-in-Ok g c =
             λ more. read_behind g.row.S (length c.args.buf.now) _ at n _ c.read.new.buf (reader_behind new) (read.behind_anew none)
                 (omega (arith, read.law.bound)) first (omega arith),
           );
-      cost = λ m f.
-          let before = c.reads.invariant.cost m f in
+      cost = λ cost meter f.
+          let before = c.reads.invariant.cost cost meter f in
           let so_far = c.reads.invariant.filling f in
-          let now = read.asks before.0 in
+          let now = read_cost g.R.Read.may cost meter c.reads.self new _ _ read.law.call in
           let gives = read.gives so_far.0 in
           let first = exact_first _ _ _ _ _ _ _ n so_far.1 (omega arith) (omega (arith, gives.1, to_come)) (omega arith) (omega (
             arith,
             c.requires,
           )) in
-          (now.0, omega (arith, before.1, now.1, first, zero));
+          omega (arith, before, now, first, zero);
     }
 
 pub reads-preserved : goal.reads-preserved
@@ -115,7 +115,7 @@ reads-preserved g c =
           (IsSuffix-none _ _ empty, omega (arith, ap length empty));
       sound = λ h. read.sound (c.reads.invariant.sound h);
       filling = λ f. absurd (read.gives (c.reads.invariant.filling f).0).1;
-      cost = λ m f. absurd (read.gives (c.reads.invariant.filling f).0).1;
+      cost = λ cost meter f. absurd (read.gives (c.reads.invariant.filling f).0).1;
     }
 
 pub returns-in-Err-2 : goal.returns-in-Err-2
@@ -135,7 +135,7 @@ returns-in-Err-2 g c =
               (omega arith),
         );
         sound = λ h. read.sound (c.reads.invariant.sound h);
-        asks = λ m f. absurd (read.gives (c.reads.invariant.filling f).0).1;
+        asks = λ cost meter f. absurd (read.gives (c.reads.invariant.filling f).0).1;
         left = λ f. absurd (read.gives (c.reads.invariant.filling f).0).1;
         behind_length = λ f past. tt;
       };
@@ -163,13 +163,13 @@ returns-in-Ok-eq0 g c =
           none_behind g.row.S _ c.in-Ok-eq0.field-0 c.read.new.buf (reader_behind c.read.new.self) (read.behind_anew none) zero,
         );
         sound = λ h. read.sound (c.reads.invariant.sound h);
-        asks = λ m f.
-            let before = c.reads.invariant.cost m f in
+        asks = λ cost meter f.
+            let before = c.reads.invariant.cost cost meter f in
             let so_far = c.reads.invariant.filling f in
-            let now = read.asks before.0 in
+            let now = read_cost g.R.Read.may cost meter c.reads.self c.read.new.self _ _ read.law.call in
             let gives = read.gives so_far.0 in
             let short = exact_short so_far.1 (omega arith) (omega (arith, gives.1, to_come, zero)) (omega (arith, c.requires)) in
-            (now.0, omega (arith, before.1, now.1, short, empty));
+            omega (arith, before, now, short, empty);
         left = λ f.
             let so_far = c.reads.invariant.filling f in
             let gives = read.gives so_far.0 in
@@ -198,9 +198,8 @@ returns g c =
         behind = λ past. rw whole at all.behind (omega (arith, full, c.requires));
         failed = tt;
         sound = all.sound;
-        asks = λ m f.
-            let now = all.cost m f in
-            (now.0, omega (arith, now.1, exact_ends (all.filling f).1 (omega arith) (omega (arith, c.requires))));
+        asks = λ cost meter f.
+            omega (arith, all.cost cost meter f, exact_ends (all.filling f).1 (omega arith) (omega (arith, c.requires)));
         left = λ f.
             let now = all.filling f in
             let to_come = length-events (reader_held c.reads.self) (g.R.Read.events (reader_inner c.reads.self)) in

@@ -1,5 +1,6 @@
 -- An exact read ends with its reader's turns, and what it filled is what it took.
-use Rattle.std.proofs.Common.{◌≡◌, ◌<◌, ◌+◌, ◌-◌, length, take, min}
+use Rattle.no_std_io2_base.specs.ReadMeter.{IsReadMeter}
+use Rattle.std.proofs.Common.{ℕ, ◌≡◌, ◌<◌, ◌+◌, ◌-◌, length, take, min}
 use Rattle.no_std_io2_base.proofs.ReadExactLoop.{ExactSoFar}
 use Rattle.no_std_io2.specs.BufReader.{reader_held, reader_behind, reader_inner, reader_events, reader_turns}
 use Rattle.no_std_io2.specs.BufReader.{StaysSound}
@@ -22,9 +23,8 @@ invariant-reads g l =
           (length (g.R.Read.events (reader_inner l.self)))
           × (length (reader_held l.fn.self) < l.at → length (reader_behind l.self)
           ≡ behind_so_far g.row.S (length l.fn.buf) (length (reader_held l.fn.self)) l.at);
-      cost : g.R.Read.is_metered (reader_inner l.fn.self) → g.R.Read.is_filling (reader_inner l.fn.self)
-          → g.R.Read.is_metered (reader_inner l.self)
-          × (g.R.Read.cost (reader_inner l.self) ≡ g.R.Read.cost (reader_inner l.fn.self) + min 1 (l.at - length (reader_held l.fn.self)));
+      cost : (cost : g.row.R.Denot → ℕ) → IsReadMeter g.R.Read.may cost → g.R.Read.is_filling (reader_inner l.fn.self)
+          → cost (reader_inner l.self) ≡ cost (reader_inner l.fn.self) + min 1 (l.at - length (reader_held l.fn.self));
     }
 
 abbrev pub decreases-reads : goal.decreases-reads

@@ -5,7 +5,6 @@ use Rattle.no_std_io2.proofs.buffered.buf_writer.BufWriterWrite.flush.Goals as g
 pub returns : goal.returns
 returns g c =
     let I = g.W.Write in
-    let steady = g.met.W.Write.steady in
     let a = writer_inner c.args.self.now in
     let b = sender_inner c.flush.new.self in
     let calls = c.flush.ensures in
@@ -13,9 +12,8 @@ returns g c =
       law = record {
         empty = flush_empty I calls.2 a b calls.1;
         moves = flush_tells I _ _ _ _ calls.2 a b calls.1;
-        all = λ t. (flush_counts I steady _ _ _ _ calls.2 a b calls.1 t).0;
-        counts = λ no. absurd no;
+        all = λ t. (flush_counts I _ _ _ _ calls.2 a b calls.1 t).0;
         call = calls;
       };
-      buffer = flushes_of I steady writer_inner writer_buffer g.row.S calls;
+      buffer = flushes_of I writer_inner writer_buffer g.row.S calls;
     }

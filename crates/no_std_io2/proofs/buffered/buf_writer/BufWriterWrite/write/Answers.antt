@@ -15,8 +15,7 @@ returns g c =
         bound = write_bound I S calls.2 a b calls.1;
         moves = write_tells I S x _ _ _ _ calls.2 a b calls.1;
         all = λ t. ((write_counts I S x _ _ _ _ calls.2 a b calls.1 t).0, write_takes I S calls.2 a b calls.1 t);
-        counts = λ no. absurd no;
         call = calls;
       };
-      buffer = buffers_of I g.met.W.Write.steady writer_inner writer_buffer S calls;
+      buffer = buffers_of I writer_inner writer_buffer S calls;
     }

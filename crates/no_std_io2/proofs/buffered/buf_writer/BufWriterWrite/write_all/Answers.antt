@@ -1,3 +1,4 @@
+use Rattle.no_std_io2_base.specs.Writers.{TakesAll}
 use Rattle.no_std_io2.specs.BufWriter.{sender_inner, writer_inner, writer_buffer}
 use Rattle.no_std_io2_base.proofs.CallsLemmas.{all_own}
 use Rattle.no_std_io2.proofs.BufWriterCalls.{write_all_fault, write_all_tells, write_all_counts, buffers_all_of}
@@ -6,22 +7,20 @@ use Rattle.no_std_io2.proofs.buffered.buf_writer.BufWriterWrite.write_all.Goals 
 pub returns : goal.returns
 returns g c =
     let I = g.W.Write in
-    let steady = g.met.W.Write.steady in
     let S = g.row.S in
     let x = c.args.buf.now in
     let a = writer_inner c.args.self.now in
     let b = sender_inner c.write_all.new.self in
     let calls = c.write_all.ensures in
-    let fault = write_all_fault I steady S calls.2 a b calls.1 in
-    let moves = write_all_tells I steady S x _ _ _ _ calls.2 a b calls.1 in
-    let all : I.takes_all a → I.takes_all b = λ t. (write_all_counts I steady S x _ _ _ _ calls.2 a b calls.1 t).0 in
+    let fault = write_all_fault I S calls.2 a b calls.1 in
+    let moves = write_all_tells I S x _ _ _ _ calls.2 a b calls.1 in
+    let all : TakesAll I a → TakesAll I b = λ t. (write_all_counts I S x _ _ _ _ calls.2 a b calls.1 t).0 in
     record {
       law = record {
         never_interrupted = fault;
         moves = moves;
         all = all;
-        counts = λ no. absurd no;
-        calls = all_own _ _ _ (calls, fault, moves, all, λ no. absurd no);
+        calls = all_own _ _ _ (calls, fault, moves, all);
       };
-      buffer = buffers_all_of I steady writer_inner writer_buffer S calls;
+      buffer = buffers_all_of I writer_inner writer_buffer S calls;
     }

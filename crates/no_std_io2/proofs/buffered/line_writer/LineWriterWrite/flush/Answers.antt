@@ -15,10 +15,9 @@ returns-clause-law g c =
     record {
       empty = flush_empty g.W.Write calls.2 a b calls.1;
       moves = flush_tells g.W.Write _ _ _ _ calls.2 a b calls.1;
-      all = λ no. absurd no;
-      counts = λ no. absurd no;
+      all = λ no. absurd no.0;
       call = calls;
     }
 
 pub returns-clause-buffer : goal.returns-clause-buffer
-returns-clause-buffer g c = flushes_of g.W.Write g.met.W.Write.steady line_inner line_buffer g.row.S c.flush.ensures
+returns-clause-buffer g c = flushes_of g.W.Write line_inner line_buffer g.row.S c.flush.ensures

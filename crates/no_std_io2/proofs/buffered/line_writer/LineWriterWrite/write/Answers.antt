@@ -1,6 +1,7 @@
+use Rattle.no_std_io2_base.specs.Writers.{CallOf}
 use Rattle.std.proofs.Common.{subst}
 use Rattle.no_std_io2_base.specs.Write.{Made}
-use Rattle.no_std_io2.specs.BufWriter.{sender_inner, CallOf}
+use Rattle.no_std_io2.specs.BufWriter.{sender_inner}
 use Rattle.no_std_io2.specs.LineWriter.{line_inner}
 use Rattle.no_std_io2.proofs.LineWriterStates.{line_write_state, line_write_short, line_write_fits}
 use Rattle.no_std_io2.proofs.LineWriterCalls.{line_write_bound, line_write_tells, line_write_keeps, line_write_filled}
@@ -20,8 +21,7 @@ returns g c =
       law = record {
         bound = line_write_bound I S calls.2 a b calls.1;
         moves = line_write_tells I S c.args.buf.now _ _ _ _ calls.2 a b calls.1;
-        all = λ no. absurd no;
-        counts = λ no. absurd no;
+        all = λ no. absurd no.0;
         call = calls;
       };
       calls = calls;
@@ -30,5 +30,5 @@ returns g c =
           let fits = line_write_fits S calls.2 short plain room in
           (fits.1, subst (λ C. Made (CallOf I) a C b) fits.0 calls.1, fits.2);
       held = line_write_filled I S calls.2 c.args.self.now.core.line a b calls.1;
-      inner = line_write_keeps I S calls.2 a b calls.1;
+      inner = λ t. let k = line_write_keeps I S calls.2 a b calls.1 t in (k.0, k.1);
     }

@@ -1,7 +1,8 @@
+use Rattle.no_std_io2_base.specs.Writers.{CallOf}
 use Rattle.std.proofs.Common.{subst}
 use Rattle.no_std_io2_base.specs.Write.{Made}
 use Rattle.no_std_io2_base.proofs.CallsLemmas.{all_own}
-use Rattle.no_std_io2.specs.BufWriter.{sender_inner, CallOf}
+use Rattle.no_std_io2.specs.BufWriter.{sender_inner}
 use Rattle.no_std_io2.specs.LineWriter.{line_inner}
 use Rattle.no_std_io2.proofs.LineWriterStates.{line_write_all_state, line_write_all_fits, line_write_all_leaves}
 use Rattle.no_std_io2.proofs.LineWriterCalls.{line_write_all_tells, line_write_all_keeps}
@@ -17,14 +18,13 @@ returns g c =
     let a = line_inner c.args.self.now in
     let b = sender_inner c.write_all.new.w in
     let calls = c.write_all.ensures in
-    let said = line_write_all_tells I g.met.W.Write.steady S calls.2 a b calls.1 in
+    let said = line_write_all_tells I S calls.2 a b calls.1 in
     record {
       law = record {
         never_interrupted = said.1;
         moves = said.0;
-        all = λ no. absurd no;
-        counts = λ no. absurd no;
-        calls = all_own _ _ _ (calls, said.1, said.0, λ no. no, λ no. absurd no);
+        all = λ no. absurd no.0;
+        calls = all_own _ _ _ (calls, said.1, said.0, λ no. absurd no.0);
       };
       calls = calls;
       no_newline_held = (line_write_all_state S calls.2 c.args.self.now.core.line).1;
@@ -32,5 +32,5 @@ returns g c =
       fits = λ short plain room.
           let fits = line_write_all_fits S calls.2 short plain room in
           (fits.1, subst (λ C. Made (CallOf I) a C b) fits.0 calls.1, fits.2);
-      inner = line_write_all_keeps I g.met.W.Write.steady S calls.2 a b calls.1;
+      inner = λ t. let k = line_write_all_keeps I S calls.2 a b calls.1 t in (k.0, k.1);
     }

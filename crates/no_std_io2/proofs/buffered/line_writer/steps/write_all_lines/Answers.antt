@@ -1,7 +1,7 @@
 use Rattle.std.proofs.Common.{sym, subst, take, ap, ◌∙◌, inr}
 use Rattle.std.proofs.lemmas.List.{take_rest}
 use Rattle.std.proofs.lemmas.Result.{err_from_is_err_and}
-use Rattle.no_std_io2.specs.BufWriter.{Takes, sender_inner, sender_buffer, WriteAllCalls}
+use Rattle.no_std_io2.specs.BufWriter.{TakesStep, sender_inner, sender_buffer, WriteAllCalls}
 use Rattle.no_std_io2.specs.LineWriter.{SendLinesCalls}
 use Rattle.no_std_io2.proofs.StepLemmas.{then_stops, then_goes_on}
 use Rattle.no_std_io2.proofs.LinesLast.{lines_len-is, unfinished_line-is, HasNewline-lines}
@@ -13,7 +13,7 @@ returns-in_err-send_lines g c =
     let x = c.args.x.now in
     let lines = c.requires.lines in
     let is = ap (λ n. take n x) (sym (lines_len-is x c.args.len lines)) in
-    let sent = subst (λ y. Takes g.W.Write sender_inner sender_buffer
+    let sent = subst (λ y. TakesStep g.W.Write sender_inner sender_buffer
     (SendLinesCalls g.row.S y) c.args.w.now c.send_lines.result c.send_lines.new.w) is
     c.send_lines.ensures in
     let stopped = then_stops _ _ (rw c.in_err-send_lines.was at sent) in

@@ -17,10 +17,7 @@ returns-clause-law g c =
       told = λ t. (t, events_of-split left n ∙ ap (λ l. events_of (take n left) ++ events_of l) (sym after));
       turns_never_rise = grind (arith, common_steps);
       spends_turn = λ some. grind (arith, common_steps);
-      cost = λ no. absurd no;
-      counts = λ no. absurd no;
       filling = λ fills. fills;
-      knows_lent_length = λ sure. sure;
       store = λ fits. (
         (fits.0, omega (arith, c.requires, fits.0, fits.1, length-drop here.pos (g.T.AsSlice.slice here.inner))),
         refl,

@@ -24,7 +24,6 @@ returns-clause-law g c =
       );
       turns_never_rise = fewer_behind here.pos n all;
       spends_turn = λ some. spent_behind here.pos n all some within;
-      counts = λ m. absurd m;
       fills = λ f. (f, omega (arith, c.copy_prefix-n.ensures.count, long, length-events_of (drop here.pos all)));
       store = λ s. ((s.0, omega (arith, s.0, s.1, within, length-drop here.pos all)), refl, refl);
       call = tt;

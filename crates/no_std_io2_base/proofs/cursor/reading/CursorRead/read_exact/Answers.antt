@@ -25,7 +25,6 @@ returns-then-left-buf-clause-law g c =
       empty = λ none. absurd (omega (arith, none));
       turns_never_rise = le_refl _;
       spends_turn = λ some. tt;
-      metered = λ m. m;
       filling = λ f. f;
       store = λ s. (s, refl, refl);
       calls = exact_own tt;
@@ -55,7 +54,6 @@ returns-clause-law g c =
           (refl, ap (λ p. record here { pos = p }) same);
       turns_never_rise = fewer_behind here.pos n all;
       spends_turn = λ some. spent_behind here.pos n all (omega (arith, some, c.copy_prefix-n.ensures.count)) within;
-      metered = λ m. m;
       filling = λ f. f;
       store = λ fits. (
         (fits.0, omega (arith, c.left-left.ensures.fits, within, length-drop here.pos all)),

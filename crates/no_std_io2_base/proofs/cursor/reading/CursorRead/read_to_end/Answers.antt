@@ -28,7 +28,6 @@ returns-in_err-answer g c =
         spends_turn = λ more.
             let spent = fewer_left _ said.moved c.args.buf.now.ok.0 c.append_rest-answer.new.buf.ok.0 more in
             omega (arith, spent, ap length behind, ap length left);
-        metered = λ h. h;
         filling = λ h. h;
         store = λ h.
             let place = place_behind content start _ h.0 h.1 left said.moved in
@@ -56,7 +55,6 @@ returns g c =
         spends_turn = λ more.
             let spent = fewer_left _ said.moved c.args.buf.now.ok.0 c.append_rest-answer.new.buf.ok.0 more in
             omega (arith, spent, ap length behind, ap length left);
-        metered = λ h. h;
         filling = λ h. h;
         store = λ h.
             let place = place_behind content start _ h.0 h.1 left said.moved in

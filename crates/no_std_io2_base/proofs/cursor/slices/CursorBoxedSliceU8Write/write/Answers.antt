@@ -22,7 +22,6 @@ returns-clause-law g c =
           (λ bs. Moves (told_out (bytes_before c.args.self.now.pos bs)) (take n c.args.buf.now) (zero_write n c.args.buf.now)
           (told_out (bytes_before put.pos put.content))) c.as_mut_slice.ensures.value
           (fits_moves _ _ _ c.write_fitting.ensures.count c.write_fitting.ensures.puts));
-      all = λ h. absurd h;
-      counts = λ h. absurd h;
-      call = tt;
+      all = λ h. absurd h.0;
+      call = search rules;
     }

@@ -6,7 +6,6 @@ pub returns-clause-law : goal.returns-clause-law
 returns-clause-law c = record {
   bound = search rules;
   moves = fits_moves _ _ _ c.write_fitting.ensures.count c.write_fitting.ensures.puts;
-  all = λ h. absurd h;
-  counts = λ h. absurd h;
-  call = tt;
+  all = λ h. absurd h.0;
+  call = search rules;
 }

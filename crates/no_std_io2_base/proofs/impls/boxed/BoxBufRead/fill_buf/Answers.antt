@@ -14,9 +14,6 @@ returns g c =
           turns_never_rise = search rules;
           spends_turn = search rules;
           unchanged = λ some. ap (λ v. record c.args.self.now { value = v }) (after.unchanged (search rules) ∙ c.as_mut.ensures.value);
-          counts = search rules;
-          stays_sure = search rules;
-          metered = search rules;
           filling = search rules;
           store = search rules;
           call = search rules;

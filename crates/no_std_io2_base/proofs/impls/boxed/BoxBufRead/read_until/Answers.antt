@@ -19,7 +19,6 @@ returns g c =
         never_interrupted = search rules;
         turns_never_rise = search rules;
         spends_turn = search rules;
-        metered = search rules;
         filling = search rules;
         store = search rules;
         calls = piece_map (with_value self) (λ a b call made. made) (subst

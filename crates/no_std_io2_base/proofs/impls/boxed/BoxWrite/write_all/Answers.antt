@@ -9,5 +9,5 @@ returns g c =
     let put = λ (v : g.row.W.Denot). record c.args.self.now { value = v } in
     let wrote = rw c.as_mut.ensures.value at c.write_all.ensures.law in
     record {
-      law = search (rules, calls_of_part w.told w.takes_all w.cost w.is_metered w.may (λ v. v.value) put (λ a. refl) wrote.calls);
+      law = search (rules, calls_of_part w (λ v. v.value) put (λ a. refl) wrote.calls);
     }

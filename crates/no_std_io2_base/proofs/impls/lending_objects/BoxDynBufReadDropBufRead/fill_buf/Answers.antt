@@ -21,16 +21,13 @@ returns g c =
           turns_never_rise = box.2;
           spends_turn = box.3;
           unchanged = box.4;
-          counts = λ no. absurd no;
-          stays_sure = λ no. absurd no;
-          metered = λ no. absurd no;
           filling = λ no. absurd no;
           store = λ no. absurd no;
           call = box.5;
         },
       ),
       record {
-        law = record { held = box.0.0; front = box.0.1; end = box.0.2; knows_lent_length = λ no. absurd no };
+        law = record { held = box.0.0; front = box.0.1; end = box.0.2 };
         after_borrow = tt;
       },
     )

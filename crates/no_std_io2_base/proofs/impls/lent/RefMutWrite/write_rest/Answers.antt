@@ -9,5 +9,5 @@ returns g c =
     let put = λ (v : g.row.W.Denot). record c.args.self.now { now = v } in
     let wrote = c.write_rest.ensures.law in
     record {
-      law = search (rules, calls_of_part w.told w.takes_all w.cost w.is_metered w.may (λ v. v.now) put (λ a. refl) wrote.calls);
+      law = search (rules, calls_of_part w (λ v. v.now) put (λ a. refl) wrote.calls);
     }

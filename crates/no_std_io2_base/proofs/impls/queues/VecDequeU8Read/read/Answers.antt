@@ -21,7 +21,6 @@ returns-clause-law g c =
       told = λ _. (tt, read_bytes _ _ _ read c.drop_front.ensures (λ zero room. grind (arith, whole, c.as_slices.ensures.first_filled)));
       turns_never_rise = omega (arith, left);
       spends_turn = λ some. omega (arith, left, whole, within);
-      counts = λ m. absurd m;
       fills = λ f. absurd f;
       store = λ s. absurd s;
       call = tt;

@@ -15,10 +15,7 @@ returns c =
         told = λ t. (t, events_of-split all n ∙ ap (λ l. events_of (take n all) ++ events_of l) (sym (take_rest all n)));
         turns_never_rise = grind (arith, common_steps);
         spends_turn = λ some. grind (arith, common_steps);
-        cost = λ no. absurd no;
-        counts = λ no. absurd no;
         filling = λ fills. fills;
-        knows_lent_length = λ sure. sure;
         store = λ no. absurd no;
         call = tt;
       };

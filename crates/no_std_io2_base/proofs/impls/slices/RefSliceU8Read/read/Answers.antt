@@ -17,7 +17,6 @@ returns c =
         told = λ _. (tt, read_bytes _ _ _ front (take_rest all n) (λ zero room. omega arith));
         turns_never_rise = omega (arith, left);
         spends_turn = λ some. omega (arith, left);
-        counts = λ m. absurd m;
         fills = λ _. (tt, omega (arith, length-events_of all));
         store = λ s. absurd s;
         call = tt;

@@ -1,15 +1,11 @@
+use Rattle.std.specs.Vec.{vec_len, vec_capacity}
 use Rattle.no_std_io2_base.proofs.CallsLemmas.{all_own}
-use Rattle.std.proofs.Common.{rules}
-use Rattle.no_std_io2_base.proofs.CursorLemmas.{append_moves}
+use Rattle.no_std_io2_base.proofs.CursorLemmas.{appends_whole, appends_all}
 use Rattle.no_std_io2_base.proofs.impls.vectors.VecU8Write.write_all.Goals as goal
 
 pub returns-clause-law : goal.returns-clause-law
 returns-clause-law g c =
     let said = c.append.ensures in
-    record {
-      never_interrupted = search rules;
-      moves = append_moves _ said.ok said.err said.refused;
-      all = λ h. h;
-      counts = λ h. absurd h;
-      calls = all_own _ _ _ (tt, search rules, append_moves _ said.ok said.err said.refused, λ h. h, λ h. absurd h);
-    }
+    let whole = appends_whole _ _ _ (vec_len c.args.self.now) (vec_capacity c.args.self.now) c.append.result said.ok said.err said.refused said.full in
+    let all = appends_all _ _ c.append.result whole in
+    record { never_interrupted = all.0; moves = all.1; all = λ h. h; calls = all_own _ _ _ (whole, all.0, all.1, λ h. h) }

@@ -14,10 +14,7 @@ returns-then-self g c =
         told = λ t. let now = dropped.told t.1 in ((t.0, now.0), rw done now.1);
         turns_never_rise = omega (arith, dropped.turns_never_rise);
         spends_turn = λ some. omega (arith, dropped.spends_turn some);
-        cost = λ no. absurd no;
-        counts = λ no. absurd no;
         filling = λ no. absurd no;
-        knows_lent_length = λ no. absurd no;
         store = λ no. absurd no;
         call = by_second done (λ _. refl) (λ going. absurd (true≢false (sym done ∙ going))) dropped.call;
       };
@@ -41,10 +38,7 @@ returns-else-self g c =
             );
         turns_never_rise = omega (arith, dropped.turns_never_rise);
         spends_turn = λ some. omega (arith, dropped.spends_turn some);
-        cost = λ no. absurd no;
-        counts = λ no. absurd no;
         filling = λ no. absurd no;
-        knows_lent_length = λ no. absurd no;
         store = λ no. absurd no;
         call = by_first going refl refl dropped.call;
       };

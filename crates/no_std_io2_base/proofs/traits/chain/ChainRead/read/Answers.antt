@@ -22,7 +22,6 @@ returns-in_err-n g c =
             ((λ _. now.0, t.1), rw going (ap (λ E. E ++ g.U.Read.events c.args.self.now.second) now.1));
         turns_never_rise = omega (arith, read.turns_never_rise);
         spends_turn = omega (arith, read.spends_turn);
-        counts = λ m. absurd m;
         fills = λ f. absurd f;
         store = λ s. absurd s;
         call = (
@@ -53,7 +52,6 @@ returns-in_default g c =
             );
         turns_never_rise = omega (arith, read.turns_never_rise);
         spends_turn = λ some. let spent = read.spends_turn some in omega (arith, spent);
-        counts = λ m. absurd m;
         fills = λ f. absurd f;
         store = λ s. absurd s;
         call = (
@@ -78,7 +76,6 @@ returns-then-self g c =
         told = λ t. let now = read.told t.1 in ((t.0, now.0), rw done now.1);
         turns_never_rise = omega (arith, read.turns_never_rise);
         spends_turn = second_turn c.read.result _ _ (le_refl _) read.spends_turn;
-        counts = λ m. absurd m;
         fills = λ f. absurd f;
         store = λ s. absurd s;
         call = (
@@ -108,7 +105,6 @@ returns-in-0 g c =
             );
         turns_never_rise = omega (arith, first.turns_never_rise, read.turns_never_rise);
         spends_turn = second_turn c.read-in-0.result _ _ first.turns_never_rise read.spends_turn;
-        counts = λ m. absurd m;
         fills = λ f. absurd f;
         store = λ s. absurd s;
         call = (

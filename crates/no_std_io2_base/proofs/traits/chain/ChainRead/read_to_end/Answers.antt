@@ -23,7 +23,6 @@ returns-then-self g c =
         never_interrupted = read.never_interrupted;
         turns_never_rise = omega (arith, read.turns_never_rise);
         spends_turn = λ more. let spent = read.spends_turn more in omega (arith, spent);
-        metered = λ m. m;
         filling = λ f. f;
         store = λ s. absurd s;
         calls = drains_second (reader g.T.Stored g.T.Read) (reader g.U.Stored g.U.Read) c.if-self.true refl refl read.calls;
@@ -51,7 +50,6 @@ returns-in_err-read_to_end g c =
         never_interrupted = first.never_interrupted;
         turns_never_rise = omega (arith, first.turns_never_rise);
         spends_turn = λ more. let spent = first.spends_turn more in omega (arith, spent);
-        metered = λ m. m;
         filling = λ f. f;
         store = λ s. absurd s;
         calls = drains_first (reader g.T.Stored g.T.Read) (reader g.U.Stored g.U.Read) going refl refl first.calls;
@@ -87,7 +85,6 @@ returns-in_err-rest_to_end g c =
         spends_turn = spent_then c.read_to_end-2.new.buf.len mid (λ more. let spent = first.spends_turn more in omega (arith, spent))
             (λ more. let spent = second.spends_turn more in omega (arith, spent)) (omega (arith, first.turns_never_rise))
             (omega (arith, second.turns_never_rise));
-        metered = λ m. m;
         filling = λ f. f;
         store = λ s. absurd s;
         calls = drains_both (reader g.T.Stored g.T.Read) (reader g.U.Stored g.U.Read) going refl first.calls second.calls refl;
@@ -119,7 +116,6 @@ returns g c =
         spends_turn = spent_then c.read_to_end-2.new.buf.len mid (λ more. let spent = first.spends_turn more in omega (arith, spent))
             (λ more. let spent = second.spends_turn more in omega (arith, spent)) (omega (arith, first.turns_never_rise))
             (omega (arith, second.turns_never_rise));
-        metered = λ m. m;
         filling = λ f. f;
         store = λ s. absurd s;
         calls = drains_both (reader g.T.Stored g.T.Read) (reader g.U.Stored g.U.Read) going refl first.calls second.calls refl;

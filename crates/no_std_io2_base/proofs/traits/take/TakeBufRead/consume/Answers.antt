@@ -19,10 +19,7 @@ returns-then-self-eq0 g c =
         told = λ t. (t, ap (λ k. events_of (take k held) ++ E) (sym none));
         turns_never_rise = le_refl _;
         spends_turn = λ some. absurd (omega (arith, some, none));
-        cost = λ no. absurd no;
-        counts = λ no. absurd no;
         filling = λ f. f;
-        knows_lent_length = λ no. absurd no;
         store = λ no. absurd no;
         call = consumes_at_limit c.if-self-eq0.true none;
       };
@@ -46,10 +43,7 @@ returns g c =
             (now.0, rw part (cut_consumes _ _ held n limit (omega (arith, c.requires, most)) (omega (arith, c.requires, most)) now.1));
         turns_never_rise = dropped.turns_never_rise;
         spends_turn = dropped.spends_turn;
-        cost = λ no. absurd no;
-        counts = λ no. absurd no;
         filling = dropped.filling;
-        knows_lent_length = λ no. absurd no;
         store = λ no. absurd no;
         call = consumes_inner held (some_bytes _ c.if-self-eq0.false) (omega (arith, c.requires, most)) dropped.told
             (omega (arith, c.requires, most)) dropped.call;

@@ -23,7 +23,6 @@ returns-in_err-n g c =
         told = λ t. let now = read.told t in (now.0, cut_error now.1 some);
         turns_never_rise = read.turns_never_rise;
         spends_turn = read.spends_turn;
-        counts = λ m. absurd m;
         fills = λ f. absurd (read.fills f).1;
         store = λ s. absurd s;
         call = reads_inner (Err _) _ part some read (part_length _ _ buf part c.min_with_limit-most.ensures c.read-2.auto.buf) refl
@@ -61,7 +60,6 @@ returns g c =
             );
         turns_never_rise = read.turns_never_rise;
         spends_turn = read.spends_turn;
-        counts = λ m. absurd m;
         fills = λ f.
             let now = read.fills f in
             let alone = g.met.T.Read.filling_tells _ f in
@@ -84,7 +82,6 @@ returns-in_err-given g c =
         told = λ t. let now = read.told t in (now.0, cut_error now.1 some);
         turns_never_rise = read.turns_never_rise;
         spends_turn = read.spends_turn;
-        counts = λ m. absurd m;
         fills = λ f. absurd (read.fills f).1;
         store = λ s. absurd s;
         call = reads_inner (Err _) _ _ some read (omega (arith, c.if-buf-self.true, c.read.auto.buf)) refl (omega arith);
@@ -102,7 +99,6 @@ returns-then-buf-self g c =
         told = λ t. let now = read.told t in (now.0, cut_reads_whole _ limit c.read.new.buf read.bound within now.1);
         turns_never_rise = read.turns_never_rise;
         spends_turn = read.spends_turn;
-        counts = λ m. absurd m;
         fills = λ f.
             let now = read.fills f in
             let alone = g.met.T.Read.filling_tells _ f in

@@ -1,5 +1,5 @@
 use Rattle.std.proofs.Common.{sym, subst}
-use Rattle.no_std_io2_base.specs.Text.{WriteFmtLaw}
+use Rattle.no_std_io2_base.specs.Writers.{WriteFmtOf}
 use Rattle.no_std_io2_base.proofs.TextLemmas.{name_kept, law_shown}
 use Rattle.no_std_io2_base.proofs.traits.write.Write.write_fmt.Goals as goal
 
@@ -10,7 +10,7 @@ returns g c =
     let law = law_shown c.print_to-inner.result.formatted (g.bound-3.seen c.answer.result) printed
     (rw c.answer.ensures c.answer_of.ensures.ok) (rw c.answer.ensures c.answer_of.ensures.err) in
     record {
-      law = subst (λ w. WriteFmtLaw W.told W.takes_all W.cost W.is_metered W.may c.args.self.now (g.D.Display.output c.args.text)
+      law = subst (λ w. WriteFmtOf W c.args.self.now (g.D.Display.output c.args.text)
           (g.bound-3.seen c.answer.result) w)
           (sym (c.self-1.given.1 (sym (name_kept printed)))) law;
     }

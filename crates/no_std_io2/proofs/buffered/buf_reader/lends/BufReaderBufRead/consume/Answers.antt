@@ -12,10 +12,7 @@ returns-clause-law g c =
       told = λ t. (t, gave.told);
       turns_never_rise = omega (arith, gave.turns);
       spends_turn = λ some. omega (arith, gave.turns, some);
-      cost = λ no. absurd no;
-      counts = λ m. (m, refl);
       filling = λ no. absurd no;
-      knows_lent_length = λ f. f;
       store = λ s. let now = gave.store s in (now.0, refl, now.1);
       call = (is.held, refl);
     }

@@ -15,14 +15,12 @@ returns g c = (
         turns_never_rise = search rules;
         spends_turn = search rules;
         unchanged = search rules;
-        counts = search rules;
-        stays_sure = search rules;
-        metered = search rules;
         filling = search rules;
         store = search rules;
         call = search rules;
       };
       behind = search rules;
+      fills = search rules;
       sound = search rules;
     },
   ),
@@ -31,7 +29,6 @@ returns g c = (
       held = search (rules, begins_held);
       front = search (rules, begins_held);
       end = search (rules, begins_held);
-      knows_lent_length = search (rules, begins_held);
     };
     after_borrow = tt;
   },

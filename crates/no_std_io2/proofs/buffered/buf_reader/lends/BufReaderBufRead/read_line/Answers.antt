@@ -7,7 +7,7 @@ use Rattle.no_std_io2_base.specs.declared.error.Error.{Error}
 use Rattle.no_std_io2_base.specs.Pieces.{AnswersLine}
 use Rattle.no_std_io2_base.specs.Write.{IsFront}
 use Rattle.no_std_io2.specs.Buffer.{IsSuffix}
-use Rattle.no_std_io2_base.proofs.LineTaken.{line_at_once, line_gathered}
+use Rattle.no_std_io2_base.proofs.LineTaken.{line_at_once, line_gathered, by_string}
 use Rattle.no_std_io2.specs.BufReader.{reader_held, reader_behind}
 use Rattle.no_std_io2.proofs.BufReaderLends.{buf_tells}
 use Rattle.no_std_io2.proofs.BufReaderTrail.{trail_line, trail_given}
@@ -36,15 +36,6 @@ returns-in-Some-clause-behind g c =
     let held = reader_held c.args.self.now in
     trail_given (string_bytes text) (take c.in-Some.len held) (reader_behind c.args.self.now) (omega (arith, text.bytes.ok.0))
     given.text.0.1 given.behind
-
--- a string whose memory was taken has the same bytes as before, so the result is the same as for that string
-by_string : {A : Type 0} (line : List ℕ) (read reply : Result ℕ Error) (text taken : String A) (new : List ℕ)
-    → string_bytes taken ≡ string_bytes text → string_len taken ≡ string_len text
-    → (string_bytes text ≡ []) ⊎ (string_capacity taken ≡ string_capacity text)
-    → ((capacity : ℕ) → (string_bytes taken ≡ []) ⊎ (string_capacity taken ≡ capacity)
-    → AnswersLine line read (string_len taken) capacity reply (string_bytes taken) new)
-    → AnswersLine line read (string_len text) (string_capacity text) reply (string_bytes text) new
-by_string line read reply text taken new bytes len room answers = grind (arith, common_steps, string_len, string_capacity, string_bytes)
 
 -- what holds, holds after an error
 on_err : {X : Type 0} (reply : Result ℕ Error) → X → OnErr reply X

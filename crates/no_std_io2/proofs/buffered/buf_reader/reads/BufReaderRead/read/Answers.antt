@@ -22,7 +22,6 @@ returns-in_err-read_ahead-clause-law g c =
       turns_never_rise = fill.no_later;
       spends_turn = fill.turn;
       store = λ s. let now = fill.store s in (now.0, now.1, omega (arith, now.2));
-      counts = λ h. absurd h;
       fills = λ h. absurd h;
       call = record {
         held = λ some. absurd (omega (arith, some, none));
@@ -55,7 +54,6 @@ returns-clause-law g c =
           let filled = fill.store s in
           let now = gave.store filled.0 in
           (now.0, filled.1, omega (arith, now.1, filled.2));
-      counts = λ h. absurd h;
       fills = λ h. absurd h;
       call = record {
         held = λ some. absurd (omega (arith, some, none));
@@ -89,7 +87,6 @@ returns-then-len-gt0-clause-law g c =
       turns_never_rise = omega (arith, gave.turns);
       spends_turn = λ more. omega (arith, gave.turns, more);
       store = λ s. let now = gave.store s in (now.0, refl, now.1);
-      counts = λ h. absurd h;
       fills = λ h. absurd h;
       call = record {
         held = λ more. (

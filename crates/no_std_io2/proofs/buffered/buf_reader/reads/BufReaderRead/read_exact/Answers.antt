@@ -27,7 +27,6 @@ returns g c =
         never_interrupted = tt;
         turns_never_rise = omega (arith, left);
         spends_turn = λ some. omega (arith, left, some, most);
-        metered = λ h. h;
         filling = λ h. h;
         store = λ s.
             let now = moves.store s in
@@ -41,7 +40,7 @@ returns g c =
       };
       leaves = record {
         held = λ fits. (refl, gave.gave, gave.held, gave.behind, refl);
-        asks = λ m f. (m, omega (arith, exact_reads-held n (length old) (length (events_of old ++ inner)) most));
+        asks = λ cost meter f. omega (arith, exact_reads-held n (length old) (length (events_of old ++ inner)) most);
         left = λ f. (
           f,
           exact_left-held g.row.S n (length old) _ (length new) most left,

@@ -37,7 +37,6 @@ returns-then-is_empty g c =
             (λ some. absurd (omega (arith, some, ap length clear.held)));
         spends_turn = appended_turn g.row.S (length held) (length left) (ap length clear.held) (omega (arith, ap length none))
             read.spends_turn read.turns_never_rise;
-        metered = λ h. h;
         filling = λ h. h;
         store = λ s.
             let now = read.store s.0 in
@@ -67,7 +66,6 @@ returns-in_err-append_to g c =
         turns_never_rise = part_turns held left _ _ _ moved;
         spends_turn = λ more.
             let spent = fewer_left _ moved c.args.buf.now.ok.0 c.append_to.new.buf.ok.0 more in omega (arith, spent);
-        metered = λ h. h;
         filling = λ h. h;
         store = λ s. ((s.0, part_sound held left _ _ moved s.1), refl, part_moved held left _ _ s.1.0 moved);
         calls = to_end_own c.args.buf.now (part_front held left c.args.buf.now.ok.0 moved) (inl (refused.refused, refl));
@@ -100,7 +98,6 @@ returns-in_err-rest_to_end g c =
             (λ some. absurd (omega (arith, some, ap length done.done.0)));
         spends_turn = appended_turn g.row.S (length held) (length none) (ap length done.done.0)
             (emptied_again held _ c.args.buf.now.ok.0 c.append_to.new.buf.ok.0 first) read.spends_turn read.turns_never_rise;
-        metered = λ h. h;
         filling = λ h. h;
         store = λ s.
             let now = read.store s.0 in
@@ -135,7 +132,6 @@ returns g c =
             (λ some. absurd (omega (arith, some, ap length done.done.0)));
         spends_turn = appended_turn g.row.S (length held) (length none) (ap length done.done.0)
             (emptied_again held _ c.args.buf.now.ok.0 c.append_to.new.buf.ok.0 first) read.spends_turn read.turns_never_rise;
-        metered = λ h. h;
         filling = λ h. h;
         store = λ s.
             let now = read.store s.0 in

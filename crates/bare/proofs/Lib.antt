@@ -1,0 +1,5 @@
+pub mod QueueLemmas
+pub mod LogLemmas
+pub mod ReportLemmas
+pub mod CopyLemmas
+pub mod FrameLemmas

@@ -1,0 +1,18 @@
+use Rattle.std.proofs.Common.{arith, take_all}
+use Rattle.no_std_io2.proofs.MovesLemmas.{Moves-refl, MovesFront-text}
+use Rattle.bare.specs.Report.{reading_line}
+use Rattle.bare.proofs.ReportLemmas.{printed_more, printed_all}
+use Rattle.bare.proofs.report.print.Goals as goal
+
+pub readings-init : goal.readings-init
+readings-init g c = Moves-refl _
+
+pub readings-preserved : goal.readings-preserved
+readings-preserved g c =
+    printed_more reading_line c.args.readings.now c.readings.i-counter (omega (arith, c.readings-test.true)) c.in_ok-write.was
+    c.readings.invariant (MovesFront-text c.write.ensures.law.moves)
+
+pub returns-clause-text : goal.returns-clause-text
+returns-clause-text g c =
+    printed_all reading_line c.args.readings.now c.readings.i-counter c.flush.result
+    (take_all c.readings.i-counter c.args.readings.now c.readings-test.false) c.readings.invariant c.flush.ensures.law.moves

@@ -1,0 +1,6 @@
+pub mod Status
+pub mod Queue
+pub mod Log
+pub mod Messages
+pub mod Report
+pub mod Frames

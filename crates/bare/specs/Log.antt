@@ -1,0 +1,39 @@
+-- What a log sends and keeps.
+use Rattle.std.specs.Prelude.{◌≡◌, ◌⊎◌, ℕ, ◌+◌, ◌<◌, ◌≤◌, List, [], ◌∷◌, ◌++◌, length, Result, Ok, Err}
+use Rattle.no_std_io2.specs.Write.{IsFront}
+use Rattle.no_std_io2.specs.Lines.{HasNewline, HasNoNewline}
+use Rattle.bare.specs.Status.{done, kept, full, refused}
+use Rattle.bare.specs.Queue.{capacity}
+
+-- the line of a text
+abbrev pub line : List ℕ → List ℕ
+line text = text ++ 10 ∷ []
+
+-- a text can be a line
+abbrev pub IsShortLine : List ℕ → Type 0
+IsShortLine text = HasNoNewline text × (length text < capacity)
+
+-- a text can't be a line
+abbrev pub IsNoLine : List ℕ → Type 0
+IsNoLine text = HasNewline text ⊎ (capacity ≤ length text)
+
+-- The waiting bytes went to the port, in order: all of them, or as many as the port took until it was full. The others are kept.
+pub record Resumes (waiting port : List ℕ) (status : ℕ) (waiting' port' : List ℕ) : Type 0 where
+  -- what is in the port stays there
+  pub front : IsFront port port'
+  -- no byte is lost, repeated or moved
+  pub order : port' ++ waiting' ≡ port ++ waiting
+  pub ends : ((status ≡ done) × (waiting' ≡ [])) ⊎ ((status ≡ kept) × (0 < length waiting') × (length port' ≡ capacity))
+
+-- the status of a sending
+abbrev pub resume_status : {E : Type 0} → Result (Unit {0}) E → ℕ
+resume_status (Ok u) = done
+resume_status (Err e) = kept
+
+-- A line was logged: it waits behind the kept bytes, and they are sent. Or it can't be a line, and nothing changed. Or the port is full,
+-- it does not fit beside what is still kept, and only the kept bytes were sent.
+abbrev pub LogsThrough : List ℕ → List ℕ → List ℕ → ℕ → List ℕ → List ℕ → Type 0
+LogsThrough text waiting port status waiting' port' =
+    (IsShortLine text × Resumes (waiting ++ line text) port status waiting' port')
+    ⊎ ((status ≡ refused) × IsNoLine text × (waiting' ≡ waiting) × (port' ≡ port))
+    ⊎ ((status ≡ full) × (capacity < length waiting' + length (line text)) × Resumes waiting port kept waiting' port')

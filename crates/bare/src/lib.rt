@@ -1,0 +1,27 @@
+//! What a firmware exports to C: a report, a log through a port, the messages and frames that a port received, and a copy. The header is
+//! `bare.h`.
+//!
+//! No call allocates, panics, keeps a pointer or calls the system. A call answers a status, which says what it did.
+#![tactic(auto)]
+
+mod copying;
+mod frames;
+mod log;
+mod messages;
+mod queue;
+mod report;
+
+/// The call did what it is for.
+pub const DONE: u32 = 0;
+
+/// The call accepted its bytes, and keeps some of them, since the port is full.
+pub const KEPT: u32 = 1;
+
+/// There is no room.
+pub const FULL: u32 = 2;
+
+/// The message has not come whole.
+pub const PARTIAL: u32 = 3;
+
+/// The bytes can never be accepted.
+pub const REFUSED: u32 = 4;

@@ -1,0 +1,86 @@
+-- Frames are sent one after another.
+use Rattle.std.proofs.Common.{◌==◌, ◌<◌, ◌-◌, Bool, true, false, true≢false, length, take, drop, get_or, take_all, arith, Bor, eqb-true}
+use Rattle.std.proofs.Common.{◌≡◌, ℕ, List, [], ◌∷◌, ◌++◌, Ok, Err, map, refl, sym, ap, subst, ◌∙◌, append_assoc, append-nil, inl, inr}
+use Rattle.std.proofs.lemmas.List.{nil_from_length}
+use Rattle.no_std_io2.specs.declared.io.Error.{Error}
+use Rattle.no_std_io2.specs.Writers.{Writer}
+use Rattle.no_std_io2.specs.Write.{Moves}
+use Rattle.no_std_io2.proofs.MovesLemmas.{Moves-refl, Moves-trans}
+use Rattle.framing.specs.declared.writer.FrameWriter.{FrameWriter}
+use Rattle.framing.specs.Frames.{frame, frames}
+use Rattle.framing.specs.Sending.{writer_tells, PutsEach, Ends, SendsFrame, SendsFrames}
+
+-- The payloads that are gone were sent.
+pub record SentSoFar {W : Type 0} {S : ℕ} (I : Writer W) (old : FrameWriter W S) (payloads : List (List ℕ)) (now : FrameWriter W S)
+    (left : List (List ℕ)) : Type 0 where
+  pub sent : List (List ℕ)
+  pub split : payloads ≡ sent ++ left
+  pub each : PutsEach I old sent now
+  pub moves : Moves (writer_tells I.told old) (frames sent) [] (writer_tells I.told now)
+
+-- one frame more
+frames_more : (ps : List (List ℕ)) (p : List ℕ) → frames (ps ++ p ∷ []) ≡ frames ps ++ frame p
+frames_more [] p = append-nil (frame p)
+frames_more (x ∷ ps) p = ap (λ l. frame x ++ l) (frames_more ps p) ∙ sym (append_assoc (frame x) (frames ps) (frame p))
+
+module _ {W : Type 0} {S : ℕ} (I : Writer W) where
+  -- what the sending of a frame tells
+  frame_moves : {old new : FrameWriter W S} {p : List ℕ} → SendsFrame I p old (Ok tt) new
+      → Moves (writer_tells I.told old) (frame p) [] (writer_tells I.told new)
+  frame_moves (inl put) = put.1.moves
+  frame_moves (inr refused) = absurd refused.1
+
+  each_more : (old : FrameWriter W S) {now new : FrameWriter W S} (ps : List (List ℕ)) {p : List ℕ} → PutsEach I old ps now
+      → SendsFrame I p now (Ok tt) new → PutsEach I old (ps ++ p ∷ []) new
+  each_more old {new = new} [] {p = p} same sends = (new, subst (λ w. SendsFrame I p w (Ok tt) new) same sends, refl)
+  each_more old (x ∷ ps) each sends = (each.0, each.1, each_more each.0 ps each.2 sends)
+
+  pub sent_none : (old : FrameWriter W S) (payloads : List (List ℕ)) → SentSoFar I old payloads old payloads
+  sent_none old payloads = record { sent = []; split = refl; each = refl; moves = Moves-refl (writer_tells I.told old) }
+
+  pub sent_more : {old now new : FrameWriter W S} {payloads left : List (List ℕ)} (p : List ℕ) (others : List (List ℕ))
+      → SentSoFar I old payloads now left → left ≡ p ∷ others → SendsFrame I p now (Ok tt) new → SentSoFar I old payloads new others
+  sent_more {old} {new = new} p others before is sends = record {
+    sent = before.sent ++ p ∷ [];
+    split = before.split ∙ ap (λ l. before.sent ++ l) is ∙ sym (append_assoc before.sent (p ∷ []) others);
+    each = each_more old before.sent before.each sends;
+    moves = subst (λ l. Moves (writer_tells I.told old) l [] (writer_tells I.told new)) (sym (frames_more before.sent p))
+        (Moves-trans before.moves (frame_moves sends));
+  }
+
+  pub sends_done : {old now : FrameWriter W S} {payloads left : List (List ℕ)} → SentSoFar I old payloads now left → left ≡ []
+      → SendsFrames I old payloads (Ok tt) now left
+  sends_done {now = now} before none = record {
+    sent = before.sent;
+    split = before.split;
+    mid = now;
+    each = before.each;
+    moves = before.moves;
+    ends = (none, refl);
+  }
+
+  pub sends_stops : {old now new : FrameWriter W S} {payloads left : List (List ℕ)} (p : List ℕ) (others : List (List ℕ)) (e : Error)
+      → SentSoFar I old payloads now left → left ≡ p ∷ others → SendsFrame I p now (Err e) new
+      → SendsFrames I old payloads (Err e) new left
+  sends_stops {now = now} {new = new} p others e before is sends = record {
+    sent = before.sent;
+    split = before.split;
+    mid = now;
+    each = before.each;
+    moves = before.moves;
+    ends = subst (λ l. Ends I now l (Err e) new) (sym is) sends;
+  }
+
+-- whether a slice has elements
+pub some_there : {X : Type 0} (b : Bool) (xs : List X) → b ≡ (length xs == 0) → b ≡ false → 0 < length xs
+some_there b [] is h = absurd (true≢false (sym is ∙ h))
+some_there b (x ∷ xs) is h = omega arith
+
+pub none_there : {X : Type 0} (b : Bool) (xs : List X) → b ≡ (length xs == 0) → b ≡ true → xs ≡ []
+none_there b xs is h = nil_from_length xs (eqb-true (length xs) 0 (sym is ∙ h))
+
+-- the first of some borrowed payloads, and the others
+pub first_there : (xs : List (Bor (List ℕ))) (d : Bor (List ℕ)) → 0 < length xs
+    → map (λ p. p.now) xs ≡ (get_or xs 0 d).now ∷ map (λ p. p.now) (take (length xs - 1) (drop 1 xs))
+first_there [] d some = absurd (omega (arith, some))
+first_there (x ∷ xs) d some = ap (λ l. x.now ∷ map (λ p. p.now) l) (sym (take_all (length (x ∷ xs) - 1) (drop 1 (x ∷ xs)) (omega arith)))

@@ -1,0 +1,238 @@
+// The examples in the comments of `no_std_io2_base`, one function for each of its modules.
+use no_std_io2::io::{
+    AsSlice, BufRead, BufWriter, Cursor, Error, ErrorKind, Read, Seek, SeekFrom, Write,
+};
+use std::test::Fail;
+
+#[test]
+fn error(rt: HostRuntime) -> Result<(), Fail> {
+    let e = Error::new(ErrorKind::InvalidData, "no header");
+    assert!(rt; e.kind() == ErrorKind::InvalidData);
+    assert!(rt; e.get_ref().is_some());
+    let e = Error::from(ErrorKind::WouldBlock); // no text: it prints its kind's
+    assert!(rt; e.get_ref().is_none());
+    let e = Error::other("no carrier");
+    assert!(rt; e.kind() == ErrorKind::Other);
+
+    let e = Error::other("no carrier");
+    assert!(rt; e.get_ref().is_some());
+    assert!(rt; e.into_inner() == Some("no carrier"));
+
+    assert!(rt; Error::from(ErrorKind::Interrupted).is_interrupted());
+    assert!(rt; !Error::from(ErrorKind::TimedOut).is_interrupted());
+    Ok(())
+}
+
+#[test]
+fn cursor(rt: HostRuntime) -> Result<(), Fail> {
+    let mut c = Cursor::new(Vec::<u8>::new(rt.alloc()));
+    c.write_all(b"abc")?;
+    assert!(rt; c.position() == 3);
+    c.set_position(1);
+    let mut rest = [0u8; 2];
+    c.read_exact(&mut rest)?;
+    assert!(rt; rest == *b"bc");
+
+    let mut c = Cursor::new(*b"abc");
+    c.set_position(7); // past the end too
+    assert!(rt; c.position() == 7);
+
+    let mut c = Cursor::new(*b"abc");
+    c.get_mut()[0] = b'x';
+    assert!(rt; *c.get_ref() == *b"xbc");
+    assert!(rt; c.into_inner() == *b"xbc");
+
+    let mut c = Cursor::new(*b"abc");
+    let start = c.clone()?;
+    c.set_position(3);
+    assert!(rt; start.position() == 0);
+
+    assert!(rt; AsSlice::as_slice(b"abc") == b"abc".as_slice());
+    Ok(())
+}
+
+#[test]
+fn write(rt: HostRuntime) -> Result<(), Fail> {
+    let mut device = Vec::<u8>::new(rt.alloc());
+    device.write_all(b"hello ")?;
+    device.write_all(b"world")?;
+    device.flush()?;
+    assert!(rt; device.as_slice() == b"hello world".as_slice());
+
+    let mut device = Vec::<u8>::new(rt.alloc());
+    let mut w = BufWriter::<&mut Vec<u8>, 8>::new(device.by_ref());
+    w.write_all(b"abc")?;
+    drop(w); // sends `abc`
+    assert!(rt; device.as_slice() == b"abc".as_slice());
+
+    let mut room = [0u8; 4];
+    let mut w = Cursor::new(&mut room[..]);
+    assert!(rt; w.write(b"abc")? == 3);
+    assert!(rt; w.write(b"def")? == 1); // `ef` was not accepted
+
+    let mut room = [0u8; 4];
+    let mut w = Cursor::new(&mut room[..]);
+    w.write_all(b"abcd")?;
+    assert!(rt; w.write_all(b"e").is_err()); // no room: `WriteZero`
+
+    let mut w = BufWriter::<Vec<u8>, 8>::new(Vec::new(rt.alloc()));
+    w.write_all(b"abc")?;
+    assert!(rt; w.get_ref().is_empty()); // `abc` is held
+    w.flush()?;
+    assert!(rt; w.get_ref().as_slice() == b"abc".as_slice());
+
+    let mut device = Vec::<u8>::new(rt.alloc());
+    let n = 3;
+    write!(device, "n is {n}\n")?;
+    assert!(rt; device.as_slice() == b"n is 3\n".as_slice());
+    Ok(())
+}
+
+#[test]
+fn read(rt: HostRuntime) -> Result<(), Fail> {
+    let mut r = Cursor::new(*b"abc");
+    let mut buf = [0u8; 2];
+    assert!(rt; r.read(&mut buf)? == 2); // `ab`
+    assert!(rt; r.read(&mut buf)? == 1); // `c`
+    assert!(rt; r.read(&mut buf)? == 0); // the end
+
+    let mut r = Cursor::new(*b"abcde");
+    let mut header = [0u8; 4];
+    r.read_exact(&mut header)?;
+    assert!(rt; header == *b"abcd");
+    assert!(rt; r.read_exact(&mut header).is_err()); // one byte is left: `UnexpectedEof`
+
+    let mut r = Cursor::new(*b"abcde");
+    let mut content = Vec::<u8>::new(rt.alloc());
+    assert!(rt; r.read_to_end(&mut content)? == 5);
+    assert!(rt; content.as_slice() == b"abcde".as_slice());
+
+    let mut r = Cursor::new(*b"abcde");
+    let mut head = Vec::<u8>::new(rt.alloc());
+    Read::by_ref(&mut r).take(2).read_to_end(&mut head)?;
+    assert!(rt; r.position() == 2); // `r` goes on behind `ab`
+
+    let mut r = Cursor::new(*b"abcde").take(2);
+    let mut content = Vec::<u8>::new(rt.alloc());
+    assert!(rt; r.read_to_end(&mut content)? == 2);
+
+    let mut r = Cursor::new(*b"abc");
+    let mut text = String::new(rt.alloc());
+    assert!(rt; r.read_to_string(rt.alloc(), &mut text)? == 3);
+    assert!(rt; text.as_str() == "abc");
+    Ok(())
+}
+
+#[test]
+fn bytes(rt: HostRuntime) -> Result<(), Fail> {
+    let mut content = Vec::<u8>::new(rt.alloc());
+    for byte in Cursor::new(*b"abc").bytes() {
+        content.push(byte?)?;
+    }
+    assert!(rt; content.as_slice() == b"abc".as_slice());
+    Ok(())
+}
+
+#[test]
+fn chain(rt: HostRuntime) -> Result<(), Fail> {
+    let mut r = Cursor::new(*b"ab").chain(Cursor::new(*b"cd"));
+    let mut content = Vec::<u8>::new(rt.alloc());
+    r.read_to_end(&mut content)?;
+    assert!(rt; content.as_slice() == b"abcd".as_slice());
+
+    let mut r = Cursor::new(*b"ab").chain(Cursor::new(*b"cd"));
+    let (_, second) = r.get_mut();
+    second.set_position(1); // without its `c`
+    let mut content = Vec::<u8>::new(rt.alloc());
+    assert!(rt; r.read_to_end(&mut content)? == 3);
+
+    let mut r = Cursor::new(*b"ab").chain(Cursor::new(*b"cd"));
+    let mut three = [0u8; 3];
+    r.read_exact(&mut three)?;
+    let (first, second) = r.get_ref();
+    assert!(rt; (first.position(), second.position()) == (2, 1));
+    let (_, second) = r.into_inner();
+    assert!(rt; second.position() == 1);
+    Ok(())
+}
+
+#[test]
+fn take(rt: HostRuntime) -> Result<(), Fail> {
+    let mut r = Cursor::new(*b"abcde").take(2);
+    let mut two = [0u8; 2];
+    r.read_exact(&mut two)?;
+    assert!(rt; r.limit() == 0); // the end
+    r.set_limit(2);
+    r.read_exact(&mut two)?;
+    assert!(rt; two == *b"cd");
+
+    let mut r = Cursor::new(*b"abcde").take(2);
+    let mut two = [0u8; 2];
+    r.read_exact(&mut two)?;
+    assert!(rt; r.get_ref().position() == 2);
+    r.get_mut().set_position(0);
+    assert!(rt; r.limit() == 0); // the limit stays
+    let inner = r.into_inner();
+    assert!(rt; inner.position() == 0);
+    Ok(())
+}
+
+#[test]
+fn buf_read(rt: HostRuntime) -> Result<(), Fail> {
+    let mut r = Cursor::new(*b"abc");
+    assert!(rt; r.fill_buf()? == b"abc".as_slice());
+    r.consume(1);
+    assert!(rt; r.fill_buf()? == b"bc".as_slice());
+
+    let mut r = Cursor::new(*b"key=value");
+    let mut key = Vec::<u8>::new(rt.alloc());
+    assert!(rt; r.read_until(b'=', &mut key)? == 4);
+    assert!(rt; key.as_slice() == b"key=".as_slice());
+
+    let mut r = Cursor::new(*b"key=value");
+    assert!(rt; r.skip_until(b'=')? == 4);
+    assert!(rt; r.fill_buf()? == b"value".as_slice());
+
+    let mut r = Cursor::new(*b"one\ntwo");
+    let mut line = String::new(rt.alloc());
+    assert!(rt; r.read_line(rt.alloc(), &mut line)? == 4);
+    assert!(rt; line.as_str() == "one\n");
+    assert!(rt; r.read_line(rt.alloc(), &mut line)? == 3);
+    assert!(rt; line.as_str() == "one\ntwo");
+
+    let mut lens = Vec::<usize>::new(rt.alloc());
+    for piece in Cursor::new(*b"ab,,c").split(rt.alloc(), b',') {
+        lens.push(piece?.len())?;
+    }
+    assert!(rt; lens.as_slice() == [2, 0, 1].as_slice());
+
+    let mut text = String::new(rt.alloc());
+    for line in Cursor::new(*b"one\r\ntwo\n").lines(rt.alloc()) {
+        text.push_str(line?.as_str())?;
+    }
+    assert!(rt; text.as_str() == "onetwo");
+    Ok(())
+}
+
+#[test]
+fn seek(rt: HostRuntime) -> Result<(), Fail> {
+    let mut r = Cursor::new(*b"abcde");
+    assert!(rt; r.seek(SeekFrom::Start(1))? == 1);
+    assert!(rt; r.seek(SeekFrom::Current(2))? == 3);
+    assert!(rt; r.seek(SeekFrom::End(-1))? == 4);
+    assert!(rt; r.seek(SeekFrom::Current(-5)).is_err()); // before the start: it stays at 4
+
+    let mut r = Cursor::new(*b"abcde");
+    r.seek(SeekFrom::Start(3))?;
+    assert!(rt; r.stream_position()? == 3);
+    assert!(rt; r.stream_len()? == 5);
+    r.rewind()?;
+    assert!(rt; r.stream_position()? == 0);
+
+    let mut r = Cursor::new(*b"abcde");
+    r.seek_relative(3)?;
+    assert!(rt; r.position() == 3);
+    assert!(rt; r.seek_relative(-4).is_err()); // below 0: it stays
+    assert!(rt; r.position() == 3);
+    Ok(())
+}

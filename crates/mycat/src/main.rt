@@ -1,0 +1,114 @@
+//! Writes files to standard output, one after the other, like Unix's `cat`. The argument `-` is standard input, which is
+//! also read if there are no arguments.
+//!
+//! If a file cannot be opened or read, its name and the system's reason go to standard error, and the next file follows.
+//! If standard output fails, the reason goes to standard error, and no file follows; if it is a pipe that nobody reads any
+//! more, the program stops without a message. The status is 0 if nothing failed, and else 1.
+#![tactic(auto)]
+
+ghost use Rattle.std.specs.Prelude.{◌≡◌};
+ghost use Rattle.std.specs.Bool.{OnTrue, OnFalse};
+ghost use Rattle.std.specs.Process.{exit_status};
+
+use no_std_io2::io::{CopyError, copy_sided};
+use std::alloc::Global;
+use std::io::Input;
+use std::process::ExitCode;
+use std::rt::{Env, Files};
+use std::{env, io};
+use system_streams::{Patient, SystemRead, SystemWrite, open, stdin, stdout};
+
+// The size of the buffer, in bytes.
+const ROOM: usize = 131_072;
+
+// Why a file was not written, with the system's reason.
+#[derive(Drop)]
+enum Fault {
+    // The file could not be opened or read.
+    Input(io::Error),
+    // Standard output failed.
+    Output(io::Error),
+}
+
+// Writes all of one stream to another.
+fn pass<D: SystemRead, E: SystemWrite>(
+    input: &mut Patient<D>,
+    out: &mut Patient<E>,
+) -> Result<u64, Fault> {
+    match copy_sided::<_, _, ROOM>(input, out) {
+        Ok(count) => Ok(count),
+        Err(CopyError::Read(e)) => Err(Fault::Input(input.reason(e))),
+        Err(CopyError::Write(e)) => Err(Fault::Output(out.reason(e))),
+    }
+}
+
+// Writes the file with this name.
+fn print_file<R: Files + Input, E: SystemWrite>(
+    rt: &R,
+    name: &str,
+    out: &mut Patient<E>,
+) -> Result<u64, Fault> {
+    if name == "-" {
+        return pass(&mut stdin(rt), out);
+    }
+    match open(rt, name) {
+        Ok(mut file) => pass(&mut file, out),
+        Err(e) => Err(Fault::Input(e)),
+    }
+}
+
+// Writes the files with these names, and returns whether nothing failed.
+fn print_files<R: Files + Input + Print + Eprint>(rt: &R, names: &[String]) -> bool {
+    let mut out = stdout(rt);
+    let mut whole = true;
+    'names: for name in names {
+        match print_file(rt, name.as_str(), &mut out) {
+            Ok(_) => {}
+            Err(Fault::Input(e)) => {
+                let _ = eprintln!(rt; "mycat: {name}: {e}");
+                whole = false;
+            }
+            Err(Fault::Output(e)) => {
+                if e.kind() != io::ErrorKind::BrokenPipe {
+                    let _ = eprintln!(rt; "mycat: write error: {e}");
+                }
+                return false;
+            }
+        }
+    }
+    whole
+}
+
+// Returns the arguments after the program's name, and `-` if there are none.
+fn names<R: Env + Alloc<A = Global>>(rt: &R) -> io::Result<Vec<String>> {
+    let mut names = Vec::new(rt.alloc());
+    'words: for word in env::args(rt)?.skip(1) {
+        names.push(word)?;
+    }
+    if names.is_empty() {
+        names.push(String::from_str(rt.alloc(), "-")?)?;
+    }
+    Ok(names)
+}
+
+fn main(rt: HostRuntime) -> ExitCode {
+    match names(&rt) {
+        Ok(names) => status(print_files(&rt, names.as_slice())),
+        Err(e) => {
+            let _ = eprintln!(rt; "mycat: {e}");
+            ExitCode::FAILURE
+        }
+    }
+}
+
+// Returns the status of a run.
+fn status(whole: bool) -> ExitCode
+    ensures done { OnTrue whole (exit_status result ≡ 0) }
+    ensures failed { OnFalse whole (exit_status result ≡ 1) }
+{
+    if whole {
+        ExitCode::SUCCESS
+    } else {
+        ExitCode::FAILURE
+    }
+}

@@ -1,0 +1,139 @@
+-- Which errors a writer with a buffer returns, if each call of its inner writer fails with such errors only.
+use Rattle.std.proofs.lemmas.Grind.{common_steps}
+use Rattle.std.proofs.Common.{◌≡◌, ℕ, ◌+◌, ◌<◌, ◌≤◌, List, ◌∷◌, [], Result, Ok, Err, IfErr, IfOk, length, arith, subst, sym, inl, inr}
+use Rattle.std.proofs.lemmas.Bool.Decides.{nat_tests}
+use Rattle.no_std_io2_base.specs.declared.error.Error.{Error}
+use Rattle.no_std_io2_base.specs.Write.{WriteCall, Wrote, WroteAll, WroteRest, Flushed, Made}
+use Rattle.no_std_io2_base.specs.Writers.{Writer, CallOf}
+use Rattle.no_std_io2_base.specs.Fails.{FailsBy, FailsOnly}
+use Rattle.no_std_io2_base.proofs.CallsLemmas.{made_split}
+use Rattle.no_std_io2_base.proofs.FailsLemmas.{bare, writes_fail, all_fails}
+use Rattle.no_std_io2.specs.BufWriter.{Step, Then, stops, goes_on, PastEmpty, SendCalls, WayCalls, PutCalls, Buffered, WriteCalls, WriteAllCalls}
+use Rattle.no_std_io2.specs.BufWriter.{FlushCalls, OneWrite, OneWriteAll, OneFlush, BufferMay}
+use Rattle.no_std_io2.specs.Lines.{lines_of, unfinished_line}
+use Rattle.no_std_io2.specs.LineWriter.{SendLineCalls, LinesCalls, HoldsTail, SendLinesCalls, LineWriteCalls, LineWriteAllCalls, LineMay}
+use Rattle.no_std_io2.proofs.LinesLast.{lines_len-some}
+use Rattle.no_std_io2.proofs.LineWriterStates.{lines_length}
+
+module _ {W : Type 0} (I : Writer W) (Q : Error → Type 0) (fails : FailsOnly Q I.may) where
+  -- a step has such results, if its calls were made
+  abbrev Gives : {A : Type 0} → (Result A Error → Type 0) → Step A → Type 0
+  Gives {A} P step = (held : List ℕ) (C : List WriteCall) (reply : Result A Error) (left : List ℕ) → step held C reply left
+      → (a b : W) → Made I.may a C b → P reply
+
+  -- it fails with such errors only
+  abbrev Fails : {A : Type 0} → Step A → Type 0
+  Fails step = Gives (λ reply. IfErr reply Q) step
+
+  then_gives : {A : Type 0} (P : Result A Error → Type 0) (first : Step (Unit {0})) (next : Step A) → ((e : Error) → Q e → P (Err e))
+      → Fails first → Gives P next → Gives P (Then first next)
+  then_gives P first next of_error of_first of_next = λ held C reply left both a b made. split both a b made
+    where
+      split : {held left : List ℕ} {C : List WriteCall} {reply : Result _ Error} → Then first next held C reply left
+          → (a b : W) → Made I.may a C b → P reply
+      split (stops {e = e} p) a b made = of_error e (of_first _ _ _ _ p a b made)
+      split (goes_on {C = C} {D = D} p q) a b made =
+          let parts = made_split I.may C a D b made in of_next _ _ _ _ q parts.0 b parts.2
+
+  send_fails : Fails SendCalls
+  send_fails = λ held C reply left writes a b made. writes_fail Q I.may fails writes a b made
+
+  way_fails : (S n : ℕ) → Fails (WayCalls S n)
+  way_fails S n = λ held C reply left way a b made. elim way [
+    | inl kept ↦ subst (λ r. IfErr r Q) (sym kept.2) tt
+    | inr sent ↦ send_fails held C reply left sent.1 a b made
+  ]
+
+  buffered_gives : {A : Type 0} (P : Result A Error → Type 0) (S : ℕ) (x : List ℕ) (v : A) (past : List WriteCall → Result A Error → Type 0)
+      → ((e : Error) → Q e → P (Err e)) → P (Ok v)
+      → ((C : List WriteCall) (reply : Result A Error) → past C reply → (a b : W) → Made I.may a C b → P reply)
+      → Gives P (Buffered S x v past)
+  buffered_gives P S x v past of_error kept of_past =
+      then_gives P (WayCalls S (length x)) (PutCalls S x v past) of_error (way_fails S (length x))
+      (λ held C reply left put a b made. elim put [
+        | inl held ↦ subst P (sym held.2) kept
+        | inr gone ↦ of_past C reply gone.1.2 a b made
+      ])
+
+  -- the one call that was made
+  one : {call : WriteCall} {C : List WriteCall} (a b : W) → C ≡ call ∷ [] → Made I.may a C b → FailsBy Q call
+  one {call = call} a b is made = let first = subst (λ K. Made I.may a K b) is made in fails a first.0 call first.1
+
+  -- a `write` of some bytes takes some, or fails
+  abbrev Some : List ℕ → Result ℕ Error → Type 0
+  Some x reply = IfErr reply Q × IfOk reply (λ n. 0 < length x → 0 < n)
+
+  write_some : (S : ℕ) (x : List ℕ) → Gives (Some x) (WriteCalls S x)
+  write_some S x = buffered_gives (Some x) S x (length x) (OneWrite x) (λ e q. (q, tt)) (tt, λ some. some)
+      (λ C reply is a b made. one {call = Wrote x reply} a b is made)
+
+  write_all_fails : (S : ℕ) (x : List ℕ) → Fails (WriteAllCalls S x)
+  write_all_fails S x = buffered_gives (λ reply. IfErr reply Q) S x tt (OneWriteAll x) (λ e q. q) tt
+      (λ C reply calls a b made. all_fails Q I.may fails reply calls a b made)
+
+  flush_fails : Fails FlushCalls
+  flush_fails = then_gives (λ reply. IfErr reply Q) SendCalls (PastEmpty OneFlush) (λ e q. q) send_fails
+      (λ held C reply left gone a b made. one {call = Flushed reply} a b gone.2 made)
+
+  -- A writer with a buffer fails with the errors of its inner writer only.
+  pub buffer_fails : {B : Type 0} (S : ℕ) (inner : B → W) (buffer : B → List ℕ) → FailsOnly Q (BufferMay I S inner buffer)
+  buffer_fails S inner buffer old new (Wrote x reply) may =
+      write_some S x _ _ _ _ may.2 (inner old) (inner new) (bare I may.0 (inner old) (inner new) may.1)
+  buffer_fails S inner buffer old new (WroteAll x reply) may =
+      write_all_fails S x _ _ _ _ may.2 (inner old) (inner new) (bare I may.0 (inner old) (inner new) may.1)
+  buffer_fails S inner buffer old new (WroteRest x reply left) may = absurd may.2
+  buffer_fails S inner buffer old new (Flushed reply) may =
+      flush_fails _ _ _ _ may.2 (inner old) (inner new) (bare I may.0 (inner old) (inner new) may.1)
+
+  -- and so does a line writer
+  send_line_fails : Fails SendLineCalls
+  send_line_fails = λ held C reply left sends a b made. elim sends [
+    | inl kept ↦ subst (λ r. IfErr r Q) (sym kept.2) tt
+    | inr sent ↦ send_fails held C reply left sent.1 a b made
+  ]
+
+  tail_some : (S : ℕ) (x lines : List ℕ) (answer reply : Result ℕ Error) (left : List ℕ) → 0 < length lines → HoldsTail S x answer reply left
+      → Some lines answer → Some x reply
+  tail_some S x lines (Ok n) reply left some tail gave =
+      subst (Some x) (sym tail.1) (tt, λ any. omega (arith, gave.1 some))
+  tail_some S x lines (Err e) reply left some tail gave = subst (Some x) (sym tail.1) (gave.0, tt)
+
+  send_lines_fails : (S : ℕ) (y : List ℕ) → Fails (SendLinesCalls S y)
+  send_lines_fails S y = λ held C reply left sends a b made. elim sends [
+    | inl past ↦ all_fails Q I.may fails reply past.2 a b made
+    | inr behind ↦
+        then_gives (λ reply. IfErr reply Q) (WriteAllCalls S y) SendCalls (λ e q. q) (write_all_fails S y) send_fails
+        held C reply left behind.1 a b made
+  ]
+
+  line_write_some : (S : ℕ) (x : List ℕ) → Gives (Some x) (LineWriteCalls S x)
+  line_write_some S x = λ held C reply left write a b made. elim write [
+    | inl plain ↦
+        then_gives (Some x) SendLineCalls (WriteCalls S x) (λ e q. (q, tt)) send_line_fails (write_some S x)
+        held C reply left plain.1 a b made
+    | inr lines ↦
+        then_gives (Some x) SendCalls (LinesCalls S x) (λ e q. (q, tt)) send_fails
+        (λ held C reply left wrote a b made.
+        tail_some S x (lines_of x) wrote.1 reply left (omega (arith, lines_len-some x lines.0, lines_length x)) wrote.3
+        (one {call = Wrote (lines_of x) wrote.1} a b wrote.2 made))
+        held C reply left lines.1 a b made
+  ]
+
+  line_write_all_fails : (S : ℕ) (x : List ℕ) → Fails (LineWriteAllCalls S x)
+  line_write_all_fails S x = λ held C reply left write a b made. elim write [
+    | inl plain ↦
+        then_gives (λ reply. IfErr reply Q) SendLineCalls (WriteAllCalls S x) (λ e q. q) send_line_fails (write_all_fails S x)
+        held C reply left plain.1 a b made
+    | inr lines ↦
+        then_gives (λ reply. IfErr reply Q) (SendLinesCalls S (lines_of x)) (WriteAllCalls S (unfinished_line x)) (λ e q. q)
+        (send_lines_fails S (lines_of x)) (write_all_fails S (unfinished_line x)) held C reply left lines.1 a b made
+  ]
+
+  pub line_fails : {B : Type 0} (S : ℕ) (inner : B → W) (buffer : B → List ℕ) → FailsOnly Q (LineMay I S inner buffer)
+  line_fails S inner buffer old new (Wrote x reply) may =
+      line_write_some S x _ _ _ _ may.2 (inner old) (inner new) (bare I may.0 (inner old) (inner new) may.1)
+  line_fails S inner buffer old new (WroteAll x reply) may =
+      line_write_all_fails S x _ _ _ _ may.2 (inner old) (inner new) (bare I may.0 (inner old) (inner new) may.1)
+  line_fails S inner buffer old new (WroteRest x reply left) may = absurd may.2
+  line_fails S inner buffer old new (Flushed reply) may =
+      flush_fails _ _ _ _ may.2 (inner old) (inner new) (bare I may.0 (inner old) (inner new) may.1)

@@ -1,0 +1,87 @@
+-- What calls of a writer cost, and how many calls the calls of the trait's loops count as.
+use Rattle.no_std_io2_base.specs.Writers.{TakesAll, CallOf}
+use Rattle.std.proofs.Common.{◌≡◌, ℕ, ◌+◌, ◌-◌, ⊎_elim, List, [], ◌∷◌, ◌++◌, length, Result, IsOk, Some, arith, ap, ◌∙◌, inl, inr}
+use Rattle.no_std_io2_base.specs.declared.error.Error.{Error}
+use Rattle.no_std_io2_base.specs.Write.{WriteCall, Made, AllCalls, calls_for}
+use Rattle.no_std_io2_base.specs.Write.{Writes, none, took, again, stuck, fault}
+use Rattle.no_std_io2_base.specs.Writers.{Writer}
+use Rattle.no_std_io2_base.proofs.CallsLemmas.{law_may}
+use Rattle.no_std_io2_base.proofs.WritesFacts.{writes_all}
+use Rattle.no_std_io2_base.proofs.AllFacts.{all_calls}
+use Rattle.no_std_io2_base.specs.Meter.{charges, IsMeter}
+use Rattle.no_std_io2_base.specs.ReadMeter.{IsReadMeter}
+use Rattle.no_std_io2_base.specs.Read.{ReadCall}
+use Rattle.no_std_io2.specs.declared.buffered.buf_reader.BufReader.{BufReader}
+use Rattle.no_std_io2.specs.BufReader.{reader_held, reader_inner, ReadsBelow, FillsBelow}
+use Rattle.no_std_io2.proofs.BufReaderRoom.{some_room}
+use Rattle.std.proofs.lemmas.Bool.{cases_lt}
+
+-- calls and then others count as both
+pub charges-append : (C D : List WriteCall) → charges (C ++ D) ≡ charges C + charges D
+charges-append [] D = omega arith
+charges-append (call ∷ C) D = omega (arith, charges-append C D)
+
+-- what calls cost, by a number that counts them
+pub meter_made : {W : Type 0} (I : Writer W) (cost : W → ℕ) → IsMeter I.may cost → (C : List WriteCall) (a b : W) → Made (CallOf I) a C b
+    → cost b ≡ cost a + charges C
+meter_made I cost meter [] a b made = omega (arith, ap cost made)
+meter_made I cost meter (call ∷ C) a b made =
+    let one = meter a made.0 call (law_may I a made.0 call made.1) in
+    omega (arith, one, meter_made I cost meter C made.0 b made.2)
+
+-- each write of a loop counts as one
+writes_charge : {text : List ℕ} {C : List WriteCall} {x left : List ℕ} {reply : Result (Unit {0}) Error}
+    → Writes text C x reply left → charges C ≡ length C
+writes_charge none = omega arith
+writes_charge (took some more w) = omega (arith, writes_charge w)
+writes_charge (again some interrupted w) = omega (arith, writes_charge w)
+writes_charge (stuck some says) = omega arith
+writes_charge (fault some is) = omega arith
+
+-- A read of a buffered reader costs one inner read if nothing is held, and none if some bytes are.
+pub read_cost : {R : Type 0} {S : ℕ} (may : R → ReadCall → R → Type 0) (cost : R → ℕ) → IsReadMeter may cost
+    → (old new : BufReader R S) (room : ℕ) (answer : Result (List ℕ) Error) → ReadsBelow may old room answer new
+    → cost (reader_inner new) ≡ cost (reader_inner old) + (1 - length (reader_held old))
+read_cost may cost meter old new room answer read =
+    let some = some_room old in ⊎_elim
+    (λ none. ⊎_elim
+    (λ few. let one = (read.filled (omega (arith, none)) few).1 in omega (arith, none, some, meter _ _ _ _ one))
+    (λ many. let one = read.direct (omega (arith, none)) many in omega (arith, none, some, many, meter _ _ _ _ one.0))
+    (cases_lt room _))
+    (λ held. let same = ap cost (read.held (omega (arith, held))).0 in omega (arith, held, same))
+    (cases_lt (length (reader_held old)) 1)
+
+-- and so does a `fill_buf`
+pub fill_cost : {R : Type 0} {S : ℕ} (may : R → ReadCall → R → Type 0) (cost : R → ℕ) → IsReadMeter may cost
+    → (old new : BufReader R S) (answer : Result (List ℕ) Error) → FillsBelow may old answer new
+    → cost (reader_inner new) ≡ cost (reader_inner old) + (1 - length (reader_held old))
+fill_cost may cost meter old new answer fill = ⊎_elim
+    (λ none. let one = fill.filled (omega (arith, none)) in omega (arith, none, some_room old, meter _ _ _ _ one))
+    (λ held. let same = ap (λ r. cost (reader_inner r)) (fill.held (omega (arith, held))) in omega (arith, held, same))
+    (cases_lt (length (reader_held old)) 1)
+
+module _ {W : Type 0} (I : Writer W) where
+  -- over a writer that takes all, a loop of writes counts as one, or none for no bytes
+  pub writes_count : {text : List ℕ} {C : List WriteCall} {x left : List ℕ} {reply : Result (Unit {0}) Error}
+      → Writes text C x reply left → (a b : W) → Made (CallOf I) a C b → TakesAll I a
+      → TakesAll I b × IsOk reply × (charges C ≡ calls_for x)
+  writes_count w a b made takes =
+      let all = writes_all I w a b made takes in
+      (all.0, all.1, writes_charge w ∙ all.2)
+
+  -- and so does a `write_all`
+  pub all_count : {C : List WriteCall} {x : List ℕ}
+      {reply : Result (Unit {0}) Error} → AllCalls C x reply → (a b : W) → Made (CallOf I) a C b → TakesAll I a
+      → TakesAll I b × IsOk reply × (charges C ≡ calls_for x)
+  all_count {C} {x} calls a b made takes =
+      let all = (all_calls I calls a b made).2 takes in (
+        all.0,
+        all.1,
+        elim calls [
+          | inl own ↦ ap charges own ∙ omega arith
+          | inr rest ↦ elim rest.1 [
+            | inl own ↦ ap charges own ∙ omega arith
+            | inr writes ↦ (writes_count writes a b made takes).2
+          ]
+        ],
+      )

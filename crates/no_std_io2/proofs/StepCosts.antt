@@ -1,0 +1,40 @@
+-- What the calls of a buffered writer cost, by each number that counts the calls of the inner writer, if that takes all.
+use Rattle.std.proofs.Common.{◌≡◌, ◌+◌, ℕ, ◌<◌, ◌≤◌, List, length, Result, Ok, Err, Some, IsOk, IfOk, arith}
+use Rattle.std.proofs.lemmas.Bool.Decides.{nat_tests}
+use Rattle.no_std_io2_base.specs.Writers.{TakesAll, Writer}
+use Rattle.no_std_io2_base.specs.declared.error.Error.{Error}
+use Rattle.no_std_io2_base.specs.Write.{calls_for}
+use Rattle.no_std_io2_base.specs.Meter.{charges, IsMeter, Costs, CostsAtMost}
+use Rattle.no_std_io2.specs.BufWriter.{Step, TakesStep, SendCalls, UnwrapCalls, writing_calls}
+use Rattle.no_std_io2.specs.declared.buffered.into_inner_error.IntoInnerError.{IntoInnerError}
+use Rattle.no_std_io2.proofs.StepLemmas.{Counts}
+use Rattle.no_std_io2.proofs.BufWriterCalls.{send_counts, writing_all_calls}
+use Rattle.no_std_io2.proofs.MeterLemmas.{meter_made}
+
+-- with some room, an empty `write_all` makes no call past the buffer
+pub writing_all-is : (S : ℕ) (x held : List ℕ) → 0 < S → writing_all_calls S x held ≡ writing_calls S held x
+writing_all-is S x held some = grind (arith, nat_tests)
+
+module _ {W : Type 0} (I : Writer W) where
+  -- A step costs what its calls count as.
+  pub step_cost : {A B : Type 0} (cost : W → ℕ) → IsMeter I.may cost → (inner : B → W) (buffer : B → List ℕ) (step : Step A) (n : List ℕ → ℕ)
+      → Counts I step n → (old new : B) {reply : Result A Error} → TakesStep I inner buffer step old reply new → TakesAll I (inner old)
+      → TakesAll I (inner new) × IsOk reply × (cost (inner new) ≡ cost (inner old) + n (buffer old))
+  step_cost cost meter inner buffer step n counts old new {reply} takes all =
+      let done = counts _ _ _ _ takes.2 (inner old) (inner new) takes.1 all in
+      (done.0, done.1, omega (arith, meter_made I cost meter takes.0 (inner old) (inner new) takes.1, done.2))
+
+  -- and at most so much
+  pub few_cost : {A B : Type 0} (cost : W → ℕ) → IsMeter I.may cost → (inner : B → W) (buffer : B → List ℕ) (step : Step A) (old new : B)
+      {reply : Result A Error} {n : ℕ} (takes : TakesStep I inner buffer step old reply new) → charges takes.0 ≤ n
+      → cost (inner new) ≤ cost (inner old) + n
+  few_cost cost meter inner buffer step old new takes few =
+      omega (arith, meter_made I cost meter takes.0 (inner old) (inner new) takes.1, few)
+
+  -- `into_inner` costs one call for the held bytes
+  pub unwrap_cost : {B : Type 0} (inner : B → W) (buffer : B → List ℕ) (old : B) (reply : Result W (IntoInnerError B))
+      → UnwrapCalls I inner buffer old reply → IfOk reply (λ w. Costs I (inner old) (calls_for (buffer old)) w)
+  unwrap_cost inner buffer old (Ok w) calls = λ cost meter takes.
+      let sent = send_counts I _ _ _ _ calls.2 (inner old) w calls.1 takes in
+      omega (arith, meter_made I cost meter calls.0 (inner old) w calls.1, sent.2)
+  unwrap_cost inner buffer old (Err e) calls = tt

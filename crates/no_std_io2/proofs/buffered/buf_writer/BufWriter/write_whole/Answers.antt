@@ -1,0 +1,54 @@
+-- There is room for the record, which is then held; or no room could be made.
+use Rattle.std.proofs.Common.{◌≡◌, ℕ, ◌+◌, ◌<◌, List, [], ◌∷◌, ◌++◌, length, Ok, Err, refl, sym, ap, subst, ◌∙◌, arith, append_assoc, length-append}
+use Rattle.std.proofs.lemmas.Result.{err_from_is_err_and}
+use Rattle.no_std_io2_base.specs.declared.error.Error.{Error}
+use Rattle.no_std_io2_base.specs.Writers.{Writer}
+use Rattle.no_std_io2_base.specs.Errors.{error_kind, IsFault}
+use Rattle.no_std_io2_base.specs.Write.{Moves}
+use Rattle.no_std_io2.specs.declared.buffered.buf_writer.BufWriter.{BufWriter}
+use Rattle.no_std_io2.specs.BufWriter.{writer_inner, writer_buffer, writer_told, TakesStep, WayCalls, OneWriteAll, Puts}
+use Rattle.no_std_io2.proofs.MovesLemmas.{Moves-then}
+use Rattle.no_std_io2.proofs.BufWriterLemmas.{Moves-kept}
+use Rattle.no_std_io2.proofs.BufWriterCalls.{puts}
+use Rattle.no_std_io2.proofs.StepLemmas.{then_stops, then_goes_on}
+use Rattle.no_std_io2.proofs.buffered.buf_writer.BufWriter.write_whole.Goals as goal
+
+module _ {W : Type 0} {S : ℕ} (I : Writer W) {old : BufWriter W S} {n : ℕ} (head tail : List ℕ) (is : n ≡ length head + length tail) where
+  no_room : {new : BufWriter W S} (e : Error) → TakesStep I writer_inner writer_buffer (WayCalls S n) old (Err e) new
+      → Moves (writer_told I.told old) [] (error_kind e ∷ []) (writer_told I.told new) → IsFault e
+      → Puts I writer_inner writer_buffer S (head ++ tail) old (Err e) new
+  no_room {new} e way moves fault = record {
+    moves = moves;
+    fault = fault;
+    calls = then_stops _ _
+        (subst (λ k. TakesStep I writer_inner writer_buffer (WayCalls S k) old (Err e) new) (is ∙ sym (length-append head tail)) way);
+  }
+
+  room : (mid new : BufWriter W S) → n < S → TakesStep I writer_inner writer_buffer (WayCalls S n) old (Ok tt) mid
+      → Moves (writer_told I.told old) [] [] (writer_told I.told mid)
+      → writer_inner new ≡ writer_inner mid → writer_buffer new ≡ (writer_buffer mid ++ head) ++ tail
+      → Puts I writer_inner writer_buffer S (head ++ tail) old (Ok tt) new
+  room mid new short way moves same put =
+      let whole = put ∙ append_assoc (writer_buffer mid) head tail in record {
+        moves = Moves-then {k = []} moves
+            (Moves-kept I.told (writer_inner mid) (writer_inner new) (writer_buffer mid) (writer_buffer new) (head ++ tail) same whole);
+        fault = tt;
+        calls = then_goes_on _ _ _ _
+            (subst (λ k. TakesStep I writer_inner writer_buffer (WayCalls S k) old (Ok tt) mid) (is ∙ sym (length-append head tail)) way)
+            (puts S (head ++ tail) tt (OneWriteAll (head ++ tail)) (omega (arith, is, short, length-append head tail)) same whole);
+      }
+
+pub returns-in_err-make_room : goal.returns-in_err-make_room
+returns-in_err-make_room g c =
+    let p = err_from_is_err_and c.from_residual.result c.from_residual.ensures.1 in
+    let made = c.in_err-make_room.ensures in
+    rw (p.1, p.2)
+    (record { puts = no_room g.W.Write c.args.head.now c.args.tail.now refl _ made.calls made.moves made.never_interrupted })
+
+pub returns : goal.returns
+returns g c =
+    let made = c.in_ok-make_room.ensures in record {
+      puts = room g.W.Write c.args.head.now c.args.tail.now refl c.make_room.new.self (record { core = c.hold-2.new.self }) c.requires made.calls made.moves
+          (c.hold-2.ensures.same ∙ c.hold.ensures.same)
+          (c.hold-2.ensures.buffer ∙ ap (λ l. l ++ c.args.tail.now) c.hold.ensures.buffer);
+    }

@@ -1,0 +1,40 @@
+// `fill_to`, which reads until enough bytes are held.
+ghost use Rattle.std.specs.Prelude.{◌≤◌};
+ghost use Rattle.no_std_io2.specs.FillTo.{FillsTo};
+
+use super::BufReader;
+use no_std_io2_base::error::Result;
+use no_std_io2_base::traits::Read;
+
+impl<R: Read, const S: usize> BufReader<R, S> {
+    /// Reads until `n` bytes are held, which is at most `S`, and returns `true`. Returns `false` if the end comes
+    /// first. It reads into all the room after the held bytes, makes no call if `n` are held, and ignores
+    /// interruptions. [`buffer`](BufReader::buffer) shows the held bytes, so a record that is at most `S` bytes
+    /// long can be taken whole or not at all. Like `std::io::BufReader::peek`, which lends the bytes.
+    ///
+    /// # Errors
+    /// Returns the inner reader's first fault. The bytes before it are held, and the same call continues.
+    ///
+    /// ```rust
+    /// let mut r = BufReader::<_, 4>::new(Cursor::new(*b"abcde"));
+    /// assert!(rt; r.fill_to(2)?);
+    /// assert!(rt; r.buffer() == b"abcd".as_slice()); // one inner read, of four bytes
+    /// r.consume(3);
+    /// assert!(rt; !r.fill_to(3)?); // the end came first
+    /// assert!(rt; r.buffer() == b"de".as_slice());
+    /// ```
+    pub fn fill_to(&mut self, n: usize) -> Result<bool>
+        requires { n ≤ S }
+        ensures fills { FillsTo R.Read n self.old result self.new }
+    {
+        'reads: while self.buffer.len() < n {
+            match self.buffer.read_on(&mut self.inner) {
+                Ok(0) => return Ok(false),
+                Ok(_) => {}
+                Err(e) if e.is_interrupted() => {}
+                Err(e) => return Err(e),
+            }
+        }
+        Ok(true)
+    }
+}

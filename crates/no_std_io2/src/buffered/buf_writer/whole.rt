@@ -1,0 +1,52 @@
+//! The calls of [`BufWriter`] for records, which are written whole or not at all. Rust's std has none of them.
+ghost use Rattle.std.specs.Prelude.{◌+◌, ◌<◌, ◌≤◌, ◌++◌, [], length, OnOk};
+ghost use Rattle.no_std_io2_base.specs.Errors.{IsNoInterruption};
+ghost use Rattle.no_std_io2_base.specs.Write.{Moves, call_mishap};
+ghost use Rattle.no_std_io2.specs.BufWriter.{writer_inner, writer_buffer, writer_told, TakesStep, WayCalls, Puts};
+
+use super::BufWriter;
+use no_std_io2_base::error::Result;
+use no_std_io2_base::traits::Write;
+
+impl<W: Write + Drop, const S: usize> BufWriter<W, S> {
+    /// Sends the held bytes if `n` more do not fit beside them. After `Ok` they fit, if `n` is at most
+    /// `S`. `make_room(S)` sends all held bytes.
+    ///
+    /// # Errors
+    /// Returns `WriteZero` if an inner write takes no byte, and the inner writer's fault if one fails.
+    /// Bytes that were not sent are still held. Never returns `Interrupted`.
+    #[inline(always)]
+    pub fn make_room(&mut self, n: usize) -> Result<()>
+        ensures calls { TakesStep W.Write writer_inner writer_buffer (WayCalls S n) self.old result self.new }
+        ensures moves { Moves (writer_told W.told self.old) [] (call_mishap result) (writer_told W.told self.new) }
+        ensures never_interrupted { IsNoInterruption result }
+        ensures room { n ≤ S → OnOk result (length (writer_buffer self.new) + n ≤ S) }
+    {
+        self.core.make_room(n)
+    }
+
+    /// Writes a record, `head` followed by `tail`, which has to be shorter than `S`. After `Ok` all of it
+    /// was accepted, and is held. The held bytes are sent first if it does not fit beside them.
+    ///
+    /// # Errors
+    /// Returns the errors that [`make_room`](BufWriter::make_room) returns. Nothing of the record was then
+    /// accepted.
+    ///
+    /// ```rust
+    /// let mut w = BufWriter::<Vec<u8>, 8>::new(Vec::new(rt.alloc()));
+    /// w.write_whole(b"abc", b"def")?;
+    /// w.write_whole(b"gh", b"i")?; // does not fit beside them: they are sent first
+    /// assert!(rt; w.get_ref().as_slice() == b"abcdef".as_slice());
+    /// assert!(rt; w.buffer() == b"ghi".as_slice());
+    /// ```
+    #[inline(always)]
+    pub fn write_whole(&mut self, head: &[u8], tail: &[u8]) -> Result<()>
+        requires { length head.now + length tail.now < S }
+        ensures puts { Puts W.Write writer_inner writer_buffer S (head.now ++ tail.now) self.old result self.new }
+    {
+        self.make_room(head.len() + tail.len())?;
+        self.core.hold(head);
+        self.core.hold(tail);
+        Ok(())
+    }
+}

@@ -1,0 +1,97 @@
+// [`Empty`], a stream without bytes.
+ghost use Rattle.std.specs.Prelude.{◌≡◌, []};
+ghost use Rattle.no_std_io2.specs.Sink.{empty_taken};
+
+use super::sinks::Sink;
+use no_std_io2_base::error::Result;
+use no_std_io2_base::traits::{BufRead, Read, Seek, SeekFrom, Stored, Write};
+use std::fmt;
+
+/// A reader that is at its end, and a writer that takes every byte like a [`Sink`](super::Sink). A seek leaves it where it
+/// is. Made by [`empty`](super::empty); follows `std::io::Empty`.
+#[derive(Drop)]
+pub struct Empty {
+    sink: Sink,
+}
+
+impl Default for Empty {
+    ghost is_default = { λ e. empty_taken e ≡ [] };
+
+    fn default() -> Empty {
+        Empty { sink: Sink::new() }
+    }
+}
+
+/// Tells no store, because its position is 0 after every seek.
+impl Stored for Empty {
+    ghost has_store = { λ _. ⊥ };
+
+    ghost content = { λ _. [] };
+
+    ghost position = { λ _. 0 };
+}
+
+/// Tells that no event is to come.
+impl Read for Empty {
+    ghost tells = { λ _. Unit {0} };
+
+    ghost events = { λ _. [] };
+
+    ghost turns = { λ _. 0 };
+
+    fn read(&mut self, _buf: &mut [u8]) -> Result<usize> {
+        Ok(0)
+    }
+
+    ghost filling_tells = { λ e h. absurd h };
+
+    ghost store_tells = { λ e h. absurd h };
+
+    ghost store_fits = { λ e h. absurd h };
+}
+
+/// Holds nothing.
+impl BufRead for Empty {
+    ghost held = { λ _. [] };
+
+    fn fill_buf(&mut self) -> Result<&[u8]> {
+        Ok(&[])
+    }
+
+    fn consume(&mut self, _amount: usize) {}
+}
+
+/// Each seek returns 0.
+impl Seek for Empty {
+    fn seek(&mut self, _pos: SeekFrom) -> Result<u64> {
+        Ok(0)
+    }
+
+    ghost seek_fits = { λ e h. absurd h };
+}
+
+/// Tells what its sink tells.
+impl Write for Empty {
+    ghost use Rattle.no_std_io2.specs.Sink.{empty_told, EmptyMay};
+    ghost use Rattle.std.specs.Prelude.{⊤};
+
+    ghost told = { empty_told };
+
+    ghost takes_all = { λ _. ⊤ };
+
+    ghost may = { EmptyMay };
+
+    fn write(&mut self, buf: &[u8]) -> Result<usize> {
+        self.sink.write(buf)
+    }
+
+    fn flush(&mut self) -> Result<()> {
+        self.sink.flush()
+    }
+}
+
+impl fmt::Debug for Empty {
+    fn fmt<W: fmt::Write>(&self, f: &mut fmt::Formatter<W>) -> fmt::Result {
+        f.write_str("Empty")
+    }
+}

@@ -1,0 +1,83 @@
+//! [`copy_sided`], a copy whose error says which side failed.
+ghost use Rattle.std.specs.Prelude.{◌≡◌, ◌≤◌, ◌<◌, ◌^◌, IfErr};
+ghost use Rattle.no_std_io2_base.specs.Errors.{IsFault};
+ghost use Rattle.no_std_io2.specs.CopySides.{side_error, CopiesBySide, SidesMove, SidesHand};
+
+use no_std_io2_base::error::{Error, Result};
+use no_std_io2_base::traits::{Read, Write};
+use std::fmt;
+use std::fmt::Display;
+
+/// The side that ended a [`copy_sided`], with its error. Rust's std has no such type.
+#[derive(Debug, Drop)]
+pub enum CopyError {
+    /// The reader failed. The writer has accepted all bytes that were read.
+    Read(Error),
+    /// The writer failed. Up to a buffer of bytes that were read are lost.
+    Write(Error),
+}
+
+/// Keeps the error, and forgets the side.
+impl From<CopyError> for Error {
+    ghost from_gives = { λ side e. e ≡ side_error side };
+
+    fn from(side: CopyError) -> Error {
+        match side {
+            CopyError::Read(e) | CopyError::Write(e) => e,
+        }
+    }
+}
+
+/// Prints the error.
+impl Display for CopyError {
+    fn fmt<W: fmt::Write>(&self, f: &mut fmt::Formatter<W>) -> fmt::Result {
+        match self {
+            CopyError::Read(e) | CopyError::Write(e) => Display::fmt(e, f),
+        }
+    }
+}
+
+impl std::error::Error for CopyError {}
+
+/// Copies like [`copy`](super::copy), and says which side failed. So a program can go on with its next input after a
+/// reader's fault, and stop after the writer's.
+///
+/// # Errors
+/// Returns `Read` with the reader's first fault if there is one; the writer has then accepted all bytes before it.
+/// Returns `Write` with the writer's fault if a `write_all` fails; up to `S` bytes that were read are then not accepted, and
+/// are lost. Neither is an interruption.
+///
+/// ```rust
+/// let mut from = Cursor::new(*b"abcde");
+/// let mut full = Cursor::new([0u8; 2]);
+/// let side = copy_sided::<_, _, 64>(&mut from, &mut full);
+/// assert!(rt; matches!(side, Err(CopyError::Write(_)))); // two of the five bytes fit
+/// ```
+pub fn copy_sided<R: Read, W: Write, const S: usize>(
+    reader: &mut R,
+    writer: &mut W,
+) -> std::result::Result<u64, CopyError>
+    requires { S < 2 ^ 63 }
+    ensures told { R.tells reader.old → R.tells reader.new × CopiesBySide S (R.events reader.old) result (R.events reader.new)
+        (W.told writer.old) (W.told writer.new) }
+    ensures moves { SidesMove result (W.told writer.old) (W.told writer.new) }
+    // Each read is into the whole buffer. It makes one `write_all` for the bytes of each read, none after a fault,
+    // and no other call.
+    ensures calls { SidesHand R.Read W.Write S reader.old writer.old result reader.new writer.new }
+    ensures never_interrupted { IfErr result (λ side. IsFault (side_error side)) }
+    ensures turns_never_rise { R.turns reader.new ≤ R.turns reader.old }
+{
+    let mut buf = [0u8; S];
+    let mut copied = 0u64;
+    'reads: loop {
+        match reader.read(&mut buf[..]) {
+            Ok(0) => return Ok(copied),
+            Ok(n) => match writer.write_all(&buf[..n]) {
+                Ok(()) => copied = copied.saturating_add(n as u64),
+                Err(e) => return Err(CopyError::Write(e)),
+            },
+            Err(e) if e.is_interrupted() => {}
+            Err(e) => return Err(CopyError::Read(e)),
+        }
+    }
+}

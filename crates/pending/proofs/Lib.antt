@@ -1,2 +1,0 @@
-pub mod RecordLemmas
-pub mod TextLemmas

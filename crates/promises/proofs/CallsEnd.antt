@@ -1,0 +1,89 @@
+-- Which call of a buffer's inner writer is the last.
+use Rattle.std.proofs.Common.{◌≡◌, ℕ, List, [], ◌∷◌, ◌++◌, Result, Ok, Err, IfOk, IfErr, length, refl, subst, sym, inl, inr}
+use Rattle.no_std_io2.specs.declared.io.Error.{Error}
+use Rattle.no_std_io2.specs.Write.{WriteCall, Wrote, WroteAll, WroteRest, Flushed, Writes, none, took, again, stuck, fault}
+use Rattle.no_std_io2.specs.BufWriter.{Then, stops, goes_on, SendCalls, WayCalls, FlushCalls, WriteCalls, PutCalls, OneWrite}
+use Rattle.promises.specs.Promises.{HasNoFlush, FailedWith, EndsIn}
+
+-- one more call before the others changes nothing, if there are others
+ends_before : (call : WriteCall) (C : List WriteCall) (e : Error) → EndsIn C e → EndsIn (call ∷ C) e
+ends_before call [] e ends = absurd ends
+ends_before call (next ∷ C) e ends = ends
+
+-- the last call ends them
+ends_last : (C : List WriteCall) (call : WriteCall) (e : Error) → FailedWith call e → EndsIn (C ++ call ∷ []) e
+ends_last [] call e failed = failed
+ends_last (first ∷ C) call e failed = ends_before first (C ++ call ∷ []) e (ends_last C call e failed)
+
+-- a loop of writes ends in its fault
+writes_end : {text : List ℕ} {C : List WriteCall} {x left : List ℕ} {reply : Result (Unit {0}) Error} → Writes text C x reply left
+    → IfErr reply (EndsIn C)
+writes_end none = tt
+writes_end {reply = Ok u} (took some more w) = tt
+writes_end {reply = Err e} (took {C = C} {x = x} {n = n} some more w) = ends_before (Wrote x (Ok n)) C e (writes_end w)
+writes_end {reply = Ok u} (again some interrupted w) = tt
+writes_end {reply = Err e} (again {C = C} {x = x} {e = f} some interrupted w) = ends_before (Wrote x (Err f)) C e (writes_end w)
+writes_end (stuck some says) = (refl, says.0)
+writes_end (fault some is) = refl
+
+-- and has no flush
+writes_only : {text : List ℕ} {C : List WriteCall} {x left : List ℕ} {reply : Result (Unit {0}) Error} → Writes text C x reply left
+    → HasNoFlush C
+writes_only none = tt
+writes_only (took some more w) = writes_only w
+writes_only (again some interrupted w) = writes_only w
+writes_only (stuck some says) = tt
+writes_only (fault some is) = tt
+
+both_only : (C D : List WriteCall) → HasNoFlush C → HasNoFlush D → HasNoFlush (C ++ D)
+both_only [] D c d = d
+both_only (Wrote x reply ∷ C) D c d = both_only C D c d
+both_only (WroteAll x reply ∷ C) D c d = both_only C D c d
+both_only (WroteRest x reply left ∷ C) D c d = both_only C D c d
+both_only (Flushed reply ∷ C) D c d = absurd c
+
+-- a `flush`
+pub flush_ends : {held left : List ℕ} {C : List WriteCall} {reply : Result (Unit {0}) Error} → FlushCalls held C reply left
+    → IfErr reply (EndsIn C)
+flush_ends (stops sent) = writes_end sent
+flush_ends {reply = Ok u} (goes_on sent next) = tt
+flush_ends {reply = Err e} (goes_on {C} sent next) =
+    subst (λ D. EndsIn (C ++ D) e) (sym next.2) (ends_last C (Flushed (Err e)) e refl)
+
+-- the way for a write
+way_ends : (n : ℕ) {S : ℕ} {held left : List ℕ} {C : List WriteCall} {e : Error} → WayCalls S n held C (Err e) left → EndsIn C e
+way_ends n (inl fits) = absurd (let no : ⊥ = cc in no)
+way_ends n (inr sends) = writes_end sends.1
+
+way_only : (n : ℕ) {S : ℕ} {held left : List ℕ} {C : List WriteCall} {reply : Result (Unit {0}) Error} → WayCalls S n held C reply left
+    → HasNoFlush C
+way_only n (inl fits) = subst HasNoFlush (sym fits.1) tt
+way_only n (inr sends) = writes_only sends.1
+
+-- what is written after it
+put_only : {S : ℕ} {x held left : List ℕ} {D : List WriteCall} {reply : Result ℕ Error}
+    → PutCalls S x (length x) (OneWrite x) held D reply left → HasNoFlush D
+put_only (inl fits) = subst HasNoFlush (sym fits.1) tt
+put_only (inr past) = subst HasNoFlush (sym past.1.2) tt
+
+put_ends : {S : ℕ} {x held left : List ℕ} {D : List WriteCall} {e : Error} (C : List WriteCall)
+    → PutCalls S x (length x) (OneWrite x) held D (Err e) left → EndsIn (C ++ D) e
+put_ends C (inl fits) = absurd (let no : ⊥ = cc in no)
+put_ends {x = x} {e = e} C (inr past) = subst (λ D. EndsIn (C ++ D) e) (sym past.1.2) (ends_last C (Wrote x (Err e)) e refl)
+
+-- a `write`
+pub write_only : {S : ℕ} {x held left : List ℕ} {C : List WriteCall} {reply : Result ℕ Error} → WriteCalls S x held C reply left
+    → HasNoFlush C
+write_only {x = x} (stops way) = way_only (length x) way
+write_only {x = x} (goes_on {C} {D} way put) = both_only C D (way_only (length x) way) (put_only put)
+
+pub write_ends : {S : ℕ} {x held left : List ℕ} {C : List WriteCall} {reply : Result ℕ Error} → WriteCalls S x held C reply left
+    → IfErr reply (EndsIn C)
+write_ends {x = x} (stops way) = way_ends (length x) way
+write_ends {reply = Ok n} (goes_on way put) = tt
+write_ends {reply = Err e} (goes_on {C} way put) = put_ends C put
+
+-- what holds for each value holds for that of the result
+pub if_ok : {A E : Type 0} (reply : Result A E) {P Q : A → Type 0} → ((a : A) → P a → Q a) → IfOk reply P → IfOk reply Q
+if_ok (Ok a) f p = f a p
+if_ok (Err e) f p = tt

@@ -1,0 +1,14 @@
+-- Two lists that are nothing together.
+use Rattle.std.proofs.Common.{◌≡◌, ℕ, List, [], ◌∷◌, ◌++◌, refl, Result, Ok, Err, OnOk}
+use Rattle.no_std_io2.specs.declared.io.Error.{Error}
+
+-- both are empty
+pub both : (xs ys : List ℕ) → xs ++ ys ≡ [] → (xs ≡ []) × (ys ≡ [])
+both [] ys h = (refl, h)
+both (x ∷ xs) ys h = absurd (cc)
+
+-- so are three
+pub three : (reply : Result (Unit {0}) Error) (xs ys zs : List ℕ) → OnOk reply ((xs ++ ys) ++ zs ≡ [])
+    → OnOk reply (xs ≡ []) × OnOk reply (ys ≡ []) × OnOk reply (zs ≡ [])
+three (Ok u) xs ys zs h = let a = both (xs ++ ys) zs h in let b = both xs ys a.0 in (b.0, b.1, a.1)
+three (Err e) xs ys zs h = (tt, tt, tt)

@@ -1,0 +1,11 @@
+use Rattle.no_std_io2.specs.BufWriter.{writer_inner, writer_buffer}
+use Rattle.no_std_io2.specs.LineWriter.{line_inner, line_buffer}
+use Rattle.promises.proofs.Nothing.{three}
+use Rattle.promises.proofs.delivery.empties_a_tower.Goals as goal
+
+pub returns : goal.returns
+returns g c =
+    let w = c.flush.new.self in
+    let all = three c.flush.result (g.W.Write.told (writer_inner (line_inner w))).held (writer_buffer (line_inner w)) (line_buffer w)
+    c.flush.ensures.law.empty in
+    record { outer = all.2; inner = all.1; device = all.0 }

@@ -1,0 +1,59 @@
+// No accepted byte is lost, repeated or moved.
+ghost use Rattle.std.specs.Prelude.{◌≡◌, List, ℕ, ◌++◌, OnOk};
+ghost use Rattle.no_std_io2.specs.Write.{IsFront, taken};
+ghost use Rattle.promises.specs.Promises.{bytes_in, in_tower};
+
+use no_std_io2::io::{BufWriter, LineWriter, Result, Write};
+
+/// A `write` adds exactly the bytes that its result reports, after all accepted bytes, and an error adds none. This holds for every
+/// writer, so for every tower of buffers over every device.
+pub fn keeps_every_byte<W: Write>(w: &mut W, x: &[u8]) -> Result<usize>
+    ensures { bytes_in (W.told w.new) ≡ bytes_in (W.told w.old) ++ taken result x.now }
+{
+    w.write(x)
+}
+
+/// A `flush` neither adds nor loses a byte, also if it fails half way.
+pub fn keeps_every_byte_of_a_flush<W: Write>(w: &mut W) -> Result<()>
+    ensures { bytes_in (W.told w.new) ≡ bytes_in (W.told w.old) }
+{
+    w.flush()
+}
+
+/// A `write_all` adds some first bytes of its text, and all of them if it returns `Ok`.
+pub fn keeps_every_byte_of_a_write_all<W: Write>(w: &mut W, x: &[u8]) -> Result<()>
+    ensures { (front : List ℕ) × IsFront front x.now × OnOk result (front ≡ x.now)
+        × (bytes_in (W.told w.new) ≡ bytes_in (W.told w.old) ++ front) }
+{
+    w.write_all(x)
+}
+
+/// The bytes that the device has are never taken back, and no other byte comes before them.
+pub fn keeps_what_is_out<W: Write>(w: &mut W, x: &[u8]) -> Result<()>
+    ensures { IsFront (W.told w.old).out (W.told w.new).out }
+{
+    w.write_all(x)?;
+    w.flush()
+}
+
+/// In a tower of two buffers the bytes of the device, of the inner buffer and of the outer one are all accepted bytes, in order.
+pub fn keeps_every_byte_in_a_tower<W: Write + Drop, const S: usize, const T: usize>(
+    w: &mut LineWriter<BufWriter<W, S>, T>,
+    x: &[u8],
+) -> Result<usize>
+    ensures { in_tower W.told w.new ≡ in_tower W.told w.old ++ taken result x.now }
+{
+    w.write(x)
+}
+
+/// After an error of `write_rest` the same call continues: both calls together accept exactly the bytes that are gone from the front
+/// of the slice, once.
+pub fn continues_with_the_rest<W: Write>(w: &mut W, rest: &mut &[u8]) -> Result<()>
+    ensures { (sent : List ℕ) × (rest.old.now ≡ sent ++ rest.new.now)
+        × (bytes_in (W.told w.new) ≡ bytes_in (W.told w.old) ++ sent) }
+{
+    if w.write_rest(rest).is_ok() {
+        return Ok(());
+    }
+    w.write_rest(rest)
+}

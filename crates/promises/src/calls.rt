@@ -1,0 +1,60 @@
+// Which calls the device gets.
+ghost use Rattle.std.specs.Prelude.{◌≡◌, ◌+◌, ◌*◌, ◌/◌, ◌<◌, ◌≤◌, List, IfErr, IfOk, IsOk, length};
+ghost use Rattle.no_std_io2.specs.BufWriter.{BufWriterFits, writer_inner, writer_buffer};
+ghost use Rattle.no_std_io2.specs.Write.{Made, WriteCall};
+ghost use Rattle.no_std_io2.specs.Writers.{CallOf, TakesAll};
+ghost use Rattle.io_bench.specs.contracts.tally.Tally.{the_row as tally-row};
+ghost use Rattle.io_bench.specs.Closed.{flushes, given_bytes};
+ghost use Rattle.io_bench.specs.Tally.{tally_inner, tally_writes};
+ghost use Rattle.promises.specs.Promises.{EndsIn, HasNoFlush};
+
+use io_bench::{Op, Reply, Tally, run_closed};
+use no_std_io2::io::{BufWriter, Result, Write};
+
+/// A `write` passes on the error of the call of the device that failed, with its message, and that call is the last: the fault is not
+/// hidden, the call is not made again, and nothing is flushed.
+pub fn stops_at_a_fault_of_a_write<W: Write + Drop, const S: usize>(
+    w: &mut BufWriter<W, S>,
+    x: &[u8],
+) -> Result<usize>
+    ensures { (C : List WriteCall) × Made (CallOf W.Write) (writer_inner w.old) C (writer_inner w.new)
+        × HasNoFlush C × IfErr result (EndsIn C) }
+{
+    w.write(x)
+}
+
+/// So does a `flush`.
+pub fn stops_at_a_fault_of_a_flush<W: Write + Drop, const S: usize>(
+    w: &mut BufWriter<W, S>,
+) -> Result<()>
+    ensures { (C : List WriteCall) × Made (CallOf W.Write) (writer_inner w.old) C (writer_inner w.new)
+        × IfErr result (EndsIn C) }
+{
+    w.flush()
+}
+
+/// A `write` that is shorter than the buffer and fits makes no call of the device, and so cannot fail.
+pub fn makes_no_call_if_it_fits<W: Write + Drop, const S: usize>(
+    w: &mut BufWriter<W, S>,
+    x: &[u8],
+) -> Result<usize>
+    ensures { length x.now < S → length (writer_buffer w.old) + length x.now ≤ S
+        → IsOk result × (writer_inner w.new ≡ writer_inner w.old) }
+{
+    w.write(x)
+}
+
+/// Over a device that takes every write whole, a run of N bytes and F flushes makes at most `2 * (N / (S + 1)) + F + 1` writes.
+pub fn bounds_the_writes_of_a_run<W: Write + Drop, const S: usize>(
+    device: Tally<W>,
+    ops: &[Op<'_>],
+    replies: &mut Vec<Reply>,
+) -> Result<Tally<W>>
+    requires some { 0 < S }
+    requires all { TakesAll W.Write (tally_inner device) }
+    requires fits { BufWriterFits (tally-row W.row) S }
+    ensures { IfOk result (λ t. tally_writes t ≤ tally_writes device
+        + (2 * (length (given_bytes ops.now) / (S + 1)) + flushes ops.now + 1)) }
+{
+    run_closed::<Tally<W>, S>(device, ops, replies)
+}

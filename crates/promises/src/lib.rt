@@ -1,0 +1,22 @@
+//! README's promises as proved callers. Nothing calls these functions. The contract of each one says a promise in the words of a
+//! user, and its body makes the calls that the promise is about. A contract is as strong as what a caller can prove from it: if a
+//! change makes a contract of the library say less, one of these functions is no longer proved.
+#![tactic(auto)]
+
+mod bytes;
+mod calls;
+mod delivery;
+mod lines;
+mod runs;
+
+pub use bytes::{
+    continues_with_the_rest, keeps_every_byte, keeps_every_byte_in_a_tower,
+    keeps_every_byte_of_a_flush, keeps_every_byte_of_a_write_all, keeps_what_is_out,
+};
+pub use calls::{
+    bounds_the_writes_of_a_run, makes_no_call_if_it_fits, stops_at_a_fault_of_a_flush,
+    stops_at_a_fault_of_a_write,
+};
+pub use delivery::{empties_a_tower, hands_back_the_device, holds_nothing_after_a_flush};
+pub use lines::{holds_no_newline, holds_no_newline_in_a_tower, keeps_a_line_state};
+pub use runs::{accepts_by_its_replies, fails_at_most, succeeds_at_a_steady_device};
