@@ -1,21 +1,21 @@
 -- What a log sends and keeps.
-use Rattle.std.specs.Prelude.{◌≡◌, ◌⊎◌, ℕ, ◌+◌, ◌<◌, ◌≤◌, List, [], ◌∷◌, ◌++◌, length, Result, Ok, Err}
+use Rattle.std.specs.Prelude.{◌≡◌, ◌⊎◌, ℕ, ◌+◌, ◌<◌, ◌≤◌, List, [], ◌∷◌, ◌++◌, length, Contains, Result, Ok, Err}
 use Rattle.no_std_io2.specs.Write.{IsFront}
-use Rattle.no_std_io2.specs.Lines.{HasNewline, HasNoNewline}
+use Rattle.no_std_io2.specs.Pieces.{Lacks, newline}
 use Rattle.bare.specs.Status.{done, kept, full, refused}
 use Rattle.bare.specs.Queue.{capacity}
 
 -- the line of a text
 abbrev pub line : List ℕ → List ℕ
-line text = text ++ 10 ∷ []
+line text = text ++ newline ∷ []
 
 -- a text can be a line
 abbrev pub IsShortLine : List ℕ → Type 0
-IsShortLine text = HasNoNewline text × (length text < capacity)
+IsShortLine text = Lacks newline text × (length text < capacity)
 
 -- a text can't be a line
 abbrev pub IsNoLine : List ℕ → Type 0
-IsNoLine text = HasNewline text ⊎ (capacity ≤ length text)
+IsNoLine text = Contains text newline ⊎ (capacity ≤ length text)
 
 -- The waiting bytes went to the port, in order: all of them, or as many as the port took until it was full. The others are kept.
 pub record Resumes (waiting port : List ℕ) (status : ℕ) (waiting' port' : List ℕ) : Type 0 where

@@ -1,8 +1,7 @@
 -- What a line of a log is, and what a log holds, tells and does.
-use Rattle.std.specs.Prelude.{◌≡◌, ◌⊎◌, ℕ, ◌+◌, ◌<◌, ◌≤◌, List, [], ◌∷◌, ◌++◌, length, codes, Result, Ok, IfErr, OnOk, IsErrAnd, Option, IfSome}
+use Rattle.std.specs.Prelude.{◌≡◌, ◌⊎◌, ℕ, ◌+◌, ◌<◌, ◌≤◌, List, [], ◌∷◌, ◌++◌, length, codes, Result, Ok, IfErr, OnOk, IsErrAnd, Option, IfSome, Contains}
 use Rattle.no_std_io2.specs.Errors.{IsNoInterruption, SaysError, error_kind}
-use Rattle.no_std_io2.specs.Lines.{HasNoNewline, HasNewline}
-use Rattle.no_std_io2.specs.Pieces.{newline}
+use Rattle.no_std_io2.specs.Pieces.{Lacks, newline}
 use Rattle.no_std_io2.specs.Write.{Told, Moves}
 use Rattle.no_std_io2.specs.BufWriter.{Step, Then, TakesStep, SendCalls, WriteAllCalls, writer_inner, writer_buffer, writer_told}
 use Rattle.no_std_io2.specs.Writers.{Writer}
@@ -19,11 +18,11 @@ line_of text = text ++ newline ∷ []
 
 -- the text is one line, and that is shorter than a buffer of S bytes
 abbrev pub IsLine : ℕ → List ℕ → Type 0
-IsLine S text = HasNoNewline text × (length text + 1 < S)
+IsLine S text = Lacks newline text × (length text + 1 < S)
 
 -- e is the error of a text that is not such a line
 abbrev pub IsLineRefusal : ℕ → List ℕ → Error → Type 0
-IsLineRefusal S text e = (HasNewline text × SaysError InvalidInput (codes "a line has a newline in it") e)
+IsLineRefusal S text e = (Contains text newline × SaysError InvalidInput (codes "a line has a newline in it") e)
     ⊎ ((S ≤ length text + 1) × SaysLong e)
 
 -- a step is taken, and its error is ignored

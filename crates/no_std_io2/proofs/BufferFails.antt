@@ -1,19 +1,16 @@
 -- Which errors a writer with a buffer returns, if each call of its inner writer fails with such errors only.
-use Rattle.std.proofs.lemmas.Grind.{common_steps}
-use Rattle.std.proofs.Common.{◌≡◌, ℕ, ◌+◌, ◌<◌, ◌≤◌, List, ◌∷◌, [], Result, Ok, Err, IfErr, IfOk, length, arith, subst, sym, inl, inr}
-use Rattle.std.proofs.lemmas.Bool.Decides.{nat_tests}
+use Rattle.std.proofs.Common.{◌≡◌, ℕ, ◌<◌, List, ◌∷◌, [], Result, Ok, Err, IfErr, IfOk, length, arith, subst, sym, inl, inr}
 use Rattle.no_std_io2_base.specs.declared.error.Error.{Error}
 use Rattle.no_std_io2_base.specs.Write.{WriteCall, Wrote, WroteAll, WroteRest, Flushed, Made}
-use Rattle.no_std_io2_base.specs.Writers.{Writer, CallOf}
+use Rattle.no_std_io2_base.specs.Writers.{Writer}
 use Rattle.no_std_io2_base.specs.Fails.{FailsBy, FailsOnly}
 use Rattle.no_std_io2_base.proofs.CallsLemmas.{made_split}
 use Rattle.no_std_io2_base.proofs.FailsLemmas.{bare, writes_fail, all_fails}
 use Rattle.no_std_io2.specs.BufWriter.{Step, Then, stops, goes_on, PastEmpty, SendCalls, WayCalls, PutCalls, Buffered, WriteCalls, WriteAllCalls}
 use Rattle.no_std_io2.specs.BufWriter.{FlushCalls, OneWrite, OneWriteAll, OneFlush, BufferMay}
-use Rattle.no_std_io2.specs.Lines.{lines_of, unfinished_line}
+use Rattle.no_std_io2_base.specs.Lines.{lines_of, unfinished_line}
 use Rattle.no_std_io2.specs.LineWriter.{SendLineCalls, LinesCalls, HoldsTail, SendLinesCalls, LineWriteCalls, LineWriteAllCalls, LineMay}
-use Rattle.no_std_io2.proofs.LinesLast.{lines_len-some}
-use Rattle.no_std_io2.proofs.LineWriterStates.{lines_length}
+use Rattle.no_std_io2_base.proofs.LineLemmas.{lines_some}
 
 module _ {W : Type 0} (I : Writer W) (Q : Error → Type 0) (fails : FailsOnly Q I.may) where
   -- a step has such results, if its calls were made
@@ -114,7 +111,7 @@ module _ {W : Type 0} (I : Writer W) (Q : Error → Type 0) (fails : FailsOnly Q
     | inr lines ↦
         then_gives (Some x) SendCalls (LinesCalls S x) (λ e q. (q, tt)) send_fails
         (λ held C reply left wrote a b made.
-        tail_some S x (lines_of x) wrote.1 reply left (omega (arith, lines_len-some x lines.0, lines_length x)) wrote.3
+        tail_some S x (lines_of x) wrote.1 reply left (lines_some x lines.0) wrote.3
         (one {call = Wrote (lines_of x) wrote.1} a b wrote.2 made))
         held C reply left lines.1 a b made
   ]

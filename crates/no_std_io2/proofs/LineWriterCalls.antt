@@ -2,24 +2,24 @@
 use Rattle.no_std_io2_base.specs.Writers.{TakesAll, CallOf}
 use Rattle.std.proofs.Common.{rules, []}
 use Rattle.std.proofs.lemmas.Grind.{common_steps}
-use Rattle.std.proofs.Common.{◌≡◌, ◌+◌, ℕ, ◌<◌, ◌≤◌, ◌==◌, ◌∙◌, List, length, take, drop, Result, Some, OnOk, IsOk}
+use Rattle.std.proofs.Common.{◌≡◌, ◌+◌, ℕ, ◌<◌, ◌≤◌, ◌==◌, ◌∙◌, List, ◌++◌, length, take, Result, Ok, Err, OnOk, IsOk}
 use Rattle.std.proofs.Common.{IfOk}
-use Rattle.std.proofs.Common.{refl, sym, ap, arith, if◌then◌else◌, inl, inr, take-append-drop}
+use Rattle.std.proofs.Common.{refl, ap, subst, arith, if◌then◌else◌, inl, inr}
 use Rattle.std.proofs.lemmas.Bool.Decides.{nat_tests}
 use lib.Seq.{take-take}
 use Rattle.no_std_io2_base.specs.declared.error.Error.{Error}
 use Rattle.no_std_io2_base.specs.Errors.{IsNoInterruption}
 use Rattle.no_std_io2_base.specs.Writers.{Writer}
-use Rattle.no_std_io2_base.specs.Write.{MovesFront, WriteCall, Wrote, Made, calls_for}
+use Rattle.no_std_io2_base.specs.Write.{Told, MovesFront, WriteCall, Wrote, Made, calls_for}
 use Rattle.no_std_io2_base.proofs.MovesLemmas.{Moves-then}
 use Rattle.no_std_io2_base.proofs.CallsLemmas.{made_split}
 use Rattle.no_std_io2_base.proofs.WritesFacts.{writes_fault}
 use Rattle.no_std_io2_base.proofs.AllFacts.{all_calls}
-use Rattle.no_std_io2.specs.Lines.{IsLineState, lines_of, lines_len, unfinished_line}
+use Rattle.no_std_io2_base.specs.Lines.{IsLineState, lines_of, lines_len, unfinished_line}
 use Rattle.no_std_io2.specs.BufWriter.{Then, stops, goes_on, with_buffer}
 use Rattle.no_std_io2.specs.BufWriter.{SendCalls, WriteCalls, WriteAllCalls, OneWrite, OneWriteAll, buffer_after, writing_calls}
 use Rattle.no_std_io2.specs.LineWriter.{SendLineCalls, HoldsTail, LinesCalls, SendLinesCalls, LineWriteCalls, LineWriteAllCalls}
-use Rattle.no_std_io2.specs.LineWriter.{line_buffer_filled, KeepsTaking}
+use Rattle.no_std_io2.specs.LineWriter.{line_buffer_filled, held_tail}
 use Rattle.no_std_io2.proofs.BufWriterLemmas.{Moves-buffered, Moves-emptied, MovesFront-emptied}
 use Rattle.no_std_io2_base.specs.Meter.{charges}
 use Rattle.no_std_io2.proofs.MeterLemmas.{all_count, charges-append}
@@ -28,9 +28,10 @@ use Rattle.no_std_io2.proofs.BufWriterCalls.{buffered_leaves, send_leaves}
 use Rattle.no_std_io2.proofs.BufWriterCalls.{one_call, send_tells, kept_tells, write_tells, Writing, write_bound, send_counts, idle_counts}
 use Rattle.no_std_io2.proofs.BufWriterCalls.{write_counts}
 use Rattle.no_std_io2.proofs.BufWriterCalls.{write_all_tells, write_all_fault, write_all_counts, writing_all_calls}
-use Rattle.no_std_io2.proofs.LineWriterLemmas.{MovesFront-ends, MovesFront-whole, MovesFront-part, MovesFront-rest}
-use Rattle.no_std_io2.proofs.LineWriterStates.{line_left, line_left-is, send_line_leaves, send_lines_leaves, lines_length, tail_whole}
-use Rattle.no_std_io2.proofs.LinesLast.{lines_len-some, lines_len-none, unfinished_line-drop, took_tail}
+use Rattle.no_std_io2.proofs.MovesLemmas.{MovesFront-ends, MovesFront-whole, MovesFront-join, MovesFront-first}
+use Rattle.no_std_io2.proofs.LineWriterStates.{line_left, line_left-is, send_line_leaves, send_lines_leaves, tail_whole}
+use Rattle.no_std_io2_base.proofs.LineLemmas.{lines_some, lines_none, lines_split, take_lines, lines_bound}
+use Rattle.no_std_io2.proofs.HeldTail.{took_tail, tail_fits}
 
 -- a sent line is one call at most
 abbrev pub line_calls : List ℕ → ℕ
@@ -59,6 +60,10 @@ writing_all-none S x = grind (arith, nat_tests)
 writing_all-le : (S : ℕ) (x held : List ℕ) → writing_all_calls S x held ≤ 2
 writing_all-le S x held = grind (arith, nat_tests)
 
+-- the lines and the bytes after them are x
+of_lines : {a b : Told} (x : List ℕ) (r : Result (Unit {0}) Error) → MovesFront a (lines_of x ++ unfinished_line x) r b → MovesFront a x r b
+of_lines {a} {b} x r f = subst (λ l. MovesFront a l r b) (lines_split x) f
+
 -- so do a write and then a sending
 writing_then_sending : (S : ℕ) (x held : List ℕ) → writing_all_calls S x held + calls_for (buffer_after S held x) ≤ 2
 writing_then_sending S x held = grind (arith, common_steps)
@@ -83,14 +88,21 @@ module _ {W : Type 0} (I : Writer W) where
   send_line_tells = search (rules, kept_tells, send_tells)
 
   send_line_counts : Counts I SendLineCalls line_calls
-  send_line_counts = grind (arith, nat_tests, idle_counts, line_calls-zero, lines_len-none, send_counts, line_calls-some, lines_len-some)
+  send_line_counts = grind (arith, nat_tests, idle_counts, line_calls-zero, lines_none, send_counts, line_calls-some, lines_some)
 
   module _ (S : ℕ) (x : List ℕ) where
-    -- one write of lines took n bytes, and then a tail is held
+    -- one write of lines took n bytes, and then the next bytes t are held
+    put_tells : 0 < lines_len x → (n : ℕ) (t : List ℕ) → take (n + length t) x ≡ take n x ++ t → (n ≡ 0 → t ≡ []) → (a b : W)
+        → CallOf I a (Wrote (lines_of x) (Ok n)) b → Writing I x (with_buffer (I.told a) []) (Ok (n + length t)) (with_buffer (I.told b) t)
+    put_tells some n t whole zero a b call =
+        grind (arith, common_steps, Moves-emptied, Moves-buffered, take-take, take_lines x refl)
+
     tail_tells : 0 < lines_len x → (answer reply : Result ℕ Error) (held left : List ℕ) → held ≡ [] → HoldsTail S x answer reply left
         → (a b : W) → CallOf I a (Wrote (lines_of x) answer) b
         → Writing I x (with_buffer (I.told a) held) reply (with_buffer (I.told b) left)
-    tail_tells = grind (arith, common_steps, Moves-emptied, Moves-buffered, took_tail, take-take, lines_length)
+    tail_tells some (Ok n) reply held left none tail a b call =
+        rw (none, tail.1, tail.0) (put_tells some n (held_tail S x n) (took_tail S x n) (ap (held_tail S x)) a b call)
+    tail_tells some (Err e) reply held left none tail a b call = grind (arith, common_steps, Moves-emptied)
 
     lines_tell : 0 < lines_len x → Tells I (LinesCalls S x) (Writing I x)
     lines_tell some = grind (arith, common_steps, tail_tells, one_call)
@@ -106,13 +118,13 @@ module _ {W : Type 0} (I : Writer W) where
           send_line_tells (write_tells I S x) plain.1 a b made
       | inr lines ↦
           then_tells I SendCalls (LinesCalls S x) (Writing I x) (λ s t e m. m) (λ s m t r f g. Moves-then {k = []} f g)
-          (send_tells I) (lines_tell (lines_len-some x lines.0)) lines.1 a b made
+          (send_tells I) (lines_tell (lines_some x lines.0)) lines.1 a b made
     ]
 
     tail_bound : (answer reply : Result ℕ Error) (left : List ℕ) → HoldsTail S x answer reply left
         → IfOk answer (λ n. n ≤ length (lines_of x))
         → IfOk reply (λ n. n ≤ length x)
-    tail_bound = grind (arith, common_steps)
+    tail_bound answer reply left tail few = grind (arith, common_steps, tail_fits S x, lines_bound x)
 
     -- and over an inner writer that takes all, it leaves this
     tail_filled : {held left : List ℕ} {C : List WriteCall} {reply : Result ℕ Error} → Then SendCalls (LinesCalls S x) held C reply left
@@ -140,7 +152,7 @@ module _ {W : Type 0} (I : Writer W) where
     | inr lines ↦
         counted_keeps I _ reply b
         (then_counts I SendCalls (LinesCalls S x) (λ _. []) calls_for (λ _. 1) send_leaves (send_counts I)
-        (lines_count S x (lines_len-some x lines.0)) lines.1 a b made takes)
+        (lines_count S x (lines_some x lines.0)) lines.1 a b made takes)
         (omega (arith, calls_for-le held))
   ]
 
@@ -153,9 +165,9 @@ module _ {W : Type 0} (I : Writer W) where
         | inl plain ↦
             at_ok reply keeps.1 (then_leaves SendLineCalls (WriteCalls S x) line_left (λ held. buffer_after S held x) send_line_leaves
             (buffered_leaves S x (length x) (OneWrite x)) plain.1)
-            ∙ ap (λ h. buffer_after S h x) (line_left-is held line) ∙ filled_plain S held x (lines_len-none x plain.0)
+            ∙ ap (λ h. buffer_after S h x) (line_left-is held line) ∙ filled_plain S held x (ap length (lines_none x plain.0))
         | inr lines ↦
-            let some = lines_len-some x lines.0 in
+            let some = lines_some x lines.0 in
             tail_filled S x lines.1 some a b made takes ∙ filled_lines S held x some
       ]
 
@@ -231,12 +243,11 @@ module _ {W : Type 0} (I : Writer W) where
       → MovesFront (with_buffer (I.told a) held) x reply (with_buffer (I.told b) left) × IsNoInterruption reply
   lines_tells S {x} (stops {e = e} p) a b made =
       let said = send_lines_tells S p a b made in
-      (MovesFront-part (lines_of x) x e (drop (lines_len x) x, sym (take-append-drop (lines_len x) x)) said.0, said.1)
+      (of_lines x (Err e) (MovesFront-first (lines_of x) (unfinished_line x) e said.0), said.1)
   lines_tells S {x} (goes_on {C = C} {D = D} {reply = reply} p q) a b made =
       let parts = made_split (CallOf I) C a D b made in (
-        MovesFront-rest (lines_len x) x (unfinished_line x) reply (unfinished_line-drop x)
-            (MovesFront-whole (lines_of x) tt (send_lines_tells S p a parts.0 parts.1).0)
-            (write_all_tells I S (unfinished_line x) _ _ _ _ q parts.0 b parts.2),
+        of_lines x reply (MovesFront-join (lines_of x) (unfinished_line x) reply (send_lines_tells S p a parts.0 parts.1).0
+            (write_all_tells I S (unfinished_line x) _ _ _ _ q parts.0 b parts.2)),
         write_all_fault I S q parts.0 b parts.2,
       )
 

@@ -1,17 +1,19 @@
 -- What the calls of a line writer leave: line states, and after an `Ok` these.
 use Rattle.no_std_io2_base.specs.Writers.{CallOf}
 use Rattle.std.proofs.lemmas.Grind.{common_steps}
-use Rattle.std.proofs.Common.{◌≡◌, ◌+◌, ℕ, ◌<◌, ◌≤◌, ◌==◌, ◌∙◌, List, ◌∷◌, ◌++◌, length, take, drop, slice_index, Result, []}
+use Rattle.std.proofs.Common.{◌≡◌, ◌+◌, ℕ, ◌<◌, ◌≤◌, ◌==◌, ◌∙◌, List, ◌∷◌, ◌++◌, length, take, drop, Result, []}
 use Rattle.std.proofs.Common.{Ok, OnOk}
-use Rattle.std.proofs.Common.{IsOk, IfOk, refl, sym, ap, subst, arith, if◌then◌else◌, inl, inr, length-take, take-append-drop}
+use Rattle.std.proofs.Common.{IsOk, IfOk, refl, sym, ap, subst, arith, if◌then◌else◌, inl, inr, take-append-drop}
 use Rattle.std.proofs.lemmas.Bool.Decides.{nat_tests}
-use Rattle.std.proofs.lemmas.List.{get_or-take}
 use Rattle.no_std_io2_base.specs.declared.error.Error.{Error}
 use Rattle.no_std_io2_base.specs.Write.{WriteCall, Wrote, Writes, none as no_write, took, again, stuck, fault}
 use Rattle.no_std_io2_base.specs.Writers.{Writer}
 use Rattle.no_std_io2_base.proofs.CallsLemmas.{writes_whole}
 use Rattle.no_std_io2.specs.Buffer.{IsSuffix}
-use Rattle.no_std_io2.specs.Lines.{IsLineState, HasNoNewline, IsLinesLen, lines_of, lines_len, unfinished_line}
+use Rattle.no_std_io2_base.specs.Pieces.{Lacks, newline}
+use Rattle.no_std_io2_base.specs.Lines.{IsLineState, lines_of, lines_len, unfinished_line}
+use Rattle.no_std_io2_base.proofs.LineLemmas.{lines_end, lines_none, lines_some, unfinished_lacks, unfinished_none, unfinished_all, lacks_contains}
+use Rattle.no_std_io2_base.proofs.LineLemmas.{contains_lines, take_lines, drop_lines, lines_split, plain_state, lacks_rest, state_rest, ends_in-append}
 use Rattle.no_std_io2.specs.BufWriter.{Then, stops, goes_on, SendCalls, WayCalls, Buffered, WriteCalls, WriteAllCalls, FlushCalls}
 use Rattle.no_std_io2.specs.BufWriter.{OneWriteAll, buffer_after}
 use Rattle.no_std_io2.specs.LineWriter.{SendLineCalls, HoldsTail, LinesCalls, SendLinesCalls, LineWriteCalls, LineWriteAllCalls}
@@ -20,10 +22,8 @@ use Rattle.no_std_io2.proofs.AnswerLemmas.{onok, onok_map}
 use Rattle.no_std_io2.proofs.BufWriterLemmas.{IsSuffix-trans}
 use Rattle.no_std_io2.proofs.StepLemmas.{Stepped, Leaves, then_leaves}
 use Rattle.no_std_io2.proofs.BufWriterCalls.{buffered_leaves, buffered_fits, send_leaves, write_whole}
-use Rattle.no_std_io2.proofs.LineWriterLemmas.{IsLineState-end, IsLineState-plain, IsLineState-ended, HasNoNewline-end, HasNoNewline-append}
-use Rattle.no_std_io2.proofs.LineWriterLemmas.{HasNoNewline-none}
-use Rattle.no_std_io2.proofs.LinesLast.{lines_are, lines_len-is, lines_len-some, lines_len-none, unfinished_line-none}
-use Rattle.no_std_io2.proofs.LinesLast.{unfinished_line-drop, unfinished_line-plain, none_or_some, tail_line}
+use Rattle.no_std_io2_base.proofs.PieceLemmas.{Lacks-append}
+use Rattle.no_std_io2.proofs.HeldTail.{tail_state}
 
 -- what is left of some bytes that were sent is an end of them
 pub writes_end : {text : List ℕ} {C : List WriteCall} {x left : List ℕ} {reply : Result (Unit {0}) Error}
@@ -35,6 +35,20 @@ writes_end (again some interrupted w) = writes_end w
 writes_end (stuck some says) = ([], refl)
 writes_end (fault some is) = ([], refl)
 
+-- the end of bytes without a newline has none, and the end of a line state is one
+lacks_end : {whole end : List ℕ} → IsSuffix whole end → Lacks newline whole → Lacks newline end
+lacks_end f plain = lacks_rest newline f.0 _ (subst (Lacks newline) f.1 plain)
+
+pub state_end : {whole end : List ℕ} → IsSuffix whole end → IsLineState whole → IsLineState end
+state_end f line = state_rest f.0 _ (subst IsLineState f.1 line)
+
+-- no bytes have no newline
+nothing_lacks : {xs : List ℕ} → xs ≡ [] → Lacks newline xs
+nothing_lacks none = subst (Lacks newline) (sym none) tt
+
+nothing_state : {xs : List ℕ} → xs ≡ [] → IsLineState xs
+nothing_state none = plain_state _ (nothing_lacks none)
+
 way_end : (S n : ℕ) {held left : List ℕ} {C : List WriteCall} {reply : Result (Unit {0}) Error} → WayCalls S n held C reply left
     → IsSuffix held left
 way_end S n {left = left} way = grind (arith, common_steps, writes_end)
@@ -45,14 +59,14 @@ line_left held = if lines_len held == 0 then held else []
 
 -- of a line state that is what follows its lines
 pub line_left-is : (held : List ℕ) → IsLineState held → line_left held ≡ unfinished_line held
-line_left-is held line = grind (arith, common_steps, lines_are, unfinished_line-drop)
+line_left-is held line = grind (arith, common_steps, lines_split held, unfinished_none held, contains_lines held refl)
 
 pub send_line_leaves : Leaves SendLineCalls line_left
-send_line_leaves = grind (arith, common_steps, lines_len-none, onok_map, lines_len-some, writes_whole)
+send_line_leaves = grind (arith, common_steps, lines_none, onok_map, lines_some, writes_whole)
 
 -- and what is left then has no newline
-send_line_plain : {held left : List ℕ} {C : List WriteCall} → SendLineCalls held C (Ok tt) left → HasNoNewline left
-send_line_plain {left = left} sends = grind (arith, common_steps, HasNoNewline-none, writes_whole)
+send_line_plain : {held left : List ℕ} {C : List WriteCall} → SendLineCalls held C (Ok tt) left → Lacks newline left
+send_line_plain {left = left} sends = grind (arith, common_steps, nothing_lacks, writes_whole)
 
 send_line_end : {held left : List ℕ} {C : List WriteCall} {reply : Result (Unit {0}) Error} → SendLineCalls held C reply left
     → IsSuffix held left
@@ -60,39 +74,39 @@ send_line_end {left = left} sends = grind (arith, common_steps, writes_end)
 
 -- no line is held: none is sent
 no_line_sent : {held left : List ℕ} {C : List WriteCall} {reply : Result (Unit {0}) Error} → SendLineCalls held C reply left
-    → HasNoNewline held → (C ≡ []) × (reply ≡ Ok tt) × (left ≡ held)
-no_line_sent {held} sends plain = grind (arith, common_steps, none_or_some)
+    → Lacks newline held → (C ≡ []) × (reply ≡ Ok tt) × (left ≡ held)
+no_line_sent {held} sends plain = grind (arith, common_steps, lacks_contains)
 
 module _ {A : Type 0} (S : ℕ) (x : List ℕ) (v : A) (past : List WriteCall → Result A Error → Type 0) where
   -- if neither the held bytes nor x have a newline, the buffer has none after x went through it
   buffered_plain : {held left : List ℕ} {C : List WriteCall} {reply : Result A Error} → Buffered S x v past held C reply left
-      → HasNoNewline held → HasNoNewline x → HasNoNewline left
-  buffered_plain (stops way) p q = HasNoNewline-end _ _ (way_end S (length x) way) p
+      → Lacks newline held → Lacks newline x → Lacks newline left
+  buffered_plain (stops way) p q = lacks_end (way_end S (length x) way) p
   buffered_plain (goes_on {mid = mid} {left = left} way put) p q = elim put [
-    | inl kept ↦ subst HasNoNewline (sym kept.3) (HasNoNewline-append mid x (HasNoNewline-end _ _ (way_end S (length x) way) p) q)
-    | inr gone ↦ HasNoNewline-none left gone.1.1
+    | inl kept ↦ subst (Lacks newline) (sym kept.3) (Lacks-append newline mid x (lacks_end (way_end S (length x) way) p) q)
+    | inr gone ↦ nothing_lacks gone.1.1
   ]
 
   -- and if x ends in one, the buffer is a line state
   buffered_line : {held left : List ℕ} {C : List WriteCall} {reply : Result A Error} → Buffered S x v past held C reply left
       → IsLineState held → ((front : List ℕ) → IsLineState (front ++ x)) → IsLineState left
-  buffered_line (stops way) p q = IsLineState-end _ _ (way_end S (length x) way) p
+  buffered_line (stops way) p q = state_end (way_end S (length x) way) p
   buffered_line (goes_on {mid = mid} {left = left} way put) p q = elim put [
     | inl kept ↦ subst IsLineState (sym kept.3) (q mid)
-    | inr gone ↦ IsLineState-plain left (HasNoNewline-none left gone.1.1)
+    | inr gone ↦ nothing_state gone.1.1
   ]
 
   -- a text without a newline leaves a line state, and none of it after an `Ok`
-  plain_state : {held left : List ℕ} {C : List WriteCall} {reply : Result A Error}
-      → Then SendLineCalls (Buffered S x v past) held C reply left → IsLineState held → HasNoNewline x
-      → IsLineState left × OnOk reply (HasNoNewline left)
-  plain_state (stops p) line plain = (IsLineState-end _ _ (send_line_end p) line, tt)
-  plain_state (goes_on {reply = reply} p q) line plain =
-      let none = buffered_plain q (send_line_plain p) plain in (IsLineState-plain _ none, onok reply _ none)
+  text_state : {held left : List ℕ} {C : List WriteCall} {reply : Result A Error}
+      → Then SendLineCalls (Buffered S x v past) held C reply left → IsLineState held → Lacks newline x
+      → IsLineState left × OnOk reply (Lacks newline left)
+  text_state (stops p) line plain = (state_end (send_line_end p) line, tt)
+  text_state (goes_on {reply = reply} p q) line plain =
+      let none = buffered_plain q (send_line_plain p) plain in (plain_state _ none, onok reply _ none)
 
   -- if no line is held and it fits, it is held without a call
   plain_fits : {held left : List ℕ} {C : List WriteCall} {reply : Result A Error}
-      → Then SendLineCalls (Buffered S x v past) held C reply left → HasNoNewline held → length x < S → length held + length x ≤ S
+      → Then SendLineCalls (Buffered S x v past) held C reply left → Lacks newline held → length x < S → length held + length x ≤ S
       → (C ≡ []) × IsOk reply × (left ≡ held ++ x)
   plain_fits (stops p) plain short room = absurd (let never = (no_line_sent p plain).1 in cc)
   plain_fits (goes_on {D = D} p q) plain short room =
@@ -101,27 +115,23 @@ module _ {A : Type 0} (S : ℕ) (x : List ℕ) (v : A) (past : List WriteCall �
       (ap (λ C. C ++ D) kept.0 ∙ fits.0, subst IsOk (sym fits.1) refl, fits.2 ∙ ap (λ l. l ++ x) kept.2)
 
 -- one write of lines, which may take a part of them, leaves a line state
-tail_state : (S : ℕ) (x : List ℕ) (answer reply : Result ℕ Error) (left : List ℕ) → HoldsTail S x answer reply left → IsLineState left
-tail_state = grind (arith, common_steps, IsLineState-plain, HasNoNewline-none, tail_line)
-
--- the lines of x are a front of it
-pub lines_length : (x : List ℕ) → length (lines_of x) ≡ lines_len x
-lines_length x = omega (arith, length-take (lines_len x) x, (lines_are x).within)
+holds_state : (S : ℕ) (x : List ℕ) (answer reply : Result ℕ Error) (left : List ℕ) → HoldsTail S x answer reply left → IsLineState left
+holds_state = grind (arith, common_steps, nothing_state, tail_state)
 
 -- an inner writer that takes all returns `Ok` of the whole; then the unfinished line is held
 pub tail_whole : (S : ℕ) (x : List ℕ) (answer reply : Result ℕ Error) (left : List ℕ) → answer ≡ Ok (length (lines_of x)) → 0 < lines_len x
     → HoldsTail S x answer reply left → IsOk reply × (left ≡ take S (unfinished_line x))
-tail_whole = grind (arith, common_steps)
+tail_whole S x answer reply left is some tail = grind (arith, common_steps, drop_lines x refl)
 
 -- a `write` leaves a line state
 lines_state : (S : ℕ) (x : List ℕ) {held left : List ℕ} {C : List WriteCall} {reply : Result ℕ Error}
     → Then SendCalls (LinesCalls S x) held C reply left → IsLineState held → IsLineState left
-lines_state S x (stops p) line = IsLineState-end _ _ (writes_end p) line
-lines_state S x (goes_on {left = left} {reply = reply} p q) line = tail_state S x q.1 reply left q.3
+lines_state S x (stops p) line = state_end (writes_end p) line
+lines_state S x (goes_on {left = left} {reply = reply} p q) line = holds_state S x q.1 reply left q.3
 
 pub line_write_state : (S : ℕ) {x held left : List ℕ} {C : List WriteCall} {reply : Result ℕ Error} → LineWriteCalls S x held C reply left
     → IsLineState held → IsLineState left
-line_write_state S {x} write line = grind (arith, common_steps, plain_state, lines_state)
+line_write_state S {x} write line = grind (arith, common_steps, text_state, lines_state)
 
 -- a short text is taken whole, or the call fails; if the text fits, it is held without a call
 plain_whole : (S : ℕ) {x held left : List ℕ} {C : List WriteCall} {reply : Result ℕ Error}
@@ -130,17 +140,17 @@ plain_whole = grind (arith, common_steps, write_whole)
 
 pub line_write_short : (S : ℕ) {x held left : List ℕ} {C : List WriteCall} {reply : Result ℕ Error} → LineWriteCalls S x held C reply left
     → IsShortText S x → IfOk reply (λ n. n ≡ length x)
-line_write_short S {x} write short = grind (arith, common_steps, plain_whole, none_or_some)
+line_write_short S {x} write short = grind (arith, common_steps, plain_whole, lacks_contains)
 
 pub line_write_fits : (S : ℕ) {x held left : List ℕ} {C : List WriteCall} {reply : Result ℕ Error} → LineWriteCalls S x held C reply left
-    → IsShortText S x → HasNoNewline held → length held + length x ≤ S → (C ≡ []) × IsOk reply × (left ≡ held ++ x)
-line_write_fits S {x} write short plain room = grind (arith, common_steps, plain_fits, none_or_some)
+    → IsShortText S x → Lacks newline held → length held + length x ≤ S → (C ≡ []) × IsOk reply × (left ≡ held ++ x)
+line_write_fits S {x} write short plain room = grind (arith, common_steps, plain_fits, lacks_contains)
 
 -- a `flush` leaves one too
 pub flush_state : {held left : List ℕ} {C : List WriteCall} {reply : Result (Unit {0}) Error} → FlushCalls held C reply left
     → IsLineState held → IsLineState left
-flush_state (stops sent) line = IsLineState-end _ _ (writes_end sent) line
-flush_state (goes_on {left = left} sent past) line = IsLineState-plain left (HasNoNewline-none left past.1)
+flush_state (stops sent) line = state_end (writes_end sent) line
+flush_state (goes_on {left = left} sent past) line = nothing_state past.1
 
 -- after `Ok` of lines that are passed on, nothing is held
 pub send_lines_leaves : (S : ℕ) (y : List ℕ) → Leaves (SendLinesCalls S y) (λ _. [])
@@ -157,39 +167,39 @@ behind_state : (S : ℕ) {y held left : List ℕ} {C : List WriteCall} {reply : 
     → IsLineState left
 behind_state S {y} (stops w) line ended = buffered_line S y tt (OneWriteAll y) w line ended
 behind_state S {y} (goes_on w s) line ended =
-    IsLineState-end _ _ (writes_end s) (buffered_line S y tt (OneWriteAll y) w line ended)
+    state_end (writes_end s) (buffered_line S y tt (OneWriteAll y) w line ended)
 
 lines_ended : (x : List ℕ) → 0 < lines_len x → (front : List ℕ) → IsLineState (front ++ lines_of x)
-lines_ended = grind (arith, common_steps, lines_are, lines_length, IsLineState-ended, slice_index, get_or-take)
+lines_ended x some front has = ends_in-append newline front (lines_of x) some ∙ lines_end x some
 
 -- a `write_all` has no newline left after an `Ok`, and a line state after an error
 all_lines_state : (S : ℕ) (x : List ℕ) {held left : List ℕ} {C : List WriteCall} {reply : Result (Unit {0}) Error}
     → Then (SendLinesCalls S (lines_of x)) (WriteAllCalls S (unfinished_line x)) held C reply left → IsLineState held → 0 < lines_len x
-    → IsLineState left × OnOk reply (HasNoNewline left)
+    → IsLineState left × OnOk reply (Lacks newline left)
 all_lines_state S x (stops {left = left} p) line some = (
   elim p [
-    | inl past ↦ IsLineState-plain left (HasNoNewline-none left past.1)
+    | inl past ↦ nothing_state past.1
     | inr behind ↦ behind_state S behind.1 line (lines_ended x some)
   ],
   tt,
 )
 all_lines_state S x (goes_on {mid = mid} {reply = reply} p q) line some =
-    let empty = HasNoNewline-none mid (send_lines_leaves S (lines_of x) _ _ _ _ p) in
+    let empty = nothing_lacks (send_lines_leaves S (lines_of x) _ _ _ _ p) in
     let rest = unfinished_line x in
-    let none = buffered_plain S rest tt (OneWriteAll rest) q empty (unfinished_line-plain x) in
-    (IsLineState-plain _ none, onok reply _ none)
+    let none = buffered_plain S rest tt (OneWriteAll rest) q empty (unfinished_lacks x) in
+    (plain_state _ none, onok reply _ none)
 
 pub line_write_all_state : (S : ℕ) {x held left : List ℕ} {C : List WriteCall} {reply : Result (Unit {0}) Error}
-    → LineWriteAllCalls S x held C reply left → IsLineState held → IsLineState left × OnOk reply (HasNoNewline left)
+    → LineWriteAllCalls S x held C reply left → IsLineState held → IsLineState left × OnOk reply (Lacks newline left)
 line_write_all_state S {x} write line = elim write [
-  | inl plain ↦ plain_state S x tt _ plain.1 line plain.0
-  | inr lines ↦ all_lines_state S x lines.1 line (lines_len-some x lines.0)
+  | inl plain ↦ text_state S x tt _ plain.1 line plain.0
+  | inr lines ↦ all_lines_state S x lines.1 line (lines_some x lines.0)
 ]
 
 pub line_write_all_fits : (S : ℕ) {x held left : List ℕ} {C : List WriteCall} {reply : Result (Unit {0}) Error}
     → LineWriteAllCalls S x held C reply left
-    → IsShortText S x → HasNoNewline held → length held + length x ≤ S → (C ≡ []) × IsOk reply × (left ≡ held ++ x)
-line_write_all_fits S {x} write short plain room = grind (arith, common_steps, plain_fits, none_or_some)
+    → IsShortText S x → Lacks newline held → length held + length x ≤ S → (C ≡ []) × IsOk reply × (left ≡ held ++ x)
+line_write_all_fits S {x} write short plain room = grind (arith, common_steps, plain_fits, lacks_contains)
 
 -- what is held after an `Ok` of `write_all`
 after_plain : (S : ℕ) (held x : List ℕ) → lines_len x ≡ 0
@@ -206,22 +216,20 @@ line_write_all_leaves S {x} {held} {left} {reply = reply} write line = elim writ
       let after = then_leaves SendLineCalls (WriteAllCalls S x) line_left (λ held. buffer_after S held x) send_line_leaves
       (buffered_leaves S x tt (OneWriteAll x)) plain.1 in
       onok_map reply _ _
-      (λ e. e ∙ ap (λ h. buffer_after S h x) (line_left-is held line) ∙ after_plain S held x (lines_len-none x plain.0)
-      ∙ ap (buffer_after S (if lines_len x == 0 then unfinished_line held else [])) (sym (unfinished_line-none x plain.0))) after
+      (λ e. e ∙ ap (λ h. buffer_after S h x) (line_left-is held line) ∙ after_plain S held x (ap length (lines_none x plain.0))
+      ∙ ap (buffer_after S (if lines_len x == 0 then unfinished_line held else [])) (sym (unfinished_all x plain.0))) after
   | inr lines ↦
       let after = then_leaves (SendLinesCalls S (lines_of x)) (WriteAllCalls S (unfinished_line x)) (λ _. [])
       (λ held. buffer_after S held (unfinished_line x)) (send_lines_leaves S (lines_of x))
       (buffered_leaves S (unfinished_line x) tt (OneWriteAll (unfinished_line x))) lines.1 in
       onok_map reply _ _
-      (λ e. e ∙ ap (λ h. buffer_after S h (unfinished_line x)) (sym (after_lines held x (lines_len-some x lines.0)))) after
+      (λ e. e ∙ ap (λ h. buffer_after S h (unfinished_line x)) (sym (after_lines held x (lines_some x lines.0)))) after
 ]
 
 -- the lines were written by one call, and of what it left the tail is held
-pub wrote_lines : {W : Type 0} {I : Writer W} (S : ℕ) (x : List ℕ) (len : ℕ) {answer reply : Result ℕ Error} {held left : List ℕ} {a b : W}
-    → IsLinesLen x len → CallOf I a (Wrote (take len x) answer) b → held ≡ [] → HoldsTail S x answer reply left
+pub wrote_lines : {W : Type 0} {I : Writer W} (S : ℕ) (x : List ℕ) {len : ℕ} {answer reply : Result ℕ Error} {held left : List ℕ} {a b : W}
+    → len ≡ lines_len x → CallOf I a (Wrote (take len x) answer) b → held ≡ [] → HoldsTail S x answer reply left
     → Stepped I (LinesCalls S x) a held reply left b
-wrote_lines {I} S x len {answer = answer} {a = a} {b = b} lines law none tail = (
-  Wrote (lines_of x) answer ∷ [],
-  (b, subst (λ n. CallOf I a (Wrote (take n x) answer) b) (sym (lines_len-is x len lines)) law, refl),
-  (none, answer, refl, tail),
-)
+wrote_lines {I} S x {answer = answer} {a = a} {b = b} is law none tail =
+    let lines = subst (λ y. CallOf I a (Wrote y answer) b) (take_lines x is) law in
+    (Wrote (lines_of x) answer ∷ [], (b, lines, refl), (none, answer, refl, tail))

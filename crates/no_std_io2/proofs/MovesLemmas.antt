@@ -15,13 +15,22 @@ pub use Rattle.no_std_io2_base.proofs.MovesLemmas.{IsFront-refl, IsFront-trans, 
 pub use Rattle.no_std_io2_base.proofs.TextLemmas.{MovesFront-text}
 use Rattle.no_std_io2.specs.declared.buffered.buf_writer.BufWriter.{BufWriter}
 use Rattle.no_std_io2.specs.BufWriter.{with_buffer, writer_inner, writer_buffer, writer_told}
-pub use Rattle.no_std_io2.proofs.LineWriterLemmas.{MovesFront-ends, MovesFront-whole}
+use Rattle.no_std_io2.proofs.AnswerLemmas.{onok}
 
 -- an empty buffer in front of a device, and afterwards a buffer with any bytes: its `Moves` is the `Moves` of the device
 pub Moves-device : {W : Type 0} {S : ℕ} {a : Told} {b : Told} {x : List ℕ} {k : List ErrorKind} (told : W → Told) (w : BufWriter W S)
     (device : W)
     → writer_inner w ≡ device → writer_buffer w ≡ [] → a ≡ writer_told told w → Moves a x k b → Moves (told device) x k b
 Moves-device {b = b} {x = x} {k = k} told w device inner none is m = grind (arith, common_steps)
+
+-- if x was accepted whole, and then a call accepted nothing: together they do what a `write_all` of x does, with that call's result
+pub MovesFront-ends : {a b c : Told} (x : List ℕ) (r : Result (Unit {0}) Error) → Moves a x [] b
+    → Moves b [] (call_mishap r) c → MovesFront a x r c
+MovesFront-ends x r m n = record { accepted = x; front = IsFront-refl x; whole = onok r _ refl; moves = Moves-ends m n }
+
+-- a `write_all` of x that returned `Ok` accepted x, without a mishap
+pub MovesFront-whole : {a b : Told} (x : List ℕ) (u : Unit {0}) → MovesFront a x (Ok u) b → Moves a x [] b
+MovesFront-whole {a} {b} x u f = subst (λ l. Moves a l [] b) f.whole f.moves
 
 -- with nothing in its buffer a writer tells what its device tells
 bare : (t : Told) → with_buffer t [] ≡ t

@@ -1,6 +1,6 @@
 -- What a `LineWriter` holds and tells, and the inner calls that it makes.
 use Rattle.no_std_io2_base.specs.Writers.{TakesAll, CallOf}
-use Rattle.std.specs.Prelude.{ℕ, List, ◌≡◌, ◌+◌, ◌<◌, ◌≤◌, ◌==◌, ◌⊎◌, [], ◌∷◌, ◌++◌, length, take, if◌then◌else◌}
+use Rattle.std.specs.Prelude.{ℕ, List, ◌≡◌, ◌+◌, ◌<◌, ◌≤◌, ◌==◌, ◌⊎◌, [], ◌∷◌, ◌++◌, ◌-◌, length, take, drop, nat_le, Contains, if◌then◌else◌}
 use Rattle.std.specs.Prelude.{Result, Ok, Err, IsOk}
 use Rattle.no_std_io2.specs.declared.buffered.line_writer.state.LineSender.{LineSender}
 use Rattle.no_std_io2_base.specs.declared.error.Error.{Error}
@@ -11,7 +11,8 @@ use denote.Param.{param, number}
 use denote.RattleType.{RattleType}
 use Rattle.std.specs.Mem.{FitsInMemory}
 use Rattle.no_std_io2.specs.contracts.buffered.line_writer.LineWriter.{the_row as lines-row}
-use Rattle.no_std_io2.specs.Lines.{HasNoNewline, HasNewline, lines_of, lines_len, unfinished_line, held_tail}
+use Rattle.no_std_io2_base.specs.Pieces.{Lacks, newline}
+use Rattle.no_std_io2_base.specs.Lines.{lines_of, lines_len, unfinished_line}
 use Rattle.no_std_io2.specs.BufWriter.{sender_with_inner, sender_inner, sender_buffer, sender_told, buffer_after}
 use Rattle.no_std_io2.specs.BufWriter.{Step, Then, PastEmpty, OneWriteAll, SendCalls, WriteCalls, WriteAllCalls, FlushCalls}
 
@@ -37,8 +38,20 @@ line_with_inner w x = record { core = line_sender_with_inner w.core x }
 
 -- the held bytes, a line state, are sent if they end in a newline; if not, there is no call
 abbrev pub SendLineCalls : Step (Unit {0})
-SendLineCalls held C reply left = (HasNoNewline held × (C ≡ []) × (reply ≡ Ok tt) × (left ≡ held))
-    ⊎ (HasNewline held × SendCalls held C reply left)
+SendLineCalls held C reply left = (Lacks newline held × (C ≡ []) × (reply ≡ Ok tt) × (left ≡ held))
+    ⊎ (Contains held newline × SendCalls held C reply left)
+
+-- the lines of xs, or all of xs if there are none
+abbrev pub lines_or_all : List ℕ → List ℕ
+lines_or_all xs = if lines_len xs == 0 then xs else lines_of xs
+
+-- The bytes of x that are held, at most S, if the inner writer took the first n: none if n is 0; if all lines were taken, bytes after the
+-- lines; if not, the rest of the lines if it fits, or else the lines among the next S bytes, or all S if they have no newline.
+abbrev pub held_tail : ℕ → List ℕ → ℕ → List ℕ
+held_tail S x n =
+    if n == 0 then []
+    else (if nat_le (lines_len x) n then take S (drop n x)
+    else (if nat_le (lines_len x - n) S then drop n (lines_of x) else lines_or_all (take S (drop n x))))
 
 -- the inner write of the lines of x had the result `sent`: of the bytes that it left, the tail is held, and the result of the call counts
 -- the tail as taken
@@ -60,13 +73,13 @@ SendLinesCalls S y held C reply left = PastEmpty (OneWriteAll y) held C reply le
 -- `write(x)`: if x has no newline, a held line is sent, and then x is written as by a `BufWriter`; if x has one, the held bytes are sent,
 -- and then the lines of x are written
 abbrev pub LineWriteCalls : ℕ → List ℕ → Step ℕ
-LineWriteCalls S x held C reply left = (HasNoNewline x × Then SendLineCalls (WriteCalls S x) held C reply left)
-    ⊎ (HasNewline x × Then SendCalls (LinesCalls S x) held C reply left)
+LineWriteCalls S x held C reply left = (Lacks newline x × Then SendLineCalls (WriteCalls S x) held C reply left)
+    ⊎ (Contains x newline × Then SendCalls (LinesCalls S x) held C reply left)
 
 -- `write_all(x)`: the same, but all lines of x are sent, and then the bytes after them are written as by a `BufWriter`
 abbrev pub LineWriteAllCalls : ℕ → List ℕ → Step (Unit {0})
-LineWriteAllCalls S x held C reply left = (HasNoNewline x × Then SendLineCalls (WriteAllCalls S x) held C reply left)
-    ⊎ (HasNewline x × Then (SendLinesCalls S (lines_of x)) (WriteAllCalls S (unfinished_line x)) held C reply left)
+LineWriteAllCalls S x held C reply left = (Lacks newline x × Then SendLineCalls (WriteAllCalls S x) held C reply left)
+    ⊎ (Contains x newline × Then (SendLinesCalls S (lines_of x)) (WriteAllCalls S (unfinished_line x)) held C reply left)
 
 -- the inner calls of a call of a writer with a line buffer of S bytes
 abbrev pub LineCalls : ℕ → List ℕ → WriteCall → List WriteCall → List ℕ → Type 0
@@ -90,11 +103,11 @@ line_buffer_filled S held x = if lines_len x == 0 then buffer_after S (unfinishe
 
 -- x has no newline and is shorter than S
 abbrev pub IsShortText : ℕ → List ℕ → Type 0
-IsShortText S x = HasNoNewline x × (length x < S)
+IsShortText S x = Lacks newline x × (length x < S)
 
 -- a short text that fits beside an unfinished line is held, and no inner call is made
 abbrev pub HoldsShort : {W A : Type 0} {S : ℕ} → LineWriter W S → List ℕ → Result A Error → LineWriter W S → Type 0
-HoldsShort {S = room} old x reply new = IsShortText room x → HasNoNewline (line_buffer old) → length (line_buffer old) + length x ≤ room
+HoldsShort {S = room} old x reply new = IsShortText room x → Lacks newline (line_buffer old) → length (line_buffer old) + length x ≤ room
     → IsOk reply × (line_inner new ≡ line_inner old) × (line_buffer new ≡ line_buffer old ++ x)
 
 -- if the inner writer takes all, it still does, and there was no error; if it counts its calls, it got at most three

@@ -1,6 +1,7 @@
 // What a `LineWriter` holds.
 ghost use Rattle.std.specs.Prelude.{OnOk};
-ghost use Rattle.no_std_io2.specs.Lines.{HasNoNewline, IsLineState};
+ghost use Rattle.no_std_io2.specs.Lines.{IsLineState};
+ghost use Rattle.no_std_io2.specs.Pieces.{Lacks, newline};
 ghost use Rattle.no_std_io2.specs.LineWriter.{line_buffer};
 
 use no_std_io2::io::{BufWriter, LineWriter, Result, Write};
@@ -10,7 +11,7 @@ pub fn holds_no_newline<W: Write + Drop, const S: usize>(
     w: &mut LineWriter<W, S>,
     x: &[u8],
 ) -> Result<()>
-    ensures { OnOk result (HasNoNewline (line_buffer w.new)) }
+    ensures { OnOk result (Lacks newline (line_buffer w.new)) }
 {
     w.write_all(x)
 }
@@ -20,7 +21,7 @@ pub fn holds_no_newline_in_a_tower<W: Write + Drop, const S: usize, const T: usi
     w: &mut LineWriter<BufWriter<W, S>, T>,
     x: &[u8],
 ) -> Result<()>
-    ensures { OnOk result (HasNoNewline (line_buffer w.new)) }
+    ensures { OnOk result (Lacks newline (line_buffer w.new)) }
 {
     w.write_all(x)
 }

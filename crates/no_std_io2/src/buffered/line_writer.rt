@@ -2,7 +2,8 @@
 ghost use Rattle.std.specs.Prelude.{◌≡◌, ◌+◌, ◌≤◌, [], length, IfOk, IfErr, OnOk};
 ghost use Rattle.std.specs.Borrow.{Lends, sem};
 ghost use Rattle.no_std_io2.specs.contracts.buffered.line_writer.LineWriter.{the_row as line-row};
-ghost use Rattle.no_std_io2.specs.Lines.{IsLineState, HasNoNewline};
+ghost use Rattle.no_std_io2_base.specs.Lines.{IsLineState};
+ghost use Rattle.no_std_io2_base.specs.Pieces.{Lacks, newline};
 ghost use Rattle.no_std_io2.specs.LineWriter.{line_inner, line_buffer, line_told, line_with_inner, LineMay};
 ghost use Rattle.no_std_io2.specs.LineWriter.{LineWriteCalls, LineWriteAllCalls, line_buffer_after, line_buffer_filled};
 ghost use Rattle.no_std_io2.specs.LineWriter.{IsShortText, HoldsShort, KeepsTaking};
@@ -190,7 +191,7 @@ impl<W: Write + Drop, const S: usize> Write for LineWriter<W, S> {
         ensures calls { TakesStep W.Write line_inner line_buffer (LineWriteAllCalls S buf.now) self.old result self.new }
 
         // After `Ok` only the unfinished line is held.
-        ensures no_newline_held { OnOk result (HasNoNewline (line_buffer self.new)) }
+        ensures no_newline_held { OnOk result (Lacks newline (line_buffer self.new)) }
         ensures held { OnOk result (line_buffer self.new ≡ line_buffer_after S (line_buffer self.old) buf.now) }
         ensures fits { HoldsShort self.old buf.now result self.new }
         ensures inner { KeepsTaking W.Write (line_inner self.old) result (line_inner self.new) }

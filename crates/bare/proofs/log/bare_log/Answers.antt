@@ -1,6 +1,7 @@
 use Rattle.std.proofs.lemmas.Grind.{common_steps}
 use Rattle.std.proofs.Common.{◌≡◌, length, ◌++◌, ap, subst, inl, arith}
-use Rattle.no_std_io2.specs.Lines.{HasNoNewline}
+use Rattle.no_std_io2.specs.Pieces.{Lacks, newline}
+use Rattle.no_std_io2.proofs.LineLemmas.{contains_lacks}
 use Rattle.bare.specs.Queue.{waiting}
 use Rattle.bare.specs.Log.{Resumes, line}
 use Rattle.bare.proofs.LogLemmas.{resumed_more, line_put}
@@ -9,7 +10,7 @@ use Rattle.bare.proofs.log.bare_log.Goals as goal
 pub returns : goal.returns
 returns c =
     let text = c.args.text.now in
-    let none : HasNoNewline text = grind (arith, common_steps, c.contains.ensures, c.if-contains.false) in
+    let none = contains_lacks newline text (grind (arith, common_steps, c.contains.ensures, c.if-contains.false)) in
     let before = waiting c.bare_resume.new.kept in
     let put : waiting c.bare_put-2.new.queue ≡ before ++ line text =
     line_put before (waiting c.bare_put.new.queue) (waiting c.bare_put-2.new.queue) text c.bare_put.result c.bare_put-2.result

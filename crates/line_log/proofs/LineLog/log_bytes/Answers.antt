@@ -1,26 +1,27 @@
-use Rattle.std.proofs.Common.{refl, le_refl, inl, inr, rules, arith}
+use Rattle.std.proofs.Common.{Contains, refl, le_refl, inl, inr, rules, arith}
 use Rattle.std.proofs.lemmas.Grind.{common_steps}
 use Rattle.std.proofs.lemmas.Result.{err_from_is_err_and}
-use Rattle.no_std_io2.specs.Lines.{HasNoNewline, HasNewline}
+use Rattle.no_std_io2.specs.Pieces.{Lacks, newline}
+use Rattle.no_std_io2.proofs.LineLemmas.{contains_lacks}
 use Rattle.line_log.proofs.LogLemmas.{log_stops, log_goes}
 use Rattle.line_log.proofs.LineLog.log_bytes.Goals as goal
 
 pub returns-then-contains : goal.returns-then-contains
 returns-then-contains g c =
-    let inside : HasNewline c.args.line.now = grind (arith, common_steps, c.contains.ensures) in
+    let inside : Contains c.args.line.now newline = grind (arith, common_steps, c.contains.ensures) in
     record { logs = inr (inl (inside, (c.new.ensures.kind, c.new.ensures.text)), refl) }
 
 pub returns-in_err-write_whole : goal.returns-in_err-write_whole
 returns-in_err-write_whole g c =
     let p = err_from_is_err_and c.from_residual.result c.from_residual.ensures.1 in
-    let plain : HasNoNewline c.args.line.now = search rules in
+    let plain = contains_lacks newline c.args.line.now (grind (arith, common_steps, c.contains.ensures, c.if-contains.false)) in
     rw (p.1, p.2)
     (record { logs = inl ((plain, omega (arith, c.if-line.false)), log_stops g.W.Write _ _ c.in_err-write_whole.ensures.puts) })
 
 pub returns : goal.returns
 returns g c =
     let room = c.make_room.ensures in
-    let plain : HasNoNewline c.args.line.now = search rules in record {
+    let plain = contains_lacks newline c.args.line.now (grind (arith, common_steps, c.contains.ensures, c.if-contains.false)) in record {
       logs = inl (
         (plain, omega (arith, c.if-line.false)),
         log_goes g.W.Write _ c.make_room.result c.in_ok-write_whole.ensures.puts room.calls room.moves (room.room (le_refl _)),

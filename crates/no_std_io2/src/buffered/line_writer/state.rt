@@ -2,7 +2,7 @@
 ghost use Rattle.std.specs.Prelude.{◌≡◌};
 ghost use Rattle.std.specs.Borrow.{Lends, sem};
 ghost use Rattle.std.proofs.Props.{props};
-ghost use Rattle.no_std_io2.specs.Lines.{IsLineState};
+ghost use Rattle.no_std_io2_base.specs.Lines.{IsLineState};
 ghost use Rattle.no_std_io2.specs.BufWriter.{sender_inner, sender_buffer};
 
 use crate::buffered::sender::Sender;

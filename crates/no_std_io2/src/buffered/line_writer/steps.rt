@@ -1,8 +1,8 @@
 // The steps of the calls of a `LineWriter`.
-ghost use Rattle.std.specs.Bool.{OnTrue, OnFalse};
-ghost use Rattle.std.specs.Prelude.{◌≡◌, ◌≢◌, ◌+◌, ◌-◌, ◌<◌, ◌≤◌, length, slice_index, slice_range};
-ghost use Rattle.no_std_io2.specs.Lines.{IsLineState, HasNoNewline, IsLinesLen, held_tail};
-ghost use Rattle.no_std_io2.specs.LineWriter.{SendLineCalls, SendLinesCalls, LineWriteCalls, LineWriteAllCalls};
+ghost use Rattle.std.specs.Prelude.{◌≡◌, ◌+◌, ◌<◌, ◌≤◌, length, slice_range};
+ghost use Rattle.no_std_io2_base.specs.Lines.{IsLineState, lines_len};
+ghost use Rattle.no_std_io2_base.specs.Pieces.{ends_in, newline};
+ghost use Rattle.no_std_io2.specs.LineWriter.{held_tail, SendLineCalls, SendLinesCalls, LineWriteCalls, LineWriteAllCalls};
 ghost use Rattle.no_std_io2.specs.BufWriter.{sender_inner, sender_buffer, TakesStep};
 
 use crate::buffered::sender::Sender;
@@ -12,8 +12,8 @@ use no_std_io2_base::traits::Write;
 
 // Returns the length of the lines of x: everything up to and including its last newline.
 fn lines_len(x: &[u8]) -> usize
-    ensures lines { IsLinesLen x.now result }
-    ensures plain { result ≡ 0 → HasNoNewline x.now }
+    ensures lines { result ≡ lines_len x.now }
+    ensures within { result ≤ length x.now }
 {
     match memrchr(b'\n', x) {
         Some(at) => at + 1,
@@ -24,7 +24,8 @@ fn lines_len(x: &[u8]) -> usize
 // Returns where the held tail of x ends if `sent` bytes of x were sent. The first `len` bytes of x
 // are its lines.
 fn tail_end(x: &[u8], len: usize, sent: usize, room: usize) -> usize
-    requires lines { IsLinesLen x.now len }
+    requires lines { len ≡ lines_len x.now }
+    requires within { len ≤ length x.now }
     requires some { 0 < sent }
     requires sent { sent ≤ len }
     ensures within { result ≤ length x.now }
@@ -44,10 +45,7 @@ fn tail_end(x: &[u8], len: usize, sent: usize, room: usize) -> usize
 
 // Returns whether the last byte is a newline.
 fn ends_in_newline(bytes: &[u8]) -> bool
-    ensures yes { OnTrue result ((0 < length bytes.now)
-        × (slice_index bytes.now (length bytes.now - 1) ≡ 10)) }
-    ensures no { OnFalse result (0 < length bytes.now
-        → slice_index bytes.now (length bytes.now - 1) ≢ 10) }
+    ensures { result ≡ ends_in newline bytes.now }
 {
     bytes.last() == Some(&b'\n')
 }
@@ -70,7 +68,8 @@ fn write_lines<W: Write + Drop, const S: usize>(
     len: usize,
 ) -> Result<usize>
     requires some { 0 < len }
-    requires lines { IsLinesLen x.now len }
+    requires lines { len ≡ lines_len x.now }
+    requires within { len ≤ length x.now }
     ensures { TakesStep W.Write sender_inner sender_buffer (LineWriteCalls S x.now) w.old result w.new }
 {
     w.send()?;
@@ -119,7 +118,8 @@ fn write_all_lines<W: Write + Drop, const S: usize>(
     len: usize,
 ) -> Result<()>
     requires some { 0 < len }
-    requires lines { IsLinesLen x.now len }
+    requires lines { len ≡ lines_len x.now }
+    requires within { len ≤ length x.now }
     ensures { TakesStep W.Write sender_inner sender_buffer (LineWriteAllCalls S x.now) w.old result w.new }
 {
     send_lines(w, &x[..len])?;

@@ -1,6 +1,5 @@
-use Rattle.no_std_io2.proofs.LineWriterLemmas.{IsLineState-end}
-use Rattle.no_std_io2.proofs.LineWriterStates.{writes_end}
+use Rattle.no_std_io2.proofs.LineWriterStates.{writes_end, state_end}
 use Rattle.no_std_io2.proofs.buffered.line_writer.LineWriter.drop.Goals as goal
 
 pub invariant_of-self : goal.invariant_of-self
-invariant_of-self g c = record { line = IsLineState-end _ _ (writes_end c.send.ensures.calls.2) c.args.self.core.line }
+invariant_of-self g c = record { line = state_end (writes_end c.send.ensures.calls.2) c.args.self.core.line }

@@ -1,11 +1,9 @@
 -- What was not sent is the end of a list that had no newline, or one at the end.
-use Rattle.no_std_io2.proofs.LineWriterLemmas.{IsLineState-end}
-use Rattle.no_std_io2.proofs.LineWriterStates.{writes_end}
+use Rattle.no_std_io2.proofs.LineWriterStates.{writes_end, state_end}
 use Rattle.no_std_io2.proofs.buffered.line_writer.LineWriter.into_inner.Goals as goal
 
 pub invariant_of-core : goal.invariant_of-core
 invariant_of-core g c =
     record {
-      line = rw c.into_parts-buffered.ensures.writer (IsLineState-end _ _
-          (writes_end c.in-Err.ensures.calls.2) c.args.self.core.line);
+      line = rw c.into_parts-buffered.ensures.writer (state_end (writes_end c.in-Err.ensures.calls.2) c.args.self.core.line);
     }

@@ -1,5 +1,6 @@
 use Rattle.std.proofs.Common.{arith, inl}
 use Rattle.std.proofs.lemmas.Result.{err_from_is_err_and}
+use Rattle.no_std_io2_base.proofs.LineLemmas.{lacks_lines}
 use Rattle.no_std_io2.proofs.StepLemmas.{then_stops, then_goes_on}
 use Rattle.no_std_io2.proofs.buffered.line_writer.steps.write.Goals as goal
 
@@ -7,9 +8,9 @@ pub returns-in_err-send_line : goal.returns-in_err-send_line
 returns-in_err-send_line g c =
     let p = err_from_is_err_and c.from_residual.result c.from_residual.ensures.1 in
     let stopped = then_stops _ _ c.in_err-send_line.ensures in
-    rw (p.1, p.2) (stopped.0, stopped.1, inl ((c.lines_len-len.ensures.plain (omega arith)), stopped.2))
+    rw (p.1, p.2) (stopped.0, stopped.1, inl ((lacks_lines c.args.x.now (omega (arith, c.lines_len-len.ensures.lines))), stopped.2))
 
 pub returns : goal.returns
 returns g c =
     let went = then_goes_on _ _ _ _ c.in_ok-send_line.ensures c.write.ensures in
-    (went.0, went.1, inl ((c.lines_len-len.ensures.plain (omega arith)), went.2))
+    (went.0, went.1, inl ((lacks_lines c.args.x.now (omega (arith, c.lines_len-len.ensures.lines))), went.2))

@@ -1,33 +1,31 @@
-use Rattle.std.proofs.Common.{sym, subst, take, ap, ◌∙◌, inr}
+use Rattle.std.proofs.Common.{◌∙◌, inr, subst}
 use Rattle.std.proofs.lemmas.List.{take_rest}
 use Rattle.std.proofs.lemmas.Result.{err_from_is_err_and}
 use Rattle.no_std_io2.specs.BufWriter.{TakesStep, sender_inner, sender_buffer, WriteAllCalls}
 use Rattle.no_std_io2.specs.LineWriter.{SendLinesCalls}
+use Rattle.no_std_io2_base.proofs.LineLemmas.{take_lines, drop_lines, contains_lines}
 use Rattle.no_std_io2.proofs.StepLemmas.{then_stops, then_goes_on}
-use Rattle.no_std_io2.proofs.LinesLast.{lines_len-is, unfinished_line-is, HasNewline-lines}
 use Rattle.no_std_io2.proofs.buffered.line_writer.steps.write_all_lines.Goals as goal
 
 pub returns-in_err-send_lines : goal.returns-in_err-send_lines
 returns-in_err-send_lines g c =
     let p = err_from_is_err_and c.from_residual.result c.from_residual.ensures.1 in
     let x = c.args.x.now in
-    let lines = c.requires.lines in
-    let is = ap (λ n. take n x) (sym (lines_len-is x c.args.len lines)) in
+    let is = take_lines x c.requires.lines in
     let sent = subst (λ y. TakesStep g.W.Write sender_inner sender_buffer
     (SendLinesCalls g.row.S y) c.args.w.now c.send_lines.result c.send_lines.new.w) is
     c.send_lines.ensures in
     let stopped = then_stops _ _ (rw c.in_err-send_lines.was at sent) in
-    rw (p.1, p.2) (stopped.0, stopped.1, inr (HasNewline-lines x _ lines c.requires.some, stopped.2))
+    rw (p.1, p.2) (stopped.0, stopped.1, inr (contains_lines x c.requires.lines c.requires.some, stopped.2))
 
 pub returns : goal.returns
 returns g c =
     let x = c.args.x.now in
-    let lines = c.requires.lines in
-    let is = ap (λ n. take n x) (sym (lines_len-is x c.args.len lines)) in
-    let rest = take_rest x c.args.len ∙ sym (unfinished_line-is x c.args.len lines) in
+    let is = take_lines x c.requires.lines in
+    let rest = take_rest x c.args.len ∙ drop_lines x c.requires.lines in
     let S = g.row.S in
     let sent = c.in_ok-send_lines.ensures in
     let wrote = c.write_all.ensures in
     let went = then_goes_on (SendLinesCalls S _) (WriteAllCalls S _) _ _ sent wrote in
     let all = rw (is, rest) at went in
-    (all.0, all.1, inr (HasNewline-lines x _ lines c.requires.some, all.2))
+    (all.0, all.1, inr (contains_lines x c.requires.lines c.requires.some, all.2))

@@ -4,10 +4,10 @@ use Rattle.std.proofs.Common.{drop}
 use Rattle.std.specs.List.{slice_range}
 use Rattle.std.proofs.lemmas.Result.{err_from_is_err_and}
 use Rattle.no_std_io2_base.proofs.CallsLemmas.{writes_whole}
+use Rattle.no_std_io2_base.proofs.LineLemmas.{contains_lines}
 use Rattle.no_std_io2.specs.BufWriter.{sender_buffer}
-use Rattle.no_std_io2.specs.Lines.{held_tail}
+use Rattle.no_std_io2.specs.LineWriter.{held_tail}
 use Rattle.no_std_io2.proofs.StepLemmas.{then_stops, then_goes_on}
-use Rattle.no_std_io2.proofs.LinesLast.{HasNewline-lines}
 use Rattle.no_std_io2.proofs.LineWriterStates.{wrote_lines}
 use Rattle.no_std_io2.proofs.buffered.line_writer.steps.write_lines.Goals as goal
 
@@ -15,7 +15,7 @@ pub returns-in_err-send : goal.returns-in_err-send
 returns-in_err-send g c =
     let p = err_from_is_err_and c.from_residual.result c.from_residual.ensures.1 in
     let stopped = then_stops _ _ c.in_err-send.ensures.calls in
-    rw (p.1, p.2) (stopped.0, stopped.1, inr (HasNewline-lines _ _ c.requires.lines c.requires.some, stopped.2))
+    rw (p.1, p.2) (stopped.0, stopped.1, inr (contains_lines _ c.requires.lines c.requires.some, stopped.2))
 
 -- the write of the lines failed
 pub returns-in_err-n : goal.returns-in_err-n
@@ -23,8 +23,8 @@ returns-in_err-n g c =
     let p = err_from_is_err_and c.from_residual-in_err-n.result c.from_residual-in_err-n.ensures.1 in
     let none = writes_whole c.in_ok-send.ensures.calls.2 in
     let went = then_goes_on _ _ _ _ c.in_ok-send.ensures.calls
-    (wrote_lines g.row.S _ _ c.requires.lines c.in_err-n.ensures.law none (none, refl)) in
-    rw (p.1, p.2) (went.0, went.1, inr (HasNewline-lines _ _ c.requires.lines c.requires.some, went.2))
+    (wrote_lines g.row.S _ c.requires.lines c.in_err-n.ensures.law none (none, refl)) in
+    rw (p.1, p.2) (went.0, went.1, inr (contains_lines _ c.requires.lines c.requires.some, went.2))
 
 -- none of them were taken
 pub returns-then-n-eq0 : goal.returns-then-n-eq0
@@ -34,8 +34,8 @@ returns-then-n-eq0 g c =
     let zero = ap Ok (let sum : 0 ≡ c.in_ok-n.n + length (sender_buffer c.send.new.self) = omega
     (arith, c.if-n-eq0.true, ap length none) in sum) in
     let went = then_goes_on _ _ _ _ c.in_ok-send.ensures.calls
-    (wrote_lines g.row.S _ _ c.requires.lines c.in_ok-n.ensures.law none (empty, zero)) in
-    (went.0, went.1, inr (HasNewline-lines _ _ c.requires.lines c.requires.some, went.2))
+    (wrote_lines g.row.S _ c.requires.lines c.in_ok-n.ensures.law none (empty, zero)) in
+    (went.0, went.1, inr (contains_lines _ c.requires.lines c.requires.some, went.2))
 
 pub hold-requires : goal.hold-requires
 hold-requires g c = grind (arith, common_steps, writes_whole, length-take)
@@ -58,5 +58,5 @@ returns g c =
     ) in
     let law = rw (sym c.hold.ensures.same) at c.in_ok-n.ensures.law in
     let went = then_goes_on _ _ _ _ c.in_ok-send.ensures.calls
-    (wrote_lines g.row.S _ _ c.requires.lines law none (held ∙ c.tail_end-end.ensures.tail, ap Ok count)) in
-    (went.0, went.1, inr (HasNewline-lines _ _ c.requires.lines c.requires.some, went.2))
+    (wrote_lines g.row.S _ c.requires.lines law none (held ∙ c.tail_end-end.ensures.tail, ap Ok count)) in
+    (went.0, went.1, inr (contains_lines _ c.requires.lines c.requires.some, went.2))

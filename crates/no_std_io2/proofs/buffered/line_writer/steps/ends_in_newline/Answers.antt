@@ -1,0 +1,17 @@
+use Rattle.std.proofs.lemmas.Grind.{common_steps}
+use Rattle.std.proofs.Common.{refl, ◌≡◌, ℕ, ◌-◌, ◌==◌, Option, None, Some, List, length, arith, ◌∙◌}
+use Rattle.std.specs.Borrow.{Bor}
+use Rattle.std.specs.Option.{option_eq}
+use Rattle.std.specs.Slice.{IsGetResult}
+use Rattle.no_std_io2_base.specs.Pieces.{ends_in, newline}
+use Rattle.no_std_io2_base.proofs.PieceTrims.{is_last, other_last}
+use Rattle.no_std_io2.proofs.buffered.line_writer.steps.ends_in_newline.Goals as goal
+
+by_last : (bs : List ℕ) (r : Option (Bor ℕ)) (end : Bor ℕ) → end.now ≡ newline → IsGetResult bs 0 (length bs - 1) r
+    → option_eq (λ (x : Bor ℕ) (y : Bor ℕ). x.now == y.now) r (Some end) ≡ ends_in newline bs
+by_last bs None end is item = grind (arith, common_steps)
+by_last bs (Some x) end is item =
+    grind (arith, common_steps, is_last newline x.now (length bs) bs, other_last newline x.now (length bs) bs)
+
+pub returns : goal.returns
+returns c = c.eq.ensures ∙ by_last c.args.bytes.now c.last.result _ refl c.last.ensures.item
