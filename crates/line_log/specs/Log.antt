@@ -1,5 +1,6 @@
 -- What a line of a log is, and what a log holds, tells and does.
-use Rattle.std.specs.Prelude.{◌≡◌, ◌⊎◌, ℕ, ◌+◌, ◌<◌, ◌≤◌, List, [], ◌∷◌, ◌++◌, length, codes, Result, Ok, IfErr, OnOk, IsErrAnd, Option, IfSome, Contains}
+use Rattle.std.specs.Prelude.{◌≡◌, ◌⊎◌, ℕ, ◌+◌, ◌<◌, ◌≤◌, List, [], ◌∷◌, ◌++◌, length, codes, Result, Ok, IfErr, OnOk, IsErrAnd}
+use Rattle.std.specs.Prelude.{Option, IfSome, Contains}
 use Rattle.no_std_io2.specs.Errors.{IsNoInterruption, SaysError, error_kind}
 use Rattle.no_std_io2.specs.Pieces.{Lacks, newline}
 use Rattle.no_std_io2.specs.Write.{Told, Moves}

@@ -1,13 +1,15 @@
 -- The bytes that a line writer holds of those that its inner writer left.
 use Rattle.std.proofs.lemmas.Grind.{common_steps}
-use Rattle.std.proofs.Common.{◌≡◌, ℕ, ◌+◌, ◌-◌, ◌<◌, ◌≤◌, List, ◌++◌, length, take, drop, refl, ap, ◌∙◌, arith, length-take, length-drop, length-append, subst}
+use Rattle.std.proofs.Common.{◌≡◌, ℕ, ◌+◌, ◌-◌, ◌<◌, ◌≤◌, List, ◌++◌, length, take, drop, refl, ap, ◌∙◌, arith, length-take}
+use Rattle.std.proofs.Common.{length-drop, length-append, subst}
 use Rattle.std.proofs.Common.{take-append-drop}
 use Rattle.std.proofs.lemmas.Bool.Decides.{nat_tests}
 use Rattle.std.proofs.lemmas.List.{take_min}
 use lib.Seq.{take-add}
 use Rattle.no_std_io2_base.specs.Pieces.{Lacks, newline, ends_in}
 use Rattle.no_std_io2_base.specs.Lines.{IsLineState, lines_len, lines_of, unfinished_line}
-use Rattle.no_std_io2_base.proofs.LineLemmas.{lines_split, lines_bound, lines_end, lacks_lines, unfinished_lacks, plain_state, state_rest, take_lines, drop_lines}
+use Rattle.no_std_io2_base.proofs.LineLemmas.{lines_split, lines_bound, lines_end, lacks_lines, unfinished_lacks, plain_state}
+use Rattle.no_std_io2_base.proofs.LineLemmas.{state_rest, take_lines, drop_lines}
 use Rattle.no_std_io2.specs.LineWriter.{held_tail, lines_or_all}
 
 -- what follows all lines has no newline
@@ -19,21 +21,20 @@ behind_state S x n all =
 
 -- the lines without their first n bytes
 pub lines_rest : (x : List ℕ) (n : ℕ) → n ≤ lines_len x → take (lines_len x - n) (drop n x) ≡ drop n (lines_of x)
-lines_rest x n within = subst (λ l. take (lines_len x - n) (drop n l) ≡ drop n (lines_of x)) (lines_split x) (grind (arith, common_steps))
+lines_rest x n within =
+    subst (λ l. take (lines_len x - n) (drop n l) ≡ drop n (lines_of x)) (lines_split x) (grind (arith, common_steps))
 
 rest_state : (x : List ℕ) (n : ℕ) → 0 < lines_len x → IsLineState (drop n (lines_of x))
-rest_state x n some = state_rest (take n (lines_of x)) (drop n (lines_of x)) (λ has. ap (ends_in newline) (take-append-drop n (lines_of x)) ∙ lines_end x some)
-
--- the lines among some bytes, or all of them
-or_all_state : (xs : List ℕ) → IsLineState (lines_or_all xs)
-or_all_state xs = grind (arith, nat_tests, plain_state, lacks_lines, lines_end)
+rest_state x n some =
+    let lines = lines_of x in
+    state_rest (take n lines) (drop n lines) (λ has. ap (ends_in newline) (take-append-drop n lines) ∙ lines_end x some)
 
 or_all_front : (S : ℕ) (l : List ℕ) → take (length (lines_or_all (take S l))) l ≡ lines_or_all (take S l)
 or_all_front S l = grind (arith, common_steps, take_lines (take S l) refl, take_min, lines_bound (take S l))
 
 -- the tail is a line state
 pub tail_state : (S : ℕ) (x : List ℕ) (n : ℕ) → IsLineState (held_tail S x n)
-tail_state S x n = grind (arith, nat_tests, plain_state, behind_state, or_all_state, rest_state)
+tail_state S x n = grind (arith, nat_tests, plain_state, behind_state, lacks_lines, lines_end, rest_state)
 
 -- the first n bytes and that tail are the first ones of x
 tail_front : (S : ℕ) (x : List ℕ) (n : ℕ) → take (length (held_tail S x n)) (drop n x) ≡ held_tail S x n

@@ -2,7 +2,7 @@
 use Rattle.no_std_io2_base.specs.Writers.{TakesAll, CallOf}
 use Rattle.std.proofs.Common.{rules, []}
 use Rattle.std.proofs.lemmas.Grind.{common_steps}
-use Rattle.std.proofs.Common.{◌≡◌, ◌+◌, ℕ, ◌<◌, ◌≤◌, ◌==◌, ◌∙◌, List, ◌++◌, length, take, Result, Ok, Err, OnOk, IsOk}
+use Rattle.std.proofs.Common.{◌≡◌, ◌+◌, ℕ, ◌<◌, ◌≤◌, ◌==◌, List, ◌++◌, length, take, Result, Ok, Err, OnOk, IsOk}
 use Rattle.std.proofs.Common.{IfOk}
 use Rattle.std.proofs.Common.{refl, ap, subst, arith, if◌then◌else◌, inl, inr}
 use Rattle.std.proofs.lemmas.Bool.Decides.{nat_tests}
@@ -61,7 +61,8 @@ writing_all-le : (S : ℕ) (x held : List ℕ) → writing_all_calls S x held �
 writing_all-le S x held = grind (arith, nat_tests)
 
 -- the lines and the bytes after them are x
-of_lines : {a b : Told} (x : List ℕ) (r : Result (Unit {0}) Error) → MovesFront a (lines_of x ++ unfinished_line x) r b → MovesFront a x r b
+of_lines : {a b : Told} (x : List ℕ) (r : Result (Unit {0}) Error) → MovesFront a (lines_of x ++ unfinished_line x) r b
+    → MovesFront a x r b
 of_lines {a} {b} x r f = subst (λ l. MovesFront a l r b) (lines_split x) f
 
 -- so do a write and then a sending
@@ -76,12 +77,6 @@ at_ok = grind (arith, common_steps)
 counted_keeps : {W A : Type 0} (I : Writer W) {n : ℕ} (C : List WriteCall) (reply : Result A Error) (b : W) → Counted I reply C n b → n ≤ 3
     → TakesAll I b × IsOk reply × (charges C ≤ 3)
 counted_keeps I C reply b done few = (done.0, done.1, omega (arith, done.2, few))
-
-filled_plain : (S : ℕ) (held x : List ℕ) → lines_len x ≡ 0 → buffer_after S (unfinished_line held) x ≡ line_buffer_filled S held x
-filled_plain S held x none = grind (arith, nat_tests)
-
-filled_lines : (S : ℕ) (held x : List ℕ) → 0 < lines_len x → take S (unfinished_line x) ≡ line_buffer_filled S held x
-filled_lines S held x some = grind (arith, nat_tests)
 
 module _ {W : Type 0} (I : Writer W) where
   send_line_tells : Tells I SendLineCalls (Sending I)
@@ -163,12 +158,11 @@ module _ {W : Type 0} (I : Writer W) where
   line_write_filled S {x} {held} {left} {reply = reply} write line a b made takes =
       let keeps = line_write_keeps S write a b made takes in elim write [
         | inl plain ↦
-            at_ok reply keeps.1 (then_leaves SendLineCalls (WriteCalls S x) line_left (λ held. buffer_after S held x) send_line_leaves
-            (buffered_leaves S x (length x) (OneWrite x)) plain.1)
-            ∙ ap (λ h. buffer_after S h x) (line_left-is held line) ∙ filled_plain S held x (ap length (lines_none x plain.0))
+            let after = at_ok reply keeps.1 (then_leaves SendLineCalls (WriteCalls S x) line_left (λ held. buffer_after S held x)
+            send_line_leaves (buffered_leaves S x (length x) (OneWrite x)) plain.1) in
+            grind (arith, nat_tests, after, line_left-is held line, lines_none x plain.0)
         | inr lines ↦
-            let some = lines_some x lines.0 in
-            tail_filled S x lines.1 some a b made takes ∙ filled_lines S held x some
+            let some = lines_some x lines.0 in grind (arith, nat_tests, tail_filled S x lines.1 some a b made takes, some)
       ]
 
 module _ {W : Type 0} (I : Writer W) where

@@ -12,8 +12,10 @@ use Rattle.no_std_io2_base.proofs.CallsLemmas.{writes_whole}
 use Rattle.no_std_io2.specs.Buffer.{IsSuffix}
 use Rattle.no_std_io2_base.specs.Pieces.{Lacks, newline}
 use Rattle.no_std_io2_base.specs.Lines.{IsLineState, lines_of, lines_len, unfinished_line}
-use Rattle.no_std_io2_base.proofs.LineLemmas.{lines_end, lines_none, lines_some, unfinished_lacks, unfinished_none, unfinished_all, lacks_contains}
-use Rattle.no_std_io2_base.proofs.LineLemmas.{contains_lines, take_lines, drop_lines, lines_split, plain_state, lacks_rest, state_rest, ends_in-append}
+use Rattle.no_std_io2_base.proofs.LineLemmas.{lines_end, lines_none, lines_some, unfinished_lacks, unfinished_none, unfinished_all}
+use Rattle.no_std_io2_base.proofs.LineLemmas.{lacks_contains}
+use Rattle.no_std_io2_base.proofs.LineLemmas.{contains_lines, take_lines, drop_lines, lines_split, plain_state, lacks_rest, state_rest}
+use Rattle.no_std_io2_base.proofs.LineLemmas.{ends_in-append}
 use Rattle.no_std_io2.specs.BufWriter.{Then, stops, goes_on, SendCalls, WayCalls, Buffered, WriteCalls, WriteAllCalls, FlushCalls}
 use Rattle.no_std_io2.specs.BufWriter.{OneWriteAll, buffer_after}
 use Rattle.no_std_io2.specs.LineWriter.{SendLineCalls, HoldsTail, LinesCalls, SendLinesCalls, LineWriteCalls, LineWriteAllCalls}
@@ -202,13 +204,6 @@ pub line_write_all_fits : (S : ℕ) {x held left : List ℕ} {C : List WriteCall
 line_write_all_fits S {x} write short plain room = grind (arith, common_steps, plain_fits, lacks_contains)
 
 -- what is held after an `Ok` of `write_all`
-after_plain : (S : ℕ) (held x : List ℕ) → lines_len x ≡ 0
-    → buffer_after S (unfinished_line held) x ≡ buffer_after S (if lines_len x == 0 then unfinished_line held else []) x
-after_plain S held x none = grind (arith, nat_tests)
-
-after_lines : (held x : List ℕ) → 0 < lines_len x → (if lines_len x == 0 then unfinished_line held else []) ≡ []
-after_lines held x some = grind (arith, nat_tests)
-
 pub line_write_all_leaves : (S : ℕ) {x held left : List ℕ} {C : List WriteCall} {reply : Result (Unit {0}) Error}
     → LineWriteAllCalls S x held C reply left → IsLineState held → OnOk reply (left ≡ line_buffer_after S held x)
 line_write_all_leaves S {x} {held} {left} {reply = reply} write line = elim write [
@@ -216,14 +211,12 @@ line_write_all_leaves S {x} {held} {left} {reply = reply} write line = elim writ
       let after = then_leaves SendLineCalls (WriteAllCalls S x) line_left (λ held. buffer_after S held x) send_line_leaves
       (buffered_leaves S x tt (OneWriteAll x)) plain.1 in
       onok_map reply _ _
-      (λ e. e ∙ ap (λ h. buffer_after S h x) (line_left-is held line) ∙ after_plain S held x (ap length (lines_none x plain.0))
-      ∙ ap (buffer_after S (if lines_len x == 0 then unfinished_line held else [])) (sym (unfinished_all x plain.0))) after
+      (λ e. grind (arith, nat_tests, e, line_left-is held line, lines_none x plain.0, unfinished_all x plain.0)) after
   | inr lines ↦
       let after = then_leaves (SendLinesCalls S (lines_of x)) (WriteAllCalls S (unfinished_line x)) (λ _. [])
       (λ held. buffer_after S held (unfinished_line x)) (send_lines_leaves S (lines_of x))
       (buffered_leaves S (unfinished_line x) tt (OneWriteAll (unfinished_line x))) lines.1 in
-      onok_map reply _ _
-      (λ e. e ∙ ap (λ h. buffer_after S h (unfinished_line x)) (sym (after_lines held x (lines_some x lines.0)))) after
+      onok_map reply _ _ (λ e. grind (arith, nat_tests, e, lines_some x lines.0)) after
 ]
 
 -- the lines were written by one call, and of what it left the tail is held

@@ -1,6 +1,7 @@
 -- What a `LineWriter` holds and tells, and the inner calls that it makes.
 use Rattle.no_std_io2_base.specs.Writers.{TakesAll, CallOf}
-use Rattle.std.specs.Prelude.{ℕ, List, ◌≡◌, ◌+◌, ◌<◌, ◌≤◌, ◌==◌, ◌⊎◌, [], ◌∷◌, ◌++◌, ◌-◌, length, take, drop, nat_le, Contains, if◌then◌else◌}
+use Rattle.std.specs.Prelude.{ℕ, List, ◌≡◌, ◌+◌, ◌<◌, ◌≤◌, ◌==◌, ◌⊎◌, [], ◌∷◌, ◌++◌, ◌-◌, length, take, drop, nat_le, Contains}
+use Rattle.std.specs.Prelude.{if◌then◌else◌}
 use Rattle.std.specs.Prelude.{Result, Ok, Err, IsOk}
 use Rattle.no_std_io2.specs.declared.buffered.line_writer.state.LineSender.{LineSender}
 use Rattle.no_std_io2_base.specs.declared.error.Error.{Error}

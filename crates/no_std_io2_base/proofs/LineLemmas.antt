@@ -1,10 +1,9 @@
 -- The lines of a list of bytes, and what follows them.
 use Rattle.std.proofs.lemmas.Grind.{common_steps}
-use Rattle.std.proofs.lemmas.Bool.{cases_lt}
 use Rattle.std.proofs.Common.{◌≡◌, ◌≢◌, ℕ, ◌<◌, ◌≤◌, ◌==◌, ◌⊎◌, Bool, true, false, List, [], ◌∷◌, ◌++◌, length, refl, sym, ap, ◌∙◌}
 use Rattle.std.proofs.lemmas.List.{get_or_default}
 use Rattle.std.proofs.lemmas.List.Elements.{recursion_from_All, All-from_recursion, Contains-append_left, Contains-append_right}
-use Rattle.std.proofs.Common.{suc, subst, arith, true≢false, eqb-true, eq-eqb, Contains, ⊎_elim, take, drop}
+use Rattle.std.proofs.Common.{suc, subst, arith, true≢false, eqb-true, eq-eqb, Contains, take, drop}
 use Rattle.no_std_io2_base.specs.Pieces.{Lacks, ends_in, in_front, pieces, newline, ArePieces}
 use Rattle.no_std_io2_base.specs.Lines.{lines_of, unfinished_line, lines_len, IsLineState}
 use Rattle.no_std_io2_base.proofs.PieceLaws.{pieces-at, pieces-other, pieces_are}
@@ -19,16 +18,15 @@ joins : (b : ℕ) (bs : List ℕ) → Joins b bs
 unfolding lines_of unfinished_line
 joins b bs = by_byte (b == newline) refl
   where
-    by_end : (ps : List (List ℕ)) → b ≢ newline → pieces newline bs ≡ ps → pieces newline (b ∷ bs) ≡ in_front b ps → ArePieces newline bs ps → Joins b bs
-    by_end [] other here more h = grind (arith, common_steps)
-    by_end ([] ∷ ps) other here more h = absurd (omega (arith, h.none_empty.0))
-    by_end ((c ∷ p) ∷ []) other here more h = grind (arith, common_steps)
-    by_end ((c ∷ p) ∷ q ∷ ps) other here more h = grind (arith, common_steps, h.ended.0)
+    by_end : (ps : List (List ℕ)) → b ≢ newline → pieces newline bs ≡ ps → ArePieces newline bs ps → Joins b bs
+    by_end ([] ∷ ps) other is h = absurd (omega (arith, h.none_empty.0))
+    by_end ((c ∷ p) ∷ q ∷ ps) other is h = grind (arith, common_steps, pieces-other newline b bs other, h.ended.0)
+    by_end ps other is h = grind (arith, common_steps, pieces-other newline b bs other)
 
     by_byte : (t : Bool) → (b == newline) ≡ t → Joins b bs
     by_byte true e = grind (arith, common_steps, eqb-true b newline e, pieces-at newline b bs)
-    by_byte false e = let other : b ≢ newline = λ is. true≢false (sym (eq-eqb b newline is) ∙ e) in
-        by_end (pieces newline bs) other refl (pieces-other newline b bs other) (pieces_are newline bs)
+    by_byte false e =
+        by_end (pieces newline bs) (λ is. true≢false (sym (eq-eqb b newline is) ∙ e)) refl (pieces_are newline bs)
 
 -- the lines and what follows them are all bytes
 pub lines_split : (xs : List ℕ) → lines_of xs ++ unfinished_line xs ≡ xs
@@ -95,9 +93,7 @@ lacks_lines xs none = subst (Lacks newline) (grind (arith, common_steps, lines_s
 
 -- bytes with a newline have lines,
 pub lines_some : (xs : List ℕ) → Contains xs newline → 0 < lines_len xs
-lines_some xs has =
-    ⊎_elim (λ some. some) (λ none. absurd (lacks_contains newline xs (lacks_lines xs (omega (arith, none))) has))
-    (cases_lt 0 (lines_len xs))
+lines_some xs has = grind (arith, common_steps, lacks_lines xs, lacks_contains newline xs)
 
 -- and only they
 pub contains_lines : (xs : List ℕ) {n : ℕ} → n ≡ lines_len xs → 0 < n → Contains xs newline
@@ -113,6 +109,9 @@ take_lines xs is = grind (arith, common_steps, lines_split xs)
 -- and the unfinished line is what follows them
 pub drop_lines : (xs : List ℕ) {n : ℕ} → n ≡ lines_len xs → drop n xs ≡ unfinished_line xs
 drop_lines xs is = grind (arith, common_steps, lines_split xs)
+
+pub lines_bound : (xs : List ℕ) → lines_len xs ≤ length xs
+lines_bound xs = grind (arith, common_steps, lines_split xs)
 
 -- if the last byte is a newline, all bytes are lines
 pub unfinished_none : (xs : List ℕ) → ends_in newline xs ≡ true → unfinished_line xs ≡ []
@@ -130,7 +129,3 @@ unended_lacks xs line other = contains_lacks newline xs (λ has. true≢false (s
 pub state_rest : (front rest : List ℕ) → IsLineState (front ++ rest) → IsLineState rest
 state_rest front rest line has =
     sym (ends_in-append newline front rest (omega (arith, has.1))) ∙ line (Contains-append_right front rest newline has)
-
--- there are no more bytes in the lines than in the list
-pub lines_bound : (xs : List ℕ) → lines_len xs ≤ length xs
-lines_bound xs = grind (arith, common_steps, lines_split xs)
