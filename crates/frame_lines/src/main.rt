@@ -2,12 +2,12 @@
 //! printable ASCII. A frame is a length, as a little-endian `u32`, followed by that many bytes.
 //!
 //! The status is 0 if the input ends after a frame, 1 after a fault, whose text is printed to standard error, and 2 if there is an
-//! argument.
+//! argument. If a line does not go out whole, its rest is tried once more before the next frame is read.
 #![tactic(auto)]
 
 ghost use Rattle.std.specs.Prelude.{◌≡◌, [], OnOk, OnErr};
 ghost use Rattle.std.specs.Process.{exit_status};
-ghost use Rattle.line_log.specs.Log.{log_tells};
+ghost use Rattle.line_log.specs.Log.{log_held, log_tells};
 ghost use Rattle.frame_lines.specs.Fits.{FramesFit, LogFits};
 
 use framing::FrameReader;
@@ -39,6 +39,19 @@ fn has_argument<R: Env + Alloc<A = Global>>(rt: &R) -> Result<bool> {
     }
 }
 
+// Prints a line, and tries once more what did not go out.
+fn print_line<W: Write + Drop>(lines: &mut LineLog<W, LINE>, payload: &[u8]) -> Result<()>
+    requires log { LogFits W.row }
+    // After `Ok`, the writer below the log has the whole line.
+    ensures sent { OnOk result (log_held lines.new ≡ []) }
+{
+    lines.log_text(payload.escape_ascii())?;
+    if lines.is_behind() {
+        return lines.flush();
+    }
+    Ok(())
+}
+
 // Prints a line for each frame.
 fn print_frames<R: Read + Drop, W: Write + Drop>(
     frames: &mut FrameReader<R, 512>,
@@ -51,7 +64,7 @@ fn print_frames<R: Read + Drop, W: Write + Drop>(
 {
     let mut room = [0u8; LIMIT];
     'frames: while let Some(len) = frames.next(&mut room)? {
-        lines.log_text(room[..len].escape_ascii())?;
+        print_line(lines, &room[..len])?;
     }
     lines.flush()
 }
